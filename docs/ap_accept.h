@@ -10,9 +10,11 @@
  *     if (status == AP_DONE)
  *             status = ap_octets(&acceptor, AP_CLIENT_NAME, name, sizeof(name), &length);
  *     ..
+ *     status = ap_replace_keytab(&acceptor, new_keytab, new_keytab_length);
+ *     ..
  *     ap_close(&acceptor);
  *
- * Each call except ap_text returns a status: AP_DONE (0), a code of RFC 4120, section 7.5.9 (above 0), or one of the enum below
+ * Each call except ap_text and ap_version returns a status: AP_DONE (0), a code of RFC 4120, section 7.5.9 (above 0), or one of the enum below
  * (below 0). A null pointer, a length above PTRDIFF_MAX and a number out of its range are AP_BAD_ARGUMENT. The acceptor is then
  * as it was: ap_octets returns what it returned before. And the call writes nothing, except that ap_accept sets all of *accepted
  * to zero if the time is out of its range, and ap_octets sets *length to 0 if there is no such part.
@@ -31,6 +33,9 @@
 #ifdef __cplusplus
 extern "C" {
 #endif
+
+/* The version of this header. It rises with each function, part or status that is added. */
+#define AP_VERSION 1
 
 /* How a call ended, if no code of RFC 4120 says it. */
 enum ap_status {
@@ -101,11 +106,13 @@ enum ap_part {
 /* The functions of the library, which those below call. */
 int32_t ap_accept_c_open(struct ap_acceptor *acceptor, const uint8_t *keytab, size_t keytab_length, uint32_t remembered,
 			 bool is_first, int64_t sec, uint32_t usec);
+int32_t ap_accept_c_replace_keytab(struct ap_acceptor *acceptor, const uint8_t *keytab, size_t keytab_length);
 int32_t ap_accept_c_accept(struct ap_acceptor *acceptor, int64_t sec, uint32_t usec, const uint8_t *random,
 			   const uint8_t *ap_req, size_t ap_req_length, struct ap_accepted *accepted);
 int32_t ap_accept_c_octets(struct ap_acceptor *acceptor, uint32_t part, uint8_t *to, size_t capacity, size_t *length);
 int32_t ap_accept_c_close(struct ap_acceptor *acceptor);
 size_t ap_accept_c_text(int32_t status, uint8_t *to, size_t capacity);
+uint32_t ap_accept_c_version(void);
 
 /*
  * Opens an acceptor with the keys of the bytes of a keytab, which are not needed any more after the call.
@@ -123,6 +130,20 @@ static inline int32_t ap_open(struct ap_acceptor *acceptor, const void *keytab, 
 	if (acceptor == NULL || keytab == NULL || keytab_length > PTRDIFF_MAX)
 		return AP_BAD_ARGUMENT;
 	return ap_accept_c_open(acceptor, (const uint8_t *)keytab, keytab_length, remembered, is_first, sec, usec);
+}
+
+/*
+ * Replaces the keys of an open acceptor with those of the bytes of a keytab. The replay caches stay: no client is refused for the
+ * change, and nothing that was accepted is accepted again. What ap_octets copies stays too. If the bytes can't be read, the old keys
+ * stay.
+ *
+ * AP_DONE, AP_BAD_KEYTAB, AP_NO_MEMORY, AP_CLOSED or AP_BAD_ARGUMENT.
+ */
+static inline int32_t ap_replace_keytab(struct ap_acceptor *acceptor, const void *keytab, size_t keytab_length)
+{
+	if (acceptor == NULL || keytab == NULL || keytab_length > PTRDIFF_MAX)
+		return AP_BAD_ARGUMENT;
+	return ap_accept_c_replace_keytab(acceptor, (const uint8_t *)keytab, keytab_length);
 }
 
 /*
@@ -179,6 +200,12 @@ static inline size_t ap_text(int32_t status, char *to, size_t capacity)
 	if (to == NULL || capacity > PTRDIFF_MAX)
 		capacity = 0;
 	return ap_accept_c_text(status, capacity == 0 ? &none : (uint8_t *)to, capacity);
+}
+
+/* Returns the version of the library: the AP_VERSION of the header that it was built for. */
+static inline uint32_t ap_version(void)
+{
+	return ap_accept_c_version();
 }
 
 #ifdef __cplusplus

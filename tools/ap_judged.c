@@ -51,6 +51,18 @@ static void opens(const uint8_t *keytab, size_t length)
 	expect("no acceptor to close", ap_close(NULL), AP_BAD_ARGUMENT);
 }
 
+static void replaces(struct ap_acceptor *acceptor, const uint8_t *keytab, size_t length, int32_t at_best)
+{
+	const size_t beyond = (size_t)PTRDIFF_MAX + TOO_LONG;
+
+	expect("no acceptor", ap_replace_keytab(NULL, keytab, length), AP_BAD_ARGUMENT);
+	expect("no keytab", ap_replace_keytab(acceptor, NULL, length), AP_BAD_ARGUMENT);
+	expect("a length too great", ap_replace_keytab(acceptor, keytab, beyond), AP_BAD_ARGUMENT);
+	expect("an empty keytab", ap_replace_keytab(acceptor, keytab, 0), at_best == AP_DONE ? AP_BAD_KEYTAB : at_best);
+	expect("a cut keytab", ap_replace_keytab(acceptor, keytab, length - 1), at_best == AP_DONE ? AP_BAD_KEYTAB : at_best);
+	expect("a keytab", ap_replace_keytab(acceptor, keytab, length), at_best);
+}
+
 static void accepts(struct ap_acceptor *acceptor, int32_t at_best)
 {
 	static const uint8_t random[16], octets[4] = { 0x6e, 0x02, 0x30, 0x00 };
@@ -102,7 +114,7 @@ static size_t unwritten(const uint8_t *to, size_t from, size_t end)
 /* An AP-REQ without a subkey is accepted, and its bytes can be read until the next one is accepted. */
 static void keeps(const uint8_t *keytab, size_t keytab_length, const uint8_t *ap_req, size_t ap_req_length)
 {
-	static const uint8_t random[16];
+	static const uint8_t random[16], no_keys[2] = { 5, 2 };
 	struct ap_acceptor acceptor = { 0 };
 	struct ap_accepted accepted = { .subkey_type = 7 };
 	uint8_t key[LONGEST_KEY + 1], again[LONGEST_KEY + 1];
@@ -131,6 +143,12 @@ static void keeps(const uint8_t *keytab, size_t keytab_length, const uint8_t *ap
 	expect("no length of a bad part", (long)length, 0);
 	expect("the key is still there", ap_octets(&acceptor, AP_SESSION_KEY, again, sizeof(again), &length), AP_DONE);
 	expect("it is the same", (long)length == (long)needed && memcmp(key, again, length) == 0, 1);
+	expect("a keytab without keys", ap_replace_keytab(&acceptor, no_keys, sizeof(no_keys)), AP_DONE);
+	expect("the key stays", ap_octets(&acceptor, AP_SESSION_KEY, again, sizeof(again), &length), AP_DONE);
+	expect("no key for it", ap_accept(&acceptor, now, 0, random, ap_req, ap_req_length, &accepted), AP_NOT_US);
+	expect("no keytab", ap_replace_keytab(&acceptor, keytab, keytab_length - 1), AP_BAD_KEYTAB);
+	expect("still no key", ap_accept(&acceptor, now, 0, random, ap_req, ap_req_length, &accepted), AP_NOT_US);
+	expect("the keys again", ap_replace_keytab(&acceptor, keytab, keytab_length), AP_DONE);
 	expect("a repeat", ap_accept(&acceptor, now, 0, random, ap_req, ap_req_length, &accepted), AP_REPEAT);
 	expect("nothing accepted last", ap_octets(&acceptor, AP_SESSION_KEY, again, sizeof(again), &length), AP_ABSENT);
 	expect("close after it", ap_close(&acceptor), AP_DONE);
@@ -176,9 +194,12 @@ int main(int count, char **words)
 	length = fread(keytab, 1, LONGEST, file);
 	fclose(file);
 	opens(keytab, length);
+	expect("the version", (long)ap_version(), AP_VERSION);
+	replaces(&acceptor, keytab, length, AP_CLOSED);
 	accepts(&acceptor, AP_CLOSED);
 	fetches(&acceptor, AP_CLOSED);
 	expect("open", ap_open(&acceptor, keytab, length, 1, true, NOW, 0), AP_DONE);
+	replaces(&acceptor, keytab, length, AP_DONE);
 	accepts(&acceptor, AP_NOT_AN_AP_REQ);
 	fetches(&acceptor, AP_ABSENT);
 	expect("close", ap_close(&acceptor), AP_DONE);

@@ -9,7 +9,9 @@
  *
  * A connection has messages, each after its length in four bytes, the most significant first, as MIT's library writes them
  * (krb5_write_message). The client sends an AP-REQ and gets an AP-REP, or an empty message if it asked for none; or it speaks as
- * krb5_sendauth does. If it is refused, the service closes the connection.
+ * krb5_sendauth does. If it is refused, the service closes the connection. It also closes it ten seconds after it was accepted, however
+ * slowly its peer sends and reads: a limit for each read alone would let a peer that sends a byte now and then keep it, and all others
+ * with it, since this example serves one connection at a time.
  *
  * docs/SERVICES-C.md says how to build it.
  */
@@ -17,16 +19,17 @@
 
 #include <arpa/inet.h>
 #include <netinet/in.h>
+#include <poll.h>
 #include <stdio.h>
 #include <stdlib.h>
 #include <string.h>
 #include <sys/random.h>
 #include <sys/socket.h>
-#include <sys/time.h>
 #include <time.h>
 #include <unistd.h>
 
-enum { LONGEST_MESSAGE = 65536, REMEMBERED = 1024, SECONDS_TO_WAIT = 10 };
+/* A whole exchange takes MOST_MILLISECONDS at most. */
+enum { LONGEST_MESSAGE = 65536, REMEMBERED = 1024, MOST_MILLISECONDS = 10000 };
 
 static const char SENDAUTH[] = "KRB5_SENDAUTH_V1.0";
 
@@ -38,6 +41,12 @@ struct message {
 struct moment {
 	int64_t sec;
 	uint32_t usec;
+};
+
+/* A connection, and when it is closed, in the milliseconds of a clock that nobody sets. */
+struct connection {
+	int socket;
+	int64_t end;
 };
 
 static void stop(const char *why)
@@ -55,14 +64,32 @@ static struct moment now(void)
 	return (struct moment){ time.tv_sec, (uint32_t)(time.tv_nsec / 1000) };
 }
 
+static int64_t milliseconds(void)
+{
+	struct timespec time;
+
+	if (clock_gettime(CLOCK_MONOTONIC, &time) != 0)
+		stop("no clock");
+	return (int64_t)time.tv_sec * 1000 + time.tv_nsec / 1000000;
+}
+
 /* ---- messages on a connection */
 
-static bool read_all(int connection, void *to, size_t length)
+/* Waits until the connection can be read or written. Returns false if it has to be closed before. */
+static bool can_go_on(const struct connection *connection, short event)
+{
+	struct pollfd waiting = { .fd = connection->socket, .events = event };
+	int64_t left = connection->end - milliseconds();
+
+	return left > 0 && poll(&waiting, 1, (int)left) == 1;
+}
+
+static bool read_all(const struct connection *connection, void *to, size_t length)
 {
 	uint8_t *at = to;
 
 	while (length > 0) {
-		ssize_t got = read(connection, at, length);
+		ssize_t got = can_go_on(connection, POLLIN) ? recv(connection->socket, at, length, MSG_DONTWAIT) : -1;
 		if (got <= 0)
 			return false;
 		at += got;
@@ -71,12 +98,12 @@ static bool read_all(int connection, void *to, size_t length)
 	return true;
 }
 
-static bool write_all(int connection, const void *from, size_t length)
+static bool write_all(const struct connection *connection, const void *from, size_t length)
 {
 	const uint8_t *at = from;
 
 	while (length > 0) {
-		ssize_t put = send(connection, at, length, MSG_NOSIGNAL);
+		ssize_t put = can_go_on(connection, POLLOUT) ? send(connection->socket, at, length, MSG_NOSIGNAL | MSG_DONTWAIT) : -1;
 		if (put <= 0)
 			return false;
 		at += put;
@@ -85,7 +112,7 @@ static bool write_all(int connection, const void *from, size_t length)
 	return true;
 }
 
-static bool read_message(int connection, struct message *message)
+static bool read_message(const struct connection *connection, struct message *message)
 {
 	uint32_t length;
 
@@ -95,7 +122,7 @@ static bool read_message(int connection, struct message *message)
 	return message->length <= LONGEST_MESSAGE && read_all(connection, message->octets, message->length);
 }
 
-static bool write_message(int connection, const void *octets, size_t length)
+static bool write_message(const struct connection *connection, const void *octets, size_t length)
 {
 	uint32_t prefix = htonl((uint32_t)length);
 
@@ -109,7 +136,7 @@ static bool is_sendauth(const struct message *message)
 }
 
 /* After that text comes the application's own text. The service accepts any, and answers with a byte 0. Then the AP-REQ comes. */
-static bool read_after_sendauth(int connection, struct message *message)
+static bool read_after_sendauth(const struct connection *connection, struct message *message)
 {
 	static const uint8_t taken = 0;
 
@@ -151,7 +178,7 @@ static void print_accepted(struct ap_acceptor *acceptor, const struct ap_accepte
 	free(realm);
 }
 
-static bool answer(int connection, struct ap_acceptor *acceptor, bool sendauth)
+static bool answer(const struct connection *connection, struct ap_acceptor *acceptor, bool sendauth)
 {
 	size_t length = 0;
 	char *reply = part_of(acceptor, AP_AP_REP, &length);
@@ -164,7 +191,7 @@ static bool answer(int connection, struct ap_acceptor *acceptor, bool sendauth)
 	return done;
 }
 
-static void serve(int connection, struct ap_acceptor *acceptor)
+static void serve(const struct connection *connection, struct ap_acceptor *acceptor)
 {
 	static struct message message;
 	struct ap_accepted accepted;
@@ -233,7 +260,6 @@ static void open_acceptor(struct ap_acceptor *acceptor, const char *path, bool i
 int main(int count, char **words)
 {
 	struct ap_acceptor acceptor = { 0 };
-	const struct timeval wait = { .tv_sec = SECONDS_TO_WAIT };
 	bool is_first = count > 3 && strcmp(words[3], "first") == 0;
 	int at = is_first ? 4 : 3, listener;
 	long connections = -1;
@@ -246,13 +272,11 @@ int main(int count, char **words)
 	open_acceptor(&acceptor, words[1], is_first);
 	listener = listen_on(words[2]);
 	for (; connections != 0; connections -= connections > 0) {
-		int connection = accept(listener, NULL, NULL);
-		if (connection < 0)
+		struct connection connection = { .socket = accept(listener, NULL, NULL), .end = milliseconds() + MOST_MILLISECONDS };
+		if (connection.socket < 0)
 			continue;
-		setsockopt(connection, SOL_SOCKET, SO_RCVTIMEO, &wait, sizeof(wait));
-		setsockopt(connection, SOL_SOCKET, SO_SNDTIMEO, &wait, sizeof(wait));
-		serve(connection, &acceptor);
-		close(connection);
+		serve(&connection, &acceptor);
+		close(connection.socket);
 	}
 	close(listener);
 	ap_close(&acceptor);

@@ -567,6 +567,14 @@ def try_files(hostile):
             hostile.folder.joinpath("own").chmod(0o600)
             ran, took = hostile.begin(words, CACHE)
             hostile.note(" ".join(words), "; ".join(hostile.faults(ran, took, *no_file, CACHE)))
+    (hostile.folder / "folder").mkdir()
+    os.mkfifo(hostile.folder / "folder" / "in_it")
+    hostile.write("including", "include pipe\nincludedir folder\n")
+    for path, passed_over in (("pipe", ("pipe",)), ("/dev/zero", ("/dev/zero",)), ("including", ("pipe", "folder/in_it"))):
+        hostile.environment["KRB5_CONFIG"] = path
+        ran, took = hostile.begin(["kinit", "--name", "u", "--password-file", "pw", "--cache", "cc"], CACHE)
+        said = (*[f"kclient: {each}: it is not a file" for each in passed_over], f"kclient: {path}: it has no default_realm")
+        hostile.note(f"{path} as krb5.conf", "; ".join(hostile.faults(ran, took, 1, "refused NoRealm", said, CACHE)))
     not_ours = 1, "refused NotOurs", ("belongs to another user",)
     changes = [("other users may write", lambda path: path.chmod(0o602)), ("a group may write", lambda path: path.chmod(0o620))]
     if os.geteuid() == 0:

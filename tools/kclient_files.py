@@ -118,6 +118,9 @@ A.B = {
 A.B = {
   kdc = 127.0.2.2:0"""
 
+# The KDC of the realm.
+REALMS = "[realms]\nA.B = {\nkdc = FIRST\n}\n"
+
 # The files that stand beside a command. `FIRST` and `SECOND` are addresses, and `HOST` is the name of a host with them.
 FILES = {
     "seed": bytes([7]) * 40, "seed2": bytes([8]) * 32, "short": bytes([7]) * 31,
@@ -162,6 +165,17 @@ FILES = {
     "conf.d/b.conf": "[libdefaults]\ndefault_realm = A.B",
     "conf.d/c.conf~": "[libdefaults]\ndefault_realm = NOT.READ\n",
     "gone": "include conf.d/nowhere\n",
+    # A name that is never looked up, since the KDC before it answers.
+    "late": "[libdefaults]\ndefault_realm = A.B\n[realms]\nA.B = {\nkdc = FIRST\nkdc = x..example.com\n}\n",
+    # Files that include files, and one that includes itself.
+    "deep": "include deep1\n", "deep1": "include deep2\n", "deep2": "include deep3\n", "deep3": "[libdefaults]\ndefault_realm = A.B\n" + REALMS,
+    "loop": "[libdefaults]\ndefault_realm = A.B\n" + REALMS + "include loop\n",
+    "devices": "include /dev/zero\ninclude conf.d\n[libdefaults]\ndefault_realm = A.B\n" + REALMS,
+    # Settings of first tickets and of the cache.
+    "settings": "[libdefaults]\ndefault_realm = A.B\nticket_lifetime = 2h\nrenew_lifetime = 1d 1h\nforwardable = Yes\n"
+    "default_ccache_name = FILE:cc\n" + REALMS,
+    "kcm": "[libdefaults]\ndefault_ccache_name = KCM:\n",
+    "tokens": "[libdefaults]\ndefault_realm = A.B\nticket_lifetime = 2 hours\ndefault_ccache_name = /tmp/%{username}\n" + REALMS,
     "bare": "[realms]\n",
     "site": SITE,
     "nothing": "", "unclosed": "[libdefaults", "twice": "[libdefaults\ndefault_realm = A = B",

@@ -7,7 +7,7 @@ import os
 import typing
 
 from hostile_kdc import entry, error, number, wanted
-from kclient_files import FILES, GRANTING, REALM, U, V
+from kclient_files import FILES, GRANTING, REALM, H, U, V
 from kerberos import as_req, credentials, elements, field, fields, integer, octet_string, sequence, tgs_req, timestamp
 from relay import (
     Made, OtherClock, chacha20, dropped, forged, forged_once, good, moment_in, no_datagrams, once, padata_of, refuses, refuses_at, silent,
@@ -15,6 +15,7 @@ from relay import (
 )
 from trial import SLOWNESS
 
+NO_CACHE_THERE = "there is no cache: kinit makes one"
 ABSENT, DENIED = "No such file or directory (os error 2)", "Permission denied (os error 13)"
 # The seconds until a postdated ticket starts, and those that a short one lives.
 AHEAD = LIFE = math.ceil(3 * SLOWNESS)
@@ -64,6 +65,8 @@ class Run:
     is_part: bool = False
     is_asked: bool = False
     is_unprinted: bool = False
+    # Whether it fails, and has changed the cache before.
+    is_partly_done: bool = False
     is_refused_random: bool = False
 
     def but(self, words=None, **others):
@@ -151,7 +154,7 @@ REFUSED_BY_A_REPLY = (
     refused("KVNO h", "NotAReply", NO_REPLY, "u", link=stale),
     refused("KINIT v", "NotAReply", NO_REPLY, "u", link=forged(b"hello")),
     refused(
-        "KINIT v", "CountTooLarge", "FIRST: the KDC asks for more iterations of string-to-key than 1048576, or for none", "u",
+        "KINIT v", "CountTooLarge", "FIRST: the KDC asks for more iterations of string-to-key than 1048576, or for none, or its parameters are not four bytes", "u",
         link=forged(wanted(entry(19, b"\xff" * 4))),
     ),
     refused("KINIT u", 25, PREAUTH, "uu", link=forged(wanted(entry()))),
@@ -180,12 +183,12 @@ REFUSED_BY_A_WORD = (
     refused("kclient kinit --kdc FIRST --realm A/B --name u --password-file pass --cache cc", "BadName", "--realm A/B: it is not a valid name"),
     refused("kclient kinit --kdc FIRST --realm '' --name u --password-file pass --cache cc", "BadName", "--realm: it is not a valid name"),
     refused("kclient kinit --kdc FIRST --name u@ --password-file pass --cache cc", "BadName", "--name u@: it is not a valid name"),
-    refused("KVNO h --name ''", "BadName", "--name: this name ended the command\nkclient: --name: it is not a valid name"),
+    refused("KVNO h --name ''", "BadName", "an empty name: this name ended the command\nkclient: an empty name: it is not a valid name"),
     refused("KINIT u//v", "BadName", "--name u//v: it is not a valid name"),
     refused("KINIT ''", "BadName", "--name: it is not a valid name"),
     refused("KINIT u --service h@", "BadName", "--service h@: it is not a valid name"),
     refused("KINIT u --service ''", "BadName", "--service: it is not a valid name"),
-    refused("KVNO h/", "BadName", "--name h/: it is not a valid name"),
+    refused("KVNO h/", "BadName", "h/: it is not a valid name"),
     refused("LOGIN u --password-file long", "LongPassword", "long: the password has more than 1024 bytes"),
     refused("LOGIN u --password-file big", "LongFile", "big: the file has more than 16777216 bytes"),
     refused(
@@ -236,7 +239,7 @@ USAGES = (
     usage("KVNO h --kdc ''", f"error: --kdc: {ADDRESS}"),
     usage("KINIT u --life 49711d", "--life takes seconds"),
     usage("KINIT u --life h", "--life takes seconds"),
-    usage("KINIT u@A.B", "--realm and a realm behind the name of --name don't go together"),
+    usage("KINIT u@A.B", "--realm and a realm behind the client's name don't go together"),
     usage("KINIT u --least-count many", "--least-count takes a number"),
     usage("RENEW --least-count 1", "--renew and --validate take the ticket of the cache"),
     *(usage(f"RENEW {more}", "--renew") for more in (
@@ -244,6 +247,11 @@ USAGES = (
         "--proxiable",
     )),
     usage("VALIDATE --name u", "--validate"),
+    usage("RENEW u", "--renew and --validate take the ticket of the cache"),
+    usage("KINIT u v", "a plain word and --name don't go together: both are the client"),
+    usage("kclient kinit --kdc FIRST --realm A.B --password-file pass --cache cc", "error: the client's name is missing"),
+    usage("kclient kinit --kdc FIRST --password-file pass --cache nowhere", "error: the client's name is missing"),
+    usage("kclient kvno --kdc FIRST --cache cc", "error: the name of a service is missing"),
     usage("kclient klist --keytab ''", "a value is required for '--keytab <FILE>'"),
     usage("RENEW --renew=1", "unexpected value '1' for '--renew"),
     # files of another type, and an empty path behind FILE:
@@ -338,7 +346,7 @@ DAY = (
     NOT_GOOD.but("kclient klist -s --cache cut"),
     NOT_GOOD.but("kclient klist -s --cache empty"),
     Run("kclient kdestroy"),
-    refused("kclient kdestroy", "Absent", "OWN: there is no cache"),
+    refused("kclient kdestroy", "Absent", f"OWN: {NO_CACHE_THERE}"),
     usage("kclient klist -s --keytab keys", "-s and --keytab don't go together"),
 )
 
@@ -370,7 +378,7 @@ SEVERAL = (
     refused("KVNO x --kdc SECOND", 7, f"SECOND: {NO_SERVICE}", "u=U", link=split(silent)),
     refused("KINIT u --kdc SECOND", 29, NOT_THERE, "uU#", link=split(refuses(29), silent)),
     # `hostile_kdc.py` tries the silence of four KDCs
-    failed("KINIT u --kdc SECOND", "FIRST, SECOND: failed to fill whole buffer (messages without a reply: 4)", "u=U#", link=dropped),
+    failed("KINIT u --kdc SECOND", "FIRST, SECOND: the connection was closed before the reply ended (messages without a reply: 4)", "u=U#", link=dropped),
 )
 
 # What stands for words that a command line lacks.
@@ -383,6 +391,9 @@ def configured(run, config, **names):
     return run.but(names={**run.names, "KRB5_CONFIG": config, **names})
 
 
+TOO_DEEP = "it is included more than 3 deep, as by a file that includes itself, so it is passed over"
+NO_FILE = "it is not a file, but a folder, a device or a pipe, so it is passed over"
+NO_DEFAULT = "it has no default_realm in [libdefaults]: add one, or name the realm"
 ADD_KDC = "it has no kdc of this realm: add one, or name the address of a KDC"
 ADD_ADDRESS = "no address is known: correct the name, or name the address of a KDC"
 LOGIN_OF = "kclient kinit --realm {} --name u --password-file pass --seed seed".format
@@ -399,13 +410,25 @@ BY_DEFAULTS = (
     configured(CONFIGURED_KVNO.but(OF_SECOND, ways=""), "nowhere", KRB5CCNAME="KCM:"),
     configured(CONFIGURED_KVNO.but(f"{OF_SECOND} --fresh", ways="U"), "nowhere", KRB5CCNAME="KCM:"),
     configured(refused(LOGIN_OF("C"), "NoKdc", f"conf: C: {ADD_KDC}"), "conf"),
-    configured(refused(LOGIN_OF("N"), "NotAnAddress", f"conf: x..example.com, y..example.com:750: {ADD_ADDRESS}"), "conf"),
+    configured(refused(LOGIN_OF("N"), "NotAnAddress", f"x..example.com, y..example.com: {ADD_ADDRESS}"), "conf"),
     # bytes that are not printed plain are written as those of a name
-    configured(refused(LOGIN_OF("X"), "NotAnAddress", f"odd: a\\20b\\1b[\\40..c: {ADD_ADDRESS}"), "odd"),
+    configured(refused(LOGIN_OF("X"), "NotAnAddress", f"a\\20b\\1b[\\40..c: {ADD_ADDRESS}"), "odd"),
     configured(refused(LOGIN_OF("Y"), "NoKdc", f"odd: Y: {ADD_KDC}"), "odd"),
     # a host whose name is looked up, beside one without an address; and files that are included
     configured(CONFIGURED.but(err="kclient: x..example.com: no address is known, so it is not asked", ways="UU"), "named"),
+    # a name is looked up when its turn comes, and here it never does
+    configured(CONFIGURED, "late"),
+    CONFIGURED_KVNO,
+    # a ticket that the cache has needs no KDC, no realm's section and no krb5.conf
+    *(configured(CONFIGURED_KVNO.but(ways=""), config) for config in ("bare", "nowhere")),
+    configured(refused(f"{CONFIGURED_KVNO.words} --fresh", "NoKdc", f"bare: A.B: {ADD_KDC}"), "bare"),
+    configured(failed(f"{CONFIGURED_KVNO.words} --fresh", f"nowhere: {ABSENT}"), "nowhere"),
     configured(failed(CONFIGURED.words, f"conf.d/nowhere: {ABSENT}"), "gone"),
+    # files are included three deep, and what is no plain file is passed over
+    configured(CONFIGURED, "deep"),
+    configured(CONFIGURED.but(err=f"kclient: loop: {TOO_DEEP}"), "loop"),
+    configured(CONFIGURED.but(err=f"kclient: /dev/zero: {NO_FILE}\nkclient: conf.d: {NO_FILE}"), "devices"),
+    configured(refused(CONFIGURED.words, "NoRealm", f"/dev/zero: {NO_FILE}\nkclient: /dev/zero: {NO_DEFAULT}"), "/dev/zero"),
     configured(
         refused(CONFIGURED.words, "BadName", "odd: its default_realm does not have 1 to 255 bytes: correct it, or name the realm"), "odd",
     ),
@@ -421,15 +444,15 @@ BY_DEFAULTS = (
     configured(
         refused(
             "kclient kvno --cache nowhere --name h --name h/ --seed seed", "BadName",
-            "h/: this name ended the command\nkclient: --name h/: it is not a valid name",
+            "h/: this name ended the command\nkclient: h/: it is not a valid name",
         ), "nowhere",
     ),
-    configured(refused("kclient kvno --cache nowhere --name h/ --seed seed", "BadName", "--name h/: it is not a valid name"), "nowhere"),
+    configured(refused("kclient kvno --cache nowhere --name h/ --seed seed", "BadName", "h/: it is not a valid name"), "nowhere"),
     # the command line comes before names
     configured(usage("kclient kinit --kdc kdc:89 --name u//v --password-file pass --seed seed", "error: --kdc kdc:89: it takes"), "nowhere"),
     # the cache's path, and not all of the variable
-    configured(failed(CONFIGURED_KVNO.words, f"nowhere: {ABSENT}"), "conf", KRB5CCNAME="FILE:nowhere"),
-    failed("kclient kvno --kdc FIRST --name h --seed seed", f"nowhere: {ABSENT}", names={"KRB5CCNAME": "FILE:nowhere"}),
+    configured(refused(CONFIGURED_KVNO.words, "Absent", f"nowhere: {NO_CACHE_THERE}"), "conf", KRB5CCNAME="FILE:nowhere"),
+    refused("kclient kvno --kdc FIRST --name h --seed seed", "Absent", f"nowhere: {NO_CACHE_THERE}", names={"KRB5CCNAME": "FILE:nowhere"}),
     configured(failed(CONFIGURED.words, f"cc: {DENIED}", "uu", lacks="."), "conf", KRB5CCNAME="cc"),
     configured(usage(CONFIGURED_KVNO.words, "KRB5CCNAME names no file"), "conf", KRB5CCNAME="FILE:"),
     configured(usage(CONFIGURED_KVNO.words, "KRB5CCNAME names a cache of another type"), "conf", KRB5CCNAME="KCM:"),
@@ -450,7 +473,9 @@ BY_BAD_DEFAULTS = (
     usage("kclient klist", OF_CACHE, **NO_CACHE),
     usage("kclient kinit --kdc FIRST --name u --password-file pass --cache cc --seed seed", OF_CONFIG, names=NOT_UTF8),
     usage("kclient kinit --realm A.B --name u --password-file pass --cache cc --seed seed", OF_CONFIG, names=NOT_UTF8),
-    usage("kclient kvno --cache cc --name h --seed seed", OF_CONFIG, names=NOT_UTF8),
+    usage("kclient kvno --cache cc --name h --seed seed --fresh", OF_CONFIG, names=NOT_UTF8),
+    # a ticket that the cache has needs no krb5.conf
+    KVNO.but("kclient kvno --cache cc --name h --seed seed", ways="", names=NOT_UTF8),
 )
 
 # The `krb5.conf` of a site: the default realm, and the KDCs of realms. Nothing listens at their addresses.
@@ -458,11 +483,10 @@ LOST_AT = "ANY (messages without a reply: {})".format
 OF_SITE = (
     failed(LOGIN_OF("A.B"), f"127.0.2.1:88, [::1]:89, 127.0.2.2:0: {LOST_AT(6)}"),
     failed(LOGIN_OF("C"), f"127.0.2.7:750, [::1]:88: {LOST_AT(4)}"),
-    failed(LOGIN_OF("E"), f"kdc..example.com:88: no address is known, so it is not asked\nkclient: 127.0.2.5:88: {LOST_AT(2)}"),
+    failed(LOGIN_OF("E"), f"kdc..example.com: no address is known, so it is not asked\nkclient: 127.0.2.5:88: {LOST_AT(2)}"),
     refused(LOGIN_OF("F"), "NoKdc", f"site: F: {ADD_KDC}"),
     failed(CONFIGURED.words, f"127.0.2.1:88, [::1]:89, 127.0.2.2:0: {LOST_AT(6)}"),
 )
-NO_DEFAULT = "it has no default_realm in [libdefaults]: add one, or name the realm"
 CONFIGS = (
     *(configured(run, "site", KRB5CCNAME="cc") for run in OF_SITE),
     configured(refused(CONFIGURED.words, "NoRealm", f"nothing: {NO_DEFAULT}"), "nothing"),
@@ -492,6 +516,41 @@ LISTS = (
     Run("kclient klist --cache listed --keytab listedkeys", 3, "", f"kclient: {NO_ROOM}", is_unprinted=True),
 )
 
+# As users type it.
+def daily(words, **more):
+    return CONFIGURED_KVNO.but(f"kclient {words} --seed seed", **more)
+
+
+DAILY = (
+    daily("kinit u --password-file pass", out="ok", ways="uu"),
+    daily("kvno h"),
+    daily("kvno h@A.B h", out="h@A.B kvno 1\nh kvno 1", ways=""),
+    daily("kvno v --name h", out="v kvno 1\nh kvno 1"),
+    configured(refused("kclient kvno u h@C --seed seed", "OtherRealm", "h@C: this name ended the command\nkclient: h@C: its realm is not that of the cache"), "conf", KRB5CCNAME="cc"),
+    configured(refused("kclient kinit u//v", "BadName", "u//v: it is not a valid name"), "conf", KRB5CCNAME="cc"),
+    configured(refused("kclient kinit ''", "BadName", "an empty name: it is not a valid name"), "conf", KRB5CCNAME="cc"),
+    # the cache's client
+    daily("kinit --password-file pass", out="ok", ways="uu"),
+    daily("kinit v@A.B --password-file pass", out="ok"),
+    daily("kinit --password-file pass", out="ok"),
+    Run("kclient klist --cache cc", out="principal v@A.B\nANY", is_part=True),
+    refused("kclient klist --cache nowhere", "Absent", f"nowhere: {NO_CACHE_THERE}"),
+)
+
+# What a `krb5.conf` says of first tickets counts where no word says it.
+SET = configured(CONFIGURED, "settings")
+SETTINGS = (
+    SET.but(held="krbtgt/A.B now now now+7200 now+90000 40e00000 18"),
+    SET.but(f"{CONFIGURED.words} --life 60", held="krbtgt/A.B now now now+60 now+90000 40e00000 18"),
+    SET.but(f"{CONFIGURED.words} --renewable", held="krbtgt/A.B now now now+7200 now+604800 40e00000 18"),
+    # its cache: `cc`
+    configured(CONFIGURED, "settings", KRB5CCNAME=""),
+    configured(Run("kclient klist", out="principal u@A.B\nkrbtgt/A.B@A.B ANY"), "settings", KRB5CCNAME=""),
+    configured(usage("kclient klist", "default_ccache_name of the krb5.conf names a cache of another type than FILE"), "kcm"),
+    configured(refused("kclient klist", "BadSetting", "tokens: default_ccache_name: of what stands between %{ and } only uid, euid and TEMP are known"), "tokens"),
+    configured(refused(CONFIGURED.words, "BadSetting", "tokens: ticket_lifetime: it takes a time, such as 36000, 10h, 1d 12h or 10:00:00"), "tokens", KRB5CCNAME="cc"),
+)
+
 # A ticket that the cache has is asked for again only with `--fresh`, or once it has ended.
 FRESH = "kclient kvno --kdc FIRST --cache cc --seed seed --fresh --name"
 OF_LOGIN = "krbtgt/A.B login login login+36000 - 00600000 18"
@@ -510,8 +569,9 @@ SERVICES = (
         "u login now login+36000 - 00200000 18",
     ),
     KVNO.but("kclient kvno --kdc FIRST --cache cc --name h --fresh"),
-    refused(f"{FRESH} h --name x --name v", 7, f"x: this name ended the command\nkclient: FIRST: {NO_SERVICE}", "uu"),
-    refused("KVNO h --name h/", "BadName", "h/: this name ended the command\nkclient: --name h/: it is not a valid name"),
+    # the ticket that came is kept
+    refused(f"{FRESH} h --name x --name v", 7, f"x: this name ended the command\nkclient: FIRST: {NO_SERVICE}", "uu", is_partly_done=True),
+    refused("KVNO h --name h/", "BadName", "h/: this name ended the command\nkclient: h/: it is not a valid name"),
     KINIT.but(f"KINIT u --life {LIFE}"),
     KVNO.but(held=f"krbtgt/A.B login login login+{LIFE} - 00600000 18; h login now login+{LIFE} - 00200000 18"),
     refused("KVNO h", "Ended", "cc: the ticket-granting ticket ended at ENDS: run kinit", wait=LIFE + 1),
@@ -525,7 +585,7 @@ REPEATED = (
 )
 
 # A keytab has to open each ticket, also one that the cache has.
-ANOTHER_KEY = "its key does not decrypt the ticket: it is another key of the same version"
+ANOTHER_KEY = "the keytab's key does not decrypt the ticket: it is another key of the same version, or it is another KDC"
 VALID = KVNO.but(out="h kvno 1, keytab entry valid")
 OPENED = (
     KINIT,
@@ -534,7 +594,7 @@ OPENED = (
     refused("KVNO h --keytab old", "CannotOpen", f"old: {ANOTHER_KEY}"),
     refused("KVNO h --keytab old --fresh", "CannotOpen", f"old: {ANOTHER_KEY}", "u"),
     refused("KVNO h --name v --keytab keys", "CannotOpen", f"v: this name ended the command\nkclient: keys: {ANOTHER_KEY}", "u"),
-    refused("KVNO h --keytab other", "Absent", "other: it has no key of the service with the ticket's encryption type and version"),
+    refused("KVNO h --keytab other", "Absent", "other: the keytab has no key of the service with the ticket's encryption type and version"),
     refused("KVNO h --keytab cut", "BadMagic", "cut: the file is not a keytab of version 2"),
 )
 
@@ -581,6 +641,23 @@ def repeated(made):
 
 
 OF_H = Made(SESSION, client=b"v", end=3600)
+
+# A KDC that knows the password of `v`. It does not know the key of `h`; or it has a ticket of the realm's KDC, for another client or with a
+# session key that it does not know.
+OTHER_TICKET = "keys: the ticket has another client or session key than the KDC's reply: it is another KDC"
+SEALED = dataclasses.replace(OF_H, ticket_key=H)
+HOSTILE = (
+    KINIT_V.but(link=Made(V)),
+    refused(f"{FRESH} h --keytab keys", "CannotOpen", f"keys: {ANOTHER_KEY}", "u", link=OF_H),
+    refused(f"{FRESH} h --keytab keys", "CannotOpen", f"keys: {ANOTHER_KEY}", "u", link=dataclasses.replace(OF_H, ticket_key=V)),
+    refused(f"{FRESH} h --keytab keys", "Mismatch", OTHER_TICKET, "u", link=dataclasses.replace(SEALED, ticket_client=b"u")),
+    refused(f"{FRESH} h --keytab keys", "Mismatch", OTHER_TICKET, "u", link=dataclasses.replace(SEALED, ticket_session=b"n" * 32)),
+    VALID.but(f"{FRESH} h --keytab keys", link=SEALED),
+    # The cache's ticket has to be one, too.
+    KVNO.but(f"{FRESH} h", link=dataclasses.replace(SEALED, ticket_client=b"u")),
+    refused("KVNO h --keytab keys", "Mismatch", OTHER_TICKET),
+)
+
 SENT = (
     KINIT.but(sent=stamped),
     KINIT_V.but(link=Made(V), sent=unstamped),
@@ -588,7 +665,7 @@ SENT = (
     KVNO.but(link=dataclasses.replace(OF_H, version=None), out="h kvno 0"),
     refused(
         f"{FRESH} h --name h", "Mismatch", f"h: this name ended the command\nkclient: {OTHER_NONCE}", "uu", link=repeated(OF_H),
-        sent=presented((b"h",), 2, kind=1),
+        sent=presented((b"h",), 2, kind=1), is_partly_done=True,
     ),
     KVNO.but(f"{FRESH} h", link=dataclasses.replace(OF_H, version=300), out="h kvno 300"),
     KINIT_V.but(link=Made(V, flags=0x54C00000, renewable=604_800), held="krbtgt/A.B now - now+36000 now+604800 54c00000 18"),
@@ -639,9 +716,12 @@ TABLES = (
     Table("defaults", BY_DEFAULTS, is_other=True),
     Table("variables that are not UTF-8", BY_BAD_DEFAULTS),
     Table("krb5.conf", CONFIGS),
+    Table("names as plain words", DAILY),
+    Table("settings of krb5.conf", SETTINGS),
     Table("lists", LISTS),
     Table("replays", REPEATED),
     Table("keytabs of services", OPENED),
+    Table("a KDC that does not know the service's key", HOSTILE),
     Table("bytes", SENT),
     Table("codes", REFUSALS),
 )

@@ -8,9 +8,11 @@ The parts are
             and after, the memory after the server has dropped their authenticators, and what that cost
     pinned  the memory that one client pins, with usual requests and with the longest ones
     full    how long a client with a full replay cache is refused
+    bound   --takers clients pin all they can under a bound on the process's data (--data, as LimitDATA= of the unit), beside one client that
+            logs in and buys tickets; how long until all is well after they stop. With --preload another allocator
 
 It makes its realms in a temporary folder, and prints what it found. It ends with status 1 if a request got another reply than expected.
-`burst` takes some seven minutes, and `full` ten."""
+`burst` and `bound` take seven minutes or more, and `full` ten."""
 
 import argparse
 import concurrent.futures
@@ -19,6 +21,8 @@ import functools
 import itertools
 import os
 import random
+import resource
+import socket
 import statistics
 import sys
 import tempfile
@@ -299,7 +303,119 @@ def measure_full(words, folder):
     return sum(each.odd for each in refused)
 
 
-PARTS = {"burst": measure_burst, "pinned": measure_pinned, "full": measure_full}
+# A bound on memory.
+
+
+def taking(known, tcp, count):
+    """Sends the longest requests of a client, each once, and the usual ones once these get no reply. Returns how many got one, and when the
+    first one got none. The server ends a connection if memory runs out for a request on it."""
+    answered, refused = 0, None
+    for place in range(0, count, BATCH):
+        service = SERVICES[0] if refused else LONG_SERVICE
+        requests = [usual_request(known, int(time.time()), turn, service) for turn in range(place, place + BATCH)]
+        try:
+            with socket.create_connection(tcp, 30) as connection:
+                connection.sendall(b"".join(map(framed, requests)))
+                for _ in requests:
+                    read_message(connection)
+                    answered += 1
+        except (OSError, EOFError):
+            refused = refused or time.time()
+    return answered, refused
+
+
+class Beside(threading.Thread):
+    """A client that logs in and buys a ticket, over and over, one try each. `came` has the moment, and whether each of the two got its ticket."""
+
+    def __init__(self, server, number):
+        super().__init__(daemon=True)
+        self.number, self.came, self.is_over = number, [], False
+        self.peer = socket.socket(socket.AF_INET, socket.SOCK_DGRAM)
+        self.peer.connect(server.udp)
+        self.peer.settimeout(1)
+        self.start()
+
+    def ask(self, request):
+        with contextlib.suppress(TimeoutError):
+            self.peer.send(request)
+            return self.peer.recv(65536)
+        return b""
+
+    def run(self):
+        known, turns = None, itertools.count()
+        while not self.is_over:
+            reply = self.ask(as_req(REALM, client_of(self.number)))
+            known = (client_of(self.number), *ticket_in(KEY, reply)) if reply else known
+            bought = known and self.ask(usual_request(known, int(time.time()), next(turns)))
+            self.came.append((time.time(), bool(reply), bool(bought) and bought[0] == TICKET))
+            time.sleep(0.2)
+
+    def shares(self, since, until):
+        """How many of 100 logins, and of 100 tickets, came between these moments."""
+        found = [each for each in self.came if since <= each[0] < until]
+        return [f"{sum(each[place] for each in found) * 100 / max(1, len(found)):.0f}" for place in (1, 2)]
+
+    def end(self):
+        self.is_over = True
+        self.join()
+
+
+def measure_bound(words, folder):
+    environment = {**os.environ, **({"LD_PRELOAD": words.preload, "MALLOC_CONF": "background_thread:true"} if words.preload else {})}
+    server = RealmServer(words.kdcd, database(os.path.join(folder, "bound"), words.takers + 1), environment=environment)
+    most = words.data << 20
+    resource.prlimit(server.process.pid, resource.RLIMIT_DATA, (most, most))
+    with workers(words.workers, 0) as pool:
+        known = shared(pool, logged_in, range(words.takers), server.udp)
+        beside, start = Beside(server, words.takers), time.time()
+        calls = [pool.submit(taking, each, server.tcp, words.remembered[0]) for each in known]
+        found = [call.result() for call in calls]
+    over, reached = time.time(), min((at for _, at in found if at), default=None)
+    answered = sum(count for count, _ in found)
+    print(f"bound: {words.takers} clients, each with {words.remembered[0]} requests of the longest, under {words.data} MiB of data: {answered} "
+          f"tickets in {over - start:.0f} s; {server.resident_kib()} KiB then", flush=True)
+    if reached is None:
+        print("  WRONG: the bound was not reached")
+    else:
+        before, at_it = beside.shares(start, reached), beside.shares(reached, over)
+        print(f"  it was reached after {reached - start:.0f} s. Of 100 logins and 100 tickets beside it came {' and '.join(before)} before that, "
+              f"and {' and '.join(at_it)} from then on")
+    last = well_again(server, beside, over + 2 * SKEW + 2 * MINUTE)
+    if last:
+        since = beside.shares(over, last)
+        print(f"  all is well {last - over:.0f} s after they stopped; of 100 logins and 100 tickets {' and '.join(since)} came until then; "
+              f"{server.resident_kib()} KiB then", flush=True)
+    else:
+        print("  WRONG: it did not get well")
+    beside.end()
+    time.sleep(FREEING)
+    print(f"  {server.resident_kib()} KiB after {FREEING} s more", flush=True)
+    lives = server.process.poll() is None
+    server.end()
+    return int(not (lives and last and reached))
+
+
+def well_again(server, beside, end):
+    """The moment at which 100 longest requests of a client are answered again, and all that was asked beside them in the last 5 seconds."""
+    turns = itertools.count(500_000, BATCH)
+    while time.time() < end:
+        time.sleep(1)
+        now = time.time()
+        if not all(login and ticket for at, login, ticket in beside.came if at > now - 5):
+            continue
+        with contextlib.suppress(OSError, EOFError):
+            [known] = logged_in([0], server.udp)
+            with server.connect() as connection:
+                for place in itertools.islice(turns, 7):
+                    requests = [usual_request(known, int(now) - SKEW + 5, place + turn, LONG_SERVICE) for turn in range(BATCH)]
+                    connection.sendall(b"".join(map(framed, requests)))
+                    for _ in requests:
+                        read_message(connection)
+            return now
+    return None
+
+
+PARTS = {"burst": measure_burst, "pinned": measure_pinned, "full": measure_full, "bound": measure_bound}
 
 
 def main():
@@ -314,6 +430,9 @@ def main():
     words.add_argument("--workers", type=int, default=3, help="how many processes make requests")
     words.add_argument("--nice", type=int, default=19, help="how far these stand back")
     words.add_argument("--remembered", type=int, nargs="+", default=[4096, 65536])
+    words.add_argument("--takers", type=int, default=40, help="how many clients pin all they can")
+    words.add_argument("--data", type=int, default=768, help="the bound on the process's data, in MiB")
+    words.add_argument("--preload", help="the library of another allocator")
     words = words.parse_args()
     with tempfile.TemporaryDirectory() as folder, ending():
         odd = sum(PARTS[part](words, folder) for part in words.only)

@@ -39,12 +39,13 @@ def database_text(rows):
 class RealmServer(Server):
     """`kdcd serve` over the database at a path, with these further options."""
 
-    def __init__(self, kdcd, database, *more):
+    def __init__(self, kdcd, database, *more, environment=None):
         start = time.perf_counter()
         words = [kdcd, "serve", "--db", database, "--udp", "127.0.0.1:0", "--tcp", "127.0.0.1:0", "--first", *more]
-        self.process = subprocess.Popen(words, stdout=subprocess.PIPE, stderr=subprocess.PIPE, text=True)
+        self.process = subprocess.Popen(words, stdout=subprocess.PIPE, stderr=subprocess.PIPE, text=True, env=environment)
         RUNNING.append(self.process)
-        line = self.process.stderr.readline()
+        # Before that line it says what rights others have on its files.
+        line = next((line for line in self.process.stderr if "serving on" in line), "")
         self.started, self.used = time.perf_counter() - start, self.processor_seconds()
         found = re.search(r"udp (\S+):(\d+) and tcp (\S+):(\d+)", line)
         if not found:

@@ -68,7 +68,8 @@ class Server:
             words += ["--rounds", str(rounds)]
         self.process = subprocess.Popen(words, stdout=subprocess.PIPE, stderr=subprocess.PIPE, text=True)
         RUNNING.append(self.process)
-        line = self.process.stderr.readline()
+        # Before that line it says what rights others have on its files.
+        line = next((line for line in self.process.stderr if "serving on" in line), "")
         found = re.search(r"udp (\S+):(\d+) and tcp (\S+):(\d+)", line)
         if not found:
             sys.exit(f"the server did not start: {line}{self.process.stdout.read()}")

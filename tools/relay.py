@@ -11,13 +11,13 @@ import threading
 import time
 
 from hostile_kdc import error
-from kerberos import elements, encrypted_data, field, fields, general_string, integer, name, octet_string, opened, sequence, time_of, tlv
+from kerberos import elements, encrypted_data, field, fields, general_string, integer, name, octet_string, opened, sealed, sequence, time_of, tlv
 from trial import ask_udp, datagrams
 
 REALM = b"A.B"
-# The tags of AS-REQ, TGS-REQ and their replies, and the usages of the replies' keys (RFC 4120, sections 5.4.1, 5.4.2 and 7.5.1).
+# The tags of AS-REQ, TGS-REQ and their replies, and the usages of tickets' and replies' keys (RFC 4120, sections 5.4.1, 5.4.2 and 7.5.1).
 AS_REQ, TGS_REQ, AS_REP, TGS_REP = 0x6A, 0x6C, 0x6B, 0x6D
-OF_CLIENT, OF_SESSION = 3, 8
+OF_TICKET, OF_CLIENT, OF_SESSION = 2, 3, 8
 # What a connection gets that is closed without a reply.
 CLOSED = bytearray()
 # The seconds by which a clock may differ.
@@ -205,6 +205,11 @@ class Made:
     renewable: int | None = None
     version: int | None = 1
     ahead: int = 0
+    # The key that the ticket is encrypted with, if it is not random bytes, and its client, session key and end, if they are others.
+    ticket_key: bytes | None = None
+    ticket_client: bytes | None = None
+    ticket_session: bytes | None = None
+    ticket_end: int | None = None
 
     def __call__(self, message):
         """The link whose replies are these."""
@@ -223,14 +228,25 @@ class Made:
             *moment(7, self.end), *moment(8, self.renewable), field(9, general_string(self.service_realm)), field(10, asked[3]),
         ))
         version = [] if self.version is None else [field(1, integer(self.version))]
-        sealed = sequence(field(0, integer(18)), *version, field(2, octet_string(os.urandom(8))))
+        cipher = os.urandom(8) if self.ticket_key is None else sealed(self.ticket_key, OF_TICKET, self.ticket_part(now))
+        encrypted = sequence(field(0, integer(18)), *version, field(2, octet_string(cipher)))
         ticket = tlv(0x61, sequence(
-            field(0, integer(5)), field(1, general_string(self.service_realm)), field(2, asked[3]), field(3, sealed),
+            field(0, integer(5)), field(1, general_string(self.service_realm)), field(2, asked[3]), field(3, encrypted),
         ))
         usage = OF_CLIENT if is_first else OF_SESSION
         return tlv(AS_REP if is_first else TGS_REP, sequence(
             field(0, integer(5)), field(1, integer(11 if is_first else 13)), field(3, general_string(self.client_realm)),
             field(4, name(1, self.client)), field(5, ticket), field(6, encrypted_data(self.key, usage, part)),
+        ))
+
+    def ticket_part(self, now):
+        """What the ticket's encrypted part says (RFC 4120, section 5.3)."""
+        return tlv(0x63, sequence(
+            field(0, tlv(0x03, b"\0" + self.flags.to_bytes(4, "big"))),
+            field(1, sequence(field(0, integer(18)), field(1, octet_string(self.ticket_session or self.session)))),
+            field(2, general_string(self.client_realm)), field(3, name(1, self.ticket_client or self.client)),
+            field(4, sequence(field(0, integer(1)), field(1, octet_string(b"")))), field(5, time_of(now)),
+            field(7, time_of(now + (self.end if self.ticket_end is None else self.ticket_end))),
         ))
 
 

@@ -14,6 +14,7 @@ minutes, since one ticket has to be past its end; `--quick` leaves that ticket o
 differs, or what a sanitizer found; the status is 1 if anything did."""
 
 import argparse
+import contextlib
 import os
 import re
 import socket
@@ -21,7 +22,7 @@ import subprocess
 import tempfile
 import time
 
-from trial import PATIENCE, Differs, Notes, ending, expect, free_port
+from trial import PATIENCE, SLOWNESS, Differs, Notes, ending, expect, free_port
 from whole_way import OTHER, SERVICE, TYPES, Kdc, Lines, OwnRequest, Place, add_programs
 
 # The lifetime of a ticket that is presented past its end, and the clock skew that a service allows.
@@ -179,7 +180,7 @@ def without_mit(programs, folder):
     judged = subprocess.run(words, capture_output=True, text=True, timeout=PATIENCE)
     expect("ap_judged", (judged.returncode, judged.stdout, judged.stderr), (0, "0 failed\n", ""))
     port, requests = free_port(), [OwnRequest(place, SERVICE, None, choice) for choice in ((), ("mutual",))]
-    service = Lines(programs["ap_service"], place.path("keytab"), str(port), "first", "3", errors=True)
+    service = Lines(programs["ap_service"], place.path("keytab"), str(port), "first", "4", errors=True)
     for request, rest in zip([*requests, requests[0]], ("", ", asks for a reply", None)):
         reply = asked(port, bytes.fromhex(request.digits))
         line = service.line()
@@ -189,6 +190,9 @@ def without_mit(programs, folder):
             request.take(reply.hex())
         else:
             expect("the reply", reply, b"")
+    took = dripped(port)
+    expect("what the service says of a peer that sends a byte every half second", service.line(), "no message")
+    expect(f"{took:.1f} seconds of such a peer, where 10 are due", 9.9 <= took <= 11 + 2 * SLOWNESS, True)
     service.end()
 
 
@@ -202,6 +206,20 @@ def asked(port, request):
         except ConnectionRefusedError:
             time.sleep(0.1)
     raise Differs("the service does not listen")
+
+
+def dripped(port):
+    """The seconds until the service closes a connection whose peer sends a byte every half second."""
+    begun = time.monotonic()
+    with contextlib.suppress(ConnectionError), socket.create_connection(("127.0.0.1", port), 10) as peer:
+        peer.settimeout(0.5)
+        peer.sendall((1000).to_bytes(4, "big"))
+        is_open = True
+        while is_open and time.monotonic() < begun + PATIENCE:
+            peer.sendall(b"n")
+            with contextlib.suppress(TimeoutError):
+                is_open = peer.recv(1) != b""
+    return time.monotonic() - begun
 
 
 def begun(programs, folder, etype, old):

@@ -165,6 +165,24 @@ def unpacked(*roots):
     return {**found, "LD_LIBRARY_PATH": ":".join(libraries)} if libraries else found
 
 
+def of_mit(root, folder):
+    """The environment of MIT's programs beside a KDC in this folder."""
+    return {**unpacked(root), "KRB5_CONFIG": str(folder / "krb5.conf"), "KRB5_KDC_PROFILE": str(folder / "kdc.conf")}
+
+
+def keytab(kdc, root, folder, name):
+    """Writes the keys of a service of a KDC in this folder to a keytab, and returns its path."""
+    file = str(folder / f"{name}.keytab")
+    if kdc == "kdcd":
+        run([programs_in(root, ("kadm",))["kadm"], "keytab", "--db", folder / "database", "--name", name, "--out", file])
+    elif kdc == "mit":
+        run(["kadmin.local", "-q", f"ktadd -norandkey -k {file} {name}"], env=of_mit(root, folder))
+    else:
+        configuration = f"--config-file={folder}/kdc-18.conf"
+        run(["kadmin.heimdal", "-l", configuration, "ext_keytab", f"--keytab={file}", name], env=unpacked(root))
+    return file
+
+
 def mit(root, folder, realm, principals, port):
     (folder / "krb5.conf").write_text(f"""
 [libdefaults]
@@ -186,8 +204,7 @@ def mit(root, folder, realm, principals, port):
         supported_enctypes = {NAMES[18]}:normal
     }}
 """)
-    known = unpacked(root)
-    known.update(KRB5_CONFIG=str(folder / "krb5.conf"), KRB5_KDC_PROFILE=str(folder / "kdc.conf"))
+    known = of_mit(root, folder)
     run(["kdb5_util", "create", "-s", "-P", "master"], env=known)
     for each in principals:
         types = ",".join(f"{NAMES[etype]}:normal" for etype in each.types)

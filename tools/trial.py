@@ -157,6 +157,8 @@ class Trial(Notes):
         super().__init__()
         self.programs, self.folder = programs, folder / "none"
         self.environment = {"PATH": os.environ["PATH"], "HOME": "/", "LANG": "C.UTF-8", "KRB5_CONFIG": "krb5.conf"}
+        # Without it a command would use the cache of the person that runs the trials.
+        self.environment["KRB5CCNAME"] = "FILE:default_cache"
         # The libraries of unpacked stock programs.
         self.environment |= {name: os.environ[name] for name in ("LD_LIBRARY_PATH",) if name in os.environ}
         # The words that a word of a command line stands for.
@@ -251,13 +253,23 @@ def programs_in(folder, names=("kadm", "kdcd", "kclient")):
     return found
 
 
-def fixed_system(folder):
-    """The library that sets what the system shows to a program (`fixed_system.c`). It is made in this folder, once."""
-    made = pathlib.Path(folder, "fixed_system.so")
+def preloaded(name, folder):
+    """The library that is made of a source of this folder, to be loaded before the C library. It is made in the other folder, once."""
+    made = pathlib.Path(folder, f"{name}.so")
     if not made.exists():
         compiler = [kit() / "toolchain" / "bin" / "clang", "-fuse-ld=lld", "-O1", "-shared", "-fPIC", "-nostdlib", "-fno-builtin"]
-        subprocess.run([*compiler, TOOLS / "fixed_system.c", "-o", made], check=True)
+        subprocess.run([*compiler, TOOLS / f"{name}.c", "-o", made], check=True)
     return str(made)
+
+
+def fixed_system(folder):
+    """The library that sets what the system shows to a program."""
+    return preloaded("fixed_system", folder)
+
+
+def refused_memory(folder):
+    """The library that refuses allocations of a program."""
+    return preloaded("refused_memory", folder)
 
 
 def free_port():
@@ -343,7 +355,7 @@ class Server:
 
     def read_addresses(self):
         if "kdcd: limits: " in self.said():
-            self.addresses = re.findall(r"(udp|tcp) (\S+:\d+)", self.said().partition("\n")[0])
+            self.addresses = re.findall(r"(udp|tcp) (\S+:\d+)", re.search("kdcd: serving on .*", self.said())[0])
         return "kdcd: limits: " in self.said()
 
     def said(self):

@@ -1,8 +1,9 @@
 #!/usr/bin/env python3
 """Tries the built programs, as `.ci/run` does after `rt ci`: the realm of README.md, each option and limit, sessions of `kadm`, command lines
 of `kclient`, scripts of a KDC, our client against our server and against MIT's and Heimdal's, stock clients against our server, the whole way to
-a service in Rattle and in C, hostile peers and servers, a server whose clock is set, a `kadm` that is killed, and allocations that fail. It also
-checks the words of pages and comments. It needs Linux and Python 3, and a C compiler for some parts.
+a service in Rattle and in C, hostile peers and servers, attacks of users, a server whose clock is set, a `kadm` that is killed, and allocations
+that fail. It also checks the unit of systemd, the words of pages and comments, and that the texts of edits still stand. It needs Linux and
+Python 3; a C compiler for some parts.
 
     python3 tools/try_all.py [--only PART ..] [--stock FOLDER] [--all-lines]
 
@@ -228,24 +229,30 @@ def parts(stock):
     client = lambda each, *needs: Part(f"clients of {each}", script("try_client.py", "--only", each, *roots), *needs)
     fault = lambda each: Part(f"faults: {each}", script("try_faults.py", "--only", each))
     server = lambda each: Part(f"server: {each}", script("try_server.py", "--only", each))
+    attack = lambda each: Part(f"attacks: {each}", script("try_attacks.py", "--only", each))
     return [
         Part("services in C by MIT's library", script("services_in_c.py", "--quick", *words), stock.services_and_clients, True),
         Part("services in C", script("services_in_c.py", "--without-mit", *words), stock.services, True),
         *[Part(f"hostile {each}", script("hostile_kdc.py", "--only", each)) for each in ("answers", "octets", "files")],
-        fault("sockets"),
+        fault("sockets"), attack("memory"),
         *map(operator, ("stock", "words", "log", "limits", "pairs", "kclient")),
         *map(fault, ("memory", "each", "killed", "journal")),
+        Part("each allocation of each marked call", script("refuse_allocations.py")),
         Part("kadm killed at its calls", script("kill_kadm.py", "--every", 7), stock.strace),
         Part("sessions of kadm", script("try_sessions.py")),
         Part("command lines of kclient", script("try_kclient.py")),
+        Part("logins that are verified", script("try_login.py")),
         client("kdcd"), client("mit", lambda: stock.need("mit")), client("heimdal", lambda: stock.need("heimdal")),
         *map(operator, ("lock", "change", "kadm", "addresses", "terminal")),
         Part("scripts", script("try_script.py")),
-        *map(server, ("journals", "logs", "life", "clocks", "options", "starts")),
+        *map(server, ("journals", "logs", "life", "places", "clocks", "options", "starts")),
+        *map(attack, ("forged", "noise")),
+        Part("the unit", script("try_unit.py")),
         Part("the whole way", script("whole_way.py")),
         Part("the whole way by MIT's library", script("whole_way.py", "--mk-req", made["mk_req"]), lambda: stock.with_krb5("mk_req")),
         Part("README.md", script("try_readme.py")),
         Part("words of pages and comments", script("try_words.py")),
+        Part("texts of edits", script("try_edits.py", "--stale")),
     ]
 
 

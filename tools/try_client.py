@@ -14,7 +14,7 @@ import pathlib
 import subprocess
 import tempfile
 
-from stock_kdcs import Principal, heimdal, kdcd, mit, unpacked
+from stock_kdcs import Principal, heimdal, kdcd, keytab, mit, unpacked
 from trial import PATIENCE, Notes, ending, free_port, programs_in
 
 REALM = "A.B"
@@ -34,12 +34,13 @@ SERVICES = [each.name for each in PRINCIPALS if not each.password]
 class Trial(Notes):
     """Commands against one KDC."""
 
-    def __init__(self, words, name, folder, kdc):
+    def __init__(self, words, name, folder, kdc, keytab):
         super().__init__()
         self.words, self.name, self.folder, self.kdc = words, name, folder, kdc
         self.clients = [each for each in CLIENTS if each not in UNOPENED.get(name, ())]
         self.password = self.write("pw", PASSWORD + "\n")
-        self.kclient = programs_in(words.programs)["kclient"]
+        programs = programs_in(words.programs, ("kclient", "krb_login"))
+        self.kclient, self.krb_login, self.keytab = programs["kclient"], programs["krb_login"], keytab
         self.configuration = self.write("client.conf", f"""
 [libdefaults]
     default_realm = {REALM}
@@ -85,6 +86,12 @@ class Trial(Notes):
                 self.kvno(SERVICES, *way)
                 self.expect([self.kclient, "klist", "--cache", str(self.folder / "cc")], [f"principal {name}@{REALM}", "h20@"])
         self.kinit("u", "--life", "3600", "--renewable", "--forwardable")
+        # a login, and a ticket, that the service's keytab verifies
+        words = [self.kclient, "kvno", "--kdc", self.kdc.address, "--cache", str(self.folder / "cc"), "--name", "h", "--keytab", self.keytab]
+        self.expect(words, ["h kvno 1, keytab entry valid"])
+        environment = {**os.environ, "KRB5_CONFIG": self.configuration}
+        for name in self.clients:
+            self.expect([self.krb_login, name, "h", self.keytab], [], environment=environment, given=PASSWORD + "\n")
         self.kinit("nobody", wanted=("refused 6",), status=1, cache="none")
         self.write("pw", "another password\n")
         self.kinit("u", wanted=("refused 24",), status=1, cache="none")
@@ -122,7 +129,7 @@ class Trial(Notes):
 
 def main():
     words = argparse.ArgumentParser(description=__doc__, formatter_class=argparse.RawDescriptionHelpFormatter)
-    words.add_argument("--programs", default=pathlib.Path(__file__).resolve().parent.parent / "crates", help="the folder of kadm, kdcd and kclient, or that of the crates")
+    words.add_argument("--programs", default=pathlib.Path(__file__).resolve().parent.parent / "crates", help="the folder of kadm, kdcd, kclient and krb_login, or that of the crates")
     words.add_argument("--mit", help="the folder of MIT's packages; left out, its programs are not tried")
     words.add_argument("--heimdal", help="the folder of Heimdal's packages; left out, its programs are not tried")
     words.add_argument("--only", nargs="+", default=["kdcd", "mit", "heimdal"], help="kdcd, mit, heimdal")
@@ -139,7 +146,7 @@ def main():
             for each in folders:
                 each.mkdir()
             server = start(root, folders[0], REALM, PRINCIPALS, free_port())
-            trial = Trial(words, name, folders[1], server)
+            trial = Trial(words, name, folders[1], server, keytab(name, root, folders[0], "h"))
             trial.go()
             if name in UNOPENED:
                 notes.leave(f"{' and '.join(UNOPENED[name])} at the KDC of {name}, whose reply to them no password opens")

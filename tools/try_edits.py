@@ -1,16 +1,24 @@
 #!/usr/bin/env python3
-"""Tries edits that the prover has to refuse, outside the gate: those of tools/edits/CRATE.edits. The gate no longer tries them, since each
-costs it 15 to 60 processor seconds. They were refused over the crate as it was when they left crates/CRATE/must-fail/.
+"""Tries edits that the prover has to refuse, outside the gate: those of tools/edits/CRATE.edits. The gate tries those of crates/CRATE/must-fail/
+alone, since each costs it 15 to 60 processor seconds.
 
     python3 tools/try_edits.py [--list | --whole] CRATE [NAME ..]
+    python3 tools/try_edits.py --all
     python3 tools/try_edits.py --stale
 
 A file has, for each edit, a line `= NAME` and below it the lines of a file of must-fail/: `file:`, and pairs of `old:` and `new:`. They are
 tried in a copy of the repository, over the libraries that were built here. Only the functions that an edit changes are checked. If that refuses
 nothing, or with --whole, `rt must-fail` checks the whole crate, and prints the result. The status is 1 if an edit was not refused. --list
-prints the names, and --stale the names of those edits, of all crates, whose old text is no longer in its file exactly once."""
+prints the names.
+
+--all tries those of all crates: first together those of one crate that each change another function, and alone those that this does not refuse.
+Its last line is `DATE COMMIT: N refused, M not refused`.
+
+--stale tries nothing. It names the edits, of the gate too, whose old text is no longer in its file exactly once, and those in the table of wrong
+bodies of docs/PROMISES.md that there are not. The last line is `N passed, M failed`. The gate runs this (`tools/try_all.py`)."""
 
 import argparse
+import datetime
 import os
 import pathlib
 import re
@@ -44,18 +52,19 @@ def last(pattern, text):
 
 
 def function_at(crate, file, text, end):
-    """The path of the last function before this place of a file."""
+    """The name of the last function before this place of a file, as much of its end as `--only` needs. (The module of a method may be that of
+    its type.)"""
     function = last(FUNCTION, text[:end])
     owner = last(IMPL, text[:function.start()]) if function and function[1] else None
-    module = "::".join(part for part in pathlib.PurePath(file).with_suffix("").parts[1:] if part not in ("lib", "main"))
-    names = [crate, module, owner and f"{owner[2]}{owner[1] or ''}", function and function[2]]
-    return "::".join(name for name in names if name) if function else None
+    modules = [part for part in pathlib.PurePath(file).with_suffix("").parts[1:] if part not in ("lib", "main")]
+    names = [f"{owner[2][0].upper()}{owner[2][1:]}{owner[1] or ''}"] if owner else modules or [crate]
+    return "::".join([*names, function[2]]) if function else None
 
 
-def applied(crate, edit):
+def applied(crate, edit, before=()):
     """The texts of the files that an edit changes, by their paths in the crate, and the functions that it changes. Returns None if an old text
-    is not exactly once in its file, as the pairs before it left that."""
-    file, old, texts, functions = "", "", {}, set()
+    is not exactly once in its file, as the pairs before it left that. `before` has the texts of files that other edits changed."""
+    file, old, texts, functions = "", "", dict(before), set()
     for line in edit.splitlines():
         word, _, rest = line.partition(": ")
         if word == "file":
@@ -92,8 +101,8 @@ def copied(crate, folder):
     return place
 
 
-def refusal(place, texts, functions):
-    """What the check of these functions refuses, with these texts in place of the crate's own, if anything."""
+def said_of(place, texts, functions):
+    """The lines of the check of these functions, with these texts in place of the crate's own, and whether it came to its end."""
     own = {path: (place / path).read_text() for path in texts}
     for path, text in texts.items():
         (place / path).write_text(text)
@@ -102,9 +111,17 @@ def refusal(place, texts, functions):
     for path, text in own.items():
         (place / path).write_text(text)
     counts = re.search(r"^only=(\d+) proved=(\d+)$", said, re.M)
-    if not counts or counts[1] == counts[2]:
-        return None
-    return next((line for line in said.splitlines() if REFUSED.match(line) and not GONE.search(line)), None)
+    return said.splitlines(), bool(counts) and counts[1] != counts[2]
+
+
+def refusal(place, texts, functions):
+    """What the check of these functions refuses, with these texts in place of the crate's own, if anything."""
+    lines, is_refused = said_of(place, texts, functions)
+    return next((line for line in lines if is_refused and REFUSED.match(line) and not GONE.search(line)), None)
+
+
+def show(crate, name, said):
+    print(f"{crate}/{name}: refused, as it must be: {said[:160]}", flush=True)
 
 
 def tried(place, crate, name, edit, is_whole):
@@ -112,7 +129,7 @@ def tried(place, crate, name, edit, is_whole):
     found = applied(crate, edit)
     said = refusal(place, *found) if found and found[1] and not is_whole else None
     if said:
-        print(f"{crate}/{name}: refused, as it must be: {said[:160]}", flush=True)
+        show(crate, name, said)
         return True
     folder = place / "must-fail"
     folder.mkdir()
@@ -122,20 +139,81 @@ def tried(place, crate, name, edit, is_whole):
     return status == 0
 
 
+def tried_together(place, crate, known):
+    """Tries, in one check, edits that each change another function. Returns the names of the tried ones, and of the refused ones."""
+    texts, by_function = {}, {}
+    for name, edit in known.items():
+        found = applied(crate, edit, texts)
+        if found and len(found[1]) == 1 and found[1][0] not in by_function:
+            texts, by_function[found[1][0]] = found[0], name
+    lines, _ = said_of(place, texts, sorted(by_function))
+    refused = set()
+    for function, name in by_function.items():
+        tail = function.removeprefix(f"{crate}::")
+        places = (f"::{tail}: ", f"/{tail.replace('::', '/')}/")
+        its_own = (line for line in lines if any(place in line[:line.find(": ") + 2] for place in places))
+        if said := next((line for line in its_own if REFUSED.match(line) and not GONE.search(line)), None):
+            show(crate, name, said)
+            refused.add(name)
+    return set(by_function.values()), refused
+
+
+def try_all():
+    """Tries the edits of all crates, and prints how many were refused. Returns whether all were."""
+    refused, wrong = 0, []
+    for file in sorted((TOP / "tools" / "edits").glob("*.edits")):
+        crate, known = file.stem, edits_of(file.stem)
+        with tempfile.TemporaryDirectory() as folder:
+            place, left, alone = copied(crate, pathlib.Path(folder)), dict(known), {}
+            while left:
+                together, found = tried_together(place, crate, left)
+                alone |= {name: left[name] for name in (together or set(left)) - found}
+                left = {name: edit for name, edit in left.items() if name not in together} if together else {}
+            wrong += [f"{crate}/{name}" for name, edit in alone.items() if not tried(place, crate, name, edit, False)]
+        refused += len(known)
+    print(*[f"NOT REFUSED {name}" for name in wrong], sep="\n", end="\n" * bool(wrong))
+    commit = subprocess.run(["git", "rev-parse", "--short", "HEAD"], cwd=TOP, stdout=subprocess.PIPE, text=True).stdout.strip()
+    print(f"{datetime.date.today()} {commit}: {refused - len(wrong)} refused, {len(wrong)} not refused")
+    return not wrong
+
+
+def every_edit():
+    """The crate, the name, the place and the text of each edit, of the gate too."""
+    for file in sorted((TOP / "tools" / "edits").glob("*.edits")):
+        for name, edit in edits_of(file.stem).items():
+            yield file.stem, name, f"tools/edits/{file.name}, {name}", edit
+    for file in sorted(TOP.glob("crates/*/must-fail/*.edit")):
+        yield file.parent.parent.name, file.stem, str(file.relative_to(TOP)), file.read_text()
+
+
+def named_edits():
+    """The edits that the table of wrong bodies names: those of the gate by their crate and name."""
+    table = (TOP / "docs" / "PROMISES.md").read_text().partition("\n## Wrong bodies\n")[2].partition("\n## ")[0]
+    return [name for line in table.splitlines() if line.startswith("|") for name in re.findall(r"`(\w+/\w+)`", line)]
+
+
+def find_stale():
+    """Names the edits that can't be applied, or don't exist, and returns whether there are none."""
+    known, wrong = list(every_edit()), []
+    wrong += [f"{place}: an old text is not in its file exactly once" for crate, _, place, edit in known if not applied(crate, edit)]
+    names, named = {f"{crate}/{name}" for crate, name, _, _ in known}, named_edits()
+    wrong += [f"docs/PROMISES.md: there is no edit {name}" for name in named if name not in names]
+    print(*[f"WRONG {line}" for line in wrong], sep="\n", end="\n" * bool(wrong))
+    print(f"{len(known) + len(named) - len(wrong)} passed, {len(wrong)} failed")
+    return not wrong
+
+
 def main():
     words = argparse.ArgumentParser(description=__doc__, formatter_class=argparse.RawDescriptionHelpFormatter)
     words.add_argument("--list", action="store_true")
     words.add_argument("--stale", action="store_true")
+    words.add_argument("--all", action="store_true")
     words.add_argument("--whole", action="store_true")
     words.add_argument("crate", nargs="?")
     words.add_argument("name", nargs="*")
     words = words.parse_args()
-    if words.stale:
-        for file in sorted((TOP / "tools" / "edits").glob("*.edits")):
-            for name, edit in edits_of(file.stem).items():
-                if not applied(file.stem, edit):
-                    print(file.stem, name)
-        return
+    if words.stale or words.all:
+        sys.exit(not (find_stale() if words.stale else try_all()))
     known = edits_of(words.crate)
     if not known:
         sys.exit(f"{words.crate} has no edits in {TOP / 'tools' / 'edits'}")

@@ -1,7 +1,7 @@
 #!/usr/bin/env python3
 """Tries what can go wrong around the built programs: peers of `kdcd serve` that close half of a connection, are slow, never read, are idle or
 send nonsense; whether each of many requests is answered; a `kadm` that is killed while it writes; and allocations that fail in `kadm`,
-`kclient`, `kdcd` and `ap_whois`. It needs Linux and Python 3, and a C compiler for the last part.
+`kclient`, `kdcd` and `ap_whois`. It needs Linux, Python 3 and the toolchain.
 
     python3 tools/try_faults.py [--programs FOLDER] [--only PART ..] [--places N]
 
@@ -19,7 +19,6 @@ import random
 import re
 import resource
 import select
-import shutil
 import signal
 import socket
 import subprocess
@@ -29,7 +28,9 @@ import time
 from concurrent.futures import ThreadPoolExecutor
 
 from kerberos import body, elements, field, fields, integer, key_of, sequence, tgs_req, ticket_in, tlv
-from trial import PATIENCE, REALM, SLOWNESS, Server, Trial, answer, ask_tcp, ask_udp, datagrams, ending, login, place_of, programs_in
+from trial import (
+    PATIENCE, REALM, SLOWNESS, Server, Trial, answer, ask_tcp, ask_udp, datagrams, ending, login, place_of, programs_in, refused_memory,
+)
 
 # The connections that are served at once (docs/OPERATIONS.md, 'Limits'), and the server's files that are not connections.
 CONNECTIONS, OTHER_FILES = 256, 16
@@ -613,7 +614,7 @@ def try_doubts(trial, file, buyer):
     whole = file.read_bytes()
     changed = bytes([*whole[:100], whole[100] ^ 1, *whole[101:]])
     for what, octets, mode in (
-        ("cut", whole[:-1], 0o600), ("changed", changed, 0o600), ("empty", b"", 0o600), ("another file", b"text", 0o600),
+        ("cut", whole[:-1], 0o600), ("changed", changed, 0o600), ("empty", b"", 0o600),
         ("what others may write", whole, 0o666),
     ):
         file.write_bytes(octets)
@@ -654,90 +655,14 @@ def try_full(trial, folder, buyer):
     server.end()
 
 
-# Lets the allocation with the number REFUSED fail, and writes the number of allocations into the file COUNTED. A read of standard input gives at
-# most PIECE bytes, and one fails after READS good ones; a write to standard output fails after WRITES good ones.
-LINES = r"""
-#define _GNU_SOURCE
-#include <dlfcn.h>
-#include <errno.h>
-#include <limits.h>
-#include <stdio.h>
-#include <stdlib.h>
-#include <unistd.h>
-
-static long calls, refused = -1;
-
-static int is_refused(void)
-{
-    if (refused < 0) {
-        const char *text = getenv("REFUSED");
-        refused = text ? atol(text) : 0;
-    }
-    return ++calls == refused;
-}
-
-#define NEXT(name) static __typeof__(name) *next; if (!next) next = dlsym(RTLD_NEXT, #name)
-
-void *malloc(size_t size) { NEXT(malloc); return is_refused() ? 0 : next(size); }
-void *realloc(void *old, size_t size) { NEXT(realloc); return is_refused() ? 0 : next(old, size); }
-void *aligned_alloc(size_t align, size_t size) { NEXT(aligned_alloc); return is_refused() ? 0 : next(align, size); }
-
-static long number(const char *name)
-{
-    const char *text = getenv(name);
-    return text ? atol(text) : LONG_MAX;
-}
-
-static ssize_t failed(void)
-{
-    errno = ECONNRESET;
-    return -1;
-}
-
-ssize_t read(int file, void *to, size_t size)
-{
-    static long reads;
-    NEXT(read);
-    if (file != 0)
-        return next(file, to, size);
-    size_t most = number("PIECE");
-    return reads++ == number("READS") ? failed() : next(file, to, size < most ? size : most);
-}
-
-ssize_t write(int file, const void *from, size_t size)
-{
-    static long writes;
-    NEXT(write);
-    return file == 1 && writes++ == number("WRITES") ? failed() : next(file, from, size);
-}
-
-__attribute__((destructor)) static void write_count(void)
-{
-    const char *name = getenv("COUNTED");
-    long counted = calls;
-    FILE *file = name ? fopen(name, "w") : 0;
-    if (file) {
-        fprintf(file, "%ld", counted);
-        fclose(file);
-    }
-}
-"""
-
-
-def preloaded(trial):
-    """The environment in which allocations are counted and fail, or None."""
-    compiler = shutil.which("cc")
-    if not compiler:
-        return None
-    (trial.folder / "refuse.c").write_text(LINES)
-    words = [compiler, "-O1", "-shared", "-fPIC", "refuse.c", "-o", "refuse.so"]
-    subprocess.run(words, cwd=trial.folder, check=True)
-    return {**trial.environment, "LD_PRELOAD": str(trial.folder / "refuse.so"), "COUNTED": str(trial.folder / "counted")}
+def refusing(trial):
+    """The environment in which allocations are counted and fail."""
+    return {**trial.environment, "LD_PRELOAD": refused_memory(trial.folder), "COUNTED": str(trial.folder / "counted")}
 
 
 def contents(folder):
     """The files of a folder, without locks, counts and the logs of servers."""
-    kept = (each for each in folder.iterdir() if each.suffix not in (".lock", ".c", ".so") and not re.fullmatch(r"counted|log\d+", each.name))
+    kept = (each for each in folder.iterdir() if each.suffix not in (".lock", ".so") and not re.fullmatch(r"counted|log\d+", each.name))
     return {each.name: each.read_bytes() for each in kept}
 
 
@@ -780,10 +705,7 @@ def refuse_each(trial, environment, words, places, given="", status=3, out=None)
 def try_memory(trial):
     """Allocations that fail."""
     trial.realm("memory")
-    environment = preloaded(trial)
-    if not environment:
-        trial.leave("allocations that fail, since there is no C compiler cc")
-        return
+    environment = refusing(trial)
     for words in (
         "init --db new --realm R.S", "add --name w --password-file pw", "passwd --name w --password-file other", "random --name r",
         "random --name r", "drop --name r --version 1", "policy --name w --field disabled --value true", "list", "show --name w",

@@ -174,8 +174,8 @@ class Sequence:
         if self.relay.ways != run.ways:
             faults.append(f"sends {self.relay.ways!r}, and not {run.ways!r}")
         after = self.cache()
-        if run.status != 0 and not run.is_unprinted and after != before:
-            faults.append("changes the cache")
+        if run.status != 0 and not run.is_unprinted and (after != before) != run.is_partly_done:
+            faults.append("does not keep what came" if run.is_partly_done else "changes the cache")
         if run.held:
             # A renewed ticket lives as long as the first one: a second less than was asked for, if the KDC began it in the next second.
             begun, ended = self.moments["login"]

@@ -67,18 +67,18 @@ GOOD = {
 # The options of each command: `!` is required, `*` may be given more than once, and `-` has no value.
 COMMANDS = {
     "kadm init": "db! realm! seed",
-    "kadm add": "db! name! password-file types random- service- any-password-",
-    "kadm passwd": "db! name! password-file types replace- any-password-",
-    "kadm random": "db! name! seed types replace-",
-    "kadm drop": "db! name! version older-",
-    "kadm policy": "db! name! field! value!",
-    "kadm remove": "db! name!",
-    "kadm import": "db! name! keytab! types",
+    "kadm add": "db! name! password-file types random- service- any-password- keep-mode-",
+    "kadm passwd": "db! name! password-file types replace- any-password- keep-mode-",
+    "kadm random": "db! name! seed types replace- existing- keep-mode-",
+    "kadm drop": "db! name! version older- keep-mode-",
+    "kadm policy": "db! name! field! value! keep-mode-",
+    "kadm remove": "db! name! keep-mode-",
+    "kadm import": "db! name! keytab! types keep-mode-",
     "kadm list": "db! like long-",
     "kadm lint": "db!",
     "kadm show": "db! name!",
-    "kadm keytab": "db! name! out! append-",
-    "kadm migrate": "db! users-are-no-services-",
+    "kadm keytab": "db! name! out! append- keep-mode-",
+    "kadm migrate": "db! users-are-no-services- keep-mode-",
     "kdcd serve": "db! udp!* tcp* log- log-format first- journal quiet-start- fixed- seed rounds remembered lock-after lock-seconds "
     "greatest-life greatest-renewable",
     "kclient kinit": "kdc* realm name! password-file keytab cache service seed life start least-count renewable- "
@@ -175,7 +175,9 @@ def try_kadm(trial):
         kadm list --db database --like t --long -> 0 =t 2 17 never never false 1 true
         kadm policy --db database --name t --field preauth --value false -> 0 =ok
         kadm policy --db database --name t --field expires --value 2020-01-01 -> 0 =ok
-        kadm lint --db database -> 0 a older_versions 1; t expired 2020-01-01T00:00:00Z; t no_preauth; t may_be_service
+        kadm lint --db database -> 0 a old_passwords 1 #; t expired 2020-01-01T00:00:00Z #; t no_preauth #; t may_be_service #
+        kadm random --db database --name nobody --existing -> 1 =refused Absent
+        kadm random --db database --name nobody --replace -> 1 =refused Absent
         kadm keytab --db database --name t --out t.keytab -> 0 =ok
         kadm remove --db database --name s -> 0 =ok
         kadm remove --db database --name t -> 0 =ok
@@ -263,7 +265,7 @@ def try_limits(trial):
             kdcd serve --db . --udp 127.0.0.1:0 -> 3 =failed
             kdcd serve --db database --seed short --udp 127.0.0.1:0 -> 1 =refused ShortSeed; short: 
             kdcd serve --db database --seed none --udp 127.0.0.1:0 -> 3 =failed; none: No such file
-            kdcd serve --db database --seed /dev/zero --udp 127.0.0.1:0 -> 1 =refused LongFile; /dev/zero: it is longer than the maximum
+            kdcd serve --db database --seed /dev/zero --udp 127.0.0.1:0 -> 3 =failed; /dev/zero: it is no file
         """)
     served = trial.serve("--first --remembered 1")
     trial.cases("KINIT u --password-file pw -> 0 =ok\nKVNO h -> 0 =h kvno 1\nKVNO host/n -> 1 =refused 29")
@@ -368,7 +370,7 @@ def try_kclient(trial):
         kclient kinit --renew --life 60 --kdc KDC --cache cc -> 2 --renew
         kclient klist --cache cc --keytab h.keytab -> 2 --keytab
         kclient klist --cache text -> 1 =refused BadMagic; text: 
-        kclient klist --cache none -> 3 =failed; none: No such file
+        kclient klist --cache none -> 1 =refused Absent; none: there is no cache
         kclient kinit --kdc KDC --realm A.B --name u --keytab u.keytab --cache no/cc -> 3 =failed; no/cc: 
         kclient kinit --kdc 127.0.0.1:9 --realm A.B --name u --keytab u.keytab --cache cc -> 3 =failed; 127.0.0.1:9: 
         kclient kinit --kdc KDC --realm X.Y --name u --password-file pw --cache cc -> 1 =refused 6
@@ -413,7 +415,7 @@ def try_pairs(trial):
 
 
 def try_owners(trial):
-    """A changed file keeps its owner, group and mode."""
+    """A changed file keeps its owner and group, and with `--keep-mode` its mode."""
     if os.geteuid():
         trial.leave("owners and groups: only root can give files away")
         return
@@ -429,12 +431,14 @@ def try_owners(trial):
         os.chmod(trial.folder / name, mode)
     # An existing lock keeps its owner, so the next command makes one.
     (trial.folder / "database.lock").unlink()
-    trial.expect("kadm random --db database --name h", 0, "=ok")
-    trial.expect("kadm keytab --db database --name h --out shared.keytab --append", 0, "=ok")
-    for name, wanted in kept.items():
-        found = (trial.folder / name).stat()
-        found = (found.st_uid, found.st_gid, found.st_mode & 0o777)
-        trial.note(f"{name} keeps its owner, group and mode", "" if found == wanted else str(found))
+    for mode, option in ((None, " --keep-mode"), (0o600, "")):
+        trial.expect(f"kadm random --db database --name h{option}", 0, "=ok")
+        trial.expect(f"kadm keytab --db database --name h --out shared.keytab --append{option}", 0, "=ok")
+        for name, wanted in kept.items():
+            found = (trial.folder / name).stat()
+            found = (found.st_uid, found.st_gid, found.st_mode & 0o777)
+            fault = "" if found == (*wanted[:2], mode or wanted[2]) else str(found)
+            trial.note(f"{name} keeps its owner and group, and its mode{option or ' is 600'}", fault)
     lock, secret = trial.folder / "database.lock", trial.folder / "secret"
     owner = lock.stat().st_uid
     trial.note("a lock that is made belongs to the owner of the database", "" if owner == 65534 else str(owner))

@@ -69,11 +69,12 @@ def log_in(trial, lines):
 
 def try_example(trial):
     """`krb_login` prints when its ticket ends, in seconds since 1970; with another password why there is none."""
-    ran = trial.run("krb_login alice host/www.example.com", given="a password\n")
+    trial.expect("kadm keytab --db database --name host/www.example.com --out www.keytab", 0, "=ok")
+    ran = trial.run("krb_login alice host/www.example.com www.keytab", given="a password\n")
     ends = ran.out.strip()
     late = ends.isdecimal() and int(ends) > time.time()
     trial.note("krb_login gets a ticket", ran.fault(0) or f"it prints {ran.out!r}" * (not late))
-    ran = trial.run("krb_login alice host/www.example.com", given="another password\n")
+    ran = trial.run("krb_login alice host/www.example.com www.keytab", given="another password\n")
     refused = re.fullmatch(r"127\.0\.0\.1:\d+: error 24: .*\n", ran.out)
     trial.note("krb_login says why it gets none", ran.fault(1) or f"it prints {ran.out!r}" * (not refused))
 

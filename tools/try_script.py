@@ -1,7 +1,7 @@
 #!/usr/bin/env python3
 """Tries scripts of `kdcd script`: lines in none of the forms; lines and inputs of the maximum length; requests whose replies come from a model of
 the exchanges that shares no code with this repository; replay caches and locks; clients that have to get the same replies without each other; and
-reads, writes and allocations that fail. It needs Linux and Python 3, and a C compiler for the last part.
+reads, writes and allocations that fail. It needs Linux, Python 3 and the toolchain.
 
     python3 tools/try_script.py [--programs FOLDER] [--only PART ..]
 
@@ -17,7 +17,7 @@ from kerberos import (
     timestamp, tlv,
 )
 from trial import REALM, Trial, answer, ending, programs_in
-from try_faults import preloaded
+from try_faults import refusing
 
 MIDNIGHT = 1704067200
 # The maximum lengths of a line and of an input, in bytes.
@@ -248,6 +248,8 @@ def try_requests(trial):
     check(trial, "a client and a service that the database lacks", [*USER, *unknown])
     room = [(ask(BASIC, room=558), TICKET), (ask(BASIC, room=557), TOO_BIG)]
     check(trial, "a ticket is issued within the room for a reply", [*LENIENT_USER, *room])
+    denied = [(f"policy krbtgt/{REALM} service=false", "ok"), (ask(BASIC), TICKET)]
+    check(trial, "the ticket-granting service is a service, whatever its row says", [*LENIENT_USER, *denied])
     check(trial, "preauthentication is asked for", [*USER, (ask(BASIC), PREAUTH_REQUIRED), (ask(BASIC), PREAUTH_REQUIRED)])
     spoilt = [(line, printed) for place, octet in enumerate(BASIC) for line, printed in (
         (ask(changed(place, octet ^ 1)), None), (ask(BASIC), TICKET))]
@@ -481,10 +483,8 @@ def is_end(ran, statuses):
 
 def try_calls(trial):
     """Reads, writes and allocations of a script that fail."""
-    environment = preloaded(trial)
-    if not environment:
-        trial.leave("calls that fail, since there is no C compiler cc")
-        return
+    environment = refusing(trial)
+
     def run(script=MIXED, **numbers):
         return trial.run(["kdcd", "script"], script, env={**environment, **{word: str(number) for word, number in numbers.items()}})
 

@@ -20,6 +20,7 @@ import select
 import shutil
 import signal
 import socket
+import stat
 import tempfile
 import time
 
@@ -146,12 +147,12 @@ class Buyer:
 
 # The steps of a start, by the calls that show them.
 STEPS = {
-    "open database": "rows", "open none": "rows", "open seed": "seed", "open short": "seed", "getentropy": "random", "bind": "sockets",
-    "open run/journal": "journal", "clock_gettime": "clock",
+    "open database": "rows", "statx none": "rows", "open seed": "seed", "open short": "seed", "getentropy": "random", "bind": "sockets",
+    "open run/journal.lock": "journal", "clock_gettime": "clock",
 }
 # The options of a start, and its steps in order.
 STARTS = {
-    "": "rows random sockets clock", "--first": "rows random sockets", "--seed seed": "rows seed sockets clock",
+    "": "rows random sockets clock", "--first": "rows random sockets clock", "--seed seed": "rows seed sockets clock",
     "--journal run/journal": "rows random sockets journal clock",
 }
 
@@ -427,8 +428,8 @@ LIFE = (
 
 
 def try_life(trial):
-    """A server whose rows change, with the requests and replies of a model; and the file of its rows, which is replaced, broken, removed and put
-    back."""
+    """A server whose rows change, with the requests and replies of a model; the file of its rows, which is replaced, broken, removed and put back;
+    and what comes by connections."""
     trial.enter("life")
     trial.rows(*FIRST_ROWS)
     server = trial.server("--first --log --remembered 64 --greatest-renewable 0 --rounds 1000")
@@ -449,6 +450,38 @@ def try_life(trial):
     refused = re.findall(r"kdcd: database: (\w+)", said)
     trial.same("a file that is broken and one of another realm are refused once", refused, ["NotJson", "OtherRealm"])
     try_rows(trial)
+    try_streams(trial)
+
+
+# The error with code 61 (KRB_ERR_FIELD_TOOLONG).
+TOO_LONG = realm.CLIENT_UNKNOWN.replace(bytes.fromhex("a603020106"), bytes.fromhex("a60302013d"))
+
+
+def stream_for(server, octets):
+    """All that a peer gets which sends these bytes and closes its half of the connection."""
+    found = b""
+    with socket.create_connection(place_of(server.addresses[1][1]), 5 * SLOWNESS) as peer:
+        peer.sendall(octets)
+        peer.shutdown(socket.SHUT_WR)
+        while piece := peer.recv(65536):
+            found += piece
+    return found
+
+
+def try_streams(trial):
+    """The bytes for a length with its first bit set, for half a length, and for a request that comes by two connections."""
+    trial.enter("streams")
+    server = trial.server("--first")
+    for what, octets, wanted in (
+        ("a length with its first bit set gets code 61 and the end", b"\x80\0\0\0", b"\0\0\0\x4c" + TOO_LONG),
+        ("two bytes of a length and the end get nothing", b"\0\0", b""),
+    ):
+        trial.same(what, stream_for(server, octets), wanted)
+    request = len(realm.FOR_SERVICE).to_bytes(4, "big") + realm.FOR_SERVICE
+    first, second = stream_for(server, request), stream_for(server, request)
+    is_kept = first == second and first[4:].startswith(realm.SERVICE_TICKET)
+    trial.note("a TGS-REQ gets the same reply by another connection", "" if is_kept else f"{first.hex()}, and then {second.hex()}")
+    server.end()
 
 
 KEPT = "; the rows before it stay\n"
@@ -619,6 +652,70 @@ def try_withheld(trial):
         trial.same("the journal has the authenticator that was answered", entries, kept)
         for file in trial.folder.glob("withheld*"):
             file.unlink()
+    try_ends(trial)
+    try_memory(trial)
+
+
+def over_tcp(server, request):
+    """The answer on a connection, or `end` if it ends without one."""
+    with socket.create_connection(place_of(server.addresses[1][1]), 5 * SLOWNESS) as peer, contextlib.suppress(TimeoutError):
+        peer.sendall(len(request).to_bytes(4, "big") + request)
+        reply = peer.recv(65536)[4:]
+        return answer(reply) if reply else "end"
+    return "none"
+
+
+def try_ends(trial):
+    """A reply that is withheld ends its connection, so that the client asks another server at once."""
+    trial.show(T)
+    server = trial.server("--quiet-start --log")
+    buyer = Buyer(server)
+    found = [over_tcp(server, request) for request in (buyer.request(T), realm.LOGIN)]
+    settle(server)
+    is_said = [line.endswith(" sent=no") for line in server.said().splitlines() if " tcp as " in line or " tcp tgs " in line]
+    trial.same("a quiet start ends the connection of a TGS-REQ, and answers a login", (found, is_said), (["end", "ticket"], [True, False]))
+    server.end()
+    server = trial.server("--first --journal ends", restore_signals=False)
+    buyer = Buyer(server)
+    limit(server, 0)
+    found = [over_tcp(server, request) for request in (buyer.request(T), realm.LOGIN)]
+    limit(server)
+    found.append(over_tcp(server, realm.LOGIN))
+    trial.same("a journal that fails ends the connections of requests", found, ["end", "end", "ticket"])
+    server.end()
+
+
+def hold_memory(server, count):
+    """Sends the front of a long request on each of this many connections. Returns them."""
+    peers = []
+    for _ in range(count):
+        peer = socket.create_connection(place_of(server.addresses[1][1]), 5 * SLOWNESS)
+        with contextlib.suppress(OSError):
+            peer.sendall((65_000).to_bytes(4, "big") + bytes(64_000))
+        peers.append(peer)
+    return peers
+
+
+def try_memory(trial):
+    """Requests for which there is no memory: a line a minute, and all is well afterwards."""
+    trial.show(T)
+    server = trial.server("--first")
+    before, said = len(server.said()), lambda: server.said()[before:]
+    wanted = r"(kdcd: memory ran out: [1-9]\d* requests were left unanswered\n)"
+    status = pathlib.Path(f"/proc/{server.process.pid}/status").read_text()
+    used = 1024 * int(re.search(r"VmData:\s*(\d+) kB", status)[1])
+    resource.prlimit(server.process.pid, resource.RLIMIT_DATA, (used, resource.RLIM_INFINITY))
+    for second, lines in ((0, 1), (59, 1), (60, 2)):
+        trial.show(T + second)
+        for peer in hold_memory(server, 40):
+            peer.close()
+        server.wait(lambda: re.fullmatch(wanted * lines, said()), 5)
+        turn(server)
+        found = said()
+        trial.note(f"memory runs out, {second} seconds later: {lines} lines", "" if re.fullmatch(wanted * lines, found) else repr(found))
+    trial.same("a login after memory ran out", answer(ask(server, realm.LOGIN)), "ticket")
+    server.end()
+    trial.show(T)
 
 
 def is_done(server, what, buyer, seconds):
@@ -683,7 +780,7 @@ def try_logs(trial):
             if number == of:
                 trial.set("FAILS", failing)
             own = sent(server, way, request)
-            wanted += "".join(f"{utc(T)} {own} {way} {line}\n" for line in lines)
+            wanted += "".join(f"{utc(T)} {own} {way} {line}{' sent=no' if number == of else ''}\n" for line in lines)
             server.wait(lambda: len(server.said()) >= start + len(wanted), 5)
         turned = len(server.said())
         turn(server)
@@ -808,8 +905,124 @@ def try_many(trial):
     server.end()
 
 
+# The first bytes of a journal: an OCTET STRING, a SEQUENCE, the field [0] and an OCTET STRING, the realm.
+FRONT = bytes.fromhex("047c307aa0050403") + REALM.encode()
+# What has the name of a file of a journal, and is none.
+OTHERS = {
+    "database": lambda path: path.write_text(realm.database(REALM, realm.TGS)),
+    "keytab": lambda path: path.write_bytes(bytes.fromhex("05020000002e00010003412e42")),
+    "text": lambda path: path.write_text("0\n"),
+    "file of zeros": lambda path: path.write_bytes(bytes(512)),
+    "file that begins with one byte of a journal": lambda path: path.write_bytes(b"\4" + bytes(range(100, 131))),
+    "file that differs from a journal in its fourth tag": lambda path: path.write_bytes(FRONT[:6] + b"\5" + FRONT[7:]),
+    "folder": lambda path: path.mkdir(),
+    "FIFO": os.mkfifo,
+    "socket": lambda path: socket.socket(socket.AF_UNIX).bind(str(path)),
+    "device": lambda path: os.mknod(path, 0o600 | stat.S_IFCHR, os.makedev(1, 3)),
+    "link to a device": lambda path: path.symlink_to("/dev/null"),
+}
+# What a start finds in the place of a journal's file after a crash: nothing, or the front of a journal.
+FRONTS = [b"", *(FRONT[:length] for length in (1, 2, 3, 5, 7, 8, len(FRONT))), FRONT + bytes(100)]
+
+
+def places(folder):
+    """What the folder has, without the stage."""
+    found = {}
+    for path in folder.iterdir():
+        stat_of = path.lstat()
+        text = path.read_bytes() if stat.S_ISREG(stat_of.st_mode) else None
+        found[path.name] = stat_of.st_ino, stat_of.st_mode, stat_of.st_rdev, text
+    found.pop("stage")
+    return found
+
+
+def try_places(trial):
+    """A journal's names that something else has, FIFOs in the place of files, and rights on files of keys."""
+    trial.enter("places")
+    ends = {"": "it is no journal", ".old": "the file .old beside it is no journal", ".new": "the file .new beside it is no journal",
+            ".lock": "the file .lock beside it is no empty file"}
+    serve = "kdcd serve --db database --udp 127.0.0.1:0 --rounds 0"
+    for what, make in OTHERS.items():
+        for end, text in ends.items():
+            path = trial.folder / f"j{end}"
+            try:
+                make(path)
+            except PermissionError:
+                trial.leave(f"a {what}: only root can make one")
+                break
+            before = places(trial.folder)
+            ran = trial.run(f"{serve} --journal j", seconds=10)
+            found, wanted = (ran.status, ran.out, ran.err), (1, "refused NotJournal\n", f"kdcd: j: {text}, and stays as it is\n")
+            trial.same(f"a {what} at j{end} is refused", found, wanted)
+            trial.same(f"a {what} at j{end} stays, and all beside it", places(trial.folder), before)
+            for each in trial.folder.glob("j*"):
+                each.rmdir() if each.is_dir() else each.unlink()
+    for number, front in enumerate(FRONTS):
+        trial.write("k", front)
+        trial.write("k.old", front)
+        trial.write("k.new", front)
+        trial.expect(f"{serve} --journal k", 0, f"journal k: {DAMAGED}", what=f"a journal that was cut, {number}")
+    for words, path in ((f"{serve} --seed pipe", "pipe"), ("kdcd serve --db pipe --udp 127.0.0.1:0 --rounds 0", "pipe"),
+                        (f"{serve} --seed /dev/urandom", "/dev/urandom")):
+        if path == "pipe" and not (trial.folder / path).exists():
+            os.mkfifo(trial.folder / path)
+        ran = trial.run(words, seconds=10)
+        trial.same(f"what is no plain file ends the start: {words}", (ran.status, ran.out, ran.err), (3, "failed\n", f"kdcd: {path}: it is no file\n"))
+    try_turn(trial)
+    try_rights(trial)
+
+
+def try_turn(trial):
+    """A file with the name of a journal's that appears while the server runs."""
+    trial.show(T)
+    server = trial.server("--first --journal turn")
+    buyer = Buyer(server)
+    found = [buyer.buy(server, T)]
+    trial.write("turn.old", "a file of somebody\n")
+    trial.show(T + 601)
+    found.append(buyer.buy(server, T + 601))
+    kept = (trial.folder / "turn.old").read_bytes()
+    said = "kdcd: journal turn: a file that is no journal has the name of one of its files\n"
+    trial.same("no turn replaces a file of somebody", (found, kept, said in server.said()), (["ticket"] * 2, b"a file of somebody\n", True))
+    server.end()
+    trial.show(T)
+
+
+def rights(what, mode):
+    return f"kdcd: {what}: its mode {mode:o} gives its group or others rights; make it 600\n"
+
+
+def try_rights(trial):
+    """What is said of the rights on files of keys, at each load."""
+    trial.write("seed", bytes([7] * 32))
+    for mode in (0o600, 0o400, 0o700, 0o640, 0o604, 0o620, 0o610):
+        (trial.folder / "database").chmod(mode)
+        (trial.folder / "seed").chmod(mode)
+        ran = trial.run("kdcd serve --db database --seed seed --udp 127.0.0.1:0 --rounds 0")
+        wanted = rights("database database", mode) + rights("seed seed", mode) if mode & 0o077 else ""
+        trial.same(f"what is said of files with mode {mode:o}", ran.err.partition("kdcd: serving on")[0], wanted)
+    (trial.folder / "database").chmod(0o600)
+    server = trial.server("--first")
+    before = len(server.said())
+    trial.rows(*FIRST_ROWS, name="next")
+    (trial.folder / "next").chmod(0o644)
+    os.replace(trial.folder / "next", trial.folder / "database")
+    turn(server)
+    trial.same("what is said of new rows that others may read", server.said()[before:], rights("database database", 0o644) + FEWER)
+    server.end()
+    if os.geteuid():
+        return trial.leave("files of another user: only root can make one")
+    for name in ("database", "seed"):
+        (trial.folder / name).chmod(0o600)
+        os.chown(trial.folder / name, 4711, -1)
+    ran = trial.run("kdcd serve --db database --seed seed --udp 127.0.0.1:0 --rounds 0")
+    owned = "".join(f"kdcd: {name} {name}: it belongs to user 4711, and this server runs as user 0\n" for name in ("database", "seed"))
+    trial.same("what is said of files of another user", ran.err.partition("kdcd: serving on")[0], owned)
+
+
 PARTS = {
     "starts": try_starts, "options": try_options, "clocks": try_clocks, "life": try_life, "journals": try_journals, "logs": try_logs,
+    "places": try_places,
 }
 
 
@@ -818,6 +1031,8 @@ def main():
     words.add_argument("--programs", default=TOOLS.parent / "crates")
     words.add_argument("--only", nargs="+", choices=PARTS, default=list(PARTS), metavar="PART", help=", ".join(PARTS))
     words = words.parse_args()
+    # The databases are their owner's alone, as `kadm` writes them. A server says if they are not.
+    os.umask(0o077)
     with tempfile.TemporaryDirectory() as folder, ending():
         trial = Staged(programs_in(words.programs, ("kdcd",)), pathlib.Path(folder))
         for part in words.only:

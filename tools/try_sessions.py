@@ -94,8 +94,8 @@ def steps_of(path):
 
 
 def files(folder):
-    """What the files hold, but for empty locks."""
-    found = {path.name: path.read_bytes() for path in folder.iterdir()}
+    """What the plain files hold, but for empty locks."""
+    found = {path.name: path.read_bytes() for path in folder.iterdir() if path.is_file()}
     return {name: octets for name, octets in found.items() if octets or not name.endswith(".lock")}
 
 

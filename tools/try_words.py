@@ -34,10 +34,10 @@ PHRASES = (
     ("(?:is|are) at fault|a fault of", "fails with, returns an error", 0, 0, 0),
     ("whoever|who asks", "the caller, the peer, the client", 0, 0, 0),
     ("of which|of whom|that which", "two sentences", 0, 2, 1),
-    ("what it is that|in vain|all the same", "a verb", 0, 1, 0),
+    ("what it is that|in vain|all the same", "a verb", 0, 0, 0),
     ("where there (?:is|are) none", "if it is absent", 0, 1, 0),
     ("so many", "N, this many", 0, 0, 0),
-    ("tells?|told", "returns, logs, records", 4, 28, 3),
+    ("tells?|told(?!-)", "returns, logs, records", 3, 13, 3),
 )
 # A space of a phrase: in comments the next line begins with the comment's own sign.
 GAP = r"(?:[ \t]+|[ \t]*\n[ \t]*(?:///?|//!|--|\*|#)?[ \t]*)"

@@ -149,7 +149,7 @@ class Kdc:
         self.process = subprocess.Popen(words, stdout=subprocess.DEVNULL, stderr=subprocess.PIPE, text=True)
         RUNNING.append(self.process)
         with in_time(self.process):
-            found = re.search(r"udp (\S+:\d+) and tcp", self.process.stderr.readline())
+            found = next(filter(None, (re.search(r"udp (\S+:\d+) and tcp", line) for line in self.process.stderr)), None)
         if not found:
             raise Differs("kdcd does not serve")
         self.address = found[1]

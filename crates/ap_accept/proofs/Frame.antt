@@ -4,18 +4,15 @@ use Rattle.std.specs.FinMap as map
 use Rattle.std.specs.FinMap.{get-insert}
 use Rattle.std.specs.Option.{unwrap_or}
 use Rattle.std.specs.Ordering.{eq_by_cmp}
-use Rattle.std.specs.Prelude.{⊤, int_lt}
-use Rattle.std.specs.Result.{result_ok}
+use Rattle.std.specs.Prelude.{⊤, int_lt, option_and_then}
 use Rattle.std.proofs.lemmas.Int.{ints}
 use Rattle.krb_ap.specs.ApReq.{ApReq}
 use Rattle.krb_fields.specs.Name.{Components, name_cmp, name_total, same_name}
 use Rattle.krb_fields.specs.declared.moment.Moment.{Moment}
 use Rattle.replay.specs.ReplayCache.{recorded}
 use Rattle.replay.specs.declared.cache.ReplayCache.{ReplayCache}
-use Rattle.ap_accept.specs.Accepts.{accepts, if_presented, if_request, cache_for, cache_refusal, presented_by, presented_if, recording, recording_clients, request_of, stamp_of, unless_seen, IsAfter, IsParty, IsService}
+use Rattle.ap_accept.specs.Accepts.{accepts, after_recording, cache_for, if_request, recorded_by, recorded_of, recording, recording_clients, request_of, stamp_of, IsAfter, IsParty, IsService}
 use Rattle.ap_accept.specs.Clients.{IsKeptOrDropped, empty_cache, floor_for, hour, lasts, drop_expired, cache_in, opened_clients, with_cache}
-use Rattle.ap_accept.specs.Presented.{presented}
-use Rattle.ap_accept.specs.Reply.{asks_reply}
 use Rattle.ap_accept.specs.Run.{is_party}
 use Rattle.ap_accept.specs.State.{clients_of, cache_of, with_clients}
 use Rattle.ap_accept.specs.declared.accepted.Accepted.{Accepted}
@@ -89,19 +86,15 @@ module _ (state : State) (now : ℤ) (p : Presented) (service client : Component
 
 -- a property of the state before, and of the state with the authenticator recorded, holds of the state afterwards
 module _ (U : State → Type 0) (state : State) (here : U state) where
-  unless_seen_keeps : (now : ℤ) (confounder : List ℕ) (wanted : Bool) (p : Presented) (r : Option ApRefusal) → U (recording state now p) → U (unless_seen state now confounder wanted p r).state
-  unless_seen_keeps now confounder wanted p (Some refusal) there = here
-  unless_seen_keeps now confounder wanted p None there = there
+  recorded_keeps : (now : ℤ) (r : Option Presented) → ((p : Presented) → r ≡ Some p → U (recording state now p)) → U (after_recording state now r)
+  recorded_keeps now (Some p) there = there p refl
+  recorded_keeps now None there = here
 
-  presented_keeps : (now : ℤ) (confounder : List ℕ) (wanted : Bool) (r : Result Presented ApRefusal) → ((p : Presented) → result_ok r ≡ Some p → U (recording state now p)) → U (if_presented state now confounder wanted r).state
-  presented_keeps now confounder wanted (Ok p) there = unless_seen_keeps now confounder wanted p (cache_refusal state now p) (there p refl)
-  presented_keeps now confounder wanted (Err refusal) there = here
-
-  request_keeps : (now : ℤ) (confounder : List ℕ) (o : Option ApReq) → ((p : Presented) → presented_if state o ≡ Some p → U (recording state now p)) → U (if_request state now confounder o).state
-  request_keeps now confounder (Some ap) there = presented_keeps now confounder (asks_reply ap) (presented state.keytab ap) there
+  request_keeps : (now : ℤ) (confounder : List ℕ) (o : Option ApReq) → ((p : Presented) → option_and_then (recorded_of state now) o ≡ Some p → U (recording state now p)) → U (if_request state now confounder o).state
+  request_keeps now confounder (Some ap) there = recorded_keeps now (recorded_of state now ap) there
   request_keeps now confounder None there = here
 
-  pub accepts_keeps : (at : Moment) (confounder octets : List ℕ) → ((p : Presented) → presented_by state octets ≡ Some p → U (recording state at.sec p)) → U (accepts state at confounder octets).state
+  pub accepts_keeps : (at : Moment) (confounder octets : List ℕ) → ((p : Presented) → recorded_by state at.sec octets ≡ Some p → U (recording state at.sec p)) → U (accepts state at confounder octets).state
   accepts_keeps at confounder octets there = request_keeps at.sec confounder (request_of octets) there
 
 -- and of the state that the call left
@@ -127,7 +120,7 @@ not_service service p other true e = absurd (other (sym (same_name service p.ser
 not_service service p other false e = refl
 
 -- another service's clients are unchanged
-pub others_stay : (state : State) (service : Components) (at : Moment) (confounder octets : List ℕ) → (IsService service (presented_by state octets) → ⊥) → clients_of (accepts state at confounder octets).state service ≡ clients_of state service
+pub others_stay : (state : State) (service : Components) (at : Moment) (confounder octets : List ℕ) → (IsService service (recorded_by state at.sec octets) → ⊥) → clients_of (accepts state at confounder octets).state service ≡ clients_of state service
 others_stay state service at confounder octets other =
     accepts_keeps (λ s. clients_of s service ≡ clients_of state service) state refl at confounder octets (λ p is.
     let k : Clients = drop_expired at.sec (recording_clients state at.sec p) in
@@ -141,7 +134,7 @@ dropped_on now floor old due m gone (inl same) = inr (record { due = due; spent 
 dropped_on now floor old due m gone (inr dropped) = inr (record { due = due; spent = dropped.spent; empty = refl })
 
 -- another client's cache gives the same verdicts from an hour before on
-pub others_alike : (state : State) (service client : Components) (at : Moment) (confounder octets : List ℕ) → (IsParty service client (presented_by state octets) → ⊥)
+pub others_alike : (state : State) (service client : Components) (at : Moment) (confounder octets : List ℕ) → (IsParty service client (recorded_by state at.sec octets) → ⊥)
     → raised (floor_for at.sec) (cache_of (accepts state at confounder octets).state service client) ≡ raised (floor_for at.sec) (cache_of state service client)
 others_alike state service client at confounder octets other =
     let P : ReplayCache ⊤ → Type 0 = λ m. raised (floor_for at.sec) m ≡ raised (floor_for at.sec) (cache_of state service client) in
@@ -152,7 +145,7 @@ others_alike state service client at confounder octets other =
     (not_party service client p (λ h. other (subst (IsParty service client) (sym is) h)) (is_party service client p) refl)))
 
 -- another client's cache is unchanged or dropped
-pub others_kept : (state : State) (service client : Components) (at : Moment) (confounder octets : List ℕ) → (IsParty service client (presented_by state octets) → ⊥)
+pub others_kept : (state : State) (service client : Components) (at : Moment) (confounder octets : List ℕ) → (IsParty service client (recorded_by state at.sec octets) → ⊥)
     → IsKeptOrDropped at.sec (clients_of state service).floor (cache_of state service client) (cache_of (accepts state at confounder octets).state service client)
 others_kept state service client at confounder octets other =
     let old = cache_of state service client in

@@ -1,10 +1,9 @@
 -- An acceptor never accepts an authenticator of a client twice: once accepted, it is settled.
 use Rattle.std.proofs.Common.{◌≡◌, ◌≢◌, Bool, true, false, cond, if◌then◌else◌, ℕ, ℤ, List, [], ◌∷◌, Option, Some, None, Result, Ok, Err, refl, ap, sym, subst, ◌∙◌, true≢false, is_eq}
-use Rattle.std.specs.Prelude.{⊤, IfSome}
+use Rattle.std.specs.Prelude.{⊤, IfSome, option_and_then}
 use Rattle.std.specs.Cmp.{Equal-is, tied_itself}
 use Rattle.std.specs.List.{AllByRecursion}
 use Rattle.std.specs.Ordering.{eq_by_cmp}
-use Rattle.std.specs.Result.{result_ok}
 use Rattle.krb_ap.specs.ApReq.{ApReq}
 use Rattle.krb_fields.specs.Name.{Components, name_cmp, same_name}
 use Rattle.refusals.specs.Refusals.{first_holding}
@@ -16,11 +15,13 @@ use Rattle.replay.specs.declared.verdict.Verdict.{Verdict}
 use Rattle.replay.specs.declared.verdict.Verdict.TheVariants.{Fresh, Skew, Repeat, Full}
 use Rattle.replay.proofs.Settled.{IsSettled, recorded_settles, settled_not_fresh, settled_recorded}
 use Rattle.replay.proofs.Stamps.{stamp_exact, stamp_total}
-use Rattle.ap_accept.specs.Accepts.{if_presented, if_request, cache_for, cache_refusal, presented_if, refusal_by, recording, request_of, stamp_of, unless_invalid, unless_seen}
+use Rattle.ap_accept.specs.Accepts.{Answer, answer_by, cache_for, if_request, recorded_of, recording, request_of, stamp_of}
 use Rattle.ap_accept.specs.Clients.{floor_for}
 use Rattle.ap_accept.specs.Presented.{presented}
 use Rattle.ap_accept.specs.Reply.{asks_reply}
-use Rattle.ap_accept.specs.Run.{Call, AcceptedOnce, accepted_for, accepted_in, after_call, is_party, stamp_if}
+use Rattle.ap_accept.specs.StageLaws.{recorded_staged, request_staged}
+use Rattle.ap_accept.specs.Stages.{cache_refusal, if_presented, refusal_by, seen_by, seen_if, unless_seen}
+use Rattle.ap_accept.specs.Run.{AcceptedOnce, Call, Event, Accept, Replace, accepted_at, accepted_in, after_call, after_event, is_party, stamp_if}
 use Rattle.ap_accept.specs.State.{cache_of}
 use Rattle.ap_opening.specs.Validity.{ticket_terms}
 use Rattle.ap_accept.specs.Validity.{validity_rules}
@@ -90,36 +91,53 @@ module _ (service client : Components) where
         recording_keeps state now p service client (λ m. IsSettled m (stamp_of p) tt) (λ m gone. still_settled (floor_for now) m gone (stamp_of p))
         (subst (λ b. IsSettled (cond b (recorded (cache_for state p) now (stamp_of p) tt) (cache_of state service client)) (stamp_of p) tt) (sym party) (recorded_settles (cache_for state p) now (stamp_of p) tt))
 
-    found_fresh : (v : Verdict ⊤) → verdict (cache_for state p) now (stamp_of p) state.limits.remembered ≡ v
-        → IfSome (stamp_if (stamp_of p) (unless_seen state now confounder wanted p (refusal_by v)).answer) (Settles state (unless_seen state now confounder wanted p (refusal_by v)).state)
-    found_fresh Fresh e = by_validity (first_holding (validity_rules (ticket_terms p.ticket) now))
-      where
-        by_validity : (r : Option ApRefusal) → IfSome (stamp_if (stamp_of p) (unless_invalid confounder wanted p r)) (Settles state (recording state now p))
-        by_validity (Some refusal) = tt
-        by_validity None = (
-          λ held. settled_not_fresh (cache_of state service client) (stamp_of p) (stamp_of p) tt now state.limits.remembered held (subst (λ m. verdict m now (stamp_of p) state.limits.remembered ≡ Fresh) (same_cache state p party) e) refl,
-          settled_now,
-        )
-    found_fresh Skew e = tt
-    found_fresh (Repeat kept) e = tt
-    found_fresh Full e = tt
+    found_fresh : verdict (cache_for state p) now (stamp_of p) state.options.remembered ≡ Fresh → (r : Option ApRefusal)
+        → IfSome (stamp_if (stamp_of p) (answer_by confounder wanted r (Some p))) (Settles state (recording state now p))
+    found_fresh e (Some refusal) = tt
+    found_fresh e None = (
+      λ held. settled_not_fresh (cache_of state service client) (stamp_of p) (stamp_of p) tt now state.options.remembered held (subst (λ m. verdict m now (stamp_of p) state.options.remembered ≡ Fresh) (same_cache state p party) e) refl,
+      settled_now,
+    )
 
-  found_party : (state : State) (now : ℤ) (confounder : List ℕ) (wanted : Bool) (p : Presented) (b : Bool) → is_party service client p ≡ b
-      → IfSome (if b then stamp_if (stamp_of p) (unless_seen state now confounder wanted p (cache_refusal state now p)).answer else None) (Settles state (unless_seen state now confounder wanted p (cache_refusal state now p)).state)
-  found_party state now confounder wanted p true e = found_fresh state now confounder wanted p e (verdict (cache_for state p) now (stamp_of p) state.limits.remembered) refl
-  found_party state now confounder wanted p false e = tt
+  -- if the request is accepted, its authenticator is settled from then on
+  abbrev IsFound : State → Option Presented → Answer → Type 0
+  IsFound state p a = IfSome (accepted_in service client p a.answer) (Settles state a.state)
 
-  found_presented : (state : State) (now : ℤ) (confounder : List ℕ) (wanted : Bool) (r : Result Presented ApRefusal)
-      → IfSome (accepted_in service client (result_ok r) (if_presented state now confounder wanted r).answer) (Settles state (if_presented state now confounder wanted r).state)
-  found_presented state now confounder wanted (Ok p) = found_party state now confounder wanted p (is_party service client p) refl
-  found_presented state now confounder wanted (Err refusal) = tt
+  module _ (state : State) (now : ℤ) (confounder : List ℕ) (wanted : Bool) where
+    found_party : (p : Presented) (r : Option ApRefusal) → verdict (cache_for state p) now (stamp_of p) state.options.remembered ≡ Fresh → (b : Bool) → is_party service client p ≡ b
+        → IfSome (if b then stamp_if (stamp_of p) (answer_by confounder wanted r (Some p)) else None) (Settles state (recording state now p))
+    found_party p r e true party = found_fresh state now confounder wanted p party e r
+    found_party p r e false party = tt
 
-  found_request : (state : State) (now : ℤ) (confounder : List ℕ) (o : Option ApReq)
-      → IfSome (accepted_in service client (presented_if state o) (if_request state now confounder o).answer) (Settles state (if_request state now confounder o).state)
-  found_request state now confounder (Some ap) = found_presented state now confounder (asks_reply ap) (presented state.keytab ap)
+    found_verdict : (p : Presented) (v : Verdict ⊤) → verdict (cache_for state p) now (stamp_of p) state.options.remembered ≡ v
+        → IsFound state (seen_by p (refusal_by v)) (unless_seen state now confounder wanted p (refusal_by v))
+    found_verdict p Fresh e = found_party p (first_holding (validity_rules (ticket_terms p.ticket) now)) e (is_party service client p) refl
+    found_verdict p Skew e = tt
+    found_verdict p (Repeat kept) e = tt
+    found_verdict p Full e = tt
+
+    found_presented : (r : Result Presented ApRefusal) → IsFound state (seen_if state now r) (if_presented state now confounder wanted r)
+    found_presented (Ok p) = found_verdict p (verdict (cache_for state p) now (stamp_of p) state.options.remembered) refl
+    found_presented (Err refusal) = tt
+
+  found_request : (state : State) (now : ℤ) (confounder : List ℕ) (o : Option ApReq) → IsFound state (option_and_then (recorded_of state now) o) (if_request state now confounder o)
+  found_request state now confounder (Some request) =
+      subst (λ (p : Option Presented). IsFound state p (if_request state now confounder (Some request))) (sym (recorded_staged state now request))
+      (subst (λ (a : Answer). IsFound state (seen_if state now (presented state.keytab request)) a) (sym (request_staged state now confounder (Some request)))
+      (found_presented state now confounder (asks_reply request) (presented state.keytab request)))
   found_request state now confounder None = tt
 
+  -- ---- an event
+
+  stays_on : (state : State) (event : Event) (s : Stamp) → IsSettled (cache_of state service client) s tt → IsSettled (cache_of (after_event after_call state event) service client) s tt
+  stays_on state (Accept call) s held = stays_settled state call s held
+  stays_on state (Replace keytab) s held = held
+
+  settles_on : (state : State) (event : Event) → IfSome (accepted_at service client state event) (Settles state (after_event after_call state event))
+  settles_on state (Accept call) = found_request state call.at.sec call.confounder (request_of call.octets)
+  settles_on state (Replace keytab) = tt
+
 pub accepted_once : AcceptedOnce
-accepted_once state realm sname client calls =
-    each_once after_call (λ s x. IsSettled (cache_of s (realm ∷ sname) client) x tt) (accepted_for (realm ∷ sname) client)
-    (stays_settled (realm ∷ sname) client) (λ s call. found_request (realm ∷ sname) client s call.at.sec call.confounder (request_of call.octets)) state calls
+accepted_once state realm sname client events =
+    each_once (after_event after_call) (λ s x. IsSettled (cache_of s (realm ∷ sname) client) x tt) (accepted_at (realm ∷ sname) client)
+    (stays_on (realm ∷ sname) client) (settles_on (realm ∷ sname) client) state events

@@ -1,87 +1,78 @@
 -- An acceptor that drops old entries answers as one that doesn't: their caches agree from a second on, and no call
 -- comes before it.
 use Rattle.std.proofs.Common.{◌≡◌, ◌-ℤ◌, ◌≤ℤ◌, Bool, true, false, cond, ℕ, ℤ, pos, List, [], ◌∷◌, Option, Some, None, Result, Ok, Err, refl, ap, sym, subst, ◌∙◌, arith}
-use Rattle.std.specs.Prelude.{⊤, nat_le}
+use Rattle.std.specs.Prelude.{⊤, option_and_then, option_map}
 use Rattle.std.specs.Int.{int_max}
 use Rattle.std.specs.List.{AllByRecursion}
-use Rattle.std.specs.Ordering.{eq_by_cmp}
-use Rattle.std.specs.Result.{result_ok}
 use Rattle.std.proofs.lemmas.Int.{ints, clamps}
 use Rattle.krb_ap.specs.ApReq.{ApReq}
-use Rattle.krb_fields.specs.Name.{Components, name_cmp}
+use Rattle.krb_fields.specs.Name.{Components}
 use Rattle.krb_fields.specs.Skew.{skew}
-use Rattle.principal_rows.specs.declared.limits.Limits.{Limits}
+use Rattle.krb_sealed.specs.Authenticator.{Authenticator}
+use Rattle.krb_sealed.specs.EncTicketPart.{EncTicketPart}
 use Rattle.cred_files.specs.declared.keytab_entry.KeytabEntry.{KeytabEntry}
 use Rattle.replay.specs.ReplayCache.{recorded, verdict}
+use Rattle.replay.specs.Stamp.{Stamp}
 use Rattle.replay.specs.declared.cache.ReplayCache.{ReplayCache}
-use Rattle.ap_accept.specs.Accepts.{accepts, if_presented, if_request, cache_for, cache_refusal, presented_by, presented_if, refusal_by, recording, request_of, stamp_of, unless_seen}
+use Rattle.ap_accept.specs.Accepts.{accepts, after_recording, answer_by, cache_for, if_request, recorded_of, recording, refused_by, request_of, stamp_of, unless_before}
 use Rattle.ap_accept.specs.Clients.{floor_for, hour}
-use Rattle.ap_accept.specs.Presented.{presented}
+use Rattle.ap_accept.specs.Contents.{authenticator_in, contents, entry_in, presented_in, service_of, session_key_in, ticket_in, verdict_in, with_ticket}
 use Rattle.ap_accept.specs.Reply.{asks_reply}
-use Rattle.ap_accept.specs.Run.{Call, DropsUnseen, Steady, after_call, after_keeping, after_presented, answers, is_party, keeping, recorded_unless}
-use Rattle.ap_accept.specs.State.{cache_of}
-use Rattle.ap_accept.specs.declared.accepted.Accepted.{Accepted}
-use Rattle.ap_accept.specs.declared.fault.ApFault.{ApFault}
+use Rattle.ap_accept.specs.Rules.{first_row, rows}
+use Rattle.ap_accept.specs.Run.{DropsUnseen, Event, Accept, Replace, IsFrom, Steady, after_call, after_keeping, answers, is_party, keeping, keeping_if}
+use Rattle.ap_accept.specs.State.{cache_of, with_keytab}
+use Rattle.ap_accept.specs.declared.options.AcceptorOptions.{AcceptorOptions}
 use Rattle.ap_accept.specs.declared.presented.Presented.{Presented}
-use Rattle.ap_opening.specs.declared.refusal.ApRefusal.{ApRefusal}
 use Rattle.ap_accept.specs.declared.state.State.{State}
 use Rattle.ap_accept.proofs.Frame.{next_cache, recording_keeps, stored_keeps}
 use Rattle.ap_accept.proofs.DroppingExpired.{as_empty_on}
 use Rattle.ap_accept.proofs.Raised.{alike_on, raised, recorded_alike, says_the_same}
 
--- the same keys and limits, and replay caches that agree from this second on
+-- the same keys and options, and replay caches that agree from this second on
 record Alike (second : ℤ) (s t : State) : Type 0 where
   pub keytab : s.keytab ≡ t.keytab
-  pub limits : s.limits ≡ t.limits
+  pub options : s.options ≡ t.options
   pub caches : (service client : Components) → raised second (cache_of s service client) ≡ raised second (cache_of t service client)
 
 -- ---- the answer
 
 module _ (second now : ℤ) (s t : State) (alike : Alike second s t) (le : second ≤ℤ (now -ℤ pos skew)) where
-  same_refusal : (p : Presented) → cache_refusal s now p ≡ cache_refusal t now p
-  same_refusal p =
-      ap (λ (l : Limits). refusal_by (verdict (cache_for s p) now (stamp_of p) l.remembered)) alike.limits
-      ∙ ap refusal_by (says_the_same second now (cache_for s p) (cache_for t p) (stamp_of p) t.limits.remembered le (alike.caches p.service.components p.ticket.cname.components))
+  same_verdict : (request : ApReq) (ticket : Option EncTicketPart) (auth : Option Authenticator) → verdict_in s now request ticket auth ≡ verdict_in t now request ticket auth
+  same_verdict request (Some ticket) (Some auth) =
+      let service = service_of request in
+      let client = ticket.cname.components in
+      let stamp : Stamp = (auth.ctime, auth.cusec) in
+      ap (λ (o : AcceptorOptions). Some (verdict (cache_of s service client) now stamp o.remembered)) alike.options
+      ∙ ap Some (says_the_same second now (cache_of s service client) (cache_of t service client) stamp t.options.remembered le (alike.caches service client))
+  same_verdict request (Some ticket) None = refl
+  same_verdict request None auth = refl
 
-  module _ (confounder : List ℕ) (wanted : Bool) where
-    same_seen : (p : Presented) (r : Option ApRefusal) → (unless_seen s now confounder wanted p r).answer ≡ (unless_seen t now confounder wanted p r).answer
-    same_seen p (Some refusal) = refl
-    same_seen p None = refl
+  same_contents : (request : ApReq) → contents s now request ≡ contents t now request
+  same_contents request =
+      let entry = entry_in t.keytab request in
+      let ticket = ticket_in request entry in
+      let key = session_key_in ticket in
+      let auth = authenticator_in request key in
+      ap (λ (k : List KeytabEntry). with_ticket s now request (entry_in k request) (ticket_in request (entry_in k request))) alike.keytab
+      ∙ (λ i. record { entry = entry; ticket = ticket; session_key = key; authenticator = auth; verdict = same_verdict request ticket auth i })
 
-    same_presented : (r : Result Presented ApRefusal) → (if_presented s now confounder wanted r).answer ≡ (if_presented t now confounder wanted r).answer
-    same_presented (Ok p) = same_seen p (cache_refusal s now p) ∙ ap (λ r. (unless_seen t now confounder wanted p r).answer) (same_refusal p)
-    same_presented (Err refusal) = refl
+  same_row : (request : ApReq) → refused_by s now request ≡ refused_by t now request
+  same_row request = λ i. first_row (rows (alike.keytab i) now request (same_contents request i))
+
+  same_recorded : (request : ApReq) → recorded_of s now request ≡ recorded_of t now request
+  same_recorded request = λ i. unless_before (same_row request i) (presented_in request (same_contents request i))
 
   same_answer : (confounder : List ℕ) (o : Option ApReq) → (if_request s now confounder o).answer ≡ (if_request t now confounder o).answer
-  same_answer confounder (Some ap_req) =
-      same_presented confounder (asks_reply ap_req) (presented s.keytab ap_req)
-      ∙ ap (λ (k : List KeytabEntry). (if_presented t now confounder (asks_reply ap_req) (presented k ap_req)).answer) alike.keytab
+  same_answer confounder (Some request) = λ i. answer_by confounder (asks_reply request) (option_map (λ row. row.refusal) (same_row request i)) (same_recorded request i)
   same_answer confounder None = refl
 
-  same_presenting : (o : Option ApReq) → presented_if s o ≡ presented_if t o
-  same_presenting (Some ap_req) = ap (λ (k : List KeytabEntry). result_ok (presented k ap_req)) alike.keytab
-  same_presenting None = refl
-
 -- ---- the state afterwards
-
-module _ (state : State) (now : ℤ) (confounder : List ℕ) where
-  by_refusal : (wanted : Bool) (p : Presented) (r : Option ApRefusal) → (unless_seen state now confounder wanted p r).state ≡ recorded_unless recording state now p r
-  by_refusal wanted p (Some refusal) = refl
-  by_refusal wanted p None = refl
-
-  by_presented : (wanted : Bool) (r : Result Presented ApRefusal) → (if_presented state now confounder wanted r).state ≡ after_presented recording state now (result_ok r)
-  by_presented wanted (Ok p) = by_refusal wanted p (cache_refusal state now p)
-  by_presented wanted (Err refusal) = refl
-
-  by_request : (o : Option ApReq) → (if_request state now confounder o).state ≡ after_presented recording state now (presented_if state o)
-  by_request (Some ap_req) = by_presented (asks_reply ap_req) (presented state.keytab ap_req)
-  by_request None = refl
 
 module _ (second now high : ℤ) (s t : State) (alike : Alike second s t) (le : second ≤ℤ (now -ℤ pos skew)) (on : second ≤ℤ high) (gone : floor_for now ≤ℤ high) where
   still_alike : Alike high s t
   still_alike = record {
     keytab = alike.keytab;
-    limits = alike.limits;
+    options = alike.options;
     caches = λ service client.
         let a = cache_of s service client in
         let b = cache_of t service client in
@@ -106,35 +97,36 @@ module _ (second now high : ℤ) (s t : State) (alike : Alike second s t) (le : 
   alike_recording : (p : Presented) → Alike high (recording s now p) (keeping t now p)
   alike_recording p = record {
     keytab = alike.keytab;
-    limits = alike.limits;
+    options = alike.options;
     caches = λ service client. same_gone p service client ∙ sym (same_kept p service client);
   }
 
-  alike_unless : (p : Presented) (r : Option ApRefusal) → Alike high (recorded_unless recording s now p r) (recorded_unless keeping t now p r)
-  alike_unless p (Some refusal) = still_alike
-  alike_unless p None = alike_recording p
+  alike_if : (o : Option Presented) → Alike high (after_recording s now o) (keeping_if t now o)
+  alike_if (Some p) = alike_recording p
+  alike_if None = still_alike
 
-  alike_presented : (o : Option Presented) → Alike high (after_presented recording s now o) (after_presented keeping t now o)
-  alike_presented (Some p) = subst (λ r. Alike high (recorded_unless recording s now p (cache_refusal s now p)) (recorded_unless keeping t now p r)) (same_refusal second now s t alike le p) (alike_unless p (cache_refusal s now p))
-  alike_presented None = still_alike
-
-  alike_after : (confounder : List ℕ) (o : Option ApReq) → Alike high (if_request s now confounder o).state (after_presented keeping t now (presented_if t o))
-  alike_after confounder o =
-      subst (λ state. Alike high state (after_presented keeping t now (presented_if t o))) (sym (by_request s now confounder o))
-      (subst (λ x. Alike high (after_presented recording s now (presented_if s o)) (after_presented keeping t now x)) (same_presenting second now s t alike le o) (alike_presented (presented_if s o)))
+  alike_after : (confounder : List ℕ) (o : Option ApReq) → Alike high (if_request s now confounder o).state (keeping_if t now (option_and_then (recorded_of t now) o))
+  alike_after confounder (Some request) =
+      subst (λ (p : Option Presented). Alike high (after_recording s now (recorded_of s now request)) (keeping_if t now p)) (same_recorded second now s t alike le request) (alike_if (recorded_of s now request))
+  alike_after confounder None = still_alike
 
 -- ---- a run
 
 -- no call comes before the second, with the clock skew
-abbrev Follow : ℤ → List Call → Type 0
-Follow second calls = AllByRecursion (λ call. second ≤ℤ (call.at.sec -ℤ pos skew)) calls
+abbrev Follows : ℤ → Event → Type 0
+Follows second (Accept call) = second ≤ℤ (call.at.sec -ℤ pos skew)
+Follows second (Replace keytab) = ⊤
+
+abbrev Follow : ℤ → List Event → Type 0
+Follow second events = AllByRecursion (Follows second) events
 
 least : (second now at : ℤ) → second ≤ℤ (at -ℤ pos skew) → (now -ℤ pos hour) ≤ℤ at → int_max second (floor_for now) ≤ℤ (at -ℤ pos skew)
 least second now at le steady = grind (arith, ints, clamps)
 
-follow_on : (second now : ℤ) (calls : List Call) → Follow second calls → AllByRecursion (λ (later : Call). (now -ℤ pos hour) ≤ℤ later.at.sec) calls → Follow (int_max second (floor_for now)) calls
+follow_on : (second now : ℤ) (events : List Event) → Follow second events → AllByRecursion (IsFrom (now -ℤ pos hour)) events → Follow (int_max second (floor_for now)) events
 follow_on second now [] follow steady = tt
-follow_on second now (call ∷ calls) follow steady = (least second now call.at.sec follow.0 steady.0, follow_on second now calls follow.1 steady.1)
+follow_on second now (Accept call ∷ events) follow steady = (least second now call.at.sec follow.0 steady.0, follow_on second now events follow.1 steady.1)
+follow_on second now (Replace keytab ∷ events) follow steady = (tt, follow_on second now events follow.1 steady.1)
 
 max_left : (a b : ℤ) → a ≤ℤ int_max a b
 max_left a b = grind (arith, ints, clamps)
@@ -142,17 +134,23 @@ max_left a b = grind (arith, ints, clamps)
 max_right : (a b : ℤ) → b ≤ℤ int_max a b
 max_right a b = grind (arith, ints, clamps)
 
-all_same : (second : ℤ) (s t : State) (calls : List Call) → Alike second s t → Follow second calls → Steady calls → answers after_call s calls ≡ answers after_keeping t calls
+-- the same keys in place of the old ones
+alike_with : (second : ℤ) (s t : State) (keytab : List KeytabEntry) → Alike second s t → Alike second (with_keytab s keytab) (with_keytab t keytab)
+alike_with second s t keytab alike = record { keytab = refl; options = alike.options; caches = alike.caches }
+
+all_same : (second : ℤ) (s t : State) (events : List Event) → Alike second s t → Follow second events → Steady events → answers after_call s events ≡ answers after_keeping t events
 all_same second s t [] alike follow steady = refl
-all_same second s t (call ∷ calls) alike follow steady =
+all_same second s t (Accept call ∷ events) alike follow steady =
     let now : ℤ = call.at.sec in
     let high : ℤ = int_max second (floor_for now) in
     let next : Alike high (after_call s call) (after_keeping t call) =
     alike_after second now high s t alike follow.0 (max_left second (floor_for now)) (max_right second (floor_for now)) call.confounder (request_of call.octets) in
     let here : (accepts s call.at call.confounder call.octets).answer ≡ (accepts t call.at call.confounder call.octets).answer = same_answer second now s t alike follow.0 call.confounder (request_of call.octets) in
-    let later : answers after_call (after_call s call) calls ≡ answers after_keeping (after_keeping t call) calls =
-    all_same high (after_call s call) (after_keeping t call) calls next (follow_on second now calls follow.1 steady.0) steady.1 in
+    let later : answers after_call (after_call s call) events ≡ answers after_keeping (after_keeping t call) events =
+    all_same high (after_call s call) (after_keeping t call) events next (follow_on second now events follow.1 steady.0) steady.1 in
     λ i. here i ∷ later i
+all_same second s t (Replace keytab ∷ events) alike follow steady =
+    all_same second (with_keytab s keytab) (with_keytab t keytab) events (alike_with second s t keytab alike) follow.1 steady
 
 an_hour_before : (now at : ℤ) → (now -ℤ pos hour) ≤ℤ at → floor_for now ≤ℤ (at -ℤ pos skew)
 an_hour_before now at le = omega (arith, ints)
@@ -160,12 +158,14 @@ an_hour_before now at le = omega (arith, ints)
 first_itself : (now : ℤ) → floor_for now ≤ℤ (now -ℤ pos skew)
 first_itself now = omega (arith, ints)
 
-follow_first : (now : ℤ) (calls : List Call) → AllByRecursion (λ (later : Call). (now -ℤ pos hour) ≤ℤ later.at.sec) calls → Follow (floor_for now) calls
+follow_first : (now : ℤ) (events : List Event) → AllByRecursion (IsFrom (now -ℤ pos hour)) events → Follow (floor_for now) events
 follow_first now [] steady = tt
-follow_first now (call ∷ calls) steady = (an_hour_before now call.at.sec steady.0, follow_first now calls steady.1)
+follow_first now (Accept call ∷ events) steady = (an_hour_before now call.at.sec steady.0, follow_first now events steady.1)
+follow_first now (Replace keytab ∷ events) steady = (tt, follow_first now events steady.1)
 
 pub drops_unseen : DropsUnseen
 drops_unseen state [] steady = refl
-drops_unseen state (call ∷ calls) steady =
-    all_same (floor_for call.at.sec) state state (call ∷ calls) (record { keytab = refl; limits = refl; caches = λ service client. refl })
-    (first_itself call.at.sec, follow_first call.at.sec calls steady.0) steady
+drops_unseen state (Accept call ∷ events) steady =
+    all_same (floor_for call.at.sec) state state (Accept call ∷ events) (record { keytab = refl; options = refl; caches = λ service client. refl })
+    (first_itself call.at.sec, follow_first call.at.sec events steady.0) steady
+drops_unseen state (Replace keytab ∷ events) steady = drops_unseen (with_keytab state keytab) events steady

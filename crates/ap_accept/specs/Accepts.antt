@@ -1,42 +1,47 @@
--- An acceptor's answer to the bytes of an AP-REQ, and its state afterwards (RFC 4120, section 3.2.3).
-use Rattle.std.specs.Prelude.{◌≡◌, ℕ, ℤ, ⊤, Bool, List, Option, Some, None, Result, Ok, Err}
-use Rattle.std.specs.Result.{result_ok}
+-- An acceptor's answer to the bytes of an AP-REQ, and its state afterwards (RFC 4120, section 3.2.3). The first row of
+-- the table that holds refuses; if none holds, the request is accepted.
+use Rattle.std.specs.Prelude.{◌≡◌, ℕ, ℤ, ⊤, Bool, if◌then◌else◌, List, Option, Some, None, Result, Ok, Err, option_map}
+use Rattle.std.specs.Prelude.{option_and_then}
 use Rattle.krb_ap.specs.ApReq.{ApReq, ap_req}
 use Rattle.krb_elements.specs.Format.{whole}
 use Rattle.krb_fields.specs.Name.{Components}
+use Rattle.krb_fields.specs.declared.code.Code.{Code}
 use Rattle.krb_fields.specs.declared.moment.Moment.{Moment}
+use Rattle.krb_sealed.specs.EncTicketPart.{EncTicketPart}
 use Rattle.sealed_parts.specs.Parts.{ok_of}
-use Rattle.refusals.specs.Refusals.{first_holding}
-use Rattle.replay.specs.ReplayCache.{recorded, verdict}
+use Rattle.replay.specs.ReplayCache.{recorded}
 use Rattle.replay.specs.Stamp.{Stamp}
 use Rattle.replay.specs.declared.cache.ReplayCache.{ReplayCache}
-use Rattle.replay.specs.declared.verdict.Verdict.{Verdict}
-use Rattle.replay.specs.declared.verdict.Verdict.TheVariants as verdicts
-use Rattle.ap_accept.specs.Presented.{presented}
-use Rattle.ap_accept.specs.Reply.{asks_reply, reply_if}
+use Rattle.ticket_times.specs.declared.ticket_terms.TicketTerms.{TicketTerms}
 use Rattle.ap_accept.specs.Clients.{drop_expired, with_cache}
+use Rattle.ap_accept.specs.Contents.{contents, presented_in}
+use Rattle.ap_accept.specs.Reply.{asks_reply, reply_if}
+use Rattle.ap_accept.specs.Rules.{Row, first_row, rows}
 use Rattle.ap_accept.specs.State.{clients_of, cache_of, with_clients}
-use Rattle.ap_opening.specs.Validity.{ticket_terms}
-use Rattle.ap_accept.specs.Validity.{validity_rules}
 use Rattle.ap_accept.specs.declared.accepted.Accepted.{Accepted}
 use Rattle.ap_accept.specs.declared.clients.Clients.{Clients}
 use Rattle.ap_accept.specs.declared.fault.ApFault.{ApFault}
 use Rattle.ap_accept.specs.declared.fault.ApFault.TheVariants.{NotAnApReq, Refused, Memory as NoMemory}
 use Rattle.ap_accept.specs.declared.presented.Presented.{Presented}
-use Rattle.ap_opening.specs.declared.refusal.ApRefusal.{ApRefusal}
-use Rattle.ap_opening.specs.declared.refusal.ApRefusal.TheVariants.{Skewed, Repeated, Full}
 use Rattle.ap_accept.specs.declared.state.State.{State}
+use Rattle.ap_opening.specs.Refusal.{code_of}
+use Rattle.ap_opening.specs.declared.refusal.ApRefusal.{ApRefusal}
 
--- an answer, and the state afterwards
-pub record Answer : Type 0 where
-  pub answer : Result Accepted ApFault
-  pub state : State
+-- ---- what the table says of a request
 
--- a refusal that changes nothing
-abbrev pub refused : State → ApRefusal → Answer
-refused state refusal = record { answer = Err (Refused refusal); state = state }
+-- the row that refuses it, if one does
+abbrev pub refused_by : State → ℤ → ApReq → Option Row
+refused_by state now ap = first_row (rows state.keytab now ap (contents state now ap))
 
--- ---- the replay cache
+-- the ticket and the authenticator, unless a row refuses before the authenticator is recorded
+abbrev pub unless_before : Option Row → Option Presented → Option Presented
+unless_before (Some row) p = if row.recorded then p else None
+unless_before None p = p
+
+abbrev pub recorded_of : State → ℤ → ApReq → Option Presented
+recorded_of state now ap = unless_before (refused_by state now ap) (presented_in ap (contents state now ap))
+
+-- ---- the state afterwards
 
 -- the authenticator's time, by which the replay cache knows it
 abbrev pub stamp_of : Presented → Stamp
@@ -44,15 +49,6 @@ stamp_of p = (p.authenticator.ctime, p.authenticator.cusec)
 
 abbrev pub cache_for : State → Presented → ReplayCache ⊤
 cache_for state p = cache_of state p.service.components p.ticket.cname.components
-
-abbrev pub refusal_by : Verdict ⊤ → Option ApRefusal
-refusal_by verdicts.Fresh = None
-refusal_by verdicts.Skew = Some Skewed
-refusal_by (verdicts.Repeat kept) = Some Repeated
-refusal_by verdicts.Full = Some Full
-
-abbrev pub cache_refusal : State → ℤ → Presented → Option ApRefusal
-cache_refusal state now p = refusal_by (verdict (cache_for state p) now (stamp_of p) state.limits.remembered)
 
 -- the service's clients, with the authenticator recorded
 abbrev pub recording_clients : State → ℤ → Presented → Clients
@@ -64,46 +60,56 @@ recording_clients state now p =
 abbrev pub recording : State → ℤ → Presented → State
 recording state now p = with_clients state p.service.components (drop_expired now (recording_clients state now p))
 
--- ---- the answer to an accepted request
+abbrev pub after_recording : State → ℤ → Option Presented → State
+after_recording state now (Some p) = recording state now p
+after_recording state now None = state
+
+-- ---- the answer
+
+abbrev pub terms_of : EncTicketPart → TicketTerms
+terms_of ticket = record {
+  flags = ticket.flags;
+  authtime = ticket.authtime;
+  starttime = ticket.starttime;
+  endtime = ticket.endtime;
+  renew_till = ticket.renew_till;
+}
 
 -- client, key, flags and times are the ticket's; subkey, sequence number and checksum the authenticator's
 abbrev pub accepted_with : Option (List ℕ) → Presented → Accepted
 accepted_with reply p = record {
   client = record { realm = p.ticket.crealm; name = p.ticket.cname };
   session_key = p.session_key;
-  ticket = ticket_terms p.ticket;
+  ticket = terms_of p.ticket;
   subkey = p.subkey;
   seq_number = p.authenticator.seq_number;
   cksum = p.authenticator.cksum;
   ap_rep = reply;
 }
 
--- the same for a result that may be a refusal
-abbrev pub accepted_if : Presented → Result (Option (List ℕ)) ApFault → Result Accepted ApFault
-accepted_if p (Ok reply) = Ok (accepted_with reply p)
-accepted_if p (Err fault) = Err fault
-
 abbrev pub accepted : List ℕ → Bool → Presented → Accepted
 accepted confounder wanted p = accepted_with (reply_if wanted p.session_key confounder p.authenticator) p
 
-abbrev pub unless_invalid : List ℕ → Bool → Presented → Option ApRefusal → Result Accepted ApFault
-unless_invalid confounder wanted p (Some refusal) = Err (Refused refusal)
-unless_invalid confounder wanted p None = Ok (accepted confounder wanted p)
+-- If no row refuses, the ticket and the authenticator are there (`is_presented` of `StageLaws`), so the last line
+-- answers no request.
+abbrev pub answer_by : List ℕ → Bool → Option ApRefusal → Option Presented → Result Accepted ApFault
+answer_by confounder wanted (Some refusal) p = Err (Refused refusal)
+answer_by confounder wanted None (Some p) = Ok (accepted confounder wanted p)
+answer_by confounder wanted None None = Err NotAnApReq
 
--- ---- the rules in their order
+-- ---- both
 
--- once the authenticator is recorded, only the ticket's validity decides
-abbrev pub unless_seen : State → ℤ → List ℕ → Bool → Presented → Option ApRefusal → Answer
-unless_seen state now confounder wanted p (Some refusal) = refused state refusal
-unless_seen state now confounder wanted p None = record {
-  answer = unless_invalid confounder wanted p (first_holding (validity_rules (ticket_terms p.ticket) now));
-  state = recording state now p;
+-- an answer, and the state afterwards
+pub record Answer : Type 0 where
+  pub answer : Result Accepted ApFault
+  pub state : State
+
+-- by the refusal, and by what is recorded
+abbrev pub answered : State → ℤ → List ℕ → Bool → Option ApRefusal → Option Presented → Answer
+answered state now confounder wanted refusal p = record {
+  answer = answer_by confounder wanted refusal p;
+  state = after_recording state now p;
 }
-
-abbrev pub if_presented : State → ℤ → List ℕ → Bool → Result Presented ApRefusal → Answer
-if_presented state now confounder wanted (Ok p) =
-    unless_seen state now confounder wanted p (cache_refusal state now p)
-if_presented state now confounder wanted (Err refusal) = refused state refusal
 
 -- the AP-REQ that the bytes encode
 abbrev pub request_of : List ℕ → Option ApReq
@@ -111,7 +117,8 @@ request_of octets = ok_of (whole ap_req.at octets)
 
 abbrev pub if_request : State → ℤ → List ℕ → Option ApReq → Answer
 if_request state now confounder (Some ap) =
-    if_presented state now confounder (asks_reply ap) (presented state.keytab ap)
+    answered state now confounder (asks_reply ap) (option_map (λ row. row.refusal) (refused_by state now ap))
+    (recorded_of state now ap)
 if_request state now confounder None = record { answer = Err NotAnApReq; state = state }
 
 -- `confounder` is the 16 random bytes of the AP-REP
@@ -134,15 +141,22 @@ IsAfter (Err NotAnApReq) old new ruled = new ≡ ruled
 IsAfter (Err (Refused refusal)) old new ruled = new ≡ ruled
 IsAfter (Ok accepted) old new ruled = new ≡ ruled
 
+-- the code in the row that refuses the request, if one does
+abbrev pub code_by : State → ℤ → List ℕ → Option Code
+code_by state now octets =
+    option_map (λ row. row.code) (option_and_then (refused_by state now) (request_of octets))
+
+-- the code of a refusal, as `ApRefusal::code` returns it, is the one in that row
+abbrev pub IsCoded : ApFault → Option Code → Type 0
+IsCoded (Refused refusal) ruled = ruled ≡ Some (code_of refusal)
+IsCoded NotAnApReq ruled = ⊤
+IsCoded NoMemory ruled = ⊤
+
 -- ---- whose request it is
 
--- what the bytes present, if ticket and authenticator can be decrypted and match
-abbrev pub presented_if : State → Option ApReq → Option Presented
-presented_if state (Some ap) = result_ok (presented state.keytab ap)
-presented_if state None = None
-
-abbrev pub presented_by : State → List ℕ → Option Presented
-presented_by state octets = presented_if state (request_of octets)
+-- the ticket and the authenticator, if the authenticator is recorded
+abbrev pub recorded_by : State → ℤ → List ℕ → Option Presented
+recorded_by state now octets = option_and_then (recorded_of state now) (request_of octets)
 
 -- the service whose clients' caches may change
 abbrev pub IsService : Components → Option Presented → Type 0

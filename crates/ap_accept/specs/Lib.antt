@@ -5,8 +5,12 @@ pub mod Clients
 pub mod State
 pub mod Validity
 pub mod Reply
+pub mod Contents
+pub mod Rules
 pub mod Accepts
+pub mod Stages
 pub mod Run
 -- laws that proofs cite; readers of a contract don't need them
 pub mod PresentedLaws
+pub mod StageLaws
 pub mod LengthLaws

@@ -18,19 +18,19 @@ use Rattle.ap_accept.specs.declared.presented.Presented.{Presented}
 
 module _ (request : ApReq) where
   -- the rest after each step
-  abbrev by_subkey : Key → Authenticator → Option Key → Result Authenticated ApRefusal
+  abbrev pub by_subkey : Key → Authenticator → Option Key → Result Authenticated ApRefusal
   by_subkey key auth subkey = Ok (record { session_key = key; authenticator = auth; subkey = subkey })
 
-  abbrev by_authenticator : EncTicketPart → Key → Authenticator → Result Authenticated ApRefusal
+  abbrev pub by_authenticator : EncTicketPart → Key → Authenticator → Result Authenticated ApRefusal
   by_authenticator part key auth = subkey_of part auth >>= λ subkey. by_subkey key auth subkey
 
-  abbrev by_session_key : EncTicketPart → Key → Result Authenticated ApRefusal
+  abbrev pub by_session_key : EncTicketPart → Key → Result Authenticated ApRefusal
   by_session_key part key = authenticator_of ApReqAuthenticator key request.authenticator >>= λ auth. by_authenticator part key auth
 
-  abbrev by_shown : EncTicketPart → Authenticated → Result Presented ApRefusal
+  abbrev pub by_shown : EncTicketPart → Authenticated → Result Presented ApRefusal
   by_shown part shown = Ok (presented_as request part shown.session_key shown.authenticator shown.subkey)
 
-  abbrev by_ticket : EncTicketPart → Result Presented ApRefusal
+  abbrev pub by_ticket : EncTicketPart → Result Presented ApRefusal
   by_ticket part = authenticated request part >>= λ shown. by_shown part shown
 
   pub all_found : (keytab : List KeytabEntry) (part : EncTicketPart) (key : Key) (auth : Authenticator)

@@ -1,19 +1,19 @@
--- Runs of an acceptor: which authenticators it accepts, call by call.
+-- Runs of an acceptor: which authenticators it accepts, event by event.
 use Rattle.std.specs.Prelude.{◌≡◌, ℕ, ℤ, pos, ◌-ℤ◌, ◌≤ℤ◌, ⊤, Bool, ◌&&◌, if◌then◌else◌, List, [], ◌∷◌, Option}
 use Rattle.std.specs.Prelude.{Some, None, Result, Ok, Err}
 use Rattle.std.specs.List.{AllByRecursion}
 use Rattle.std.specs.Ordering.{eq_by_cmp}
+use Rattle.cred_files.specs.declared.keytab_entry.KeytabEntry.{KeytabEntry}
 use Rattle.krb_fields.specs.Name.{Components, name_cmp}
 use Rattle.krb_fields.specs.declared.moment.Moment.{Moment}
 use Rattle.replay.specs.Run.{collected, EachOnce}
 use Rattle.replay.specs.Stamp.{Stamp}
-use Rattle.ap_accept.specs.Accepts.{accepts, cache_refusal, presented_by, recording_clients, stamp_of}
+use Rattle.ap_accept.specs.Accepts.{accepts, recorded_by, recording_clients, stamp_of}
 use Rattle.ap_accept.specs.Clients.{hour}
-use Rattle.ap_accept.specs.State.{with_clients}
+use Rattle.ap_accept.specs.State.{with_clients, with_keytab}
 use Rattle.ap_accept.specs.declared.accepted.Accepted.{Accepted}
 use Rattle.ap_accept.specs.declared.fault.ApFault.{ApFault}
 use Rattle.ap_accept.specs.declared.presented.Presented.{Presented}
-use Rattle.ap_opening.specs.declared.refusal.ApRefusal.{ApRefusal}
 use Rattle.ap_accept.specs.declared.state.State.{State}
 
 -- a call: the moment, the random bytes, and the bytes of an AP-REQ
@@ -22,8 +22,18 @@ pub record Call : Type 0 where
   pub confounder : List ℕ
   pub octets : List ℕ
 
+-- a call, or a keytab that replaces the keys
+pub data Event : Type 0 where
+  Accept : Call → Event
+  Replace : List KeytabEntry → Event
+
 abbrev pub after_call : State → Call → State
 after_call state call = (accepts state call.at call.confounder call.octets).state
+
+-- the state after an event, where `after` returns the state after a call
+abbrev pub after_event : (State → Call → State) → State → Event → State
+after_event after state (Accept call) = after state call
+after_event after state (Replace keytab) = with_keytab state keytab
 
 -- what is presented is for this service, from this client
 abbrev pub is_party : Components → Components → Presented → Bool
@@ -41,15 +51,19 @@ accepted_in service client None answer = None
 
 abbrev pub accepted_for : Components → Components → State → Call → Option Stamp
 accepted_for service client state call =
-    accepted_in service client (presented_by state call.octets)
+    accepted_in service client (recorded_by state call.at.sec call.octets)
     (accepts state call.at call.confounder call.octets).answer
 
--- In every list of calls, at any moments, no authenticator is accepted twice for the same ticket realm, service and
--- client. An authenticator is known by its ctime and cusec.
+abbrev pub accepted_at : Components → Components → State → Event → Option Stamp
+accepted_at service client state (Accept call) = accepted_for service client state call
+accepted_at service client state (Replace keytab) = None
+
+-- In every list of calls, at any moments, and with any keytabs that replace the keys between them, no authenticator is
+-- accepted twice for the same ticket realm, service and client. An authenticator is known by its ctime and cusec.
 abbrev pub AcceptedOnce : Type 0
 AcceptedOnce =
-    (state : State) (realm : List ℕ) (sname client : Components) (calls : List Call)
-    → EachOnce (collected after_call (accepted_for (realm ∷ sname) client) state calls)
+    (state : State) (realm : List ℕ) (sname client : Components) (events : List Event)
+    → EachOnce (collected (after_event after_call) (accepted_at (realm ∷ sname) client) state events)
 
 -- ---- an acceptor that drops nothing
 
@@ -57,31 +71,33 @@ AcceptedOnce =
 abbrev pub keeping : State → ℤ → Presented → State
 keeping state now p = with_clients state p.service.components (recording_clients state now p)
 
--- the state after a request, where `remember` records its authenticator
-abbrev pub recorded_unless : (State → ℤ → Presented → State) → State → ℤ → Presented → Option ApRefusal → State
-recorded_unless record_seen state now p (Some refusal) = state
-recorded_unless record_seen state now p None = record_seen state now p
-
-abbrev pub after_presented : (State → ℤ → Presented → State) → State → ℤ → Option Presented → State
-after_presented record_seen state now (Some p) = recorded_unless record_seen state now p (cache_refusal state now p)
-after_presented record_seen state now None = state
+abbrev pub keeping_if : State → ℤ → Option Presented → State
+keeping_if state now (Some p) = keeping state now p
+keeping_if state now None = state
 
 abbrev pub after_keeping : State → Call → State
-after_keeping state call = after_presented keeping state call.at.sec (presented_by state call.octets)
+after_keeping state call = keeping_if state call.at.sec (recorded_by state call.at.sec call.octets)
 
 -- the answers to the calls, where `after` returns the state after each
-abbrev pub answers : (State → Call → State) → State → List Call → List (Result Accepted ApFault)
+abbrev pub answers : (State → Call → State) → State → List Event → List (Result Accepted ApFault)
 answers after state [] = []
-answers after state (call ∷ calls) =
-    (accepts state call.at call.confounder call.octets).answer ∷ answers after (after state call) calls
+answers after state (Accept call ∷ events) =
+    (accepts state call.at call.confounder call.octets).answer ∷ answers after (after state call) events
+answers after state (Replace keytab ∷ events) = answers after (with_keytab state keytab) events
+
+-- a call is not before this second
+abbrev pub IsFrom : ℤ → Event → Type 0
+IsFrom second (Accept call) = second ≤ℤ call.at.sec
+IsFrom second (Replace keytab) = ⊤
 
 -- no call is more than an hour earlier than a call before it
-abbrev pub Steady : List Call → Type 0
+abbrev pub Steady : List Event → Type 0
 Steady [] = ⊤
-Steady (call ∷ calls) = AllByRecursion (λ later. (call.at.sec -ℤ pos hour) ≤ℤ later.at.sec) calls × Steady calls
+Steady (Accept call ∷ events) = AllByRecursion (IsFrom (call.at.sec -ℤ pos hour)) events × Steady events
+Steady (Replace keytab ∷ events) = Steady events
 
 -- For all steady calls, an acceptor that drops old entries answers as one that drops nothing.
 abbrev pub DropsUnseen : Type 0
 DropsUnseen =
-    (state : State) (calls : List Call) → Steady calls
-    → answers after_call state calls ≡ answers after_keeping state calls
+    (state : State) (events : List Event) → Steady events
+    → answers after_call state events ≡ answers after_keeping state events

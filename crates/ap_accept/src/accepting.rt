@@ -3,10 +3,10 @@ ghost use Rattle.std.specs.Prelude.{◌≡◌, false, None, IfOk, IfNone, IfSome
 ghost use Rattle.std.specs.FinMap as map;
 ghost use Rattle.replay.specs.ReplayCache.{verdict_copied};
 ghost use Rattle.replay.specs.Stamp.{is_beyond_clock_skew};
-ghost use Rattle.ap_accept.specs.Accepts.{accepted_if, accepted_with, accepts, cache_for, cache_refusal};
-ghost use Rattle.ap_accept.specs.Accepts.{presented_by, refusal_by, recording, stamp_of, unless_seen};
+ghost use Rattle.ap_accept.specs.Accepts.{accepted_with, accepts, cache_for, recorded_by, recording, stamp_of};
 ghost use Rattle.ap_accept.specs.Accepts.{IsAfter, IsAnswer};
 ghost use Rattle.ap_accept.specs.Reply.{IsApReply};
+ghost use Rattle.ap_accept.specs.Stages.{accepted_if, cache_refusal, refusal_by, unless_seen};
 
 use crate::accepted::Accepted;
 use crate::clients::{Clients, empty_cache};
@@ -35,7 +35,7 @@ pub fn accept(
 ) -> Result<Accepted, ApFault>
     ensures answer { IsAnswer result (accepts state.old at confounder.now ap_req.now).answer }
     ensures state { IsAfter result state.old state.new (accepts state.old at confounder.now ap_req.now).state }
-    ensures reply { IfOk result (λ accepted. IfSome (presented_by state.old ap_req.now) (λ p.
+    ensures reply { IfOk result (λ accepted. IfSome (recorded_by state.old at.sec ap_req.now) (λ p.
         IfSome accepted.ap_rep (λ octets. IsApReply p.session_key confounder.now p.authenticator octets))) }
 {
     let Ok(request) = read_ap_req(ap_req) else {
@@ -123,7 +123,7 @@ fn cache_refusal(
     let cache = clients.cache(&presented.ticket.cname, &empty);
     let ctime = presented.authenticator.ctime.seconds();
     let cusec = presented.authenticator.cusec.get();
-    refusal_by(cache.check(at, ctime, cusec, state.limits.remembered))
+    refusal_by(cache.check(at, ctime, cusec, state.options.remembered))
 }
 
 fn refusal_by(verdict: Verdict<&()>) -> Option<ApRefusal>

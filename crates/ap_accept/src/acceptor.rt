@@ -1,19 +1,20 @@
 //! An acceptor of AP-REQ messages.
-ghost use Rattle.std.specs.Prelude.{◌≡◌, ◌↔◌, ◌-ℤ◌, pos, Some, IfOk, IfSome};
+ghost use Rattle.std.specs.Prelude.{◌≡◌, ◌↔◌, ◌-ℤ◌, pos, Some, IfOk, IfErr, IfSome};
 ghost use Rattle.krb_ap.specs.ApReq as trees;
 ghost use Rattle.krb_fields.specs.Name.{Components};
-ghost use Rattle.ap_accept.specs.Accepts.{accepts, presented_by, request_of, IsAfter, IsAnswer, IsParty, IsService};
+ghost use Rattle.ap_accept.specs.Accepts.{accepts, code_by, recorded_by, request_of, IsAfter, IsAnswer, IsCoded};
+ghost use Rattle.ap_accept.specs.Accepts.{IsParty, IsService};
 ghost use Rattle.ap_accept.specs.Clients.{IsKeptOrDropped, SaysTheSame, hour};
 ghost use Rattle.ap_accept.specs.Reply.{IsApReply};
-ghost use Rattle.ap_accept.specs.State.{clients_of, cache_of, opened};
+ghost use Rattle.ap_accept.specs.State.{clients_of, cache_of, opened, with_keytab};
 
 use crate::accepted::Accepted;
 use crate::accepting::accept;
 use crate::fault::ApFault;
+use crate::options::AcceptorOptions;
 use crate::state::State;
 use cred_files::Keytab;
 use krb_fields::Moment;
-use principal_rows::Limits;
 use replay::Opening;
 use std::alloc::{AllocError, Global};
 use std::marker::Model;
@@ -41,14 +42,24 @@ impl Acceptor {
     pub fn open(
         alloc: Global,
         keytab: Keytab,
-        limits: Limits,
+        options: AcceptorOptions,
         opening: Opening,
     ) -> Result<Acceptor, AllocError>
-        ensures { IfOk result (λ acceptor. acceptor ≡ opened keytab limits opening) }
+        ensures { IfOk result (λ acceptor. acceptor ≡ opened keytab options opening) }
     {
         Ok(Acceptor {
-            state: State::open(alloc, keytab, limits, opening),
+            state: State::open(alloc, keytab, options, opening),
         })
+    }
+
+    /// Replaces the keys with those of this keytab, and allocates nothing.
+    ///
+    /// The replay caches stay as they are. So nobody is refused for the change, and nothing that was accepted is
+    /// accepted again.
+    pub fn replace(&mut self, keytab: Keytab)
+        ensures { self.new ≡ with_keytab self.old keytab }
+    {
+        self.state.keytab = keytab;
     }
 
     /// Accepts the bytes of an AP-REQ, or returns the rule that refuses them.
@@ -68,25 +79,27 @@ impl Acceptor {
         // The answer and the state afterwards are those that the rules prescribe.
         ensures answer { IsAnswer result (accepts self.old at confounder.now ap_req.now).answer }
         ensures state { IsAfter result self.old self.new (accepts self.old at confounder.now ap_req.now).state }
+        // The code of a refusal is the one in the row of the table that refuses.
+        ensures code { IfErr result (λ fault. IsCoded fault (code_by self.old at.sec ap_req.now)) }
         // The session key decrypts the AP-REP, if there is one, to the authenticator's time.
-        ensures reply { IfOk result (λ accepted. IfSome (presented_by self.old ap_req.now) (λ p.
+        ensures reply { IfOk result (λ accepted. IfSome (recorded_by self.old at.sec ap_req.now) (λ p.
             IfSome accepted.ap_rep (λ octets. IsApReply p.session_key confounder.now p.authenticator octets))) }
-        // Only the replay cache of the presented service and client changes. Entries of the service's other clients may
+        // Only the replay cache of the service and the client whose authenticator is recorded changes. Entries of the service's other clients may
         // be dropped, but their caches give the same verdict on every authenticator from an hour before this call on.
-        ensures services { (service : Components) → (IsService service (presented_by self.old ap_req.now) → ⊥)
+        ensures services { (service : Components) → (IsService service (recorded_by self.old at.sec ap_req.now) → ⊥)
             → clients_of self.new service ≡ clients_of self.old service }
         ensures caches { (service client : Components)
-            → (IsParty service client (presented_by self.old ap_req.now) → ⊥)
+            → (IsParty service client (recorded_by self.old at.sec ap_req.now) → ⊥)
             → SaysTheSame (at.sec -ℤ pos hour) (cache_of self.new service client)
             (cache_of self.old service client) }
         // Another client's cache is unchanged or dropped. It is dropped only if the service's floor lay more than an hour
         // too low, and if an empty cache with the raised floor refuses no less.
         ensures kept { (service client : Components)
-            → (IsParty service client (presented_by self.old ap_req.now) → ⊥)
+            → (IsParty service client (recorded_by self.old at.sec ap_req.now) → ⊥)
             → IsKeptOrDropped at.sec (clients_of self.old service).floor (cache_of self.old service client)
             (cache_of self.new service client) }
         ensures keytab { self.new.keytab ≡ self.old.keytab }
-        ensures limits { self.new.limits ≡ self.old.limits }
+        ensures options { self.new.options ≡ self.old.options }
     {
         accept(&mut self.state, alloc, at, confounder, ap_req)
     }

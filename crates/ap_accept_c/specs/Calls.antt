@@ -7,7 +7,7 @@ use Rattle.ap_accept.specs.declared.accepted.Accepted.{Accepted}
 use Rattle.ap_accept_c.specs.Buffers.{IsGiven}
 use Rattle.ap_accept_c.specs.Numbers.{numbers_if}
 use Rattle.ap_accept_c.specs.Part.{octets_of}
-use Rattle.ap_accept_c.specs.Service.{IsOpened, IsOpenFault, IsTaken}
+use Rattle.ap_accept_c.specs.Service.{IsOpened, IsOpenFault, IsRekeyed, IsTaken}
 use Rattle.ap_accept_c.specs.Status.{number_of}
 use Rattle.ap_accept_c.specs.declared.numbers.Numbers.{Numbers}
 use Rattle.ap_accept_c.specs.declared.part.Part.{Part}
@@ -27,6 +27,17 @@ IsOpeningOf status new keytab remembered opening = (new ≡ None) × IsOpenFault
 abbrev pub IsOpening : Status → Option Service → Option Service → List ℕ → ℕ → Opening → Type 0
 IsOpening status (Some old) new keytab remembered opening = (status ≡ BadArgument) × (new ≡ Some old)
 IsOpening status None new keytab remembered opening = IsOpeningOf status new keytab remembered opening
+
+-- ---- replacing the keys
+
+abbrev pub IsRekeyedTo : Status → Service → Option Service → List ℕ → Type 0
+IsRekeyedTo status old (Some new) keytab = IsRekeyed status old new keytab
+IsRekeyedTo status old None keytab = ⊥
+
+-- a closed acceptor has no keys
+abbrev pub IsReplacing : Status → Option Service → Option Service → List ℕ → Type 0
+IsReplacing status (Some old) new keytab = IsRekeyedTo status old new keytab
+IsReplacing status None new keytab = (status ≡ Closed) × (new ≡ None)
 
 -- ---- accepting
 

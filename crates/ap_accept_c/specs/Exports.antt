@@ -6,7 +6,7 @@ use Rattle.krb_fields.specs.declared.moment.Moment.{Moment}
 use Rattle.replay.specs.declared.opening.Opening.{Opening}
 use Rattle.replay.specs.declared.opening.Opening.TheVariants.{First, Restart}
 use Rattle.ap_accept_c.specs.Buffers.{texted}
-use Rattle.ap_accept_c.specs.Calls.{IsAccepted, IsClosing, IsFetched, IsOpening, Numbered}
+use Rattle.ap_accept_c.specs.Calls.{IsAccepted, IsClosing, IsFetched, IsOpening, IsReplacing, Numbered}
 use Rattle.ap_accept_c.specs.Part.{part_numbered}
 use Rattle.ap_accept_c.specs.declared.numbers.Numbers.{Numbers}
 use Rattle.ap_accept_c.specs.declared.part.Part.{Part}
@@ -47,6 +47,9 @@ pub record IsAcceptedAt (status : Status) (old new : Option Service) (sec : ℤ)
 abbrev pub IsOpenCall : ℤ → Option Service → Option Service → List ℕ → ℕ → Bool → ℤ → ℕ → Type 0
 IsOpenCall n old new keytab remembered is_first sec usec =
     Numbered n (λ status. IsOpenAt status old new keytab remembered is_first sec usec)
+
+abbrev pub IsReplaceCall : ℤ → Option Service → Option Service → List ℕ → Type 0
+IsReplaceCall n old new keytab = Numbered n (λ status. IsReplacing status old new keytab)
 
 abbrev pub IsAcceptCall : ℤ → Option Service → Option Service → ℤ → ℕ → List ℕ → List ℕ → Numbers → Type 0
 IsAcceptCall n old new sec usec confounder octets numbers =

@@ -5,7 +5,7 @@ use Rattle.cred_files.specs.Keytab.{IsKeytab}
 use Rattle.cred_files.specs.declared.keytab_entry.KeytabEntry.{KeytabEntry}
 use Rattle.replay.specs.declared.opening.Opening.{Opening}
 use Rattle.ap_accept.specs.Accepts.{Answer}
-use Rattle.ap_accept.specs.State.{opened}
+use Rattle.ap_accept.specs.State.{opened, with_keytab}
 use Rattle.ap_accept.specs.declared.fault.ApFault.TheVariants as faults
 use Rattle.ap_accept_c.specs.declared.service.Service.{Service}
 use Rattle.ap_accept_c.specs.declared.status.Status.{Status}
@@ -15,16 +15,30 @@ use Rattle.ap_accept_c.specs.declared.status.Status.TheVariants.{Refused}
 -- it has the keys of the keytab that the bytes encode, and has accepted nothing
 pub record IsOpened (service : Service) (octets : List ℕ) (limit : ℕ) (opening : Opening) : Type 0 where
   pub keys : IsKeytab service.acceptor.keytab octets
-  pub acceptor : service.acceptor ≡ opened service.acceptor.keytab service.acceptor.limits opening
-  pub remembered : service.acceptor.limits.remembered ≡ limit
+  pub acceptor : service.acceptor ≡ opened service.acceptor.keytab service.acceptor.options opening
+  pub remembered : service.acceptor.options.remembered ≡ limit
   pub accepted : service.accepted ≡ None
 
--- the number is out of range, the bytes are not a keytab, or memory ran out
+-- the bytes are not a keytab, or memory ran out
+abbrev pub IsKeytabFault : Status → List ℕ → Type 0
+IsKeytabFault BadKeytab octets = (keytab : List KeytabEntry) → IsKeytab keytab octets → ⊥
+IsKeytabFault NoMemory octets = Unit {0}
+IsKeytabFault status octets = ⊥
+
+-- the same, or the number is out of range
 abbrev pub IsOpenFault : Status → List ℕ → ℕ → Type 0
 IsOpenFault BadArgument octets remembered = (1 ≤ remembered) × (remembered ≤ 65536) → ⊥
-IsOpenFault BadKeytab octets remembered = (keytab : List KeytabEntry) → IsKeytab keytab octets → ⊥
-IsOpenFault NoMemory octets remembered = Unit {0}
-IsOpenFault status octets remembered = ⊥
+IsOpenFault status octets remembered = IsKeytabFault status octets
+
+-- it has the keys of the keytab that the bytes encode, and is otherwise as it was
+pub record HasKeytab (old new : Service) (octets : List ℕ) : Type 0 where
+  pub keys : IsKeytab new.acceptor.keytab octets
+  pub service : new ≡ record old { acceptor = with_keytab old.acceptor new.acceptor.keytab }
+
+-- the keys are replaced, or nothing is
+abbrev pub IsRekeyed : Status → Service → Service → List ℕ → Type 0
+IsRekeyed Done old new octets = HasKeytab old new octets
+IsRekeyed status old new octets = (new ≡ old) × IsKeytabFault status octets
 
 -- the service after the answer that the acceptor's rules prescribe
 abbrev pub after : Answer → Service

@@ -1,6 +1,6 @@
 //! The calls from C, as operations on a `Holder`.
 ghost use Rattle.std.specs.Prelude.{◌≡◌, None, IfOk, IfErr};
-ghost use Rattle.ap_accept_c.specs.Calls.{IsAccepted, IsClosing, IsFetched, IsOpening};
+ghost use Rattle.ap_accept_c.specs.Calls.{IsAccepted, IsClosing, IsFetched, IsOpening, IsReplacing};
 ghost use Rattle.ap_accept_c.specs.Exports.{opening_at, IsAcceptedAt, IsFetchPart, IsOpenAt};
 ghost use Rattle.ap_accept_c.specs.Holder.{IsHolder};
 ghost use Rattle.ap_accept_c.specs.Part.{part_numbered};
@@ -84,6 +84,20 @@ fn boxed(
         Ok(service) => Ok(service),
         Err(_) => Err(Status::NoMemory),
     }
+}
+
+/// Replaces the keys of an open acceptor. Its replay caches stay.
+pub fn replace_keytab(holder: &mut Holder, alloc: Global, keytab: &[u8]) -> Status
+    requires { IsHolder holder.old }
+    ensures holder { IsHolder holder.new }
+    ensures replaced { IsReplacing result holder.old.held.value holder.new.held.value keytab.now }
+{
+    let Some(mut service) = holder.take(alloc) else {
+        return Status::Closed;
+    };
+    let status = service.replace_keytab(alloc, keytab);
+    holder.put(service);
+    status
 }
 
 /// Accepts the bytes of an AP-REQ at the moment that these numbers name, or returns the reason to refuse it.

@@ -3,7 +3,8 @@
 //!
 //! Null pointers and lengths above PTRDIFF_MAX can't be checked here; the header's inline functions check for them.
 ghost use Rattle.std.specs.Prelude.{◌≡◌, None};
-ghost use Rattle.ap_accept_c.specs.Exports.{IsAcceptCall, IsCloseCall, IsFetchCall, IsOpenCall, IsTextCall};
+ghost use Rattle.ap_accept_c.specs.Exports.{IsAcceptCall, IsCloseCall, IsFetchCall, IsOpenCall, IsReplaceCall};
+ghost use Rattle.ap_accept_c.specs.Exports.{IsTextCall};
 ghost use Rattle.ap_accept_c.specs.Holder.{IsHolder};
 
 use crate::buffers::give_text;
@@ -12,6 +13,9 @@ use crate::holder::Holder;
 use crate::numbers::Numbers;
 use crate::texts::text_of;
 use std::alloc::Global;
+
+/// The AP_VERSION of the header. It rises with each function, part or status that the header gets.
+const VERSION: u32 = 1;
 
 /// Opens a closed acceptor with the bytes of a keytab.
 #[unsafe(no_mangle)]
@@ -30,6 +34,20 @@ pub extern "C" fn ap_accept_c_open(
         keytab.now remembered is_first sec usec }
 {
     calls::open_at(holder, alloc, keytab, remembered, is_first, sec, usec).number()
+}
+
+/// Replaces the keys of an open acceptor with those in the bytes of a keytab.
+#[unsafe(no_mangle)]
+pub extern "C" fn ap_accept_c_replace_keytab(
+    alloc: Global,
+    holder: &mut Holder,
+    keytab: &[u8],
+) -> i32
+    requires { IsHolder holder.old }
+    ensures holder { IsHolder holder.new }
+    ensures replaced { IsReplaceCall result holder.old.held.value holder.new.held.value keytab.now }
+{
+    calls::replace_keytab(holder, alloc, keytab).number()
 }
 
 /// Accepts the bytes of an AP-REQ, or returns the code of the rule that refuses them.
@@ -75,6 +93,14 @@ pub extern "C" fn ap_accept_c_close(alloc: Global, holder: &mut Holder) -> i32
     ensures closed { IsCloseCall result holder.old.held.value }
 {
     calls::close(holder, alloc).number()
+}
+
+/// Returns the version of the library.
+#[unsafe(no_mangle)]
+pub extern "C" fn ap_accept_c_version() -> u32
+    ensures { result ≡ 1 }
+{
+    VERSION
 }
 
 /// Writes the text for a status to a buffer, and returns its length.

@@ -1,17 +1,17 @@
 //! An acceptor and the AP-REQ that it accepted last.
 ghost use Rattle.std.specs.Prelude.{◌≡◌, None, IfOk, IfErr};
 ghost use Rattle.ap_accept.specs.Accepts.{accepts};
+ghost use Rattle.cred_files.specs.Keytab.{IsKeytab};
 ghost use Rattle.ap_accept_c.specs.Calls.{IsFetchedFrom, IsFetchedOf};
 ghost use Rattle.ap_accept_c.specs.Part.{octets_of};
-ghost use Rattle.ap_accept_c.specs.Service.{IsOpened, IsOpenFault, IsTaken};
+ghost use Rattle.ap_accept_c.specs.Service.{IsKeytabFault, IsOpened, IsOpenFault, IsRekeyed, IsTaken};
 
 use crate::buffers::give;
 use crate::part::Part;
 use crate::status::Status;
-use ap_accept::{Accepted, Acceptor, Opening};
+use ap_accept::{Accepted, Acceptor, AcceptorOptions, Opening};
 use cred_files::Keytab;
 use krb_fields::Moment;
-use principal_rows::Limits;
 use std::alloc::Global;
 
 /// The value behind the pointer that C holds.
@@ -34,17 +34,31 @@ impl Service {
         ensures opened { IfOk result (λ service. IsOpened service keytab.now remembered opening) }
         ensures fault { IfErr result (λ status. IsOpenFault status keytab.now remembered) }
     {
-        let Some(limits) = Limits::new(remembered, 0, 0, 0, 0) else {
+        if !(1..=65_536).contains(&remembered) {
             return Err(Status::BadArgument);
-        };
-        let keytab = match Keytab::read(alloc, keytab) {
+        }
+        let keytab = match keytab_in(alloc, keytab) {
             Ok(keytab) => keytab,
-            Err(fault) => return Err(Status::of_file_fault(fault)),
+            Err(status) => return Err(status),
         };
+        let options = AcceptorOptions { remembered };
         Ok(Service {
-            acceptor: Acceptor::open(alloc, keytab, limits, opening)?,
+            acceptor: Acceptor::open(alloc, keytab, options, opening)?,
             accepted: None,
         })
+    }
+
+    /// Replaces the keys with those in the bytes of a keytab. Changes nothing if it can't read them.
+    pub fn replace_keytab(&mut self, alloc: Global, keytab: &[u8]) -> Status
+        ensures { IsRekeyed result self.old self.new keytab.now }
+    {
+        match keytab_in(alloc, keytab) {
+            Ok(keytab) => {
+                self.acceptor.replace(keytab);
+                Status::Done
+            }
+            Err(status) => status,
+        }
     }
 
     /// Accepts the bytes of an AP-REQ, or returns the reason to refuse them.
@@ -76,6 +90,16 @@ impl Service {
             Some(accepted) => fetch_from(accepted, alloc, part, to, len),
             None => Status::Absent,
         }
+    }
+}
+
+fn keytab_in(alloc: Global, octets: &[u8]) -> Result<Keytab, Status>
+    ensures read { IfOk result (λ keytab. IsKeytab keytab octets.now) }
+    ensures fault { IfErr result (λ status. IsKeytabFault status octets.now) }
+{
+    match Keytab::read(alloc, octets) {
+        Ok(keytab) => Ok(keytab),
+        Err(fault) => Err(Status::of_file_fault(fault)),
     }
 }
 

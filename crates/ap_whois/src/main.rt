@@ -2,12 +2,11 @@
 //! prints who sent each.
 #![tactic(auto)]
 
-use ap_accept::{Accepted, Acceptor, ApFault, Opening};
+use ap_accept::{Accepted, Acceptor, AcceptorOptions, ApFault, Opening};
 use cred_files::{Keytab, Principal};
 use hex::FromHexError;
 use krb_der::KTime;
 use krb_fields::{Moment, component_to_text};
-use principal_rows::Limits;
 use std::alloc::{AllocError, Global};
 use std::io::{BufRead, Error, ErrorKind};
 use std::process::ExitCode;
@@ -48,14 +47,12 @@ fn serve(rt: &HostRuntime, keytab: &str, opening: Opening) -> io::Result<ExitCod
     }
 }
 
-/// Returns an acceptor with the keys of a keytab file. It records up to 1,024 authenticators of each client.
+/// Returns an acceptor with the keys of a keytab file.
 fn open(rt: &HostRuntime, path: &str, opening: Opening) -> io::Result<Acceptor> {
     let octets = fs::read(rt, path)?;
-    let Some(limits) = Limits::new(1_024, 0, 0, 0, 0) else {
-        return Err(Error::from(ErrorKind::InvalidInput));
-    };
+    let options = AcceptorOptions::default();
     match Keytab::read(rt.alloc(), &octets) {
-        Ok(keytab) => Ok(Acceptor::open(rt.alloc(), keytab, limits, opening)?),
+        Ok(keytab) => Ok(Acceptor::open(rt.alloc(), keytab, options, opening)?),
         Err(_) => Err(Error::from(ErrorKind::InvalidData)),
     }
 }

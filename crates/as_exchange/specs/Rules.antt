@@ -1,12 +1,12 @@
 -- The rules that refuse AS-REQs (RFC 4120, sections 3.1.2 and 3.1.3), in order, each with its section. The codes for
 -- disabled and expired rows are from section 7.5.9.
 use Rattle.std.specs.Prelude.{ℤ, pos, Bool, true, false, not, ◌&&◌, ◌||◌, nat_eq, is_none, List, [], ◌∷◌, Option}
-use Rattle.std.specs.Prelude.{Some, None, Result}
+use Rattle.std.specs.Prelude.{Some, None, Result, option_map}
 use Rattle.std.specs.Ordering.{int_eq}
 use Rattle.std.specs.Cmp.Lexicographic.{pointwise}
 use Rattle.refusals.specs.Optional.{holds_of}
 use Rattle.refusals.specs.Refusals.{Rule, decided}
-use Rattle.kdc_replies.specs.Standing.{has_come, is_disabled, is_expired, is_service_denied}
+use Rattle.kdc_replies.specs.Standing.{denies_tickets, has_come, is_disabled, is_expired}
 use Rattle.krb_fields.specs.declared.code.Code.{Code}
 use Rattle.krb_fields.specs.declared.code.Code as codes
 use Rattle.krb_fields.specs.declared.kdc_option.KdcOption.TheVariants.{Forwarded, Proxy, AllowPostdate, Postdated}
@@ -47,6 +47,10 @@ is_client_unknown v body = not (pointwise nat_eq body.realm v.realm) || is_none 
 -- no service is named, or the service has no row
 abbrev pub is_service_unknown : AsView → ReqBody → Bool
 is_service_unknown v body = is_none body.sname || is_none v.service
+
+-- no tickets may be issued for the service
+abbrev pub is_service_denied : AsView → ReqBody → Bool
+is_service_denied v body = denies_tickets v.realm (option_map (λ name. name.components) body.sname) v.service
 
 abbrev pub has_expired_password : Option Row → ℤ → Bool
 has_expired_password row now = holds_of (λ row. has_come row.policy.password_expires now) row
@@ -110,7 +114,7 @@ rules_by v now message timestamp found times =
     ∷ (is_bad_message_type message, BadMessageType)  -- 3.1.2, 5.4.1
     ∷ (is_client_unknown v message.body.value, ClientUnknown)  -- 3.1.3
     ∷ (is_service_unknown v message.body.value, ServiceUnknown)  -- 3.1.3
-    ∷ (is_service_denied v.service, ServiceDenied)  -- 3.1.3
+    ∷ (is_service_denied v message.body.value, ServiceDenied)  -- 3.1.3
     ∷ (is_disabled v.client, ClientDisabled)  -- 3.1.3
     ∷ (is_client_locked v now, ClientLocked)  -- 3.1.3
     ∷ (is_expired v.client now, ClientExpired)  -- 3.1.3

@@ -1,10 +1,11 @@
 -- The AS exchange issues tickets only to clients, and for services, in good standing.
 use Rattle.std.proofs.Common.{◌≡◌, ℤ, ℕ, List, Option, Result, Ok, Err, IfSome, refl}
 use Rattle.std.proofs.lemmas.Bool.{or_parts}
-use Rattle.std.specs.Prelude.{◌||◌, not, nat_eq, is_none}
+use Rattle.std.specs.Prelude.{◌||◌, not, nat_eq, is_none, option_map}
 use Rattle.std.specs.Cmp.Lexicographic.{pointwise}
 use Rattle.kdc_replies.specs.GoodStanding.{AreInGoodStanding}
 use Rattle.kdc_replies.specs.GoodStandingLaws.{in_good_standing}
+use Rattle.krb_fields.specs.Name.{Components}
 use Rattle.krb_fields.specs.declared.moment.Moment.{Moment}
 use Rattle.krb_messages.specs.KdcReq.{Received}
 use Rattle.preauth.specs.declared.timestamp.Outcome.{Outcome}
@@ -20,22 +21,25 @@ use Rattle.as_exchange.specs.declared.refusal.AsRefusal.TheVariants.{NeverValid}
 use Rattle.as_exchange.specs.declared.terms.Admission.{Admission}
 use Rattle.as_exchange.specs.declared.terms.Terms.{Terms}
 
+abbrev service_name : Received → Option Components
+service_name message = option_map (λ name. name.components) message.body.value.sname
+
 module _ (v : AsView) (message : Received) where
   clear_standing : (now : ℤ) (timestamp : Outcome) (found : Option Terms) (times : Option Times)
-      → AreClear (rules_by v now message timestamp found times) → AreInGoodStanding v.client v.service now
+      → AreClear (rules_by v now message timestamp found times) → AreInGoodStanding v.realm (service_name message) v.client v.service now
   clear_standing now timestamp found times clear =
       let body = message.body.value in
       let client = or_parts (not (pointwise nat_eq body.realm v.realm) || is_none body.cname) (is_none v.client)
       clear.1.1.0 in
       let service = or_parts (is_none body.sname) (is_none v.service) clear.1.1.1.0 in
-      in_good_standing v.client v.service now client.1 clear.1.1.1.1.1.0 clear.1.1.1.1.1.1.1.0 service.1
+      in_good_standing v.realm (service_name message) v.client v.service now client.1 clear.1.1.1.1.1.0 clear.1.1.1.1.1.1.1.0 service.1
       clear.1.1.1.1.0 clear.1.1.1.1.1.1.1.1.1.0 clear.1.1.1.1.1.1.1.1.1.1.0
 
   module _ (at : Moment) (random : List ℕ) where
     admitted_standing : (timestamp : Outcome) (r : Result Admission AsRefusal)
         → admitted v at.sec message timestamp ≡ r
         → IfSome (issued_by v at random message.body.value (by_admission timestamp r))
-        (λ _. AreInGoodStanding v.client v.service at.sec)
+        (λ _. AreInGoodStanding v.realm (service_name message) v.client v.service at.sec)
     admitted_standing timestamp (Ok admission) is =
         let body = message.body.value in
         let found = terms v body in
@@ -47,7 +51,7 @@ module _ (v : AsView) (message : Received) where
 
     -- of what is issued
     pub issued_standing : IfSome (issued v at random message)
-        (λ _. AreInGoodStanding v.client v.service at.sec)
+        (λ _. AreInGoodStanding v.realm (service_name message) v.client v.service at.sec)
     issued_standing =
         let timestamp = timestamp_of v.client at.sec message in
         admitted_standing timestamp (admitted v at.sec message timestamp) refl

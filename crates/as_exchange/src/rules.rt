@@ -2,7 +2,7 @@
 ghost use Rattle.std.specs.Prelude.{◌≡◌, IfOk, option_copied};
 ghost use Rattle.as_exchange.specs.Rules.{is_bad_version, is_bad_message_type, is_client_unknown, is_service_unknown};
 ghost use Rattle.as_exchange.specs.Rules.{has_expired_password, is_client_locked, asks_bad_option, needs_preauth};
-ghost use Rattle.as_exchange.specs.Rules.{lacks_preauth, forbids_postdating};
+ghost use Rattle.as_exchange.specs.Rules.{lacks_preauth, forbids_postdating, is_service_denied};
 ghost use Rattle.as_exchange.specs.Rules.{is_postdating_refused, is_bad, is_timestamp_skewed, is_absent, is_good};
 ghost use Rattle.as_exchange.specs.Rules.{timestamp_of};
 ghost use Rattle.as_exchange.specs.Rules.{rules_by, admitted_by};
@@ -10,7 +10,7 @@ ghost use Rattle.as_exchange.specs.Rules.{rules_by, admitted_by};
 use crate::refusal::AsRefusal;
 use crate::terms::{Admission, Terms, admission_of, times_of};
 use crate::view::AsView;
-use kdc_replies::{Incoming, has_come, is_disabled, is_expired, is_service_denied};
+use kdc_replies::{Incoming, denies_tickets, has_come, is_disabled, is_expired};
 use krb_fields::{KdcOption, Moment};
 use krb_messages::{AS_REQ, KdcReqRef, PVNO, ReqBodyRef};
 use preauth::{Outcome, check_timestamp, is_locked};
@@ -53,7 +53,7 @@ fn rules_by(
         (is_bad_message_type(message), AsRefusal::BadMessageType),
         (is_client_unknown(view, body), AsRefusal::ClientUnknown),
         (is_service_unknown(view, body), AsRefusal::ServiceUnknown),
-        (is_service_denied(view.service), AsRefusal::ServiceDenied),
+        (is_service_denied(view, body), AsRefusal::ServiceDenied),
         (is_disabled(view.client), AsRefusal::ClientDisabled),
         (is_client_locked(view, at), AsRefusal::ClientLocked),
         (is_expired(view.client, at), AsRefusal::ClientExpired),
@@ -130,6 +130,13 @@ fn is_client_locked(view: &AsView<'_>, at: Moment) -> bool
     ensures { result ≡ is_client_locked view.now at.sec }
 {
     is_locked(view.current_failures(), view.limits, at)
+}
+
+/// Checks whether no tickets may be issued for the service.
+fn is_service_denied(view: &AsView<'_>, body: &ReqBodyRef<'_>) -> bool
+    ensures { result ≡ is_service_denied view.now body.now }
+{
+    denies_tickets(view.realm, body.sname.as_ref(), view.service)
 }
 
 fn has_expired_password(row: Option<&Row>, at: Moment) -> bool

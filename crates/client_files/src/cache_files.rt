@@ -18,7 +18,7 @@ pub fn read_cache<T: ClientStore>(
     store: &mut T,
     path: &str,
 ) -> Result<Cache, Fault> {
-    at(alloc, path, check_ours(store.standing(path)))?;
+    at(alloc, path, check_cache(store.standing(path)))?;
     let octets = at_file(alloc, read_file(alloc, store, path))?;
     at(alloc, path, cache_in(alloc, &octets))
 }
@@ -56,7 +56,15 @@ fn check_plain(found: io::Result<Standing>) -> Result<(), Cause> {
     }
 }
 
-/// Checks whether the cache at the path is the user's own.
+/// Checks whether the path has a cache, and whether it is the user's own.
+fn check_cache(found: io::Result<Standing>) -> Result<(), Cause> {
+    match found {
+        Ok(Standing::Free) => Err(Cause::NoCache),
+        found => check_ours(found),
+    }
+}
+
+/// Checks whether the cache at the path is the user's own, or there is none.
 fn check_ours(found: io::Result<Standing>) -> Result<(), Cause> {
     match found {
         Ok(Standing::Others) => Err(Cause::NotOurs),
@@ -128,11 +136,7 @@ pub fn remove_cache<T: ClientStore>(alloc: Global, store: &mut T, path: &str) ->
 }
 
 fn remove_ours<T: ClientStore>(store: &mut T, path: &str) -> Result<(), Cause> {
-    let found = store.standing(path);
-    if matches!(&found, Ok(Standing::Free)) {
-        return Err(Cause::NoCache);
-    }
-    check_ours(found)?;
+    check_cache(store.standing(path))?;
     match store.remove(path) {
         Ok(()) => Ok(()),
         Err(error) => Err(Cause::File(FileCause::Failed(error))),

@@ -1,14 +1,13 @@
 //! A `krb5.conf`: its text with the files that it includes, its default realm, and the KDCs of a realm.
-use crate::client_store::ClientStore;
+use crate::client_store::{ClientStore, Standing};
 use crate::environment::Defaults;
-use crate::faults::{Cause, Fault, at_file, begin_item};
-use client_login::HostNames;
-use file_store::{FileCause, read_file};
+use crate::faults::{Cause, Fault, at_file};
+use client_login::KdcPlace;
+use file_store::{FileCause, LONGEST_FILE, read_file};
 use krb_elements::KerberosString;
 use krb_fields::{component_to_text, is_component};
-use krb5_conf::{default_realm, kdc_address, kdcs};
+use krb5_conf::{default_realm, kdc_address, kdcs, library_settings};
 use std::alloc::{AllocError, Global};
-use std::net::SocketAddr;
 
 /// A `krb5.conf`.
 #[derive(Drop)]
@@ -16,22 +15,74 @@ pub struct Config {
     path: String,
     /// The lines of an included file replace the line that includes it.
     text: Vec<u8>,
+    /// What was passed over, a line for each.
+    notes: String,
+}
+
+/// How deep files may include each other.
+const MOST_DEEP: usize = 3;
+
+/// The text of a `krb5.conf`, as it is read.
+#[derive(Drop)]
+struct Reading {
+    text: Vec<u8>,
+    notes: String,
 }
 
 impl Config {
-    /// Reads the file that the environment names, or else the system's, with the files that it includes.
+    /// Reads the file that the environment names, or else the system's, with the files that it includes. What is no plain
+    /// file is passed over, and so is what is included more than three deep; `notes` says so.
     pub fn read<T: ClientStore>(
         alloc: Global,
         store: &mut T,
         defaults: &Defaults<'_>,
     ) -> Result<Config, Fault> {
         let path = defaults.config_path()?;
-        let text = at_file(alloc, read_file(alloc, store, path))?;
-        let text = with_included(alloc, store, &text)?;
+        let mut reading = Reading {
+            text: Vec::new(alloc),
+            notes: String::new(alloc),
+        };
+        push_file(alloc, store, &mut reading, path)?;
+        for _ in 0..MOST_DEEP {
+            reading = with_included(alloc, store, reading)?;
+        }
+        note_deeper(&mut reading)?;
+        let Reading { text, notes } = reading;
         Ok(Config {
             path: String::from_str(alloc, path)?,
             text,
+            notes,
         })
+    }
+
+    /// The same, unless there is no such file.
+    pub fn read_if_there<T: ClientStore>(
+        alloc: Global,
+        store: &mut T,
+        defaults: &Defaults<'_>,
+    ) -> Result<Option<Config>, Fault> {
+        let Ok(path) = defaults.config_path() else {
+            return Ok(None);
+        };
+        if let Ok(Standing::Free) = store.standing(path) {
+            return Ok(None);
+        }
+        Ok(Some(Config::read(alloc, store, defaults)?))
+    }
+
+    pub(crate) fn path(&self) -> &str {
+        self.path.as_str()
+    }
+
+    /// Returns the first value with this tag in `[libdefaults]`.
+    pub(crate) fn setting(&self, alloc: Global, tag: &str) -> Result<Option<&[u8]>, AllocError> {
+        let found = library_settings(alloc, &self.text, tag.as_bytes())?;
+        Ok(found.first().copied())
+    }
+
+    /// Returns what was passed over, a line for each.
+    pub fn notes(&self) -> &str {
+        self.notes.as_str()
     }
 
     /// Returns the default realm.
@@ -43,58 +94,34 @@ impl Config {
         }
     }
 
-    /// Returns the KDCs of a realm, at least one. It looks hosts up by name, and skips those without an address if
-    /// another has one.
-    pub fn kdcs<X: HostNames>(
-        &self,
-        alloc: Global,
-        names: &mut X,
-        realm: &[u8],
-    ) -> Result<KdcList, Fault> {
-        let texts = kdcs(alloc, &self.text, realm)?;
-        let found = kdcs_of_texts(alloc, names, &texts)?;
-        if !found.addresses.is_empty() {
-            return Ok(found);
+    /// Returns where the KDCs of a realm are, at least one. It looks up no name.
+    pub fn kdcs(&self, alloc: Global, realm: &[u8]) -> Result<Vec<KdcPlace>, Fault> {
+        let mut places = Vec::new(alloc);
+        for text in &kdcs(alloc, &self.text, realm)? {
+            if !text.is_empty() {
+                places.push(place_of(alloc, text)?)?;
+            }
         }
-        if found.unknown.is_empty() {
-            let realm = component_to_text(alloc, realm)?;
-            return Err(self.fault(alloc, realm.as_str(), Cause::NoKdc));
+        if !places.is_empty() {
+            return Ok(places);
         }
-        Err(self.fault(alloc, found.unknown.as_str(), Cause::NotAnAddress))
-    }
-
-    /// Returns what is wrong with a realm or with hosts in the file.
-    fn fault(&self, alloc: Global, value: &str, cause: Cause) -> Fault {
+        let realm = component_to_text(alloc, realm)?;
         let path = self.path.as_str();
-        match format!(in alloc; "{path}: {value}") {
-            Ok(subject) => Fault::of(subject, cause),
-            Err(error) => Fault::from(error),
-        }
-    }
-}
-
-/// The KDCs of a realm.
-#[derive(Drop)]
-pub struct KdcList {
-    /// In the order in which a client tries them.
-    pub addresses: Vec<SocketAddr>,
-    /// The names of the hosts without a known address, with a comma between two.
-    pub unknown: String,
-}
-
-impl KdcList {
-    fn add_unknown(&mut self, host: &str) -> Result<(), AllocError> {
-        begin_item(&mut self.unknown)?;
-        self.unknown.push_str(host)
+        let subject = format!(in alloc; "{path}: {realm}")?;
+        Err(Fault::of(subject, Cause::NoKdc))
     }
 }
 
 fn with_included<T: ClientStore>(
     alloc: Global,
     store: &mut T,
-    text: &[u8],
-) -> Result<Vec<u8>, Fault> {
-    let mut whole = Vec::new(alloc);
+    reading: Reading,
+) -> Result<Reading, Fault> {
+    let Reading { text, notes } = reading;
+    let mut whole = Reading {
+        text: Vec::new(alloc),
+        notes,
+    };
     for line in text.split(|octet| *octet == b'\n') {
         push_line(alloc, store, &mut whole, line)?;
     }
@@ -104,22 +131,53 @@ fn with_included<T: ClientStore>(
 fn push_line<T: ClientStore>(
     alloc: Global,
     store: &mut T,
-    whole: &mut Vec<u8>,
+    whole: &mut Reading,
     line: &[u8],
 ) -> Result<(), Fault> {
-    let text = str::from_utf8(line).unwrap_or("");
-    if let Some(folder) = behind(text, "includedir") {
-        return push_folder(alloc, store, whole, folder);
+    match included_by(line) {
+        Some(Included::Folder(folder)) => push_folder(alloc, store, whole, folder),
+        Some(Included::File(path)) => push_file(alloc, store, whole, path),
+        None => push_text(alloc, whole, line),
     }
-    if let Some(path) = behind(text, "include") {
-        return push_file(alloc, store, whole, path);
-    }
-    push_text(whole, line)
 }
 
-fn push_text(whole: &mut Vec<u8>, text: &[u8]) -> Result<(), Fault> {
-    whole.extend_from_slice(text)?;
-    Ok(whole.push(b'\n')?)
+/// What a line includes.
+#[derive(Clone, Copy)]
+enum Included<'a> {
+    File(&'a str),
+    Folder(&'a str),
+}
+
+/// Returns what a line includes; `None` if it is another line.
+fn included_by(line: &[u8]) -> Option<Included<'_>> {
+    let text = str::from_utf8(line).unwrap_or("");
+    match behind(text, "includedir") {
+        Some(folder) => Some(Included::Folder(folder)),
+        None => Some(Included::File(behind(text, "include")?)),
+    }
+}
+
+/// Notes the lines that are included too deep. A file that includes itself ends in such a line.
+fn note_deeper(reading: &mut Reading) -> Result<(), AllocError> {
+    for line in reading.text.split(|octet| *octet == b'\n') {
+        if let Some(Included::File(path) | Included::Folder(path)) = included_by(line) {
+            writeln!(
+                reading.notes,
+                "{path}: it is included more than {MOST_DEEP} deep, as by a file that includes itself, so it is passed over"
+            )?;
+        }
+    }
+    Ok(())
+}
+
+/// Appends a text and a line feed.
+fn push_text(alloc: Global, whole: &mut Reading, text: &[u8]) -> Result<(), Fault> {
+    if whole.text.len() > LONGEST_FILE {
+        let cause = Cause::File(FileCause::LongFile);
+        return Err(Fault::new(alloc, "the krb5.conf with all that it includes", cause));
+    }
+    whole.text.extend_from_slice(text)?;
+    Ok(whole.text.push(b'\n')?)
 }
 
 /// Returns what follows a word and a space at the start of a line.
@@ -135,7 +193,7 @@ fn behind<'a>(line: &'a str, word: &str) -> Option<&'a str> {
 fn push_folder<T: ClientStore>(
     alloc: Global,
     store: &mut T,
-    whole: &mut Vec<u8>,
+    whole: &mut Reading,
     folder: &str,
 ) -> Result<(), Fault> {
     match store.names_in(alloc, folder) {
@@ -147,7 +205,7 @@ fn push_folder<T: ClientStore>(
 fn push_files<T: ClientStore>(
     alloc: Global,
     store: &mut T,
-    whole: &mut Vec<u8>,
+    whole: &mut Reading,
     folder: &str,
     names: &[String],
 ) -> Result<(), Fault> {
@@ -169,72 +227,38 @@ fn has_plain_name(name: &str) -> bool {
     name.bytes().all(|octet| octet.is_ascii_alphanumeric() || octet == b'-' || octet == b'_')
 }
 
+/// Appends the text of a file. What is no plain file is passed over: opening it may wait forever.
 fn push_file<T: ClientStore>(
     alloc: Global,
     store: &mut T,
-    whole: &mut Vec<u8>,
+    whole: &mut Reading,
     path: &str,
 ) -> Result<(), Fault> {
+    if let Ok(Standing::NoFile) = store.standing(path) {
+        let notes = &mut whole.notes;
+        writeln!(
+            notes,
+            "{path}: it is not a file, but a folder, a device or a pipe, so it is passed over"
+        )?;
+        return Ok(());
+    }
     let text = at_file(alloc, read_file(alloc, store, path))?;
-    push_text(whole, &text)
-}
-
-fn kdcs_of_texts<X: HostNames>(
-    alloc: Global,
-    names: &mut X,
-    texts: &[&[u8]],
-) -> Result<KdcList, AllocError> {
-    let mut found = KdcList {
-        addresses: Vec::new(alloc),
-        unknown: String::new(alloc),
-    };
-    for text in texts {
-        add_text(alloc, names, &mut found, text)?;
-    }
-    Ok(found)
-}
-
-fn add_text<X: HostNames>(
-    alloc: Global,
-    names: &mut X,
-    kdcs: &mut KdcList,
-    text: &[u8],
-) -> Result<(), AllocError> {
-    match kdc_address(alloc, text)? {
-        Some(address) => Ok(kdcs.addresses.push(address)?),
-        None => add_host(alloc, names, kdcs, text),
-    }
-}
-
-/// Adds the addresses of a host.
-fn add_host<X: HostNames>(
-    alloc: Global,
-    names: &mut X,
-    kdcs: &mut KdcList,
-    text: &[u8],
-) -> Result<(), AllocError> {
-    match addresses_of(alloc, names, text) {
-        Some(addresses) => kdcs.addresses.extend_from_slice(&addresses),
-        None => kdcs.add_unknown(component_to_text(alloc, text)?.as_str()),
-    }
-}
-
-/// Returns the addresses of a host, if at least one is known.
-fn addresses_of<X: HostNames>(
-    alloc: Global,
-    names: &mut X,
-    text: &[u8],
-) -> Option<Vec<SocketAddr>> {
-    let (host, port) = host_and_port(str::from_utf8(text).ok()?);
-    let addresses = names.look_up(alloc, host, port).ok()?;
-    if addresses.is_empty() {
-        return None;
-    }
-    Some(addresses)
+    push_text(alloc, whole, &text)
 }
 
 /// The port of a KDC (RFC 4120, section 7.2.1).
 const KDC_PORT: u16 = 88;
+
+/// Returns where a KDC is that a text names.
+fn place_of(alloc: Global, text: &[u8]) -> Result<KdcPlace, AllocError> {
+    if let Some(address) = kdc_address(alloc, text)? {
+        return KdcPlace::of_address(alloc, address);
+    }
+    // A text that is not UTF-8 is no name of a host: what is shown in its place has no address.
+    let shown = component_to_text(alloc, text)?;
+    let (host, port) = host_and_port(str::from_utf8(text).unwrap_or(shown.as_str()));
+    KdcPlace::of_host(alloc, host, port)
+}
 
 /// Returns a host's name, and the port after it, or else that of a KDC.
 fn host_and_port(text: &str) -> (&str, u16) {

@@ -1,5 +1,6 @@
 //! Where a client's files are, by the environment.
 use crate::client_store::ClientStore;
+use crate::configs::Config;
 use crate::faults::{Cause, Fault};
 use crate::file_names::{NameOf, path_in};
 use file_store::FileCause;
@@ -36,21 +37,32 @@ const CACHE_NOT_UTF8: &str = "KRB5CCNAME is not UTF-8: --cache takes a file";
 const CONFIG_NOT_UTF8: &str = "KRB5_CONFIG, which names the krb5.conf to be read, is not UTF-8";
 
 impl<'a> Defaults<'a> {
-    /// Returns the path of the cache: that of `KRB5CCNAME`, or else the user's own, which MIT's and Heimdal's clients use
-    /// too.
+    /// Returns the path of the cache: that of `KRB5CCNAME`, or else of the `krb5.conf`, or else the user's own, which MIT's
+    /// and Heimdal's clients use too.
     pub fn cache_path<T: ClientStore>(
         &self,
         alloc: Global,
         store: &mut T,
     ) -> Result<String, Fault> {
         match self.cache {
-            Variable::Absent => own_path(alloc, store.user()),
+            Variable::Absent => self.own_path(alloc, store),
             Variable::NotUtf8 => Err(Fault::usage(CACHE_NOT_UTF8)),
             Variable::Text(name) => {
                 let path = path_in(name, NameOf::CacheVariable)?;
                 Ok(String::from_str(alloc, path)?)
             }
         }
+    }
+
+    /// Returns the path of the user's own cache.
+    fn own_path<T: ClientStore>(&self, alloc: Global, store: &mut T) -> Result<String, Fault> {
+        let user = user_number(alloc, store.user())?;
+        if let Some(config) = Config::read_if_there(alloc, store, self)?
+            && let Some(path) = config.cache_path(alloc, user)?
+        {
+            return Ok(path);
+        }
+        Ok(format!(in alloc; "/tmp/krb5cc_{user}")?)
     }
 
     /// Returns the path of the `krb5.conf`: that of `KRB5_CONFIG`, or else the system's.
@@ -76,9 +88,9 @@ impl<'a> Variable<'a> {
     }
 }
 
-fn own_path(alloc: Global, user: io::Result<u32>) -> Result<String, Fault> {
+fn user_number(alloc: Global, user: io::Result<u32>) -> Result<u32, Fault> {
     match user {
-        Ok(user) => Ok(format!(in alloc; "/tmp/krb5cc_{user}")?),
+        Ok(user) => Ok(user),
         Err(error) => {
             let cause = Cause::File(FileCause::Failed(error));
             Err(Fault::new(alloc, "the number of the user", cause))

@@ -1,8 +1,10 @@
 //! Why a client can't go on, and what that concerns.
-use client_login::{Kdcs, LoginFault, Why};
+ghost use Rattle.std.specs.Prelude.{◌≡◌, IfOk, Ok};
+
+use client_login::{KdcPlace, Kdcs, LoginFault, Why};
 use cred_files::FileFault;
 use file_store::FileCause;
-use krb_fields::NameFault;
+use krb_fields::{NameFault, component_to_text};
 use std::alloc::{AllocError, AllocFailed, Global};
 use std::net::SocketAddr;
 use std::{fmt, io};
@@ -30,20 +32,20 @@ pub enum Cause {
     NoCache,
     /// The cache belongs to another user, or others may write it.
     NotOurs,
+    /// A service has another realm than the cache.
+    OtherRealm,
     /// The cache's ticket-granting ticket ended at this second since 1970.
     Ended(i64),
     NotRenewable,
-    /// The keytab has no key with the type and version that a ticket names.
-    NoTicketKey,
-    /// The keytab's key doesn't decrypt the ticket.
-    Unopened,
     /// A `krb5.conf` names no default realm.
     NoRealm,
     /// The default realm of a `krb5.conf` is invalid.
     BadRealm,
+    /// A setting of a `krb5.conf` has a value that is not accepted. The text says which values are.
+    BadSetting(&'static str),
     /// A `krb5.conf` has no KDC of the realm.
     NoKdc,
-    /// None of the hosts that a `krb5.conf` names as KDCs has a known address.
+    /// None of the hosts that are named as KDCs has a known address.
     NotAnAddress,
     /// A login got no ticket.
     Login(Why),
@@ -92,7 +94,9 @@ impl Fault {
 }
 
 /// Returns what is found, or the fault for what a file or a word is refused for.
-pub fn at<T: Drop>(alloc: Global, subject: &str, found: Result<T, Cause>) -> Result<T, Fault> {
+pub fn at<T: Drop>(alloc: Global, subject: &str, found: Result<T, Cause>) -> Result<T, Fault>
+    ensures { IfOk result (λ value. found ≡ Ok value) }
+{
     match found {
         Ok(value) => Ok(value),
         Err(cause) => Err(Fault::new(alloc, subject, cause)),
@@ -140,23 +144,53 @@ fn reply_fault(alloc: Global, fault: LoginFault) -> Fault {
 }
 
 fn silence<X>(alloc: Global, kdcs: &Kdcs<X>, error: io::Error) -> Fault {
-    match addresses_text(alloc, &kdcs.addresses) {
-        Ok(subject) => Fault::of(subject, Cause::Silent(error, kdcs.failures())),
+    match silence_of(alloc, kdcs, error) {
+        Ok(fault) => fault,
         Err(error) => Fault::from(error),
     }
 }
 
-fn addresses_text(alloc: Global, addresses: &[SocketAddr]) -> Result<String, AllocError> {
+/// Returns the fault for KDCs that don't reply, or whose addresses are unknown.
+fn silence_of<X>(alloc: Global, kdcs: &Kdcs<X>, error: io::Error) -> Result<Fault, AllocError> {
+    let addresses = addresses_text(alloc, &kdcs.places)?;
+    let unknown = unknown_hosts(alloc, &kdcs.places)?;
+    if addresses.is_empty() && !unknown.is_empty() {
+        return Ok(Fault::of(unknown, Cause::NotAnAddress));
+    }
+    Ok(Fault::of(addresses, Cause::Silent(error, kdcs.failures())))
+}
+
+/// Returns the known addresses of KDCs, with a comma between two.
+fn addresses_text(alloc: Global, places: &[KdcPlace]) -> Result<String, AllocError> {
     let mut text = String::new(alloc);
+    for place in places {
+        push_addresses(&mut text, place.addresses())?;
+    }
+    Ok(text)
+}
+
+fn push_addresses(text: &mut String, addresses: &[SocketAddr]) -> Result<(), AllocError> {
     for address in addresses {
-        begin_item(&mut text)?;
+        begin_item(text)?;
         write!(text, "{address}")?;
+    }
+    Ok(())
+}
+
+/// Returns the names of the hosts that were looked up and have no address, with a comma between two.
+pub fn unknown_hosts(alloc: Global, places: &[KdcPlace]) -> Result<String, AllocError> {
+    let mut text = String::new(alloc);
+    for place in places {
+        if let Some(host) = place.unknown_host() {
+            begin_item(&mut text)?;
+            text.push_str(component_to_text(alloc, host.as_bytes())?.as_str())?;
+        }
     }
     Ok(text)
 }
 
 /// Separates an item of a list from those before it.
-pub(crate) fn begin_item(list: &mut String) -> Result<(), AllocError> {
+fn begin_item(list: &mut String) -> Result<(), AllocError> {
     if list.is_empty() {
         return Ok(());
     }

@@ -8,6 +8,8 @@ pub enum NameOf {
     Cache,
     /// In `KRB5CCNAME`.
     CacheVariable,
+    /// In the `default_ccache_name` of a `krb5.conf`.
+    CacheSetting,
     /// After `--keytab`.
     Keytab,
 }
@@ -18,6 +20,8 @@ impl NameOf {
         match self {
             NameOf::Cache => "--cache takes a file: no path stands behind FILE:",
             NameOf::CacheVariable => "KRB5CCNAME names no file: no path stands behind FILE:",
+            NameOf::CacheSetting =>
+                "default_ccache_name of the krb5.conf names no file: no path stands behind FILE:",
             NameOf::Keytab => "--keytab takes a file: no path stands behind FILE:",
         }
     }
@@ -29,6 +33,8 @@ impl NameOf {
                 "--cache names a cache of another type than FILE, which kclient has not: it takes a file",
             NameOf::CacheVariable =>
                 "KRB5CCNAME names a cache of another type than FILE, which kclient has not: --cache takes a file",
+            NameOf::CacheSetting =>
+                "default_ccache_name of the krb5.conf names a cache of another type than FILE, which kclient has not: --cache takes a file",
             NameOf::Keytab =>
                 "--keytab names a keytab of another type than FILE, which kclient has not: it takes a file",
         }

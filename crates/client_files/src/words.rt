@@ -1,6 +1,6 @@
 //! The words for each cause: one for programs, and what it means, for people.
 use crate::faults::Cause;
-use client_login::Why;
+use client_login::{Doubt, Why};
 use cred_files::FileFault;
 use file_store::FileCause;
 use krb_fields::Second;
@@ -28,7 +28,8 @@ impl Cause {
             Cause::File(cause) => ("", file_cause_text(cause)),
             Cause::Cache(fault) => cache_words(fault),
             Cause::Keytab(fault) => keytab_words(fault),
-            Cause::NoCache => ("Absent", "there is no cache"),
+            Cause::NoCache => ("Absent", "there is no cache: kinit makes one"),
+            Cause::OtherRealm => ("OtherRealm", "its realm is not that of the cache"),
             Cause::NotOurs => (
                 "NotOurs",
                 "the cache belongs to another user, or other users may write it: name a cache of your own, or chmod go-w",
@@ -38,14 +39,6 @@ impl Cause {
                 "NotRenewable",
                 "the ticket is not renewable: use kinit --renewable",
             ),
-            Cause::NoTicketKey => (
-                "Absent",
-                "it has no key of the service with the ticket's encryption type and version",
-            ),
-            Cause::Unopened => (
-                "CannotOpen",
-                "its key does not decrypt the ticket: it is another key of the same version",
-            ),
             Cause::NoRealm => (
                 "NoRealm",
                 "it has no default_realm in [libdefaults]: add one, or name the realm",
@@ -54,6 +47,7 @@ impl Cause {
                 "BadName",
                 "its default_realm does not have 1 to 255 bytes: correct it, or name the realm",
             ),
+            Cause::BadSetting(text) => ("BadSetting", text),
             Cause::NoKdc => (
                 "NoKdc",
                 "it has no kdc of this realm: add one, or name the address of a KDC",
@@ -89,7 +83,10 @@ fn cache_words(fault: FileFault) -> (&'static str, &'static str) {
             "BadEntry",
             "a part of the credential is too long for a cache",
         ),
-        FileFault::TooLate => ("TooLate", "a cache can't hold a time after the year 2106"),
+        FileFault::TooLate => (
+            "TooLate",
+            "a cache has room for times from the year 1970 to 2106, and a time of the ticket is another",
+        ),
         FileFault::Absent => (
             "Absent",
             "it has no usable ticket-granting ticket of the realm: run kinit",
@@ -119,8 +116,18 @@ fn login_name(why: Why) -> Option<&'static str> {
         Why::CannotOpen | Why::SessionCannotOpen | Why::NoKnownType => "CannotOpen",
         Why::CountTooLarge => "CountTooLarge",
         Why::WeakCount => "WeakCount",
+        Why::Unverified(doubt) => doubt_name(doubt),
         Why::Refused(_) | Why::Silence(_) | Why::Memory => return None,
     })
+}
+
+fn doubt_name(doubt: Doubt) -> &'static str {
+    match doubt {
+        Doubt::NoTicketKey => "Absent",
+        Doubt::NotOpened => "CannotOpen",
+        Doubt::OtherTicket => "Mismatch",
+        Doubt::NotValid => "NotValid",
+    }
 }
 
 impl fmt::Display for Cause {

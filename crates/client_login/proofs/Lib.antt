@@ -1,3 +1,4 @@
 mod InfoCopies
 mod OwnKeys
 mod Takings
+mod Verified

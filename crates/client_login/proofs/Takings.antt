@@ -82,6 +82,7 @@ rejected secret asked now key octets ticket says.SessionCannotOpen own read is =
 rejected secret asked now key octets ticket says.NoKnownType own read is = absurd is
 rejected secret asked now key octets ticket says.CountTooLarge own read is = absurd is
 rejected secret asked now key octets ticket says.WeakCount own read is = absurd is
+rejected secret asked now key octets ticket (says.Unverified doubt) own read is = absurd is
 
 pub rejected_first : (secret : Secret) (asked : Asked) (now : ℤ) (key : Key) (octets : List ℕ) (ticket : KdcRep 11)
     (taken : Result Credential Why) → IsOwnKey secret asked.realm asked.client key
@@ -111,6 +112,7 @@ keyless (secrets.Password password) asked now octets (says.Silence error) is = a
 keyless (secrets.Password password) asked now octets (says.Refused error) is = absurd is
 keyless (secrets.Password password) asked now octets says.NotAReply is = absurd is
 keyless (secrets.Password password) asked now octets says.SessionCannotOpen is = absurd is
+keyless (secrets.Password password) asked now octets (says.Unverified doubt) is = absurd is
 keyless (secrets.Keytab keytab) asked now octets (says.Mismatch what) is = absurd is
 keyless (secrets.Keytab keytab) asked now octets says.CannotOpen is = absurd is
 keyless (secrets.Keytab keytab) asked now octets says.NotAskable is = absurd is
@@ -120,6 +122,7 @@ keyless (secrets.Keytab keytab) asked now octets (says.Silence error) is = absur
 keyless (secrets.Keytab keytab) asked now octets (says.Refused error) is = absurd is
 keyless (secrets.Keytab keytab) asked now octets says.NotAReply is = absurd is
 keyless (secrets.Keytab keytab) asked now octets says.SessionCannotOpen is = absurd is
+keyless (secrets.Keytab keytab) asked now octets (says.Unverified doubt) is = absurd is
 
 -- for a reply with a ticket
 pub keyless_first : (secret : Secret) (asked : Asked) (now : ℤ) (octets : List ℕ) (ticket : KdcRep 11) (why : Why)
@@ -172,6 +175,8 @@ refused_first secret asked now octets refusal says.CountTooLarge read is =
     by_refusal secret asked now octets refusal says.CountTooLarge read is
 refused_first secret asked now octets refusal says.WeakCount read is =
     by_refusal secret asked now octets refusal says.WeakCount read is
+refused_first secret asked now octets refusal (says.Unverified doubt) read is =
+    by_refusal secret asked now octets refusal (says.Unverified doubt) read is
 refused_first secret asked now octets refusal says.Memory read is = tt
 
 -- ---- a reply under a session key
@@ -204,6 +209,7 @@ tgs_rejected asked now key octets ticket says.CannotOpen read is = absurd is
 tgs_rejected asked now key octets ticket says.NoKnownType read is = absurd is
 tgs_rejected asked now key octets ticket says.CountTooLarge read is = absurd is
 tgs_rejected asked now key octets ticket says.WeakCount read is = absurd is
+tgs_rejected asked now key octets ticket (says.Unverified doubt) read is = absurd is
 
 pub rejected_tgs : (asked : Asked) (now : ℤ) (key : Key) (octets : List ℕ) (ticket : KdcRep 13)
     (taken : Result Credential Why) → ticket_reply_in 13 octets ≡ Some ticket
@@ -239,6 +245,7 @@ module _ (answers : SocketAddr → List ℕ → List ℕ → Type 0) where
       subst (λ (kdc : Option SocketAddr). IsFirstFault answers secret asked now says.CannotOpen kdc) (sym e)
       (record { request = is.request; reply = reply.octets.items; answered = is.answered; says = said })
   first_blames secret asked now reply says.SessionCannotOpen kdc is said e = absurd said
+  first_blames secret asked now reply (says.Unverified doubt) kdc is said e = absurd said
   first_blames secret asked now reply says.NoKnownType kdc is said e =
       subst (λ (kdc : Option SocketAddr). IsFirstFault answers secret asked now says.NoKnownType kdc) (sym e)
       (record { request = is.request; reply = reply.octets.items; answered = is.answered; says = said })
@@ -292,6 +299,7 @@ module _ (answers : SocketAddr → List ℕ → List ℕ → Type 0) where
   first_unheard secret asked now says.NoKnownType kdc is = absurd is
   first_unheard secret asked now says.CountTooLarge kdc is = absurd is
   first_unheard secret asked now says.WeakCount kdc is = absurd is
+  first_unheard secret asked now (says.Unverified doubt) kdc is = absurd is
 
   -- ---- the same for a further ticket
 
@@ -337,6 +345,7 @@ module _ (answers : SocketAddr → List ℕ → List ℕ → Type 0) where
   further_blames granting asked now key reply says.NoKnownType kdc shared is said e = absurd said
   further_blames granting asked now key reply says.CountTooLarge kdc shared is said e = absurd said
   further_blames granting asked now key reply says.WeakCount kdc shared is said e = absurd said
+  further_blames granting asked now key reply (says.Unverified doubt) kdc shared is said e = absurd said
 
   pub further_blamed : (granting : Credential) (asked : Asked) (now : ℤ) (key : Key) (reply : Reply)
       (found : Result Credential Why) (result : Result Credential LoginFault) → session_key granting ≡ Some key
@@ -394,6 +403,7 @@ module _ (answers : SocketAddr → List ℕ → List ℕ → Type 0) where
   further_unheard granting asked now key says.NoKnownType kdc shared is = absurd is
   further_unheard granting asked now key says.CountTooLarge kdc shared is = absurd is
   further_unheard granting asked now key says.WeakCount kdc shared is = absurd is
+  further_unheard granting asked now key (says.Unverified doubt) kdc shared is = absurd is
 
   -- ---- what a KDC answers with
 

@@ -58,17 +58,18 @@ time_after now seconds = up_to_last (now +ℤ pos seconds)
 abbrev pub from_of : ℤ → Wishes → Option ℤ
 from_of now w = option_map (time_after now) w.start
 
--- when it ends: this many seconds after its start; the start of 1970 requests no bound
+-- this many seconds after the start; the start of 1970 requests no bound
 abbrev pub till_by : ℤ → ℕ → Option ℕ → ℤ
 till_by now start (Some life) = time_after now (life + start)
 till_by now start None = pos 0
 
+-- when it ends
 abbrev pub till_of : ℤ → Wishes → ℤ
 till_of now w = till_by now (unwrap_or w.start 0) w.life
 
--- until when it is to be renewable: the start of 1970 requests no bound
-abbrev pub rtime_of : Wishes → Option ℤ
-rtime_of w = if w.renewable then Some (pos 0) else None
+-- until when it is to be renewable
+abbrev pub rtime_of : ℤ → Wishes → Option ℤ
+rtime_of now w = if w.renewable then Some (till_by now (unwrap_or w.start 0) w.renew_life) else None
 
 -- ---- the whole request
 
@@ -85,7 +86,7 @@ first_asked login etypes now nonce = record {
   service = login.service;
   from = from_of now login.wishes;
   till = till_of now login.wishes;
-  rtime = rtime_of login.wishes;
+  rtime = rtime_of now login.wishes;
   nonce = nonce;
   etypes = etypes;
 }

@@ -8,3 +8,4 @@ pub mod LoginLaws
 pub mod Logins
 pub mod Moments
 pub mod Replies
+pub mod Verifying

@@ -1,5 +1,6 @@
 -- The replies of KDCs, as a login reads them.
-use Rattle.std.specs.Prelude.{◌≡◌, ℕ, ℤ, if◌then◌else◌, List, Option, Some, None, is_some}
+use Rattle.std.specs.Prelude.{◌≡◌, ℕ, ℤ, pos, Bool, false, ◌||◌, if◌then◌else◌, List, Option, Some, None, is_some}
+use Rattle.std.specs.Ordering.{int_eq}
 use Rattle.std.specs.declared.net.socket_addr.SocketAddr.{SocketAddr}
 use Rattle.client_core.specs.Replies.{refusal_in}
 use Rattle.client_core.specs.declared.fault.ClientFault.{ClientFault}
@@ -31,6 +32,15 @@ said_of None = found.NotAReply
 abbrev pub IsError : ServerError → ClientFault → Type 0
 IsError error (found.Refused refusal) = refusal.error ≡ error
 IsError error fault = ⊥
+
+-- it is a KRB-ERROR with this code
+abbrev pub is_error : ℤ → Option Refusal → Bool
+is_error code (Some refusal) = int_eq refusal.error.code code
+is_error code None = false
+
+-- another KDC may do better than one that refuses with this code: it is not available (29), or the clocks differ (37)
+abbrev pub is_passed_over : ℤ → Bool
+is_passed_over code = int_eq code (pos 29) || int_eq code (pos 37)
 
 -- a KDC sent these bytes as its answer, and they were read
 pub record IsReply (answers : SocketAddr → List ℕ → List ℕ → Type 0) (reply : Reply) : Type 0 where

@@ -1,12 +1,14 @@
 //! Sends a request to the KDCs of a realm, and takes the first useful reply (RFC 4120, section 7.2).
 ghost use Rattle.std.specs.Prelude.{◌≡◌, IfErr, IfOk, None};
 ghost use Rattle.client_core.specs.Replies as replies;
-ghost use Rattle.client_login.specs.Replies.{IsAnswer, IsReply, counted, said_of};
+ghost use Rattle.krb_fields.specs.Code.{number_of};
+ghost use Rattle.client_login.specs.Replies.{IsAnswer, IsReply, counted, is_error, is_passed_over, said_of};
 ghost use Rattle.client_login.specs.Faults.{IsUnheard};
 ghost use Rattle.client_login.specs.declared.faults.Why.TheVariants.{Memory};
 
 use crate::exchange::{Network, Transport};
 use crate::faults::{LoginFault, Why};
+use crate::kdc_places::KdcPlace;
 use client_core::{ClientFault, Refusal, refusal_in};
 use krb_fields::Code;
 use std::alloc::{AllocError, Global};
@@ -26,7 +28,7 @@ pub enum Transports {
 pub struct Kdcs<X> {
     pub exchange: X,
     /// In the order in which the client tries them.
-    pub addresses: Vec<SocketAddr>,
+    pub places: Vec<KdcPlace>,
     pub transports: Transports,
     /// The KDC to try first, because it sent the last reply.
     answered: Option<SocketAddr>,
@@ -36,10 +38,10 @@ pub struct Kdcs<X> {
 
 impl<X> Kdcs<X> {
     /// Returns KDCs that have not been tried yet.
-    pub fn new(exchange: X, addresses: Vec<SocketAddr>, transports: Transports) -> Kdcs<X>
+    pub fn new(exchange: X, places: Vec<KdcPlace>, transports: Transports) -> Kdcs<X>
         ensures { result ≡ record {
           exchange = exchange;
-          addresses = addresses;
+          places = places;
           transports = transports;
           answered = None;
           failures = 0;
@@ -47,7 +49,7 @@ impl<X> Kdcs<X> {
     {
         Kdcs {
             exchange,
-            addresses,
+            places,
             transports,
             answered: None,
             failures: 0,
@@ -81,9 +83,11 @@ pub(crate) struct Reply {
 
 impl Reply {
     /// Checks whether it is a KRB-ERROR with this code.
-    pub(crate) fn is_error(&self, code: Code) -> bool {
+    pub(crate) fn is_error(&self, code: Code) -> bool
+        ensures { result ≡ is_error (number_of code) self.now.refusal }
+    {
         match &self.refusal {
-            Some(refusal) => refusal.error.code == code as i32,
+            Some(refusal) => refusal.error.code == code.number(),
             None => false,
         }
     }
@@ -91,8 +95,8 @@ impl Reply {
 
 /// Sends a request to the KDCs and returns the first useful reply. It tries the KDC that replied last first, so that
 /// all requests of a login go to one, and then the others in order. It skips a KDC that doesn't reply, or says that it
-/// is not available or that the clocks differ. If no KDC does better, the first such error counts.
-#[tactic(auto, using(crate::proofs::Takings::counted_unheard))]
+/// is not available or that the clocks differ. If no KDC does better, the first such error counts. A host's name is
+/// looked up when its turn comes.
 pub(crate) fn ask<X: Network>(
     alloc: Global,
     kdcs: &mut Kdcs<X>,
@@ -102,34 +106,82 @@ pub(crate) fn ask<X: Network>(
     ensures ok { IfOk result (λ reply. IsReply X.answers reply) }
     ensures err { IfErr result (λ fault. IsUnheard X.answers fault.why fault.kdc) }
 {
-    let order = in_order(alloc, &kdcs.addresses, kdcs.answered)?;
-    let mut end = LoginFault::new(Why::Silence(Error::from(ErrorKind::TimedOut)));
-    for kdc in &order {
-        match ask_kdc(alloc, kdcs, *kdc, request) {
+    let first = kdcs.answered;
+    let known = known_first(alloc, first)?;
+    let silence = LoginFault::new(Why::Silence(Error::from(ErrorKind::TimedOut)));
+    let mut end = match ask_each(alloc, kdcs, &known, None, silence, request) {
+        Ok(reply) => return Ok(reply),
+        Err(fault) => unless_memory(fault)?,
+    };
+    for place in 0..kdcs.places.len() {
+        let addresses = addresses_at(alloc, kdcs, place)?;
+        match ask_each(alloc, kdcs, &addresses, first, end, request) {
             Ok(reply) => return Ok(reply),
-            Err(fault) => end = passed_over(end, fault)?,
+            Err(fault) => end = unless_memory(fault)?,
         }
     }
     kdcs.answered = end.kdc;
     Err(end)
 }
 
-/// Returns the KDCs in the order in which they are asked.
-fn in_order(
-    alloc: Global,
-    addresses: &[SocketAddr],
-    first: Option<SocketAddr>,
-) -> Result<Vec<SocketAddr>, AllocError> {
-    let mut order = Vec::new(alloc);
+/// Returns the KDC that is asked first, if one replied before.
+fn known_first(alloc: Global, first: Option<SocketAddr>) -> Result<Vec<SocketAddr>, AllocError> {
+    let mut known = Vec::new(alloc);
     if let Some(first) = first {
-        order.push(first)?;
+        known.push(first)?;
     }
+    Ok(known)
+}
+
+/// Returns the addresses of a place. A host's name is looked up now, unless that was done before.
+fn addresses_at<X: Network>(
+    alloc: Global,
+    kdcs: &mut Kdcs<X>,
+    place: usize,
+) -> Result<Vec<SocketAddr>, AllocError> {
+    match kdcs.places.get_mut(place) {
+        Some(place) => place.look_up(alloc, &mut kdcs.exchange),
+        None => Ok(Vec::new(alloc)),
+    }
+}
+
+/// Sends a request to each of these addresses but one, until a useful reply comes. If none does, returns the fault that
+/// counts, by the one so far.
+#[tactic(auto, using(crate::proofs::Takings::counted_unheard))]
+fn ask_each<X: Network>(
+    alloc: Global,
+    kdcs: &mut Kdcs<X>,
+    addresses: &[SocketAddr],
+    asked: Option<SocketAddr>,
+    before: LoginFault,
+    request: &[u8],
+) -> Result<Reply, LoginFault>
+    requires carried { X.carries request.now }
+    requires before { IsUnheard X.answers before.why before.kdc }
+    ensures ok { IfOk result (λ reply. IsReply X.answers reply) }
+    ensures err { IfErr result (λ fault. IsUnheard X.answers fault.why fault.kdc) }
+{
+    let mut end = before;
     for kdc in addresses {
-        if first != Some(*kdc) {
-            order.push(*kdc)?;
+        if asked != Some(*kdc) {
+            match ask_kdc(alloc, kdcs, *kdc, request) {
+                Ok(reply) => return Ok(reply),
+                Err(fault) => end = passed_over(end, fault)?,
+            }
         }
     }
-    Ok(order)
+    Err(end)
+}
+
+/// Returns the fault. Fails with it if memory ran out: then no further KDC is tried.
+fn unless_memory(fault: LoginFault) -> Result<LoginFault, LoginFault>
+    ensures ok { IfOk result (λ counts. counts ≡ fault) }
+    ensures err { IfErr result (λ counts. counts ≡ fault) }
+{
+    match fault.why {
+        Why::Memory => Err(fault),
+        _ => Ok(fault),
+    }
 }
 
 /// Returns the fault that counts if no other KDC does better: the first error of a KDC, else the last silence. Once
@@ -199,8 +251,10 @@ fn useful<X: Network>(kdcs: &mut Kdcs<X>, reply: Reply) -> Result<Reply, LoginFa
 }
 
 /// Checks whether another KDC may do better than one that refuses with this code.
-fn is_passed_over(code: i32) -> bool {
-    code == Code::KdcErrSvcUnavailable as i32 || code == Code::KrbApErrSkew as i32
+fn is_passed_over(code: i32) -> bool
+    ensures { result ≡ is_passed_over code }
+{
+    code == Code::KdcErrSvcUnavailable.number() || code == Code::KrbApErrSkew.number()
 }
 
 /// Reads the bytes that a KDC answered with.

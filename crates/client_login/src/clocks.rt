@@ -1,6 +1,6 @@
 //! The clock of a KDC that refuses because the clocks differ (RFC 4120, section 7.5.9).
-ghost use Rattle.std.specs.Prelude.{◌≡◌, ◌-ℤ◌, IfNone, IfSome};
-ghost use Rattle.client_login.specs.Clocks.{IsByClock};
+ghost use Rattle.std.specs.Prelude.{◌≡◌, ◌-ℤ◌, false, IfNone, IfSome};
+ghost use Rattle.client_login.specs.Clocks.{IsByClock, is_within_skew};
 
 use crate::client::KdcClient;
 use crate::faults::Why;
@@ -15,6 +15,8 @@ impl<X> KdcClient<X> {
     pub fn take_clock(&mut self, why: Why) -> Option<i64>
         ensures taken { IfSome result (λ ahead. IsByClock why self.new.at) }
         ensures ahead { IfSome result (λ ahead. ahead ≡ self.new.at.sec -ℤ self.old.at.sec) }
+        // It is off by more than the clock skew.
+        ensures beyond { IfSome result (λ ahead. is_within_skew ahead ≡ false) }
         ensures kept { IfNone result (self.new.at ≡ self.old.at) }
     {
         let Some(at) = by_clock(why, self.at) else {
@@ -29,8 +31,10 @@ impl<X> KdcClient<X> {
     }
 }
 
-fn is_within_skew(ahead: i64) -> bool {
-    (-SKEW..=SKEW).contains(&ahead)
+fn is_within_skew(ahead: i64) -> bool
+    ensures { result ≡ is_within_skew ahead }
+{
+    ahead.unsigned_abs() <= SKEW.unsigned_abs()
 }
 
 /// Returns the moment on the clock of a KDC that refuses because the clocks differ, if it is from 1970 on.

@@ -35,11 +35,8 @@ pub trait Network {
     ) -> io::Result<Vec<u8>>
         requires { carries message.now }
         ensures { IfOk result (λ reply. answers to message.now reply.items) };
-}
 
-/// Looks up hosts by their names.
-pub trait HostNames {
-    /// Returns the addresses of a host, each with this port.
+    /// Looks up a host by its name, and returns its addresses, each with this port. The exchange's waiting time goes on.
     fn look_up(&mut self, alloc: Global, host: &str, port: u16) -> io::Result<Vec<SocketAddr>>;
 }
 

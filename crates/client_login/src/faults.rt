@@ -80,7 +80,22 @@ pub enum Why {
     CountTooLarge,
     /// The KDC requests fewer iterations of string-to-key than the client accepts.
     WeakCount,
+    /// The service's ticket doesn't show that its KDC knows the service's key.
+    Unverified(Doubt),
     Memory,
+}
+
+/// Why a service's ticket doesn't show that its KDC knows the service's key.
+#[derive(Clone, Copy, Debug, PartialEq, Eq)]
+pub enum Doubt {
+    /// The keytab has no key of the service with the ticket's encryption type and key version.
+    NoTicketKey,
+    /// The keytab's key doesn't decrypt the ticket.
+    NotOpened,
+    /// The ticket is for another client, or has another session key, than the KDC's reply says.
+    OtherTicket,
+    /// The ticket is not valid at the moment.
+    NotValid,
 }
 
 impl From<AllocError> for Why {
@@ -145,11 +160,24 @@ impl Why {
             Why::NoKnownType =>
                 "the KDC names no key of the client with one of the encryption types 17 to 20",
             Why::CountTooLarge =>
-                "the KDC asks for more iterations of string-to-key than 1048576, or for none",
+                "the KDC asks for more iterations of string-to-key than 1048576, or for none, or its parameters are not four bytes",
             Why::WeakCount =>
                 "the KDC asks for fewer iterations of string-to-key than the least count that is accepted: somebody may have changed its reply to guess the password",
+            Why::Unverified(doubt) => doubt_text(doubt),
             Why::Memory => "out of memory",
         }
+    }
+}
+
+fn doubt_text(doubt: Doubt) -> &'static str {
+    match doubt {
+        Doubt::NoTicketKey =>
+            "the keytab has no key of the service with the ticket's encryption type and version",
+        Doubt::NotOpened =>
+            "the keytab's key does not decrypt the ticket: it is another key of the same version, or it is another KDC",
+        Doubt::OtherTicket =>
+            "the ticket has another client or session key than the KDC's reply: it is another KDC",
+        Doubt::NotValid => "the ticket is not valid now: the clocks may differ",
     }
 }
 

@@ -8,6 +8,7 @@
 //! |---|---|
 //! | [`KdcClient::log_in`] | a first ticket, usually for the ticket-granting service |
 //! | [`KdcClient::service_ticket`] | a ticket for a service, with a ticket-granting ticket |
+//! | [`KdcClient::verify`] | the same, checked with the service's keytab: no other KDC can have sealed it |
 //! | [`KdcClient::ticket_again`] | the ticket that it is given, renewed or validated |
 //!
 //! If a KDC refuses because the clocks differ, [`KdcClient::take_clock`] sets the client's moment by the KDC's clock.
@@ -23,14 +24,18 @@ mod faults;
 mod first_tickets;
 mod further_tickets;
 mod infos;
+mod kdc_places;
 mod moments;
 mod secrets;
+mod verifying;
 mod wishes;
 
 pub use asking::{Kdcs, Transports};
 pub use client::KdcClient;
 pub use draws::{draw_confounder, draw_nonce};
-pub use exchange::{AnyMessage, HostNames, Network, Transport};
-pub use faults::{LoginFault, Why};
+pub use exchange::{AnyMessage, Network, Transport};
+pub use faults::{Doubt, LoginFault, Why};
+pub use kdc_places::KdcPlace;
 pub use secrets::{Password, Secret};
+pub use verifying::{opened_ticket, verified_ticket};
 pub use wishes::{Again, Login, Wishes, granting_service};

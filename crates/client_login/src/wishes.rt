@@ -2,7 +2,7 @@
 ghost use Rattle.std.specs.Prelude.{◌≡◌, ◌<◌, ◌^◌, IfOk};
 ghost use Rattle.client_login.specs.Asking.{again_option, again_options, first_asked, from_of, further_asked};
 ghost use Rattle.client_login.specs.Asking.{granting_service};
-ghost use Rattle.client_login.specs.Asking.{options_of, rtime_of, till_of, time_after, up_to_last, with_if, with_kept};
+ghost use Rattle.client_login.specs.Asking.{options_of, rtime_of, till_by, till_of, time_after, up_to_last, with_if, with_kept};
 ghost use Rattle.client_login.specs.Keys.{offered};
 
 use client_core::Asked;
@@ -30,6 +30,8 @@ pub struct Wishes {
     /// The seconds until it starts; absent: it starts at once. A ticket that starts later has to be validated then.
     pub start: Option<u32>,
     pub renewable: bool,
+    /// How long a renewable ticket can be renewed, in seconds from its start; absent: the longest that the KDC gives.
+    pub renew_life: Option<u32>,
     pub forwardable: bool,
     pub proxiable: bool,
 }
@@ -40,6 +42,7 @@ impl Wishes {
         life: None,
         start: None,
         renewable: false,
+        renew_life: None,
         forwardable: false,
         proxiable: false,
     };
@@ -80,7 +83,7 @@ pub(crate) fn first_asked(
         service: login.service.copy(alloc)?,
         from: from(wishes, at),
         till: till(wishes, at),
-        rtime: rtime(wishes),
+        rtime: rtime(wishes, at),
         nonce,
         etypes,
     })
@@ -195,26 +198,30 @@ fn from(wishes: &Wishes, at: Moment) -> Option<KTime>
     }
 }
 
-/// Returns the end to request. The lifetime counts from the start; the start of 1970 requests no bound.
+/// Returns the end to request.
 fn till(wishes: &Wishes, at: Moment) -> KTime
     ensures { result ≡ till_of at.sec wishes.now }
 {
-    match wishes.life {
-        Some(life) => {
-            let start = wishes.start.unwrap_or(0);
-            time_after(at, u64::from(life) + u64::from(start))
-        }
-        None => KTime::of(0),
+    till_by(at, wishes.start.unwrap_or(0), wishes.life)
+}
+
+/// Returns until when the ticket is to be renewable.
+fn rtime(wishes: &Wishes, at: Moment) -> Option<KTime>
+    ensures { result ≡ rtime_of at.sec wishes.now }
+{
+    if wishes.renewable {
+        Some(till_by(at, wishes.start.unwrap_or(0), wishes.renew_life))
+    } else {
+        None
     }
 }
 
-/// Returns until when the ticket is to be renewable: the start of 1970 requests the longest time that the KDC gives.
-fn rtime(wishes: &Wishes) -> Option<KTime>
-    ensures { result ≡ rtime_of wishes.now }
+/// Returns the time this long after the start, in seconds; the start of 1970 requests no bound.
+fn till_by(at: Moment, start: u32, life: Option<u32>) -> KTime
+    ensures { result ≡ till_by at.sec start life }
 {
-    if wishes.renewable {
-        Some(KTime::of(0))
-    } else {
-        None
+    match life {
+        Some(life) => time_after(at, u64::from(life) + u64::from(start)),
+        None => KTime::of(0),
     }
 }

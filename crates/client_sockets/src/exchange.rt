@@ -8,7 +8,7 @@ use framing::frame;
 use std::alloc::Global;
 use std::io;
 use std::io::{Error, ErrorKind, Read, Write};
-use std::net::{Ipv4Addr, Ipv6Addr, Net, SocketAddr, TcpStream, UdpSocket};
+use std::net::{Ipv4Addr, Ipv6Addr, Net, SocketAddr, TcpStream, ToSocketAddrs, UdpSocket};
 use std::rt::Clock;
 
 /// The greatest size of a reply over TCP, in bytes. A longer one is refused before it is read.
@@ -23,7 +23,7 @@ const UDP_WAITS: [u64; 3] = [1, 2, 4];
 /// How many seconds a connection lasts at most.
 const TCP_WAIT: u64 = 8;
 
-/// How many seconds all messages of a login take at most, from the first one on.
+/// How many seconds all messages and look-ups take at most, from the first one on.
 const WHOLE_WAIT: u64 = 30;
 
 /// The greatest size of a datagram, in bytes.
@@ -34,22 +34,32 @@ const LONGEST_DATAGRAM: usize = 65_535;
 #[derive(Drop)]
 pub struct SocketNetwork<'a, R> {
     system: &'a R,
-    /// When a login ends that got no reply; `None` before its first message.
+    /// When waiting ends; `None` before the first message.
     end: Option<Deadline>,
-}
-
-impl<'a, R> SocketNetwork<'a, R> {
-    pub(crate) fn system(&self) -> &'a R {
-        self.system
-    }
+    /// Whether all calls have one deadline together.
+    is_for_command: bool,
 }
 
 impl<'a, R: Net + Clock> SocketNetwork<'a, R> {
+    /// Returns a network that waits for 30 seconds in each login, and in each request for a further ticket.
     pub fn new(system: &'a R) -> SocketNetwork<'a, R> {
-        SocketNetwork { system, end: None }
+        SocketNetwork {
+            system,
+            end: None,
+            is_for_command: false,
+        }
     }
 
-    /// Returns when a login ends that got no reply: `WHOLE_WAIT` after its first message.
+    /// Returns a network that waits for 30 seconds in all, for a program that runs one command.
+    pub fn for_command(system: &'a R) -> SocketNetwork<'a, R> {
+        SocketNetwork {
+            system,
+            end: None,
+            is_for_command: true,
+        }
+    }
+
+    /// Returns when waiting ends: `WHOLE_WAIT` after it began.
     fn end(&mut self) -> io::Result<Deadline> {
         let end = match self.end {
             Some(end) => end,
@@ -66,11 +76,13 @@ impl<'a, R: Net + Clock> Network for SocketNetwork<'a, R> {
     ghost answers = { λ to message reply. ⊤ };
 
     fn begin(&mut self) {
-        self.end = None;
+        if !self.is_for_command {
+            self.end = None;
+        }
     }
 
     /// Sends a datagram three times, and waits for its reply for 1, 2 and 4 seconds; or holds a connection for 8
-    /// seconds. All of it ends 30 seconds after the first message of the login was sent.
+    /// seconds. All of it ends 30 seconds after the first message or look-up.
     fn exchange(
         &mut self,
         alloc: Global,
@@ -83,6 +95,16 @@ impl<'a, R: Net + Clock> Network for SocketNetwork<'a, R> {
             Transport::Udp => by_datagrams(alloc, self.system, end, to, message),
             Transport::Tcp => by_connection(alloc, self.system, end, to, message),
         }
+    }
+
+    /// Asks the system's resolver, unless waiting is over. How long the resolver takes is its own affair, but it counts.
+    fn look_up(&mut self, alloc: Global, host: &str, port: u16) -> io::Result<Vec<SocketAddr>> {
+        self.end()?.left(self.system)?;
+        let mut addresses = Vec::new(alloc);
+        for address in (host, port).to_socket_addrs(self.system)? {
+            addresses.push(address)?;
+        }
+        Ok(addresses)
     }
 }
 
@@ -166,15 +188,29 @@ fn receive<S: Read>(alloc: Global, stream: &mut S) -> io::Result<Vec<u8>>
     ensures { IfOk result (λ reply. vec_len reply ≤ 1048576) }
 {
     let mut prefix = [0; 4];
-    stream.read_exact(&mut prefix)?;
+    match stream.read_exact(&mut prefix) {
+        Err(error) if error.kind() == ErrorKind::UnexpectedEof => return Err(closed()),
+        done => done?,
+    }
     let len = u32::from_be_bytes(prefix) as usize;
     if len > LONGEST_REPLY {
-        return Err(Error::from(ErrorKind::InvalidData));
+        return Err(Error::new(
+            ErrorKind::InvalidData,
+            "the reply has more than 1048576 bytes",
+        ));
     }
     let mut reply = Vec::new(alloc);
     stream.take(len as u64).read_to_end(&mut reply)?;
     if reply.len() != len {
-        return Err(Error::from(ErrorKind::UnexpectedEof));
+        return Err(closed());
     }
     Ok(reply)
+}
+
+/// Returns the error for a reply that ends too early.
+fn closed() -> Error {
+    Error::new(
+        ErrorKind::UnexpectedEof,
+        "the connection was closed before the reply ended",
+    )
 }

@@ -5,7 +5,6 @@
 mod deadline;
 mod exchange;
 mod moment;
-mod names;
 mod stream;
 
 pub use exchange::{LONGEST_REPLY, SocketNetwork};

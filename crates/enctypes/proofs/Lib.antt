@@ -1,10 +1,5 @@
-pub mod RandomBlocks
-pub mod Sizes
 pub mod Comparing
-pub mod Sealed
 pub mod SealingSteps
 pub mod MacKeys
-pub mod DerivedOctets
-pub mod OpenedLaws
 pub mod FactsOfSha1Types
 pub mod FactsOfSha2Types

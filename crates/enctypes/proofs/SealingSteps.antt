@@ -9,7 +9,7 @@ use Rattle.enctypes.specs.Etype.{mac_len}
 use Rattle.enctypes.specs.Derivation.{ke, ki}
 use Rattle.enctypes.specs.Sealing.{cut_hmac, zero_vector, macs_cipher, authenticated, sealed_plain, seal}
 use Rattle.enctypes.specs.Sealing.{enciphered, ending, deciphered, expected_ending}
-use Rattle.enctypes.proofs.Sealed.{seal_is}
+use Rattle.enctypes.specs.Sealed.{seal_is}
 
 -- the confounder and then the text, appended to an empty list
 pub put_together : (confounder text empty first second whole : List ℕ) → whole ≡ second → second ≡ first ++ text

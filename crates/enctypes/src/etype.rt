@@ -1,9 +1,11 @@
-//! The four supported encryption types, and the table of their numbers and sizes.
+//! The four supported encryption types.
 ghost use Rattle.std.specs.Prelude.{◌≡◌, ◌≢◌, ◌≤◌, IfSome, IfNone};
 ghost use Rattle.enctypes.specs.Etype.{number, key_len, mac_key_len, mac_len, checksum_type, default_count};
 ghost use Rattle.enctypes.specs.Sealing.{macs_cipher};
 
-use crate::mac_key::{SHA1_MAC_LEN, SHA256_MAC_LEN, SHA384_MAC_LEN};
+use crate::aes_sha1::{Aes128CtsHmacSha1_96, Aes256CtsHmacSha1_96};
+use crate::aes_sha2::{Aes128CtsHmacSha256_128, Aes256CtsHmacSha384_192};
+use crate::suite::Suite;
 
 /// An encryption type of RFC 3962 or RFC 8009.
 #[derive(Debug, Clone, Copy, PartialEq, Eq)]
@@ -18,18 +20,6 @@ pub enum Etype {
     Aes256CtsHmacSha384_192,
 }
 
-/// The number that IANA assigned to aes128-cts-hmac-sha1-96.
-const AES128_CTS_HMAC_SHA1_96: i32 = 17;
-
-/// The number that IANA assigned to aes256-cts-hmac-sha1-96.
-const AES256_CTS_HMAC_SHA1_96: i32 = 18;
-
-/// The number that IANA assigned to aes128-cts-hmac-sha256-128.
-const AES128_CTS_HMAC_SHA256_128: i32 = 19;
-
-/// The number that IANA assigned to aes256-cts-hmac-sha384-192.
-const AES256_CTS_HMAC_SHA384_192: i32 = 20;
-
 /// The constants of an encryption type. The calls of `Etype` say what each is.
 #[derive(Clone, Copy)]
 struct Constants {
@@ -43,7 +33,7 @@ struct Constants {
 }
 
 impl Etype {
-    /// Returns the encryption type's row in the table of RFC 3962, section 7, and RFC 8009, sections 4 to 6.
+    /// Returns the constants of the encryption type's implementation.
     #[inline(always)]
     fn constants(self) -> Constants
         ensures row { result ≡ record {
@@ -59,42 +49,10 @@ impl Etype {
         ensures count { 1 ≤ result.default_count }
     {
         match self {
-            Etype::Aes128CtsHmacSha1_96 => Constants {
-                number: AES128_CTS_HMAC_SHA1_96,
-                key_len: 16,
-                mac_key_len: 16,
-                mac_len: SHA1_MAC_LEN,
-                macs_cipher: false,
-                checksum_type: 15,
-                default_count: 4_096,
-            },
-            Etype::Aes256CtsHmacSha1_96 => Constants {
-                number: AES256_CTS_HMAC_SHA1_96,
-                key_len: 32,
-                mac_key_len: 32,
-                mac_len: SHA1_MAC_LEN,
-                macs_cipher: false,
-                checksum_type: 16,
-                default_count: 4_096,
-            },
-            Etype::Aes128CtsHmacSha256_128 => Constants {
-                number: AES128_CTS_HMAC_SHA256_128,
-                key_len: 16,
-                mac_key_len: 16,
-                mac_len: SHA256_MAC_LEN,
-                macs_cipher: true,
-                checksum_type: 19,
-                default_count: 32_768,
-            },
-            Etype::Aes256CtsHmacSha384_192 => Constants {
-                number: AES256_CTS_HMAC_SHA384_192,
-                key_len: 32,
-                mac_key_len: 24,
-                mac_len: SHA384_MAC_LEN,
-                macs_cipher: true,
-                checksum_type: 20,
-                default_count: 32_768,
-            },
+            Etype::Aes128CtsHmacSha1_96 => constants_of::<Aes128CtsHmacSha1_96>(),
+            Etype::Aes256CtsHmacSha1_96 => constants_of::<Aes256CtsHmacSha1_96>(),
+            Etype::Aes128CtsHmacSha256_128 => constants_of::<Aes128CtsHmacSha256_128>(),
+            Etype::Aes256CtsHmacSha384_192 => constants_of::<Aes256CtsHmacSha384_192>(),
         }
     }
 
@@ -111,10 +69,10 @@ impl Etype {
         ensures none { IfNone result ((e : Etype) → number e ≢ etype) }
     {
         match etype {
-            AES128_CTS_HMAC_SHA1_96 => Some(Etype::Aes128CtsHmacSha1_96),
-            AES256_CTS_HMAC_SHA1_96 => Some(Etype::Aes256CtsHmacSha1_96),
-            AES128_CTS_HMAC_SHA256_128 => Some(Etype::Aes128CtsHmacSha256_128),
-            AES256_CTS_HMAC_SHA384_192 => Some(Etype::Aes256CtsHmacSha384_192),
+            Aes128CtsHmacSha1_96::NUMBER => Some(Etype::Aes128CtsHmacSha1_96),
+            Aes256CtsHmacSha1_96::NUMBER => Some(Etype::Aes256CtsHmacSha1_96),
+            Aes128CtsHmacSha256_128::NUMBER => Some(Etype::Aes128CtsHmacSha256_128),
+            Aes256CtsHmacSha384_192::NUMBER => Some(Etype::Aes256CtsHmacSha384_192),
             _ => None,
         }
     }
@@ -161,5 +119,29 @@ impl Etype {
         ensures some { 1 ≤ result }
     {
         self.constants().default_count
+    }
+}
+
+/// Returns the constants of an implementation.
+#[inline(always)]
+fn constants_of<S: Suite>() -> Constants
+    ensures { result ≡ record {
+      number = number S.ETYPE;
+      key_len = key_len S.ETYPE;
+      mac_key_len = mac_key_len S.ETYPE;
+      mac_len = mac_len S.ETYPE;
+      macs_cipher = macs_cipher S.ETYPE;
+      checksum_type = checksum_type S.ETYPE;
+      default_count = default_count S.ETYPE;
+    } }
+{
+    Constants {
+        number: S::NUMBER,
+        key_len: S::KEY_SIZE,
+        mac_key_len: S::MAC_KEY_SIZE,
+        mac_len: S::MAC_SIZE,
+        macs_cipher: S::MACS_CIPHER,
+        checksum_type: S::CHECKSUM_TYPE,
+        default_count: S::DEFAULT_COUNT,
     }
 }

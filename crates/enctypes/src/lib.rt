@@ -13,11 +13,14 @@
 //! | [`ReadyChecksum::verify`] | the same | the same, with a prepared key |
 //!
 //! `open` returns a text exactly if some confounder seals it to this cipher, and no cipher has two texts with one key.
-//! It opens what `seal` returned for the same key and usage. The calls depend on the key's encryption type: its
-//! numbers and sizes are the table in `etype`, and its functions one of the two profiles in `derivation`.
+//! It opens what `seal` returned for the same key and usage. The calls depend on the key's encryption type: [`Suite`]
+//! has its numbers, its sizes and its functions, with one implementation for each of the four. Types 17 and 18 share
+//! the profile in `simplified`, and types 19 and 20 the one in `sha2_profile`.
 #![tactic(auto)]
 
 mod aes_key;
+mod aes_sha1;
+mod aes_sha2;
 mod checksums;
 mod derivation;
 mod derived_key;
@@ -34,7 +37,10 @@ mod sealing;
 mod sha2_profile;
 mod short_octets;
 mod simplified;
+mod suite;
 
+pub use aes_sha1::{Aes128CtsHmacSha1_96, Aes256CtsHmacSha1_96};
+pub use aes_sha2::{Aes128CtsHmacSha256_128, Aes256CtsHmacSha384_192};
 pub use checksums::{checksum, verify};
 pub use etype::Etype;
 pub use key::Key;
@@ -44,3 +50,4 @@ pub use ready_checksum::ReadyChecksum;
 pub use ready_key::ReadyKey;
 pub use sealing::{open, seal};
 pub use short_octets::Mac;
+pub use suite::Suite;

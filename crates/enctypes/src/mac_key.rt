@@ -5,8 +5,11 @@ ghost use Rattle.enctypes.specs.declared.etype.Etype as types;
 ghost use Rattle.enctypes.specs.ReadyKey.{IsMacKey};
 ghost use Rattle.enctypes.specs.Sealing.{cut_hmac};
 
+use crate::aes_sha1::{Aes128CtsHmacSha1_96, Aes256CtsHmacSha1_96};
+use crate::aes_sha2::{Aes128CtsHmacSha256_128, Aes256CtsHmacSha384_192};
+use crate::suite::Suite;
 use crate::{Etype, Mac};
-use prf_kdf::{HmacKey, HmacSha1, HmacSha256, HmacSha384};
+use prf_kdf::{HmacSha1, HmacSha256, HmacSha384};
 
 /// The length that encryption types 17 and 18 keep of an HMAC, in bytes.
 pub const SHA1_MAC_LEN: usize = 12;
@@ -29,16 +32,15 @@ pub enum MacKey {
 }
 
 impl MacKey {
-    /// Hashes the key.
+    /// Hashes the key, with the hash function of the encryption type.
     pub fn new(etype: Etype, key: &[u8]) -> MacKey
         ensures { IsMacKey etype key.now result }
     {
         match etype {
-            Etype::Aes128CtsHmacSha1_96 | Etype::Aes256CtsHmacSha1_96 => {
-                MacKey::Sha1(HmacKey::new(key))
-            }
-            Etype::Aes128CtsHmacSha256_128 => MacKey::Sha256(HmacKey::new(key)),
-            Etype::Aes256CtsHmacSha384_192 => MacKey::Sha384(HmacKey::new(key)),
+            Etype::Aes128CtsHmacSha1_96 => Aes128CtsHmacSha1_96::mac_key(key),
+            Etype::Aes256CtsHmacSha1_96 => Aes256CtsHmacSha1_96::mac_key(key),
+            Etype::Aes128CtsHmacSha256_128 => Aes128CtsHmacSha256_128::mac_key(key),
+            Etype::Aes256CtsHmacSha384_192 => Aes256CtsHmacSha384_192::mac_key(key),
         }
     }
 

@@ -36,7 +36,7 @@ pub fn seal(
 ///
 /// It allocates once, for the confounder and the text. It releases no byte of the text before the whole HMAC was
 /// compared.
-#[tactic(auto, using(crate::proofs::OpenedLaws::opens_what_was_sealed, crate::proofs::OpenedLaws::opens_at_most_one))]
+#[tactic(auto, using(crate::specs::OpenedLaws::opens_what_was_sealed, crate::specs::OpenedLaws::opens_at_most_one))]
 pub fn open(
     alloc: Global,
     key: &Key,

@@ -8,7 +8,7 @@ ghost use Rattle.file_store.specs.Inputs.{first_line};
 ghost use Rattle.file_store.specs.World.{World, with_file, HasFirstLine, HasSeed, IsDrawn, IsFirst, IsNow, IsRead, IsThere};
 
 use crate::faults::{FileCause, FileFault};
-use crate::store::{LONGEST_FILE, Store};
+use crate::store::{FileRights, LONGEST_FILE, Store};
 use std::alloc::Global;
 use std::io;
 
@@ -84,6 +84,47 @@ pub fn read_at_most<'p, S: Store>(
     }
 }
 
+/// Reads a whole file as `read_file` does, and also a FIFO or a device to its end: a password or a seed may come from
+/// another command.
+pub fn read_stream<'p, S: Store>(
+    alloc: Global,
+    store: &mut S,
+    path: &'p str,
+) -> Result<Vec<u8>, FileFault<'p>>
+    ensures within { IfOk result (λ octets. vec_len octets ≤ 16777216) }
+    ensures read { IfOk result (λ octets. IsRead (S.world store.old) path.now octets.items) }
+    ensures kept { S.world store.new ≡ S.world store.old }
+    ensures named { IfErr result (λ fault. fault.path.now ≡ path.now) }
+    ensures shown { IsShown (S.fault_count store.old) result (S.fault_count store.new) }
+{
+    match store.read_stream(alloc, path, LONGEST_FILE) {
+        Ok(Some(octets)) => Ok(octets),
+        Ok(None) => Err(FileFault {
+            path,
+            cause: FileCause::LongFile,
+        }),
+        Err(error) => Err(FileFault {
+            path,
+            cause: FileCause::Failed(error),
+        }),
+    }
+}
+
+/// Returns who may read and write a file.
+pub fn file_rights<'p, S: Store>(store: &mut S, path: &'p str) -> Result<FileRights, FileFault<'p>>
+    ensures kept { S.world store.new ≡ S.world store.old }
+    ensures named { IfErr result (λ fault. fault.path.now ≡ path.now) }
+    ensures shown { IsShown (S.fault_count store.old) result (S.fault_count store.new) }
+{
+    match store.rights(path) {
+        Ok(rights) => Ok(rights),
+        Err(error) => Err(FileFault {
+            path,
+            cause: FileCause::Failed(error),
+        }),
+    }
+}
+
 /// Reads the first byte of the file that a write would replace. `None` if there is none, or it is empty.
 pub fn first_octet<'p, S: Store>(
     alloc: Global,
@@ -147,6 +188,27 @@ pub fn update_file<'p, S: Store>(
     }
 }
 
+/// Does what `update_file` does, but gives the file the mode 600. After an `Err` the path is unchanged.
+pub fn update_private_file<'p, S: Store>(
+    alloc: Global,
+    store: &mut S,
+    path: &'p str,
+    octets: &[u8],
+) -> Result<(), FileFault<'p>>
+    ensures written { OnOk result (S.world store.new ≡ option_map (with_file path.now octets.now) (S.world store.old)) }
+    ensures kept { OnErr result (S.world store.new ≡ S.world store.old) }
+    ensures named { IfErr result (λ fault. fault.path.now ≡ path.now) }
+    ensures shown { IsShown (S.fault_count store.old) result (S.fault_count store.new) }
+{
+    match store.update_private(alloc, path, octets) {
+        Ok(()) => Ok(()),
+        Err(error) => Err(FileFault {
+            path,
+            cause: FileCause::Failed(error),
+        }),
+    }
+}
+
 /// Takes the lock of a file, until the store is dropped. Returns `false` if another program has it.
 pub fn lock_file<'p, S: Store>(
     alloc: Global,
@@ -192,7 +254,7 @@ pub fn read_seed<'p, S: Store>(
     ensures named { IfErr result (λ fault. fault.path.now ≡ path.now) }
     ensures shown { IsShown (S.fault_count store.old) result (S.fault_count store.new) }
 {
-    let octets = read_file(alloc, store, path)?;
+    let octets = read_stream(alloc, store, path)?;
     match seed_of(&octets) {
         Some(seed) => Ok(seed),
         None => Err(FileFault {
@@ -256,7 +318,7 @@ pub fn read_password<'p, S: Store>(
     ensures named { IfErr result (λ fault. fault.path.now ≡ path.now) }
     ensures shown { IsShown (S.fault_count store.old) result (S.fault_count store.new) }
 {
-    let mut octets = read_file(alloc, store, path)?;
+    let mut octets = read_stream(alloc, store, path)?;
     let Some(pass) = password_of(&octets) else {
         return Err(FileFault {
             path,

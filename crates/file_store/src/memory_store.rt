@@ -5,10 +5,13 @@ ghost use Rattle.file_store.specs.World.{first_octet, with_file};
 
 use crate::counting::counted;
 use crate::inputs::line_of;
-use crate::store::Store;
+use crate::store::{FileRights, Store};
 use std::alloc::{AllocError, Global};
 use std::io;
 use std::io::{Error, ErrorKind};
+
+/// The mode of each file in memory.
+const OWNER_ONLY: u32 = 0o600;
 
 /// A file in memory.
 #[derive(Drop)]
@@ -184,6 +187,21 @@ impl MemoryStore {
         }
     }
 
+    fn read_rights(&mut self, path: &str) -> io::Result<FileRights>
+        ensures world { world_of self.new ≡ world_of self.old }
+        ensures faults { self.new.faults ≡ self.old.faults }
+    {
+        self.call()?;
+        match self.get(path) {
+            Some(_) => Ok(FileRights {
+                mode: OWNER_ONLY,
+                owner: 0,
+                user: Some(0),
+            }),
+            None => Err(Error::from(ErrorKind::NotFound)),
+        }
+    }
+
     fn find_lock(&mut self) -> io::Result<bool>
         ensures world { world_of self.new ≡ world_of self.old }
         ensures faults { self.new.faults ≡ self.old.faults }
@@ -271,6 +289,15 @@ impl Store for MemoryStore {
         read
     }
 
+    fn read_stream(
+        &mut self,
+        alloc: Global,
+        path: &str,
+        most: usize,
+    ) -> io::Result<Option<Vec<u8>>> {
+        self.read(alloc, path, most)
+    }
+
     fn first_octet(&mut self, _alloc: Global, path: &str) -> io::Result<Option<u8>> {
         let read = self.read_first(path);
         self.faults = counted(self.faults, &read);
@@ -285,6 +312,16 @@ impl Store for MemoryStore {
 
     fn update(&mut self, alloc: Global, path: &str, octets: &[u8]) -> io::Result<()> {
         self.write(alloc, path, octets)
+    }
+
+    fn update_private(&mut self, alloc: Global, path: &str, octets: &[u8]) -> io::Result<()> {
+        self.write(alloc, path, octets)
+    }
+
+    fn rights(&mut self, path: &str) -> io::Result<FileRights> {
+        let read = self.read_rights(path);
+        self.faults = counted(self.faults, &read);
+        read
     }
 
     fn lock(&mut self, _alloc: Global, _path: &str) -> io::Result<bool> {

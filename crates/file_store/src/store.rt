@@ -9,6 +9,16 @@ use std::io;
 /// The greatest size of a file to read, in bytes.
 pub const LONGEST_FILE: usize = 16_777_216;
 
+/// Who may read and write a file.
+#[derive(Clone, Copy)]
+pub struct FileRights {
+    /// The nine bits of its mode.
+    pub mode: u32,
+    pub owner: u32,
+    /// The user who runs the program, if the system says so.
+    pub user: Option<u32>,
+}
+
 /// The files, the random bytes, the clock and the standard input of a program. A store counts failed calls.
 pub trait Store {
     // How often a call has failed.
@@ -24,8 +34,15 @@ pub trait Store {
         ensures kept { world self.new ≡ world self.old }
         ensures counted { IsCounted (fault_count self.old) result (fault_count self.new) };
 
-    /// Reads a whole file. `None` if it has more than `most` bytes.
+    /// Reads a whole file. `None` if it has more than `most` bytes. A folder, a FIFO or a device is an `Err`.
     fn read(&mut self, alloc: Global, path: &str, most: usize) -> io::Result<Option<Vec<u8>>>
+        ensures within { IfOk result (λ found. IfSome found (λ octets. vec_len octets ≤ most)) }
+        ensures read { IfOk result (λ found. IfSome found (λ octets. IsRead (world self.old) path.now octets.items)) }
+        ensures kept { world self.new ≡ world self.old }
+        ensures counted { IsCounted (fault_count self.old) result (fault_count self.new) };
+
+    /// Reads what `read` reads, and also a FIFO or a device to its end: a shell passes a command's output as a FIFO.
+    fn read_stream(&mut self, alloc: Global, path: &str, most: usize) -> io::Result<Option<Vec<u8>>>
         ensures within { IfOk result (λ found. IfSome found (λ octets. vec_len octets ≤ most)) }
         ensures read { IfOk result (λ found. IfSome found (λ octets. IsRead (world self.old) path.now octets.items)) }
         ensures kept { world self.new ≡ world self.old }
@@ -52,8 +69,20 @@ pub trait Store {
         ensures kept { OnErr result (world self.new ≡ world self.old) }
         ensures counted { IsCounted (fault_count self.old) result (fault_count self.new) };
 
+    /// Does what `update` does, but gives the file the mode 600, so that only its owner may read and write it.
+    fn update_private(&mut self, alloc: Global, path: &str, octets: &[u8]) -> io::Result<()>
+        ensures written { OnOk result (world self.new ≡ option_map (with_file path.now octets.now) (world self.old)) }
+        ensures kept { OnErr result (world self.new ≡ world self.old) }
+        ensures counted { IsCounted (fault_count self.old) result (fault_count self.new) };
+
+    /// Returns who may read and write a file.
+    fn rights(&mut self, path: &str) -> io::Result<FileRights>
+        ensures kept { world self.new ≡ world self.old }
+        ensures counted { IsCounted (fault_count self.old) result (fault_count self.new) };
+
     /// Takes the lock of a file, and keeps other programs from it until the store is dropped or is asked for the lock
-    /// of another file. Returns `false` if another program has it.
+    /// of another file. Returns `false` if another program has it. Something else than a file in the lock's place is an
+    /// `Err`.
     fn lock(&mut self, alloc: Global, path: &str) -> io::Result<bool>
         ensures kept { world self.new ≡ world self.old }
         ensures counted { IsCounted (fault_count self.old) result (fault_count self.new) };

@@ -2,7 +2,7 @@
 ghost use Rattle.std.specs.Prelude.{◌≤◌, None, IfOk, IfSome, vec_len};
 
 use crate::counting::counted;
-use crate::store::Store;
+use crate::store::{FileRights, Store};
 use std::alloc::Global;
 use std::fs::{File, Metadata, OpenFile, OpenOptions, Permissions, TryLockError};
 use std::io::{BufRead, Error, ErrorKind, IsTerminal, Read, Write};
@@ -21,6 +21,9 @@ const RIGHTS: u32 = 0o777;
 /// How many milliseconds a pause takes.
 const PAUSE: u64 = 100;
 
+/// What says which user runs the program, on Linux: it is this user's.
+const OWN_PROCESS: &str = "/proc/self";
+
 /// Who owns a file, and who may read and write it.
 #[derive(Clone, Copy)]
 struct Rights {
@@ -38,6 +41,14 @@ impl Rights {
         }
     }
 
+    /// Returns these rights with another mode, if there is one.
+    fn with_mode(self, mode: Option<u32>) -> Rights {
+        match mode {
+            Some(mode) => Rights { mode, ..self },
+            None => self,
+        }
+    }
+
     /// Gives a new file this owner, group and mode.
     fn give(self, file: &File) -> io::Result<()> {
         let made = Rights::of(&file.metadata()?);
@@ -49,6 +60,29 @@ impl Rights {
             ));
         }
         file.set_permissions(Permissions::from_mode(self.mode))
+    }
+}
+
+/// Refuses a folder, a FIFO or a device, before it is opened: to open a FIFO would wait for its other end. Who may write
+/// in the folder can still put one there before it is opened, since no option of `OpenOptions` keeps a link out.
+fn check_is_file(files: &impl Files, path: &str) -> io::Result<()> {
+    if fs::metadata(files, path)?.is_file() {
+        Ok(())
+    } else {
+        Err(no_file())
+    }
+}
+
+fn no_file() -> Error {
+    Error::new(ErrorKind::InvalidInput, "it is no file")
+}
+
+/// Returns the user who runs the program, if the system says so.
+fn own_user(files: &impl Files) -> io::Result<Option<u32>> {
+    match fs::metadata(files, OWN_PROCESS) {
+        Ok(process) => Ok(Some(process.uid())),
+        Err(error) if error.kind() == ErrorKind::NotFound => Ok(None),
+        Err(error) => Err(error),
     }
 }
 
@@ -80,7 +114,7 @@ impl<'a, R: Files> FileStore<'a, R> {
     fn there(&self, path: &str) -> io::Result<Option<Metadata>> {
         match fs::metadata(self.files, path) {
             Ok(there) if there.is_file() => Ok(Some(there)),
-            Ok(_) => Err(Error::from(ErrorKind::InvalidInput)),
+            Ok(_) => Err(no_file()),
             Err(error) if error.kind() == ErrorKind::NotFound => Ok(None),
             Err(error) => Err(error),
         }
@@ -98,7 +132,25 @@ impl<'a, R: Files> FileStore<'a, R> {
         Ok(octets.first().copied())
     }
 
-    /// Reads a whole file. `None` if it has more than this many bytes.
+    /// Returns who may read and write a file.
+    fn read_rights(&self, path: &str) -> io::Result<FileRights> {
+        let there = fs::metadata(self.files, path)?;
+        Ok(FileRights {
+            mode: there.mode() & RIGHTS,
+            owner: there.uid(),
+            user: own_user(self.files)?,
+        })
+    }
+
+    /// Reads a whole file, and no folder, FIFO or device. `None` if it has more than this many bytes.
+    fn read_file(&self, alloc: Global, path: &str, most: usize) -> io::Result<Option<Vec<u8>>>
+        ensures { IfOk result (λ found. IfSome found (λ octets. vec_len octets ≤ most)) }
+    {
+        check_is_file(self.files, path)?;
+        self.read_whole(alloc, path, most)
+    }
+
+    /// Reads a whole file, or a FIFO or a device to its end. `None` if it has more than this many bytes.
     fn read_whole(&self, alloc: Global, path: &str, most: usize) -> io::Result<Option<Vec<u8>>>
         ensures { IfOk result (λ found. IfSome found (λ octets. vec_len octets ≤ most)) }
     {
@@ -124,10 +176,17 @@ impl<'a, R: Files<File = File> + RandomSource> FileStore<'a, R> {
         self.replace(alloc, path, octets, None)
     }
 
-    /// Writes a file with the rights of the one there.
-    fn write_over(&self, alloc: Global, path: &str, octets: &[u8]) -> io::Result<()> {
+    /// Writes a file with the owner and the group of the one there. Its mode is this one, if there is one, or else that
+    /// of the file there.
+    fn write_over(
+        &self,
+        alloc: Global,
+        path: &str,
+        octets: &[u8],
+        mode: Option<u32>,
+    ) -> io::Result<()> {
         let rights = match self.there(path)? {
-            Some(there) => Some(Rights::of(&there)),
+            Some(there) => Some(Rights::of(&there).with_mode(mode)),
             None => None,
         };
         self.replace(alloc, path, octets, rights)
@@ -204,13 +263,28 @@ fn open_lock<R: Files<File = File>>(files: &R, beside: &str, path: &str) -> io::
             hand_over(files, &made, path);
             Ok(made)
         }
-        Err(error) if error.kind() == ErrorKind::AlreadyExists => {
-            let mut how = OpenOptions::new();
-            how.write(true);
-            how.open(files, beside)
-        }
+        Err(error) if error.kind() == ErrorKind::AlreadyExists => open_old_lock(files, beside),
         Err(error) => Err(error),
     }
+}
+
+/// Opens the file of a lock that is there already.
+fn open_old_lock<R: Files<File = File>>(files: &R, beside: &str) -> io::Result<File> {
+    if !fs::metadata(files, beside)?.is_file() {
+        return Err(no_lock());
+    }
+    let mut how = OpenOptions::new();
+    how.write(true);
+    let file = how.open(files, beside)?;
+    if file.metadata()?.is_file() {
+        Ok(file)
+    } else {
+        Err(no_lock())
+    }
+}
+
+fn no_lock() -> Error {
+    Error::new(ErrorKind::InvalidInput, "the lock beside it: it is no file")
 }
 
 /// Makes the file of a lock, if nothing is there, not even a link.
@@ -301,6 +375,17 @@ where
     }
 
     fn read(&mut self, alloc: Global, path: &str, most: usize) -> io::Result<Option<Vec<u8>>> {
+        let read = self.read_file(alloc, path, most);
+        self.faults = counted(self.faults, &read);
+        read
+    }
+
+    fn read_stream(
+        &mut self,
+        alloc: Global,
+        path: &str,
+        most: usize,
+    ) -> io::Result<Option<Vec<u8>>> {
         let read = self.read_whole(alloc, path, most);
         self.faults = counted(self.faults, &read);
         read
@@ -319,9 +404,21 @@ where
     }
 
     fn update(&mut self, alloc: Global, path: &str, octets: &[u8]) -> io::Result<()> {
-        let written = self.write_over(alloc, path, octets);
+        let written = self.write_over(alloc, path, octets, None);
         self.faults = counted(self.faults, &written);
         written
+    }
+
+    fn update_private(&mut self, alloc: Global, path: &str, octets: &[u8]) -> io::Result<()> {
+        let written = self.write_over(alloc, path, octets, Some(OWNER_ONLY));
+        self.faults = counted(self.faults, &written);
+        written
+    }
+
+    fn rights(&mut self, path: &str) -> io::Result<FileRights> {
+        let read = self.read_rights(path);
+        self.faults = counted(self.faults, &read);
+        read
     }
 
     fn lock(&mut self, alloc: Global, path: &str) -> io::Result<bool> {

@@ -2,3 +2,4 @@ mod Chains
 mod Spellings
 mod Lengths
 pub mod Held
+mod Heads

@@ -3,3 +3,4 @@ pub mod Texts
 pub mod Decision
 pub mod Keeping
 pub mod Holding
+pub mod Head

@@ -37,7 +37,7 @@ pub struct Place<'a> {
 pub enum Doubt {
     /// There is no journal.
     Absent,
-    /// The journal was cut or changed, or an entry was left out or added.
+    /// An entry was cut or changed, or one was left out or added before others; or others may write the journal.
     Damaged,
     OtherRealm,
     /// The system was booted since then, so the end of the journal may be lost.

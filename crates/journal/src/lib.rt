@@ -1,13 +1,15 @@
 //! A KDC's journal: a file of the authenticators in its replay caches, from which the next start resumes.
 //!
 //! A journal is a header and entries. Each is in DER, in an OCTET STRING, and is followed by its check: a digest of the
-//! check before it and of its octets. So an entry that was cut, changed, left out or added breaks the chain.
+//! check before it and of its octets. So an entry that was cut or changed breaks the chain, and so does one that was left
+//! out or added before others. Nothing shows that the last entries are missing, or that an older journal was put back.
 #![tactic(auto)]
 
 mod checks;
 mod decision;
 mod entry;
 mod fault;
+mod head;
 mod header;
 mod keeping;
 mod laws;
@@ -17,8 +19,9 @@ mod writing;
 pub use decision::{Doubt, Found, Place, Start, start_of};
 pub use entry::{Entry, EntryRef};
 pub use fault::{JournalFault, WriteFault};
+pub use head::{HEAD, may_be_journal};
 pub use header::{Header, HeaderRef};
 pub use keeping::{above, above_all, floor_on, write_beginning, write_seen};
-pub use laws::every_journal;
+pub use laws::{every_front, every_journal};
 pub use reading::{Journal, read_journal};
 pub use writing::{Written, write_entry, write_header};

@@ -1,6 +1,6 @@
 -- The effect of the commands on a database.
 use Rattle.std.specs.Prelude.{◌≡◌, ◌⊎◌, ◌+◌, ◌≤ℤ◌, ◌<ℤ◌, ℕ, ℤ, pos, Bool, List, map, take, drop, Option, Some, None, is_some}
-use Rattle.std.specs.Prelude.{⊤, if◌then◌else◌}
+use Rattle.std.specs.Prelude.{⊤, false, not, if◌then◌else◌}
 use Rattle.std.specs.FinMap.{get, insert}
 use Rattle.enctypes.specs.Key.{ProtocolKey}
 use Rattle.file_store.specs.World.{World, IsNow}
@@ -8,10 +8,11 @@ use Rattle.krb_fields.specs.Name.{Components}
 use Rattle.principal_rows.specs.declared.row.KeyVersion.{KeyVersion}
 use Rattle.principal_rows.specs.declared.row.Row.{Row}
 use Rattle.principals.specs.Change.{row_changed, row_refusal}
-use Rattle.principals.specs.Database.{Principals}
+use Rattle.principals.specs.Database.{Principals, tgs_principal}
 use Rattle.principals.specs.declared.change.RowChange.{RowChange}
 use Rattle.principals.specs.declared.change.RowChange.TheVariants as row_changes
 use Rattle.text_fields.specs.Settings.{IsDateOf, IsSettingOf, life_of, time_of, with_setting}
+use Rattle.text_fields.specs.declared.settings.FlagField.TheVariants as flags
 use Rattle.text_fields.specs.declared.settings.Setting.{Setting}
 use Rattle.text_fields.specs.declared.settings.Setting.TheVariants as settings
 use Rattle.kadm_run.specs.Denying.{denied}
@@ -19,7 +20,7 @@ use Rattle.kadm_run.specs.Spans.{IsSpanText}
 use Rattle.kadm_run.specs.declared.order.ChangeArgs.{ChangeArgs}
 use Rattle.kadm_run.specs.declared.order.ChangeArgs.TheVariants.{Drop, DropOlder, Policy, Remove}
 use Rattle.kadm_run.specs.declared.order.Grant.{Grant}
-use Rattle.kadm_run.specs.declared.order.Grant.TheVariants.{New, NewUser, Next, Replace, Either, EitherReplace}
+use Rattle.kadm_run.specs.declared.order.Grant.TheVariants.{New, NewUser, Next, Replace, Either}
 use Rattle.kadm_run.specs.declared.order.KeyChange.{KeyChange}
 use Rattle.kadm_run.specs.declared.order.KeyChange.TheVariants as changes
 
@@ -62,7 +63,6 @@ key_change NewUser there = changes.NewUser
 key_change Next there = changes.Next
 key_change Replace there = changes.Replace
 key_change Either there = if there then changes.Next else changes.New
-key_change EitherReplace there = if there then changes.Replace else changes.New
 
 abbrev pub IsGiven : KeyChange → Components → List ProtocolKey → Principals → Principals → Type 0
 IsGiven changes.New who keys p new = Makes p who (row_changes.Add keys) new
@@ -121,11 +121,20 @@ IsValueOf world setting name value =
 
 -- ---- changes without keys
 
+-- no tickets may be issued any more for the principal with this setting
+abbrev pub denies_tickets : Setting → Bool
+denies_tickets (settings.Flag flags.Service on) = not on
+denies_tickets _ = false
+
+-- tickets for the realm's ticket-granting service stay allowed, since every login needs them
+abbrev pub KeepsRealm : Principals → Components → Setting → Type 0
+KeepsRealm p who setting = who ≡ tgs_principal p.realm → denies_tickets setting ≡ false
+
 -- the field has the value, whatever it had before; the rest of the policy is unchanged
 abbrev pub IsPolicySet : Option World → List ℕ → List ℕ → Components → Principals → Principals → Type 0
 IsPolicySet world field value who p new =
     (row : Row) × (get p.rows who ≡ Some row) × (setting : Setting) × IsValueOf world setting field value
-    × Makes p who (row_changes.SetPolicy (with_setting setting row.policy)) new
+    × KeepsRealm p who setting × Makes p who (row_changes.SetPolicy (with_setting setting row.policy)) new
 
 abbrev pub IsChanged : Option World → ChangeArgs → Components → Principals → Principals → Type 0
 IsChanged world (Drop version) who p new = Makes p who (row_changes.DropKeys version) new

@@ -1,8 +1,9 @@
 //! The commands that make a database, or change one without new keys.
-ghost use Rattle.std.specs.Prelude.{◌≡◌, IfOk, OnOk, OnErr};
+ghost use Rattle.std.specs.Prelude.{◌≡◌, IfOk, IsFalse, OnOk, OnErr, false, true};
+ghost use Rattle.principals.specs.Database.{tgs_principal};
 ghost use Rattle.principals.specs.declared.change.RowChange.TheVariants as row_changes;
 ghost use Rattle.kadm_run.specs.Denying.{migrated_rows};
-ghost use Rattle.kadm_run.specs.Granting.{IsChanged, IsPolicySet, IsValueOf, Makes};
+ghost use Rattle.kadm_run.specs.Granting.{IsChanged, IsPolicySet, IsValueOf, Makes, denies_tickets};
 ghost use Rattle.kadm_run.specs.Worlds.{Changed, MadeNew, MadeRealm, Migrated, path_of};
 
 use crate::databases::{apply, lock_database, open_database, write_database};
@@ -16,10 +17,10 @@ use file_store::{Store, has_file, read_clock, read_or_draw_seed};
 use krb_elements::KerberosString;
 use krb_fields::{Name, component_from_text};
 use principal_keys::random_keys;
-use principals::{ChangeFault, Database, RowChange};
-use std::alloc::Global;
+use principals::{ChangeFault, Database, RowChange, tgs_name};
+use std::alloc::{AllocError, Global};
 use std::io::Write;
-use text_fields::Setting;
+use text_fields::{FlagField, Setting};
 
 /// Makes the database of a new realm.
 pub(crate) fn make_realm<'p, T: Store, E: Write>(
@@ -58,7 +59,7 @@ fn make_new_realm<'p, T: Store, E: Write>(
     }
     let keys = random_keys(alloc, &order.etypes, read_or_draw_seed(alloc, store, seed)?)?;
     let database = Database::first(alloc, realm.as_slice(), keys)?;
-    write_database(alloc, store, order.db, &database)
+    write_database(alloc, store, order, &database)
 }
 
 /// Changes a principal, and writes the database. A refused change writes nothing.
@@ -76,7 +77,7 @@ pub(crate) fn change<'p, T: Store, E: Write>(
     let who = Name::from_text(alloc, name)?;
     let mut database = open_database(alloc, order, store, errors)?;
     change_row(alloc, store, &mut database, &who, how)?;
-    write_database(alloc, store, order.db, &database)
+    write_database(alloc, store, order, &database)
 }
 
 fn change_row<T: Store>(
@@ -137,8 +138,37 @@ fn set_policy<T: Store>(
         return Err(Stop::from(ChangeFault::Absent));
     };
     let policy = row.policy;
-    let policy = setting(store, field, value)?.on(policy);
+    let setting = setting(store, field, value)?;
+    let is_tgs = is_tgs(alloc, database, who)?;
+    if shuts_realm(is_tgs, setting) {
+        return Err(Stop::Refused(Reason::ServesAll));
+    }
+    let policy = setting.on(policy);
     Ok(apply(alloc, database, who, RowChange::SetPolicy(policy))?)
+}
+
+/// Checks whether a name is that of the realm's ticket-granting service.
+fn is_tgs(alloc: Global, database: &Database, who: &Name) -> Result<bool, AllocError>
+    ensures { IfOk result (λ is. who.now.components ≡ tgs_principal database.now.realm → is ≡ true) }
+{
+    let tgs = tgs_name(alloc, database.realm())?;
+    Ok(who.is_same(&tgs))
+}
+
+/// Checks whether a setting would deny tickets for the ticket-granting service, which every login needs.
+fn shuts_realm(is_tgs: bool, setting: Setting) -> bool
+    ensures { IsFalse result → is_tgs ≡ true → denies_tickets setting ≡ false }
+{
+    is_tgs && denies_tickets(setting)
+}
+
+fn denies_tickets(setting: Setting) -> bool
+    ensures { result ≡ denies_tickets setting }
+{
+    match setting {
+        Setting::Flag(FlagField::Service, on) => !on,
+        _ => false,
+    }
 }
 
 /// Returns a field with its value. It reads the clock if the value is a time from now.
@@ -169,7 +199,7 @@ pub(crate) fn migrate<'p, T: Store, E: Write>(
 {
     let mut database = open_database(alloc, order, store, errors)?;
     migrate_rows(alloc, &mut database, users_are_no_services)?;
-    write_database(alloc, store, order.db, &database)
+    write_database(alloc, store, order, &database)
 }
 
 /// Sets what older versions of the format lack: whether tickets for users are allowed.

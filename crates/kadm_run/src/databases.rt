@@ -1,12 +1,13 @@
 //! The database and its file.
-ghost use Rattle.std.specs.Prelude.{◌≡◌, IfOk, OnOk, OnErr};
+ghost use Rattle.std.specs.Prelude.{◌≡◌, IfOk, OnOk, OnErr, option_map};
+ghost use Rattle.file_store.specs.World.{with_file};
 ghost use Rattle.kadm_run.specs.Granting.{Makes};
 ghost use Rattle.kadm_run.specs.Worlds.{HoldsDatabase, with_database};
 
 use crate::order::Order;
 use crate::reason::Reason;
 use crate::stop::Stop;
-use file_store::{Store, lock_file, read_at_most, update_file};
+use file_store::{Store, lock_file, read_at_most, update_file, update_private_file};
 use krb_fields::Name;
 use principals::{Change, ChangeFault, Database, RowChange};
 use principals_text::{LONGEST_TEXT, ReadFault, fault_place};
@@ -101,18 +102,36 @@ fn report_place<E: Write>(alloc: Global, errors: &mut E, db: &str, text: &str, f
     }
 }
 
-/// Writes the database. Its file keeps its owner, group and mode.
+/// Writes the database.
 pub(crate) fn write_database<'p, T: Store>(
     alloc: Global,
     store: &mut T,
-    db: &'p str,
+    order: &Order<'p>,
     database: &Database,
 ) -> Result<(), Stop<'p>>
-    ensures written { OnOk result (T.world store.new ≡ with_database db.now database.now (T.world store.old)) }
+    ensures written { OnOk result (T.world store.new ≡ with_database order.now.db.now database.now (T.world store.old)) }
     ensures kept { OnErr result (T.world store.new ≡ T.world store.old) }
 {
     let text = principals_text::write(alloc, database)?;
-    update_file(alloc, store, db, text.as_bytes())?;
+    change_file(alloc, store, order.db, text.as_bytes(), order.keep_mode)
+}
+
+/// Writes a file in place of the one there, whose owner and group it keeps, and its mode if `keep_mode` says so.
+pub(crate) fn change_file<'p, T: Store>(
+    alloc: Global,
+    store: &mut T,
+    path: &'p str,
+    octets: &[u8],
+    keep_mode: bool,
+) -> Result<(), Stop<'p>>
+    ensures written { OnOk result (T.world store.new ≡ option_map (with_file path.now octets.now) (T.world store.old)) }
+    ensures kept { OnErr result (T.world store.new ≡ T.world store.old) }
+{
+    if keep_mode {
+        update_file(alloc, store, path, octets)?;
+    } else {
+        update_private_file(alloc, store, path, octets)?;
+    }
     Ok(())
 }
 

@@ -10,7 +10,7 @@ ghost use Rattle.kadm_run.specs.Granting.{Makes, older_numbers, password_expiry}
 ghost use Rattle.kadm_run.specs.Worlds.{GavePassword, GaveRandom};
 
 use crate::databases::{apply, open_database, write_database};
-use crate::denying::deny_service;
+use crate::denying::{deny_service, is_user};
 use crate::order::{Grant, KeyChange, Order, PasswordGrant, RandomGrant};
 use crate::passwords::new_password;
 use crate::stop::Stop;
@@ -41,7 +41,7 @@ pub(crate) fn grant_password<'p, T: Store, E: Write>(
     let keys = keys_of(alloc, &order.etypes, &pass, &who, &database)?;
     give(alloc, &mut database, &who, keys, to.grant)?;
     let cleared = clear_expiry(alloc, store, &mut database, &who)?;
-    write_database(alloc, store, order.db, &database)?;
+    write_database(alloc, store, order, &database)?;
     if cleared {
         report_cleared(errors, to.name);
     }
@@ -64,7 +64,7 @@ pub(crate) fn grant_random<'p, T: Store, E: Write>(
     let seed = read_or_draw_seed(alloc, store, to.seed)?;
     let keys = random_keys(alloc, &order.etypes, seed)?;
     give(alloc, &mut database, &who, keys, to.grant)?;
-    write_database(alloc, store, order.db, &database)?;
+    write_database(alloc, store, order, &database)?;
     report_version(errors, to, &database, &who);
     Ok(())
 }
@@ -257,8 +257,14 @@ fn report_version<E: Write>(errors: &mut E, to: RandomGrant<'_>, database: &Data
     let name = to.name;
     let _ = match to.grant {
         Grant::New | Grant::NewUser => Ok(()),
-        _ if number == 1 => writeln!(errors, "kadm: {name}: added, with keys of version 1"),
-        Grant::Replace | Grant::EitherReplace => {
+        _ if number == 1 => {
+            writeln!(
+                errors,
+                "kadm: {name}: added, with keys of version 1{}",
+                warning(who)
+            )
+        }
+        Grant::Replace => {
             writeln!(
                 errors,
                 "kadm: {name}: has new keys, version {number}; older versions are dropped"
@@ -271,4 +277,13 @@ fn report_version<E: Write>(errors: &mut E, to: RandomGrant<'_>, database: &Data
             )
         }
     };
+}
+
+/// Returns what to say of a new service of a host, whose name may have a typing error.
+fn warning(who: &Name) -> &'static str {
+    if is_user(who) {
+        ""
+    } else {
+        "; `--existing` refuses a name that the database doesn't have"
+    }
 }

@@ -33,7 +33,7 @@ pub(crate) fn import<'p, T: Store, E: Write>(
     let mut database = open_database(alloc, order, store, errors)?;
     let versions = read_versions(alloc, store, to.keytab, &database, &who, &order.etypes)?;
     add_imported(alloc, &mut database, &who, versions)?;
-    write_database(alloc, store, order.db, &database)
+    write_database(alloc, store, order, &database)
 }
 
 /// Adds a principal with these versions of its keys.

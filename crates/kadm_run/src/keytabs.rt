@@ -4,16 +4,14 @@ ghost use Rattle.file_store.specs.World.{IsRead, IsThere, with_file};
 ghost use Rattle.kadm_run.specs.Keytabs.{IsBehind, IsFreePath, IsKeytabFor, IsKeytabStart, IsNewKeytab, IsOldKeytab, entry_of, lock_of};
 ghost use Rattle.kadm_run.specs.Worlds.{WroteKeytab};
 
-use crate::databases::open_database;
+use crate::databases::{change_file, open_database};
 use crate::joining::joined;
 use crate::order::{KeytabOrder, Order};
 use crate::reason::Reason;
 use crate::stop::Stop;
 use cred_files::{Keytab, KeytabEntry};
 use enctypes::Key;
-use file_store::{
-    FileCause, FileFault, Store, first_octet, has_file, read_file, update_file, write_file,
-};
+use file_store::{FileCause, FileFault, Store, first_octet, has_file, read_file, write_file};
 use krb_elements::KerberosString;
 use krb_fields::Name;
 use principals::{ChangeFault, Database};
@@ -27,7 +25,7 @@ const LOCK_END: &str = ".lock";
 const KEYTAB_START: u8 = 5;
 
 /// Writes a keytab of a principal's current keys. With `append` the keytab keeps its content, before the new entries,
-/// and its owner, group and mode.
+/// and its owner and group.
 pub(crate) fn write_keytab<'p, T: Store, E: Write>(
     alloc: Global,
     order: &Order<'p>,
@@ -42,7 +40,7 @@ pub(crate) fn write_keytab<'p, T: Store, E: Write>(
     let database = open_database(alloc, order, store, errors)?;
     check_path(alloc, store, to.out)?;
     let octets = new_octets(alloc, store, &database, &name, to)?;
-    put_octets(alloc, store, to, &octets)
+    put_octets(alloc, store, order, to, &octets)
 }
 
 /// Refuses the path of a lock, a path with a lock beside it, and a file that is neither empty nor a keytab. Each
@@ -109,6 +107,7 @@ fn new_octets<'p, T: Store>(
 fn put_octets<'p, T: Store>(
     alloc: Global,
     store: &mut T,
+    order: &Order<'p>,
     to: KeytabOrder<'p>,
     octets: &[u8],
 ) -> Result<(), Stop<'p>>
@@ -116,10 +115,9 @@ fn put_octets<'p, T: Store>(
     ensures kept { OnErr result (T.world store.new ≡ T.world store.old) }
 {
     if to.append {
-        update_file(alloc, store, to.out, octets)?;
-    } else {
-        write_file(alloc, store, to.out, octets)?;
+        return change_file(alloc, store, to.out, octets, order.keep_mode);
     }
+    write_file(alloc, store, to.out, octets)?;
     Ok(())
 }
 

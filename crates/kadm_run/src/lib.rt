@@ -15,6 +15,7 @@ mod listing;
 mod order;
 mod passwords;
 mod patterns;
+mod quoting;
 mod reason;
 mod run;
 mod status;

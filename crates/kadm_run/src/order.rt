@@ -20,6 +20,8 @@ pub(crate) struct Order<'a> {
     pub task: Task<'a>,
     /// The encryption types of the new keys.
     pub etypes: Vec<Etype>,
+    /// Whether a changed file keeps its mode. Otherwise only its owner may read and write it.
+    pub keep_mode: bool,
 }
 
 /// Why a command line gives no order.
@@ -128,8 +130,6 @@ pub(crate) enum Grant {
     Replace,
     /// `Next` if the principal exists, else `New`.
     Either,
-    /// `Replace` if the principal exists, else `New`.
-    EitherReplace,
 }
 
 /// The change once it is known whether the principal exists.
@@ -147,10 +147,10 @@ impl Grant {
         ensures { result ≡ key_change self there }
     {
         match (self, there) {
-            (Grant::New, _) | (Grant::Either | Grant::EitherReplace, false) => KeyChange::New,
+            (Grant::New, _) | (Grant::Either, false) => KeyChange::New,
             (Grant::NewUser, _) => KeyChange::NewUser,
             (Grant::Next, _) | (Grant::Either, true) => KeyChange::Next,
-            (Grant::Replace, _) | (Grant::EitherReplace, true) => KeyChange::Replace,
+            (Grant::Replace, _) => KeyChange::Replace,
         }
     }
 }
@@ -227,7 +227,12 @@ pub(crate) fn read_order<'a>(
         Err(EtypesFault::Memory) => return Err(OrderFault::Memory),
     };
     match task_of(sub, args) {
-        Some((db, task)) => Ok(Order { db, task, etypes }),
+        Some((db, task)) => Ok(Order {
+            db,
+            task,
+            etypes,
+            keep_mode: args.get_flag(KEEP_MODE),
+        }),
         None => Err(fault_of(sub, args)),
     }
 }
@@ -290,7 +295,7 @@ fn work_on<'a>(sub: &str, name: &'a str, args: &ArgMatches<'a>) -> Option<Work<'
         "random" => Some(Work::Random(RandomGrant {
             name,
             seed: args.get_str("seed"),
-            grant: either_grant(args),
+            grant: random_grant(args),
         })),
         "keytab" => Some(Work::Keytab(KeytabOrder {
             name,
@@ -352,9 +357,13 @@ fn next_grant(args: &ArgMatches<'_>) -> Grant {
     }
 }
 
-fn either_grant(args: &ArgMatches<'_>) -> Grant {
+/// Returns the grant of random keys. Only without an option it may add the principal: a name with a typing error then
+/// gets no row in place of the one that needs new keys.
+fn random_grant(args: &ArgMatches<'_>) -> Grant {
     if args.get_flag(REPLACE) {
-        Grant::EitherReplace
+        Grant::Replace
+    } else if args.get_flag(EXISTING) {
+        Grant::Next
     } else {
         Grant::Either
     }
@@ -512,7 +521,7 @@ const APPEND: &str = "append";
 
 const APPENDS: FlagRow = FlagRow {
     name: APPEND,
-    help: "Adds the keys to the keytab, which keeps its entries, owner, group and mode",
+    help: "Adds the keys to the keytab, which keeps its entries, owner and group",
 };
 
 const RANDOM: &str = "random";
@@ -541,6 +550,20 @@ const REPLACE: &str = "replace";
 const REPLACES: FlagRow = FlagRow {
     name: REPLACE,
     help: "Drops all older key versions in the same change, as after a theft",
+};
+
+const EXISTING: &str = "existing";
+
+const EXISTINGS: FlagRow = FlagRow {
+    name: EXISTING,
+    help: "Refuses a name that the database doesn't have; so does --replace",
+};
+
+const KEEP_MODE: &str = "keep-mode";
+
+const KEEPS_MODE: FlagRow = FlagRow {
+    name: KEEP_MODE,
+    help: "Leaves the mode of the changed file as it is; by default only its owner may then read and write it",
 };
 
 const OLDER: &str = "older";
@@ -575,43 +598,43 @@ const SUBCOMMANDS: &[SubcommandRow] = &[
         name: "add",
         about: "Adds a principal with keys made from a password, or with random keys",
         options: &[DB, NAME, PASSWORD, TYPES],
-        flags: &[RANDOMS, SERVICES, ANY_PASSWORDS],
+        flags: &[RANDOMS, SERVICES, ANY_PASSWORDS, KEEPS_MODE],
     },
     SubcommandRow {
         name: "passwd",
         about: "Gives a principal new keys made from a password; clears a `password_expires` that is past",
         options: &[DB, NAME, PASSWORD, TYPES],
-        flags: &[REPLACES, ANY_PASSWORDS],
+        flags: &[REPLACES, ANY_PASSWORDS, KEEPS_MODE],
     },
     SubcommandRow {
         name: "random",
         about: "Gives a principal random keys, or adds it with them; standard error says which",
         options: &[DB, NAME, SEED, TYPES],
-        flags: &[REPLACES],
+        flags: &[REPLACES, EXISTINGS, KEEPS_MODE],
     },
     SubcommandRow {
         name: "import",
         about: "Adds a principal with its keys from a keytab, in all their versions",
         options: &[DB, NAME, KEYTAB, TYPES],
-        flags: &[],
+        flags: &[KEEPS_MODE],
     },
     SubcommandRow {
         name: "drop",
         about: "Drops the keys of an old version, or of all old versions",
         options: &[DB, NAME, VERSION],
-        flags: &[OLDERS],
+        flags: &[OLDERS, KEEPS_MODE],
     },
     SubcommandRow {
         name: "policy",
         about: "Sets a field of a principal's policy",
         options: &[DB, NAME, FIELD, VALUE],
-        flags: &[],
+        flags: &[KEEPS_MODE],
     },
     SubcommandRow {
         name: "remove",
         about: "Removes a principal",
         options: &[DB, NAME],
-        flags: &[],
+        flags: &[KEEPS_MODE],
     },
     SubcommandRow {
         name: "list",
@@ -621,7 +644,7 @@ const SUBCOMMANDS: &[SubcommandRow] = &[
     },
     SubcommandRow {
         name: "lint",
-        about: "Prints what to check: what has expired, older keys, no preauthentication, and tickets for users",
+        about: "Prints what to check, with the command that mends it: rights on the file, what has expired, weak or older keys, and tickets for users",
         options: &[DB],
         flags: &[],
     },
@@ -635,12 +658,12 @@ const SUBCOMMANDS: &[SubcommandRow] = &[
         name: "migrate",
         about: "Writes a database of version 1 or 2 as version 3",
         options: &[DB],
-        flags: &[NO_SERVICES_ROW],
+        flags: &[NO_SERVICES_ROW, KEEPS_MODE],
     },
     SubcommandRow {
         name: "keytab",
         about: "Writes a principal's current keys to a keytab",
         options: &[DB, NAME, OUT],
-        flags: &[APPENDS],
+        flags: &[APPENDS, KEEPS_MODE],
     },
 ];

@@ -23,6 +23,8 @@ pub(crate) enum Reason {
     BadTime,
     Exists,
     Protected,
+    /// There would be no tickets for the ticket-granting service.
+    ServesAll,
     /// There is no such principal.
     Absent,
     /// The principal has no such version.
@@ -57,7 +59,7 @@ impl Reason {
             Reason::Mismatch => "Mismatch",
             Reason::BadPassword => "BadPassword",
             Reason::BadTime => "BadTime",
-            Reason::Protected => "Protected",
+            Reason::Protected | Reason::ServesAll => "Protected",
             Reason::Absent | Reason::NoVersion => "Absent",
             Reason::LastVersion => "LastVersion",
             Reason::CurrentKeys => "CurrentKeys",
@@ -89,6 +91,7 @@ impl Reason {
             Reason::BadTime => "this time is past the end of the year 9999",
             Reason::Exists => "this principal already exists",
             Reason::Protected => "cannot remove it: the realm's tickets are made with its keys",
+            Reason::ServesAll => "cannot deny tickets for it: without them nobody can log in",
             Reason::Absent => "the database has no such principal",
             Reason::NoVersion => "it has no keys of this version",
             Reason::LastVersion => "its keys have version 4294967295, and none can follow",
@@ -126,6 +129,7 @@ impl Reason {
             | Reason::BadPassword
             | Reason::Exists
             | Reason::Protected
+            | Reason::ServesAll
             | Reason::Absent
             | Reason::NoVersion
             | Reason::LastVersion

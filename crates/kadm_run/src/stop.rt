@@ -160,11 +160,12 @@ pub(crate) fn report<W: Write, E: Write>(
     match stop {
         Stop::Usage => Ok(Status::Usage),
         Stop::Refused(reason) => {
-            report_reason(errors, word_of(matches, reason.option()), reason);
+            report_reason(errors, matches, reason);
             print_refusal(out, reason.name())
         }
         Stop::File(fault) => {
-            let _ = writeln!(errors, "kadm: {fault}");
+            begin_line(errors, matches, fault.path);
+            let _ = writeln!(errors, "{fault}");
             match (fault.cause, fault.cause.refusal()) {
                 (FileCause::Failed(_), _) | (_, None) => print_failure(out),
                 (_, Some(name)) => print_refusal(out, name),
@@ -184,11 +185,39 @@ fn word_of<'a>(matches: &Result<ArgMatches<'a>, Error>, option: &str) -> Option<
     if word.is_empty() { None } else { Some(word) }
 }
 
+/// Begins a line about a word or a file of the command. If it is the keytab to import from, the line names the principal
+/// too: the keytab may be that of many. Ignores a failed write.
+fn begin_line<E: Write>(errors: &mut E, matches: &Result<ArgMatches<'_>, Error>, word: &str) {
+    let _ = match imported_from(matches, word) {
+        Some(name) => write!(errors, "kadm: {name}: "),
+        None => write!(errors, "kadm: "),
+    };
+}
+
+/// Returns the principal that is imported, if the word is the keytab with its keys.
+fn imported_from<'a>(matches: &Result<ArgMatches<'a>, Error>, word: &str) -> Option<&'a str> {
+    let Ok(matches) = matches else {
+        return None;
+    };
+    let (_, args) = matches.subcommand()?;
+    if args.get_str(KEYTAB)? == word {
+        args.get_str("name")
+    } else {
+        None
+    }
+}
+
 /// Reports the subject of a refusal, and the reason. Ignores a failed write.
-fn report_reason<E: Write>(errors: &mut E, word: Option<&str>, reason: Reason) {
+fn report_reason<E: Write>(
+    errors: &mut E,
+    matches: &Result<ArgMatches<'_>, Error>,
+    reason: Reason,
+) {
+    let word = word_of(matches, reason.option());
+    begin_line(errors, matches, word.unwrap_or(""));
     let _ = match word {
-        Some(word) => writeln!(errors, "kadm: {word}: {}", reason.text()),
-        None => writeln!(errors, "kadm: --{}: {}", reason.option(), reason.text()),
+        Some(word) => writeln!(errors, "{word}: {}", reason.text()),
+        None => writeln!(errors, "--{}: {}", reason.option(), reason.text()),
     };
     if let (Reason::BadName | Reason::BadRealm, Some(word)) = (reason, word) {
         let _ = explain_spelling(errors, word);

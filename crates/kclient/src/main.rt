@@ -75,7 +75,7 @@ fn main(rt: HostRuntime) -> ExitCode {
         Ok(defaults) => defaults,
         Err(fault) => return ended(&rt, fault),
     };
-    let exchange = SocketNetwork::new(&rt);
+    let exchange = SocketNetwork::for_command(&rt);
     let kdcs = Kdcs::new(exchange, Vec::new(rt.alloc()), Transports::UdpFirst);
     let client = KdcClient { kdcs, at: given.at };
     let mut context = Context::new(rt.alloc(), FileStore::new(&rt), client);

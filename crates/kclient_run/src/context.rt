@@ -1,5 +1,5 @@
 //! The context of a command.
-use client_files::{Fault, login_fault};
+use client_files::{Fault, login_fault, unknown_hosts};
 use client_login::{KdcClient, LoginFault};
 use std::alloc::{AllocError, Global};
 
@@ -36,8 +36,19 @@ impl<T, X> Context<T, X> {
         self.notes.as_str()
     }
 
-    /// Notes hosts that are not asked because their addresses are unknown.
-    pub(crate) fn note_unknown(&mut self, hosts: &str) -> Result<(), AllocError> {
+    /// Notes each of these lines, unless that was done before.
+    pub(crate) fn note_lines(&mut self, lines: &str) -> Result<(), AllocError> {
+        for line in lines.lines() {
+            if !self.notes.contains(line) {
+                writeln!(self.notes, "kclient: {line}")?;
+            }
+        }
+        Ok(())
+    }
+
+    /// Notes hosts that were not asked because their addresses are unknown.
+    pub(crate) fn note_unknown(&mut self) -> Result<(), AllocError> {
+        let hosts = unknown_hosts(self.alloc, &self.client.kdcs.places)?;
         if hosts.is_empty() {
             return Ok(());
         }
@@ -49,7 +60,7 @@ impl<T, X> Context<T, X> {
 
     /// Notes which of several names ended the command.
     pub(crate) fn note_name(&mut self, name: &str) -> Result<(), AllocError> {
-        let word = if name.is_empty() { "--name" } else { name };
+        let word = if name.is_empty() { NO_WORD } else { name };
         writeln!(self.notes, "kclient: {word}: this name ended the command")
     }
 
@@ -70,6 +81,9 @@ impl<T, X> Context<T, X> {
         login_fault(self.alloc, &self.client.kdcs, source, fault)
     }
 }
+
+/// What is shown in place of an empty word.
+pub(crate) const NO_WORD: &str = "an empty name";
 
 /// Notes by how many seconds the KDC's clock is ahead.
 fn note_clock(notes: &mut String, ahead: i64) -> Result<(), AllocError> {

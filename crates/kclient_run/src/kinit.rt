@@ -1,11 +1,16 @@
 //! `kinit`: gets a first ticket, and makes a cache from it.
 use crate::context::Context;
-use crate::places::{cache_path, find_realm, use_given_kdcs};
+use crate::places::{cache_path, find_realm, read_settings, use_given_kdcs, use_kdcs_of};
 use crate::run::Printed;
-use crate::words::{FirstWords, SecretWords, first_words, read_name, read_realm};
+use crate::words::{
+    ClientWords, FirstWords, NO_NAME, SecretWords, first_words, read_name, read_realm,
+    with_settings,
+};
 use clap::ArgMatches;
-use client_files::{ClientStore, Defaults, Fault, at_file, read_keytab, write_new_cache};
-use client_login::{AnyMessage, HostNames, Login, Password, Secret, granting_service};
+use client_files::{
+    Cause, ClientStore, Defaults, Fault, at_file, read_cache, read_keytab, write_new_cache,
+};
+use client_login::{AnyMessage, Login, Password, Secret, Wishes, granting_service};
 use cred_files::{Credential, Principal};
 use file_store::{ask_password, read_or_draw_seed, read_password};
 use krb_elements::{KerberosString, Octets};
@@ -24,7 +29,7 @@ struct First {
 }
 
 /// Gets a first ticket, and writes a cache with it. The ticket is requested once more if the KDC's time is taken.
-pub(crate) fn get_first<T: ClientStore, X: AnyMessage + HostNames>(
+pub(crate) fn get_first<T: ClientStore, X: AnyMessage>(
     context: &mut Context<T, X>,
     options: &ArgMatches<'_>,
     defaults: &Defaults<'_>,
@@ -48,7 +53,7 @@ pub(crate) fn get_first<T: ClientStore, X: AnyMessage + HostNames>(
     }
 }
 
-fn prepare<T: ClientStore, X: HostNames>(
+fn prepare<T: ClientStore, X>(
     context: &mut Context<T, X>,
     options: &ArgMatches<'_>,
     defaults: &Defaults<'_>,
@@ -56,7 +61,7 @@ fn prepare<T: ClientStore, X: HostNames>(
 ) -> Result<First, Fault> {
     let path = cache_path(context.alloc, &mut context.store, options, defaults)?;
     use_given_kdcs(context.alloc, &mut context.client.kdcs, options)?;
-    let login = read_login(context, defaults, words)?;
+    let login = read_login(context, defaults, words, path.as_str())?;
     let secret = read_secret(context.alloc, &mut context.store, words, &login.client)?;
     let rng = generator(context.alloc, &mut context.store, options)?;
     Ok(First {
@@ -88,24 +93,66 @@ pub(crate) fn generator<T: ClientStore>(
 }
 
 /// Reads the names, and finds the realm if no word names it.
-fn read_login<T: ClientStore, X: HostNames>(
+fn read_login<T: ClientStore, X>(
     context: &mut Context<T, X>,
     defaults: &Defaults<'_>,
     words: &FirstWords<'_>,
+    path: &str,
 ) -> Result<Login, Fault> {
     let alloc = context.alloc;
-    let realm = given_realm(alloc, words)?;
-    let name = read_name(alloc, "--name", words.given, words.name)?;
+    let given = given_client(alloc, words.client)?;
     let service = given_service(alloc, words.service)?;
-    let realm = find_realm(context, defaults, realm)?;
-    login_of(alloc, Principal { realm, name }, service, words)
+    let client = match given {
+        Some(GivenClient { name, realm }) => {
+            let realm = find_realm(context, defaults, realm)?;
+            Principal { realm, name }
+        }
+        None => cached_client(context, defaults, path)?,
+    };
+    let wishes = with_settings(words.wishes, read_settings(context, defaults)?);
+    login_of(alloc, client, service, wishes)
+}
+
+/// Returns the client of the cache, and sets the KDCs to those of its realm.
+fn cached_client<T: ClientStore, X>(
+    context: &mut Context<T, X>,
+    defaults: &Defaults<'_>,
+    path: &str,
+) -> Result<Principal, Fault> {
+    let cache = match read_cache(context.alloc, &mut context.store, path) {
+        Ok(cache) => cache,
+        Err(fault) if matches!(fault.cause, Cause::NoCache) => return Err(Fault::usage(NO_NAME)),
+        Err(fault) => return Err(fault),
+    };
+    let client = cache.principal().copy(context.alloc)?;
+    use_kdcs_of(context, defaults, client.realm.as_slice())?;
+    Ok(client)
+}
+
+/// A client that words name.
+#[derive(Drop)]
+struct GivenClient {
+    name: Name,
+    realm: Option<KerberosString>,
+}
+
+fn given_client(
+    alloc: Global,
+    words: Option<ClientWords<'_>>,
+) -> Result<Option<GivenClient>, Fault> {
+    let Some(words) = words else {
+        return Ok(None);
+    };
+    let realm = given_realm(alloc, &words)?;
+    let name = read_name(alloc, words.option, words.given, words.name)?;
+    Ok(Some(GivenClient { name, realm }))
 }
 
 fn login_of(
     alloc: Global,
     client: Principal,
     service: Option<Name>,
-    words: &FirstWords<'_>,
+    wishes: Wishes,
 ) -> Result<Login, Fault> {
     let service = match service {
         Some(service) => service,
@@ -114,18 +161,18 @@ fn login_of(
     Ok(Login {
         client,
         service,
-        wishes: words.wishes,
+        wishes,
     })
 }
 
-fn given_realm(alloc: Global, words: &FirstWords<'_>) -> Result<Option<KerberosString>, Fault> {
+fn given_realm(alloc: Global, words: &ClientWords<'_>) -> Result<Option<KerberosString>, Fault> {
     let Some(realm) = words.realm else {
         return Ok(None);
     };
     if words.has_realm_option {
         return Ok(Some(read_realm(alloc, "--realm", realm, realm)?));
     }
-    Ok(Some(read_realm(alloc, "--name", words.given, realm)?))
+    Ok(Some(read_realm(alloc, words.option, words.given, realm)?))
 }
 
 fn given_service(alloc: Global, service: Option<&str>) -> Result<Option<Name>, Fault> {
@@ -146,11 +193,10 @@ fn read_secret<T: ClientStore>(
         SecretWords::Keytab(path) => return Ok(Secret::Keytab(read_keytab(alloc, store, path)?)),
         SecretWords::PasswordFile(path) => at_file(alloc, read_password(alloc, store, path))?,
         SecretWords::Asked => {
+            let name = client.name.to_text(alloc)?;
             let realm = component_to_text(alloc, client.realm.as_slice())?;
-            at_file(
-                alloc,
-                ask_password(alloc, store, words.name, realm.as_str()),
-            )?
+            let asked = ask_password(alloc, store, name.as_str(), realm.as_str());
+            at_file(alloc, asked)?
         }
     };
     Ok(Secret::Password(Password {

@@ -1,18 +1,20 @@
 //! `kvno`: gets tickets for services, one after another.
+ghost use Rattle.std.specs.Prelude.{IfOk, IfSome};
+ghost use Rattle.client_login.specs.Verifying.{IsTicketOf};
+
 use crate::context::Context;
 use crate::kinit::generator;
-use crate::opening::check_ticket;
-use crate::places::{cache_path, read_held, use_given_kdcs};
+use crate::places::{cache_path, use_given_kdcs, use_kdcs_of};
 use crate::run::Printed;
-use crate::words::{keytab_path, read_name};
+use crate::words::{NO_SERVICE, keytab_path, read_name, read_realm};
 use clap::ArgMatches;
 use client_files::{
     Cause, ClientStore, Defaults, Fault, at, good_credential, granting_ticket, put_credential,
-    read_keytab, write_cache,
+    read_cache, read_keytab, write_cache,
 };
-use client_login::{AnyMessage, HostNames};
+use client_login::{AnyMessage, Why, opened_ticket};
 use cred_files::{Cache, Credential, Keytab};
-use krb_elements::read;
+use krb_elements::{KerberosString, read};
 use krb_fields::{Moment, Name};
 use krb_messages::TicketRef;
 use rand_chacha::ChaCha20Rng;
@@ -40,36 +42,40 @@ struct Wallet {
 
 /// Gets a ticket for each service, unless the cache has one that can be used, and puts it into the cache. It prints the
 /// key versions of the tickets, in the order of the names.
-pub(crate) fn get_tickets<T: ClientStore, X: AnyMessage + HostNames>(
+pub(crate) fn get_tickets<T: ClientStore, X: AnyMessage>(
     context: &mut Context<T, X>,
     options: &ArgMatches<'_>,
     defaults: &Defaults<'_>,
 ) -> Result<Printed, Fault> {
-    let names = options.get_strs("name").unwrap_or(&[]);
+    let names = service_words(context.alloc, options)?;
     let keytab = keytab_path(options)?;
     let path = cache_path(context.alloc, &mut context.store, options, defaults)?;
     use_given_kdcs(context.alloc, &mut context.client.kdcs, options)?;
-    let services = read_services(context, names)?;
-    let mut wallet = read_wallet(context, options, defaults, path, keytab)?;
+    let services = read_services(context, &names)?;
+    let mut wallet = read_wallet(context, options, path, keytab)?;
+    check_realms(context, &names, &services, &wallet.cache)?;
     let mut lines = String::new(context.alloc);
     for (name, service) in names.iter().zip(&services) {
-        match get_ticket(context, &mut wallet, service) {
+        match get_ticket(context, defaults, &mut wallet, &service.name) {
             Ok(version) => push_line(&mut lines, name, version, wallet.checks.is_some())?,
-            Err(fault) => return Err(at_name(context, names, name, fault)),
+            Err(fault) => {
+                // The tickets that came before are kept. Why the command ends is what counts, not whether that fails.
+                let _ = write_changed(context.alloc, &mut context.store, &wallet);
+                return Err(at_name(context, &names, name, fault));
+            }
         }
     }
     write_changed(context.alloc, &mut context.store, &wallet)?;
     Ok(Printed::done(lines))
 }
 
-fn read_wallet<T: ClientStore, X: HostNames>(
+fn read_wallet<T: ClientStore, X>(
     context: &mut Context<T, X>,
     options: &ArgMatches<'_>,
-    defaults: &Defaults<'_>,
     path: String,
     keytab: Option<&str>,
 ) -> Result<Wallet, Fault> {
-    let cache = read_held(context, defaults, path.as_str())?;
+    let cache = read_cache(context.alloc, &mut context.store, path.as_str())?;
     let checks = read_checks(context.alloc, &mut context.store, keytab)?;
     let rng = generator(context.alloc, &mut context.store, options)?;
     Ok(Wallet {
@@ -93,15 +99,71 @@ fn write_changed<T: ClientStore>(
     write_cache(alloc, store, wallet.path.as_str(), &wallet.cache)
 }
 
-fn read_services<T, X>(context: &mut Context<T, X>, names: &[&str]) -> Result<Vec<Name>, Fault> {
+/// A service, and the realm behind its name.
+#[derive(Drop)]
+struct Service {
+    name: Name,
+    realm: Option<KerberosString>,
+}
+
+/// Returns the names of services: the plain words, and those of options.
+fn service_words<'a>(alloc: Global, options: &ArgMatches<'a>) -> Result<Vec<&'a str>, Fault> {
+    let mut names = Vec::new(alloc);
+    names.extend_from_slice(options.get_strs("service").unwrap_or(&[]))?;
+    names.extend_from_slice(options.get_strs("name").unwrap_or(&[]))?;
+    if names.is_empty() {
+        return Err(Fault::usage(NO_SERVICE));
+    }
+    Ok(names)
+}
+
+fn read_services<T, X>(context: &mut Context<T, X>, names: &[&str]) -> Result<Vec<Service>, Fault> {
     let mut services = Vec::new(context.alloc);
     for name in names {
-        match read_name(context.alloc, "--name", name, name) {
+        match read_service(context.alloc, name) {
             Ok(service) => services.push(service)?,
             Err(fault) => return Err(at_name(context, names, name, fault)),
         }
     }
     Ok(services)
+}
+
+fn read_service(alloc: Global, word: &str) -> Result<Service, Fault> {
+    match word.split_once('@') {
+        Some((name, realm)) => Ok(Service {
+            name: read_name(alloc, "", word, name)?,
+            realm: Some(read_realm(alloc, "", word, realm)?),
+        }),
+        None => Ok(Service {
+            name: read_name(alloc, "", word, word)?,
+            realm: None,
+        }),
+    }
+}
+
+/// Checks that each realm behind a service's name is the cache's: tickets come from its KDCs alone.
+fn check_realms<T, X>(
+    context: &mut Context<T, X>,
+    names: &[&str],
+    services: &[Service],
+    cache: &Cache,
+) -> Result<(), Fault> {
+    for (name, service) in names.iter().zip(services) {
+        let checked = check_realm(service, cache);
+        if let Err(fault) = at(context.alloc, name, checked) {
+            return Err(at_name(context, names, name, fault));
+        }
+    }
+    Ok(())
+}
+
+fn check_realm(service: &Service, cache: &Cache) -> Result<(), Cause> {
+    match &service.realm {
+        Some(realm) if realm.as_slice() != cache.principal().realm.as_slice() => {
+            Err(Cause::OtherRealm)
+        }
+        _ => Ok(()),
+    }
 }
 
 /// Notes the name that ends the command, if there are several.
@@ -138,9 +200,10 @@ fn push_line(lines: &mut String, name: &str, version: i64, opened: bool) -> Resu
 const OPENED: &str = ", keytab entry valid";
 
 /// Returns the key version of the service's ticket: of the cache's own, if it need not be requested again, or of a new
-/// one. That is requested once more if the KDC's time is taken.
-fn get_ticket<T, X: AnyMessage>(
+/// one. That is requested once more if the KDC's time is taken. Only a request needs KDCs.
+fn get_ticket<T: ClientStore, X: AnyMessage>(
     context: &mut Context<T, X>,
+    defaults: &Defaults<'_>,
     wallet: &mut Wallet,
     service: &Name,
 ) -> Result<i64, Fault> {
@@ -150,6 +213,7 @@ fn get_ticket<T, X: AnyMessage>(
     }
     let path = wallet.path.as_str();
     let granting = unended(alloc, path, &wallet.cache, context.client.at)?;
+    use_kdcs_of(context, defaults, wallet.cache.principal().realm.as_slice())?;
     match context
         .client
         .service_ticket(alloc, &mut wallet.rng, granting, service)
@@ -206,17 +270,32 @@ fn keep(alloc: Global, wallet: &mut Wallet, credential: &Credential) -> Result<i
     Ok(version)
 }
 
-/// Returns the ticket's key version. If there is a keytab, it has to decrypt the ticket.
+/// Returns the ticket's key version. If there is a keytab, it has to decrypt the ticket, to the credential's client and
+/// session key.
 fn checked_version(
     alloc: Global,
     checks: &Option<Checks>,
     credential: &Credential,
-) -> Result<i64, Fault> {
+) -> Result<i64, Fault>
+    ensures { IfOk result (λ version. IfSome checks.now (λ c. IsTicketOf c.keytab credential.now)) }
+{
     if let Some(Checks { path, keytab }) = checks {
-        let checked = check_ticket(alloc, keytab, credential.ticket.as_slice());
-        at(alloc, path.as_str(), checked)?;
+        at(
+            alloc,
+            path.as_str(),
+            check_ticket(alloc, keytab, credential),
+        )?;
     }
     Ok(version_of(credential))
+}
+
+fn check_ticket(alloc: Global, keytab: &Keytab, credential: &Credential) -> Result<(), Cause>
+    ensures { IfOk result (λ done. IsTicketOf keytab.now credential.now) }
+{
+    match opened_ticket(alloc, keytab, credential)? {
+        Ok(_) => Ok(()),
+        Err(doubt) => Err(Cause::Login(Why::Unverified(doubt))),
+    }
 }
 
 /// Returns the key version of the ticket; 0 if it names none.

@@ -11,7 +11,6 @@ mod kinit;
 mod klist;
 mod kvno;
 mod listing;
-mod opening;
 mod options;
 mod places;
 mod renewing;

@@ -1,6 +1,6 @@
 //! The subcommands of the command line with their options, and their help texts.
 use clap::error::Error;
-use clap::{ArgMatches, Command};
+use clap::{Arg, ArgAction, ArgMatches, Command};
 use command_options::{
     FlagRow, OptionRow, SubcommandRow, Times, subcommand, with_flags, with_options,
     with_subcommands,
@@ -12,15 +12,18 @@ const ABOUT: &str = "Gets Kerberos tickets and keeps them in a credential cache"
 
 const AFTER_HELP: &str = "\
 A first ticket, and one for a service:
-  kclient kinit --kdc 127.0.0.1:88 --realm EXAMPLE.COM --name alice --cache cache
-  kclient kvno --kdc 127.0.0.1:88 --cache cache --name host/www.example.com
+  kclient kinit alice
+  kclient kvno host/www.example.com
+The same without a krb5.conf, and in another cache:
+  kclient kinit --kdc 127.0.0.1:88 --cache cache alice@EXAMPLE.COM
+  kclient kvno --kdc 127.0.0.1:88 --cache cache host/www.example.com
 
 Without --cache, it uses the file that KRB5CCNAME names, or else /tmp/krb5cc_ and the user's number. Without --realm or
 --kdc, it takes the default realm, and the realm's KDCs, from the file that KRB5_CONFIG names, or else from
 /etc/krb5.conf.
 
 A password that `kinit` asks for at a terminal shows as you type it. To hide it:
-  stty -echo; kclient kinit --name alice; stty echo
+  stty -echo; kclient kinit alice; stty echo
 
 `kinit` and `kdestroy` print `ok`, and `kvno` prints the name and the key version of each service. A command that is
 refused prints `refused` with a reason, or with the error code of the KDC, and its status is 1. If a file, a socket,
@@ -61,7 +64,7 @@ const REALM: OptionRow = OptionRow {
 const CLIENT: OptionRow = OptionRow {
     name: "name",
     shape: "NAME",
-    help: "The client's name, also with its realm, such as alice@EXAMPLE.COM",
+    help: "The same as CLIENT",
     times: Times::AtMostOnce,
 };
 
@@ -110,8 +113,8 @@ const LEAST_COUNT: OptionRow = OptionRow {
 const SERVICES: OptionRow = OptionRow {
     name: "name",
     shape: "NAME",
-    help: "The name of a service, without its realm. It may be given more than once",
-    times: Times::AtLeastOnce,
+    help: "The same as a SERVICE. It may be given more than once",
+    times: Times::Any,
 };
 
 const SERVICE_KEYTAB: OptionRow = OptionRow {
@@ -178,19 +181,20 @@ const KINIT_FLAGS: &[FlagRow] = &[
     TCP,
 ];
 
+const KVNO: SubcommandRow = SubcommandRow {
+    name: "kvno",
+    about: "Gets tickets for services, puts them into the cache, and prints the versions of the services' keys",
+    options: &[SERVICES, SERVICE_KEYTAB, SEED, KDC, CACHE],
+    flags: &[
+        FlagRow {
+            name: "fresh",
+            help: "Asks for each ticket, even if the cache has a good one",
+        },
+        TCP,
+    ],
+};
+
 const OTHERS: &[SubcommandRow] = &[
-    SubcommandRow {
-        name: "kvno",
-        about: "Gets tickets for services, puts them into the cache, and prints the versions of the services' keys",
-        options: &[SERVICES, SERVICE_KEYTAB, SEED, KDC, CACHE],
-        flags: &[
-            FlagRow {
-                name: "fresh",
-                help: "Asks for each ticket, even if the cache has a good one",
-            },
-            TCP,
-        ],
-    },
     SubcommandRow {
         name: "klist",
         about: "Prints what a credential cache or a keytab holds, but no key",
@@ -216,18 +220,33 @@ pub(crate) fn read_args<'a, S: AsStr>(
     let kclient = Command::new(alloc, "kclient")
         .about(ABOUT)
         .after_help(AFTER_HELP)
-        .subcommand(kinit(alloc)?)?;
+        .subcommand(kinit(alloc)?)?
+        .subcommand(kvno(alloc)?)?;
     with_subcommands(alloc, kclient, OTHERS)?.try_get_matches_from(args)
 }
 
 fn kinit<'a>(alloc: Global) -> Result<Command<'a>, AllocError> {
+    let client = Arg::new(alloc, "client").value_name("CLIENT").help(
+        "The client's name, also with its realm, such as alice@EXAMPLE.COM; without it, the cache's client",
+    );
     let kinit = with_options(alloc, subcommand(alloc, &KINIT)?, KINIT_OPTIONS)?;
-    with_flags(alloc, kinit, KINIT_FLAGS)
+    with_flags(alloc, kinit, KINIT_FLAGS)?.arg(client)
+}
+
+fn kvno<'a>(alloc: Global) -> Result<Command<'a>, AllocError> {
+    let services = Arg::new(alloc, "service")
+        .value_name("SERVICE")
+        .action(ArgAction::Append)
+        .num_args(0..)
+        .help("The names of services, such as host/www.example.com, also with the cache's realm");
+    subcommand(alloc, &KVNO)?.arg(services)
 }
 
 /// Checks whether there is an option of `kinit` that describes a first ticket.
 pub(crate) fn asks_for_first(args: &ArgMatches<'_>) -> bool {
-    has_option(args, KINIT.options) || has_flag(args, KINIT.flags)
+    args.get_str("client").is_some()
+        || has_option(args, KINIT.options)
+        || has_flag(args, KINIT.flags)
 }
 
 fn has_option(args: &ArgMatches<'_>, rows: &[OptionRow]) -> bool {

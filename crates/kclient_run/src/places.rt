@@ -2,11 +2,8 @@
 use crate::context::Context;
 use crate::words::word_fault;
 use clap::ArgMatches;
-use client_files::{
-    Cause, ClientStore, Config, Defaults, Fault, KdcList, NameOf, path_in, read_cache,
-};
-use client_login::{HostNames, Kdcs, Transports};
-use cred_files::Cache;
+use client_files::{Cause, ClientStore, Config, Defaults, Fault, NameOf, Settings, path_in};
+use client_login::{KdcPlace, Kdcs, Transports};
 use krb_elements::KerberosString;
 use std::alloc::Global;
 
@@ -33,7 +30,7 @@ pub(crate) fn use_given_kdcs<X>(
     options: &ArgMatches<'_>,
 ) -> Result<(), Fault> {
     kdcs.restart();
-    kdcs.addresses.clear();
+    kdcs.places.clear();
     kdcs.transports = if options.get_flag("tcp") {
         Transports::TcpOnly
     } else {
@@ -43,18 +40,18 @@ pub(crate) fn use_given_kdcs<X>(
         let Ok(address) = word.parse() else {
             return Err(word_fault(alloc, "--kdc", word, Cause::Usage(NO_ADDRESS)));
         };
-        kdcs.addresses.push(address)?;
+        kdcs.places.push(KdcPlace::of_address(alloc, address)?)?;
     }
     Ok(())
 }
 
 fn has_kdcs<T, X>(context: &Context<T, X>) -> bool {
-    !context.client.kdcs.addresses.is_empty()
+    !context.client.kdcs.places.is_empty()
 }
 
 /// Returns the realm that a word names, or the default realm. If no word names a KDC, it sets the KDCs to those of the
 /// realm in the `krb5.conf`.
-pub(crate) fn find_realm<T: ClientStore, X: HostNames>(
+pub(crate) fn find_realm<T: ClientStore, X>(
     context: &mut Context<T, X>,
     defaults: &Defaults<'_>,
     given: Option<KerberosString>,
@@ -65,43 +62,53 @@ pub(crate) fn find_realm<T: ClientStore, X: HostNames>(
     }
 }
 
-fn configure<T: ClientStore, X: HostNames>(
+fn configure<T: ClientStore, X>(
     context: &mut Context<T, X>,
     defaults: &Defaults<'_>,
     given: Option<KerberosString>,
 ) -> Result<KerberosString, Fault> {
-    let config = Config::read(context.alloc, &mut context.store, defaults)?;
+    let config = read_config(context, defaults)?;
     let realm = match given {
         Some(realm) => realm,
         None => config.default_realm(context.alloc)?,
     };
     if !has_kdcs(context) {
-        use_configured_kdcs(context, &config, realm.as_slice())?;
+        context.client.kdcs.places = config.kdcs(context.alloc, realm.as_slice())?;
     }
     Ok(realm)
 }
 
-fn use_configured_kdcs<T, X: HostNames>(
-    context: &mut Context<T, X>,
-    config: &Config,
-    realm: &[u8],
-) -> Result<(), Fault> {
-    let names = &mut context.client.kdcs.exchange;
-    let KdcList { addresses, unknown } = config.kdcs(context.alloc, names, realm)?;
-    context.client.kdcs.addresses = addresses;
-    Ok(context.note_unknown(unknown.as_str())?)
-}
-
-/// Reads the cache. If no word names a KDC, it sets the KDCs to those of the cache's realm in the `krb5.conf`.
-pub(crate) fn read_held<T: ClientStore, X: HostNames>(
+fn read_config<T: ClientStore, X>(
     context: &mut Context<T, X>,
     defaults: &Defaults<'_>,
-    path: &str,
-) -> Result<Cache, Fault> {
-    let cache = read_cache(context.alloc, &mut context.store, path)?;
+) -> Result<Config, Fault> {
+    let config = Config::read(context.alloc, &mut context.store, defaults)?;
+    context.note_lines(config.notes())?;
+    Ok(config)
+}
+
+/// Returns what the `krb5.conf` says of first tickets, if there is one.
+pub(crate) fn read_settings<T: ClientStore, X>(
+    context: &mut Context<T, X>,
+    defaults: &Defaults<'_>,
+) -> Result<Settings, Fault> {
+    let alloc = context.alloc;
+    let Some(config) = Config::read_if_there(alloc, &mut context.store, defaults)? else {
+        return Ok(Settings::NONE);
+    };
+    context.note_lines(config.notes())?;
+    config.settings(alloc)
+}
+
+/// Sets the KDCs to those of a realm in the `krb5.conf`, if no word names one and that was not done before.
+pub(crate) fn use_kdcs_of<T: ClientStore, X>(
+    context: &mut Context<T, X>,
+    defaults: &Defaults<'_>,
+    realm: &[u8],
+) -> Result<(), Fault> {
     if !has_kdcs(context) {
-        let config = Config::read(context.alloc, &mut context.store, defaults)?;
-        use_configured_kdcs(context, &config, cache.principal().realm.as_slice())?;
+        let config = read_config(context, defaults)?;
+        context.client.kdcs.places = config.kdcs(context.alloc, realm)?;
     }
-    Ok(cache)
+    Ok(())
 }

@@ -10,7 +10,7 @@ use crate::renewing::get_again;
 use crate::words::again;
 use clap::error::{Error, ErrorKind};
 use client_files::{Cause, ClientStore, Defaults, Fault};
-use client_login::{AnyMessage, HostNames, Why};
+use client_login::{AnyMessage, Why};
 use std::alloc::{AllocError, Global};
 use std::convert::AsStr;
 use std::io;
@@ -80,17 +80,27 @@ impl Printed {
 /// `writer`, and explains failures on `errors`. The status is `DONE`, `REFUSED`, `USAGE` or `FAILED`. Unless it is
 /// `DONE`, the cache is unchanged, with one exception: if only the printing failed, the status is `FAILED` and the
 /// cache is written.
-pub fn kclient_run<
-    S: AsStr,
-    T: ClientStore,
-    X: AnyMessage + HostNames,
-    W: Write + Drop,
-    E: Write + Drop,
->(context: &mut Context<T, X>, args: &[S], defaults: &Defaults<'_>, writer: W, errors: E) -> u8
+pub fn kclient_run<S: AsStr, T: ClientStore, X: AnyMessage, W: Write + Drop, E: Write + Drop>(
+    context: &mut Context<T, X>,
+    args: &[S],
+    defaults: &Defaults<'_>,
+    writer: W,
+    errors: E,
+) -> u8
     ensures { result ≤ 3 }
 {
     context.begin();
     let ended = run_command(context, args, defaults);
+    if !matches!(
+        &ended,
+        Err(Fault {
+            cause: Cause::NotAnAddress,
+            ..
+        })
+    ) {
+        // without memory for it, the note is left out
+        let _ = context.note_unknown();
+    }
     let Ok(mut errors) = BufWriter::new(context.alloc, errors) else {
         return FAILED;
     };
@@ -110,7 +120,7 @@ pub fn kclient_run<
     }
 }
 
-fn run_command<S: AsStr, T: ClientStore, X: AnyMessage + HostNames>(
+fn run_command<S: AsStr, T: ClientStore, X: AnyMessage>(
     context: &mut Context<T, X>,
     args: &[S],
     defaults: &Defaults<'_>,

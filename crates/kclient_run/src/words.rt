@@ -1,7 +1,8 @@
 //! Reading the words of a command line.
+use crate::context::NO_WORD;
 use crate::options::asks_for_first;
 use clap::ArgMatches;
-use client_files::{Cause, Fault, NameOf, path_in};
+use client_files::{Cause, Fault, NameOf, Settings, path_in};
 use client_login::{Again, Wishes};
 use krb_elements::KerberosString;
 use krb_fields::{Name, component_from_text};
@@ -11,6 +12,21 @@ use text_fields::number_u32;
 /// The words for a first ticket.
 #[derive(Clone, Copy)]
 pub(crate) struct FirstWords<'a> {
+    /// The client; absent: that of the cache.
+    pub client: Option<ClientWords<'a>>,
+    pub secret: SecretWords<'a>,
+    /// The name of the service; absent: the ticket-granting service.
+    pub service: Option<&'a str>,
+    /// The fewest iterations of string-to-key; absent: each type's default.
+    pub least_count: Option<u32>,
+    pub wishes: Wishes,
+}
+
+/// The words for a client.
+#[derive(Clone, Copy)]
+pub(crate) struct ClientWords<'a> {
+    /// The option of the name; empty if it is a plain word.
+    pub option: &'static str,
     /// The client's name as it was given, perhaps with its realm.
     pub given: &'a str,
     pub name: &'a str,
@@ -18,12 +34,6 @@ pub(crate) struct FirstWords<'a> {
     pub realm: Option<&'a str>,
     /// Whether the realm has an option of its own.
     pub has_realm_option: bool,
-    pub secret: SecretWords<'a>,
-    /// The name of the service; absent: the ticket-granting service.
-    pub service: Option<&'a str>,
-    /// The fewest iterations of string-to-key; absent: each type's default.
-    pub least_count: Option<u32>,
-    pub wishes: Wishes,
 }
 
 /// Where the client's key is, or the password that it is derived from.
@@ -55,11 +65,19 @@ const NO_LIFE: &str =
 const NO_START: &str =
     "--start takes seconds, 0 to 4294967295, or minutes, hours or days, as 30m, 8h or 7d";
 
-const TWO_REALMS: &str = "--realm and a realm behind the name of --name don't go together";
+const TWO_REALMS: &str = "--realm and a realm behind the client's name don't go together";
+
+const TWO_NAMES: &str = "a plain word and --name don't go together: both are the client";
 
 const NO_COUNT: &str = "--least-count takes a number, 0 to 4294967295";
 
-const NO_NAME: &str = "--name is missing";
+/// The text if no word names the client, and there is no cache.
+pub(crate) const NO_NAME: &str =
+    "the client's name is missing: it is a plain word, or follows --name";
+
+/// The text if no word names a service.
+pub(crate) const NO_SERVICE: &str =
+    "the name of a service is missing: it is a plain word, or follows --name";
 
 const TWO_SECRETS: &str = "--password-file and --keytab don't go together";
 
@@ -92,18 +110,34 @@ pub(crate) fn again(options: &ArgMatches<'_>) -> Result<Option<Again>, Fault> {
 
 /// Returns the words for a first ticket.
 pub(crate) fn first_words<'a>(options: &ArgMatches<'a>) -> Result<FirstWords<'a>, Fault> {
-    let given = options.get_str("name").ok_or(Fault::usage(NO_NAME))?;
-    let (name, realm) = name_and_realm(given, options.get_str("realm"))?;
     Ok(FirstWords {
-        given,
-        name,
-        realm,
-        has_realm_option: options.get_str("realm").is_some(),
+        client: client_words(options)?,
         secret: secret_words(options)?,
         service: options.get_str("service"),
         least_count: number_in(options, "least-count").ok_or(Fault::usage(NO_COUNT))?,
         wishes: wishes(options)?,
     })
+}
+
+/// Returns the words for the client, if one is named.
+fn client_words<'a>(options: &ArgMatches<'a>) -> Result<Option<ClientWords<'a>>, Fault> {
+    let realm = options.get_str("realm");
+    let (option, given) = match (options.get_str("client"), options.get_str("name")) {
+        (Some(_), Some(_)) => return Err(Fault::usage(TWO_NAMES)),
+        (Some(given), None) => ("", given),
+        (None, Some(given)) => ("--name", given),
+        (None, None) if realm.is_some() => return Err(Fault::usage(NO_NAME)),
+        (None, None) => return Ok(None),
+    };
+    let has_realm_option = realm.is_some();
+    let (name, realm) = name_and_realm(given, realm)?;
+    Ok(Some(ClientWords {
+        option,
+        given,
+        name,
+        realm,
+        has_realm_option,
+    }))
 }
 
 /// Returns a client's name and its realm, which follows an `@` or `--realm`.
@@ -132,9 +166,26 @@ fn wishes(options: &ArgMatches<'_>) -> Result<Wishes, Fault> {
         life: seconds_in(options, "life").ok_or(Fault::usage(NO_LIFE))?,
         start: seconds_in(options, "start").ok_or(Fault::usage(NO_START))?,
         renewable: options.get_flag("renewable"),
+        renew_life: None,
         forwardable: options.get_flag("forwardable"),
         proxiable: options.get_flag("proxiable"),
     })
+}
+
+/// Returns the wishes with what a `krb5.conf` says where no word says it.
+pub(crate) fn with_settings(wishes: Wishes, settings: Settings) -> Wishes {
+    Wishes {
+        life: wishes.life.or(settings.life),
+        start: wishes.start,
+        renewable: wishes.renewable || settings.renew_life.is_some(),
+        renew_life: if wishes.renewable {
+            None
+        } else {
+            settings.renew_life
+        },
+        forwardable: wishes.forwardable || settings.forwardable,
+        proxiable: wishes.proxiable || settings.proxiable,
+    }
 }
 
 /// Returns the number after an option, which may be absent; `None` if the word is not a number.
@@ -192,7 +243,7 @@ pub(crate) fn read_realm(
     }
 }
 
-/// Returns the fault for a word. If it is empty, the option is named alone.
+/// Returns the fault for a word. If it is empty, the option is named alone. A plain word has no option.
 pub(crate) fn word_fault(alloc: Global, option: &str, word: &str, cause: Cause) -> Fault {
     match word_text(alloc, option, word) {
         Ok(subject) => Fault::of(subject, cause),
@@ -201,8 +252,10 @@ pub(crate) fn word_fault(alloc: Global, option: &str, word: &str, cause: Cause) 
 }
 
 fn word_text(alloc: Global, option: &str, word: &str) -> Result<String, AllocError> {
-    if word.is_empty() {
-        return String::from_str(alloc, option);
+    match (option.is_empty(), word.is_empty()) {
+        (true, true) => String::from_str(alloc, NO_WORD),
+        (true, false) => String::from_str(alloc, word),
+        (false, true) => String::from_str(alloc, option),
+        (false, false) => format!(in alloc; "{option} {word}"),
     }
-    format!(in alloc; "{option} {word}")
 }

@@ -1,4 +1,6 @@
 pub mod Frame
+pub mod Holders
+pub mod Promised
 pub mod Known
 pub mod Reading
 pub mod Runs

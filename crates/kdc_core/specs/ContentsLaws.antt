@@ -30,7 +30,7 @@ use Rattle.kdc_core.specs.declared.mark.Mark.{Mark}
 
 -- ---- what is presented has the client of the decrypted ticket
 
-presented_client : (v : TicketView) (message : Received) (p : Presented) → presented v message ≡ Ok p
+pub presented_client : (v : TicketView) (message : Received) (p : Presented) → presented v message ≡ Ok p
     → client_of (opened_ticket v message) ≡ Some p.ticket.cname.components
 presented_client v message p e =
     let (o, opens, same) = ticket_opened v message p e in

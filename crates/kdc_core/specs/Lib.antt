@@ -2,11 +2,15 @@ pub mod Request
 pub mod View
 pub mod Contents
 pub mod Answer
+pub mod Shown
 pub mod Issued
 pub mod Account
 pub mod Run
 pub mod Struck
+pub mod Ruling
+pub mod ReplyIn
 pub mod NewlySeen
+pub mod Answered
 pub mod Tickets
 pub mod Marked
 pub mod Unaffected
@@ -20,3 +24,4 @@ pub mod IssuedLaws
 pub mod StandingLaws
 pub mod AccountLaws
 pub mod NewlySeenLaws
+pub mod RulingLaws

@@ -1,25 +1,37 @@
 -- The KDC issues tickets only to clients, and for services, in good standing.
-use Rattle.std.proofs.Common.{ℕ, List, Option, IfSome}
+use Rattle.std.proofs.Common.{ℕ, List, Option, IfSome, subst, sym}
 use Rattle.as_exchange.specs.StandingLaws as as_exchange
 use Rattle.tgs_exchange.specs.StandingLaws as tgs_exchange
 use Rattle.kdc_replies.specs.GoodStanding.{AreInGoodStanding}
 use Rattle.krb_fields.specs.declared.moment.Moment.{Moment}
-use Rattle.kdc_core.specs.Contents.{contents}
+use Rattle.kdc_state.specs.declared.state.State.{State}
+use Rattle.kdc_core.specs.Contents.{contents, names_answered}
+use Rattle.kdc_core.specs.ContentsLaws.{AreNamesOf, are_names_of}
 use Rattle.kdc_core.specs.Issued.{issued, issued_of}
-use Rattle.kdc_core.specs.Request.{Request}
-use Rattle.kdc_core.specs.View.{View, as_view, tgs_view}
+use Rattle.kdc_core.specs.Request.{request_of}
+use Rattle.kdc_core.specs.View.{Named, as_view, named, tgs_view, view, view_of}
 use Rattle.kdc_core.specs.declared.contents.Contents.{Contents}
 use Rattle.kdc_core.specs.declared.contents.Contents.TheVariants.{NoRequest, AsReq, RefusedTgsReq, TgsReq}
 
-module _ (v : View) (at : Moment) (random : List ℕ) where
-  standing_of : (held : Contents) → IfSome (issued_of v at random held)
-      (λ _. AreInGoodStanding v.client v.service at.sec)
-  standing_of NoRequest = tt
-  standing_of (AsReq message) = as_exchange.issued_standing (as_view v) message at random
-  standing_of (RefusedTgsReq message rejected) = tt
-  standing_of (TgsReq message p) = tgs_exchange.issued_standing (tgs_view v) message.body.value p at random
+module _ (state : State) (at : Moment) (random : List ℕ) where
+  -- what is issued with the rows of these names
+  abbrev Stand : Named → Contents → Type 0
+  Stand names held = IfSome (issued_of (view_of state names) at random held)
+      (λ _. AreInGoodStanding state.database.realm names.service (view_of state names).client (view_of state names).service at.sec)
+
+  standing_of : (names : Named) (held : Contents) → AreNamesOf names held → Stand names held
+  standing_of names NoRequest names_are = tt
+  standing_of names (AsReq message) names_are =
+      subst (λ (n : Named). Stand n (AsReq message)) (sym names_are)
+      (as_exchange.issued_standing (as_view (view_of state (names_answered (AsReq message)))) message at random)
+  standing_of names (RefusedTgsReq message rejected) names_are = tt
+  standing_of names (TgsReq message p) names_are =
+      subst (λ (n : Named). Stand n (TgsReq message p)) (sym names_are)
+      (tgs_exchange.issued_standing (tgs_view (view_of state (names_answered (TgsReq message p)))) message.body.value p at random)
 
   -- of what a request is issued
-  pub issued_standing : (request : Option Request)
-      → IfSome (issued v at random request) (λ _. AreInGoodStanding v.client v.service at.sec)
-  issued_standing request = standing_of (contents v request)
+  pub issued_standing : (bytes : List ℕ)
+      → IfSome (issued (view state bytes) at random (request_of bytes))
+      (λ _. AreInGoodStanding state.database.realm (named state bytes).service (view state bytes).client (view state bytes).service at.sec)
+  issued_standing bytes =
+      standing_of (named state bytes) (contents (view state bytes) (request_of bytes)) (are_names_of state (request_of bytes))

@@ -1,8 +1,10 @@
 //! The answer to a request: the reply, and an account of how the request was handled.
-ghost use Rattle.std.specs.Prelude.{◌≡◌, IfOk, option_copied};
+ghost use Rattle.std.specs.Prelude.{◌≡◌, IfOk, option_copied, option_map};
 ghost use Rattle.kdc_core.specs.Account.{account_if};
+ghost use Rattle.kdc_core.specs.ReplyIn.{IsReplyIn};
 
 use as_exchange::AsOutcome;
+use krb_elements::Octets;
 use krb_fields::{Name, NameRef};
 use replay::Seen;
 use std::alloc::{AllocError, Global};
@@ -29,22 +31,33 @@ pub enum Account<N = Name> {
     },
 }
 
-/// The reply to a request, if there is one; the account of the request; and the authenticator that it records, if any.
+/// The reply to a request, if there is one; the account of the request, if it was wanted; and the authenticator that it
+/// records, if any.
 #[derive(Drop)]
-pub struct Answer<'q> {
-    pub reply: Option<Vec<u8>>,
-    pub account: Account<NameRef<'q>>,
+pub struct Answer {
+    pub reply: Option<Octets>,
+    pub account: Option<Account>,
     /// A refused request may record one too: if its authenticator was new.
     pub newly_seen: Option<Seen>,
 }
 
-/// An answer that borrows nothing from the request.
-#[derive(Drop)]
-pub struct OwnedAnswer {
-    pub reply: Option<Vec<u8>>,
-    /// The account, if it was wanted.
-    pub account: Option<Account>,
-    pub newly_seen: Option<Seen>,
+/// Returns the bytes of the reply alone.
+pub fn reply_alone(answered: Result<Answer, AllocError>) -> Result<Option<Vec<u8>>, AllocError>
+    ensures { IsReplyIn (λ octets. octets.items) answered result }
+{
+    match answered {
+        Ok(answer) => Ok(bytes_of(answer.reply)),
+        Err(error) => Err(error),
+    }
+}
+
+fn bytes_of(reply: Option<Octets>) -> Option<Vec<u8>>
+    ensures { option_map (λ octets. octets.items) result ≡ reply }
+{
+    match reply {
+        Some(octets) => Some(octets.into_vec()),
+        None => None,
+    }
 }
 
 impl Account<NameRef<'_>> {

@@ -16,13 +16,14 @@ ghost use Rattle.kdc_core.specs.View.{view, view_of};
 ghost use Rattle.kdc_core.specs.declared.account.Account.TheVariants.{NoRequest, Tgs};
 ghost use Rattle.tgs_exchange.specs.declared.outcome.TgsOutcome.TheVariants.{Refused};
 
-use crate::account::{Account, Answer, OwnedAnswer, account_if, lent_name};
+use crate::account::{Account, Answer, account_if, lent_name};
 use crate::as_replies::as_reply;
 use crate::contents::{Contents, contents_of};
 use crate::mark::{Mark, keep_mark};
 use crate::tgs_replies::tgs_reply;
 use kdc_replies::Incoming;
 use kdc_state::State;
+use krb_elements::Octets;
 use krb_fields::NameRef;
 use krb_messages::KdcReqRef;
 use std::alloc::{AllocError, Global};
@@ -37,27 +38,27 @@ pub struct Answered<'q> {
     pub account: Account<NameRef<'q>>,
 }
 
-/// Answers the request with the bytes `request`, and updates the replay cache of its client.
-pub fn handle<'q>(
+/// Answers the request with the bytes `request`, and updates the replay cache of its client. The names of an account are
+/// copied before anything changes.
+pub fn answer(
     state: &mut State,
     alloc: Global,
     incoming: &Incoming<'_>,
-    request: &'q [u8],
-) -> Result<Answer<'q>, AllocError>
+    request: &[u8],
+    wants_account: bool,
+) -> Result<Answer, AllocError>
     requires { request.now ≡ incoming.now.octets }
     ensures reply { IfOk result (λ answer.
-        option_map (λ octets. octets.items) answer.reply
-        ≡ (answer_to (view state.old incoming.now.octets) incoming.now).reply) }
+        answer.reply ≡ (answer_to (view state.old incoming.now.octets) incoming.now).reply) }
     ensures account { IfOk result (λ answer.
-        answer.account ≡ account_to (view state.old incoming.now.octets) incoming.now) }
+        answer.account ≡ account_if wants_account (account_to (view state.old incoming.now.octets) incoming.now)) }
     ensures newly_seen { IfOk result (λ answer.
         answer.newly_seen ≡ newly_seen_to (view state.old incoming.now.octets) incoming.now) }
     ensures spelled { IfOk result (λ answer.
         IsReply (view state.old incoming.now.octets) incoming.now.at incoming.now.random
-        (request_of incoming.now.octets) (option_map (λ octets. octets.items) answer.reply)) }
+        (request_of incoming.now.octets) answer.reply) }
     ensures outcome_spelled { IfOk result (λ answer.
-        AccountSpelled (view state.old incoming.now.octets) incoming.now
-        (option_map (λ octets. octets.items) answer.reply)
+        AccountSpelled (view state.old incoming.now.octets) incoming.now answer.reply
         (contents (view state.old incoming.now.octets) (request_of incoming.now.octets))) }
     ensures same { IfOk result (λ answer.
         ReplyOpens (view state.old incoming.now.octets) incoming.now.at incoming.now.random
@@ -68,63 +69,13 @@ pub fn handle<'q>(
     let Some(answered) = reply(state, alloc, incoming, request)? else {
         return Ok(Answer {
             reply: None,
-            account: Account::NoRequest,
-            newly_seen: None,
-        });
-    };
-    let Answered {
-        octets,
-        mark,
-        account,
-    } = answered;
-    let newly_seen = keep_mark(state, alloc, mark)?;
-    Ok(Answer {
-        reply: Some(octets),
-        account,
-        newly_seen,
-    })
-}
-
-/// Answers as `handle` does, with an account of its own names, if it is wanted. The names are copied before anything
-/// changes.
-pub fn handle_owned(
-    state: &mut State,
-    alloc: Global,
-    incoming: &Incoming<'_>,
-    request: &[u8],
-    wants_account: bool,
-) -> Result<OwnedAnswer, AllocError>
-    requires { request.now ≡ incoming.now.octets }
-    ensures reply { IfOk result (λ answer.
-        option_map (λ octets. octets.items) answer.reply
-        ≡ (answer_to (view state.old incoming.now.octets) incoming.now).reply) }
-    ensures account { IfOk result (λ answer.
-        answer.account ≡ account_if wants_account (account_to (view state.old incoming.now.octets) incoming.now)) }
-    ensures newly_seen { IfOk result (λ answer.
-        answer.newly_seen ≡ newly_seen_to (view state.old incoming.now.octets) incoming.now) }
-    ensures spelled { IfOk result (λ answer.
-        IsReply (view state.old incoming.now.octets) incoming.now.at incoming.now.random
-        (request_of incoming.now.octets) (option_map (λ octets. octets.items) answer.reply)) }
-    ensures outcome_spelled { IfOk result (λ answer.
-        AccountSpelled (view state.old incoming.now.octets) incoming.now
-        (option_map (λ octets. octets.items) answer.reply)
-        (contents (view state.old incoming.now.octets) (request_of incoming.now.octets))) }
-    ensures same { IfOk result (λ answer.
-        ReplyOpens (view state.old incoming.now.octets) incoming.now.at incoming.now.random
-        (request_of incoming.now.octets)) }
-    ensures state { OnOk result (state.new ≡ after_incoming state.old incoming.now) }
-    ensures err { OnErr result (state.new ≡ state.old) }
-{
-    let Some(answered) = reply(state, alloc, incoming, request)? else {
-        return Ok(OwnedAnswer {
-            reply: None,
             account: account_if(alloc, wants_account, Account::NoRequest)?,
             newly_seen: None,
         });
     };
     let account = account_if(alloc, wants_account, answered.account)?;
-    Ok(OwnedAnswer {
-        reply: Some(answered.octets),
+    Ok(Answer {
+        reply: Some(Octets::new(answered.octets)),
         account,
         newly_seen: keep_mark(state, alloc, answered.mark)?,
     })

@@ -4,12 +4,14 @@ ghost use Rattle.std.specs.Prelude.{IsOkUnless, option_map};
 ghost use Rattle.std.specs.FinMap as map;
 ghost use Rattle.std.specs.Option.{option_copied};
 ghost use Rattle.krb_fields.specs.Name.{Components};
-ghost use Rattle.kdc_core.specs.Account.{account, account_if, account_names, AccountHolds};
 ghost use Rattle.kdc_core.specs.Answer.{answer, after_request, error_octets, IsReply, OneTicketTwoKeys};
+ghost use Rattle.kdc_core.specs.Account.{account};
+ghost use Rattle.kdc_core.specs.Answered.{IsAnswered, asked};
 ghost use Rattle.kdc_core.specs.Issued.{issued, IsReplyOf};
-ghost use Rattle.kdc_core.specs.NewlySeen.{newly_seen};
 ghost use Rattle.kdc_core.specs.Request.{Request, SpellsRequest, request_of};
+ghost use Rattle.kdc_core.specs.Ruling.{IsRuled};
 ghost use Rattle.kdc_core.specs.Run.{after_event, replaced};
+ghost use Rattle.kdc_core.specs.Shown.{IsSeenAlike, ShowsTicket};
 ghost use Rattle.kdc_core.specs.View.{Agrees, named, view};
 ghost use Rattle.kdc_core.specs.declared.run.Event.TheVariants.{Reopen, Resume};
 ghost use Rattle.kdc_replies.specs.GoodStanding.{AreInGoodStanding};
@@ -23,8 +25,8 @@ ghost use Rattle.replay.specs.Tidied.{tidied};
 ghost use Rattle.kdc_state.specs.declared.state.State as states;
 ghost use Rattle.principals.specs.Change.{refusal, changed};
 
-use crate::account::{Answer, OwnedAnswer};
-use crate::answering::{handle, handle_owned};
+use crate::account::{Answer, reply_alone};
+use crate::answering::answer;
 use kdc_replies::{Incoming, error_reply};
 use kdc_state::{Opening, State};
 use krb_fields::{Code, Moment, Name};
@@ -110,70 +112,64 @@ impl Kdc {
         Ok(Kdc { state, ready })
     }
 
-    /// Answers any bytes: with the bytes of a reply or none, and an account of the request.
+    /// Places the keys of its cache by a hash with this secret: 16 random bytes. So nobody outside knows which keys share
+    /// a place. It affects speed only, never a reply.
+    pub fn place_keys(&mut self, secret: &[u8; 16])
+        ensures { self.new ≡ self.old }
+    {
+        self.ready.place_by(secret);
+    }
+
+    /// Answers any bytes: with the bytes of a reply or none.
     ///
     /// `at` is the moment of the request, `random` are 64 random bytes, and `room` is the greatest size of a reply with
     /// a ticket. Bytes that encode neither an AS-REQ nor a TGS-REQ (RFC 4120, section 5.4.1) get no reply, and neither
     /// do more than 2147483647 bytes. A call that runs out of memory changes nothing.
-    pub fn handle<'q>(
+    pub fn handle(
         &mut self,
         alloc: Global,
         at: Moment,
         random: &[u8; 64],
         room: u32,
-        request: &'q [u8],
-    ) -> Result<Answer<'q>, AllocError>
+        request: &[u8],
+    ) -> Result<Option<Vec<u8>>, AllocError>
         // The request is the one that the bytes encode, if they encode one and are no more than 2147483647.
         ensures request { (r : Request)
             → (request_of request.now ≡ Some r) ↔ (SpellsRequest r request.now × (length request.now ≤ 2147483647)) }
         // The reply is the one that the rules prescribe.
-        ensures reply { IfOk result (λ given.
-            option_map (λ octets. octets.items) given.reply
+        ensures reply { IfOk result (λ reply.
+            option_map (λ octets. octets.items) reply
             ≡ (answer (view self.old request.now) at random.now room request.now).reply) }
+        // A TGS-REQ gets what the first rule of their one list says, or a ticket if none holds.
+        ensures ruled { IsRuled (view self.old request.now) (asked at random.now room request.now)
+            (answer (view self.old request.now) at random.now room request.now)
+            (account (view self.old request.now) at random.now room request.now)
+            (issued (view self.old request.now) at random.now (request_of request.now)) (request_of request.now) }
         // The bytes of a reply encode the message that the rules prescribe, or are a stored reply.
-        ensures spelled { IfOk result (λ given.
+        ensures spelled { IfOk result (λ reply.
             IsReply (view self.old request.now) at random.now (request_of request.now)
-            (option_map (λ octets. octets.items) given.reply)) }
+            (option_map (λ octets. octets.items) reply)) }
         // If a ticket is issued, the bytes sent encode its reply, or an error in its place. The reply key decrypts the
         // reply to the session key, flags and times that the service's key finds in the ticket. The clause `reply` says
         // which of the two is sent: an error if the room is too small.
-        ensures keys { IfOk result (λ given.
+        ensures keys { IfOk result (λ reply.
             OneTicketTwoKeys (view self.old request.now) at random.now (request_of request.now)
-            (option_map (λ octets. octets.items) given.reply)) }
+            (option_map (λ octets. octets.items) reply)) }
         // The same for the issued ticket: what the client and the service decrypt is what was granted.
-        ensures issued { IfOk result (λ given.
+        ensures issued { IfOk result (λ reply.
             IfSome (issued (view self.old request.now) at random.now (request_of request.now))
-            (λ issue. IsReplyOf issue (option_map (λ octets. octets.items) given.reply))) }
+            (λ issue. IsReplyOf issue (option_map (λ octets. octets.items) reply))) }
         // A ticket is issued only if its client and its service are in good standing: both have rows, neither is
-        // disabled or expired, and the service's row allows tickets for it.
+        // disabled or expired, and tickets may be issued for the service.
         ensures standing { IfSome (issued (view self.old request.now) at random.now (request_of request.now)) (λ issue.
-            AreInGoodStanding (view self.old request.now).client (view self.old request.now).service at.sec) }
-        // The account is the one that the same rules give.
-        ensures account { IfOk result (λ given.
-            given.account ≡ account (view self.old request.now) at random.now room request.now) }
-        // The authenticator that it reports as recorded is the one that the same rules record: a resumption has to have
-        // it.
-        ensures newly_seen { IfOk result (λ given.
-            given.newly_seen ≡ newly_seen (view self.old request.now) at random.now room request.now) }
-        // The account names the client and the service that the request names.
-        ensures names { IfOk result (λ given. account_names given.account ≡ named self.old request.now) }
-        // The account is true of the reply. If it says that a ticket was issued, the bytes encode the reply for a
-        // ticket with these names, types, flags and times, as the client and the service decrypt it. If it names a rule
-        // that refused, they encode an error with that rule's code. If it says that a stored reply was sent again, they
-        // are that reply.
-        ensures holds { IfOk result (λ given.
-            AccountHolds (view self.old request.now) at random.now (request_of request.now) given.account
-            (option_map (λ octets. octets.items) given.reply)) }
+            AreInGoodStanding self.old.database.realm (named self.old request.now).service
+            (view self.old request.now).client (view self.old request.now).service at.sec) }
         // The state afterwards is the one that the rules prescribe.
         ensures state { OnOk result (self.new ≡ after_request self.old at random.now room request.now) }
         // A second state that agrees at what the request names gives the same answer.
         ensures agreement { (other : states.State) → Agrees self.old other request.now
             → answer (view other request.now) at random.now room request.now
             ≡ answer (view self.old request.now) at random.now room request.now }
-        // It gives the same account too.
-        ensures same_account { (other : states.State) → Agrees self.old other request.now
-            → account (view other request.now) at random.now room request.now
-            ≡ account (view self.old request.now) at random.now room request.now }
         // The request names the same client and service in both, and they agree there afterwards.
         ensures same_names { (other : states.State) → Agrees self.old other request.now
             → named other request.now ≡ named self.old request.now }
@@ -185,22 +181,18 @@ impl Kdc {
         ensures limits { self.new.limits ≡ self.old.limits }
         ensures caches { (name : Components) → (named self.old request.now).client ≢ Some name
             → cache_of self.new name ≡ cache_of self.old name }
+        // Without a ticket of a client nothing changes what that client's replay cache has seen. A ticket counts only if
+        // a key of a service decrypts it.
+        ensures holder { (name : Components) → (ShowsTicket self.old request.now name → ⊥)
+            → IsSeenAlike (cache_of self.old name) (cache_of self.new name) }
         ensures err { OnErr result (self.new ≡ self.old) }
     {
-        let incoming = Incoming {
-            at,
-            random,
-            room,
-            octets: request,
-            ready: &self.ready,
-        };
-        handle(&mut self.state, alloc, &incoming, request)
+        reply_alone(self.answer(alloc, at, random, room, request, false))
     }
 
-    /// Answers as [`Kdc::handle`] does: the same reply and the same change of state, by the same rules. The answer
-    /// borrows nothing from the request: its account has names of its own, and is there only if it is wanted. A call
-    /// that runs out of memory changes nothing.
-    pub fn handle_owned(
+    /// Answers as [`Kdc::handle`] does, with an account of the request, if it is wanted, and with the authenticator that
+    /// is recorded for it. A call that runs out of memory changes nothing.
+    pub fn answer(
         &mut self,
         alloc: Global,
         at: Moment,
@@ -208,36 +200,9 @@ impl Kdc {
         room: u32,
         request: &[u8],
         wants_account: bool,
-    ) -> Result<OwnedAnswer, AllocError>
-        // The reply is the one that the rules prescribe.
-        ensures reply { IfOk result (λ given.
-            option_map (λ octets. octets.items) given.reply
-            ≡ (answer (view self.old request.now) at random.now room request.now).reply) }
-        // The bytes of a reply encode the message that the rules prescribe, or are a stored reply.
-        ensures spelled { IfOk result (λ given.
-            IsReply (view self.old request.now) at random.now (request_of request.now)
-            (option_map (λ octets. octets.items) given.reply)) }
-        // If a ticket is issued, both keys open it, as `Kdc::handle` says.
-        ensures keys { IfOk result (λ given.
-            OneTicketTwoKeys (view self.old request.now) at random.now (request_of request.now)
-            (option_map (λ octets. octets.items) given.reply)) }
-        ensures issued { IfOk result (λ given.
-            IfSome (issued (view self.old request.now) at random.now (request_of request.now))
-            (λ issue. IsReplyOf issue (option_map (λ octets. octets.items) given.reply))) }
-        // The account is the one that the same rules give, if it is wanted.
-        ensures account { IfOk result (λ given.
-            given.account
-            ≡ account_if wants_account (account (view self.old request.now) at random.now room request.now)) }
-        // The authenticator that it reports as recorded is the one that the same rules record.
-        ensures newly_seen { IfOk result (λ given.
-            given.newly_seen ≡ newly_seen (view self.old request.now) at random.now room request.now) }
-        // The account of the rules is true of the reply.
-        ensures holds { IfOk result (λ given.
-            AccountHolds (view self.old request.now) at random.now (request_of request.now)
-            (account (view self.old request.now) at random.now room request.now)
-            (option_map (λ octets. octets.items) given.reply)) }
-        // The state afterwards is the one that the rules prescribe.
-        ensures state { OnOk result (self.new ≡ after_request self.old at random.now room request.now) }
+    ) -> Result<Answer, AllocError>
+        ensures answered { IfOk result (λ given.
+            IsAnswered self.old (asked at random.now room request.now) wants_account given self.new) }
         ensures err { OnErr result (self.new ≡ self.old) }
     {
         let incoming = Incoming {
@@ -247,7 +212,7 @@ impl Kdc {
             octets: request,
             ready: &self.ready,
         };
-        handle_owned(&mut self.state, alloc, &incoming, request, wants_account)
+        answer(&mut self.state, alloc, &incoming, request, wants_account)
     }
 
     /// Changes the database. A refused change leaves everything unchanged.

@@ -11,7 +11,7 @@ mod mark;
 mod run;
 mod tgs_replies;
 
-pub use account::{Account, Answer, OwnedAnswer};
+pub use account::{Account, Answer};
 pub use ap_opening::ApRefusal;
 pub use as_exchange::{AsOutcome, AsRefusal};
 pub use kdc::{Kdc, OtherRealm};

@@ -149,10 +149,7 @@ impl Kdc {
                 random,
                 room,
                 request,
-            } => {
-                let answer = self.handle(alloc, *at, random, *room, request.as_slice())?;
-                Ok(answer.reply)
-            }
+            } => { self.handle(alloc, *at, random, *room, request.as_slice()) }
             Event::Change { change } => {
                 self.change(alloc, change)?;
                 Ok(None)

@@ -15,7 +15,7 @@ use Rattle.kdc_hub.specs.declared.event.HubFault.{HubFault}
 use Rattle.kdc_hub.specs.declared.server.Served.{Served}
 use Rattle.kdc_hub.specs.declared.wires.Did.{Did}
 use Rattle.kdc_hub.specs.declared.wires.Did.TheVariants.{Polled, Acted, Failed}
-use Rattle.kdc_hub.specs.Hub.{Standing, Steps, hub_step}
+use Rattle.kdc_hub.specs.Hub.{AreDraws, Standing, Steps, hub_step}
 use Rattle.kdc_hub.specs.Logged.{Entry, Stop, logged, step_of}
 use Rattle.kdc_hub.specs.Wire.{Records, is_event, is_fault}
 use Rattle.kdc_hub.specs.Rounds.{AreRounds, IsRound, IsRun, Round, Took, Tries, close_of, closing, did_in, ending, entries_of, fault_total, is_refused, last_moment, lost_in, moment_in}
@@ -78,18 +78,18 @@ taken_whole before start at event actions middle n after new served s acts one f
 
 -- an event whose step ran out of memory
 pub taken_in_part : (before : Option (List Did)) (start : Standing) (at : Moment) (event : Event) (fault : HubFault) (middle : Standing) (done : List Action) (n : ℕ) (recorded : Option (List Did)) (hub : Standing) (m : ℕ) (after : Option (List Did)) (new : Standing) (served : Served)
-    → Steps start at event (Err fault) middle → done ≡ fault.done.items → AreActs before middle at done n recorded hub → AreActs recorded hub at (close_of fault.conn) m after new
+    → Steps start at event (Err fault) middle → AreDraws fault → done ≡ fault.done.items → AreActs before middle at done n recorded hub → AreActs recorded hub at (close_of fault.conn) m after new
     → served.events ≡ 1 → served.faults ≡ n + m → served.refused ≡ 1 → served.last ≡ Some at → IsTaken before start at event served after new
-taken_in_part before start at event fault middle done n recorded hub m after new served s same acts close one failed refused last = record {
-  stop = Some (record { done = length fault.done.items; draws = s.draws });
+taken_in_part before start at event fault middle done n recorded hub m after new served s drawn same acts close one failed refused last = record {
+  stop = Some (record { done = length fault.done.items; draws = fault.draws });
   acts = acts.did;
   close = close.did;
-  is = (subst (λ l. Tries l acts.did) (same ∙ s.done) acts.tries, subst (λ o. Tries (close_of o) close.did) s.conn close.tries, s.within);
+  is = (subst (λ l. Tries l acts.did) (same ∙ s.0) acts.tries, subst (λ o. Tries (close_of o) close.did) s.2 close.tries, drawn);
   recorded = records_on before acts.did recorded close.did after acts.recorded close.recorded;
-  hub = close.hub ∙ ap (λ (h : Standing). (logged h (ending at (lost_in close.did))).hub) (acts.hub ∙ ap (λ (h : Standing). (logged h (ending at (lost_in acts.did))).hub) s.state) ∙ sym (logged_on _ (ending at (lost_in acts.did)) (ending at (lost_in close.did)));
+  hub = close.hub ∙ ap (λ (h : Standing). (logged h (ending at (lost_in close.did))).hub) (acts.hub ∙ ap (λ (h : Standing). (logged h (ending at (lost_in acts.did))).hub) s.1) ∙ sym (logged_on _ (ending at (lost_in acts.did)) (ending at (lost_in close.did)));
   events = one;
   faults = failed ∙ ap (λ k. k + m) acts.faults ∙ ap (λ k. faults acts.did + k) close.faults ∙ sym (count_on is_fault acts.did close.did);
-  refused = refused ∙ sym (refused_in (record { at = at; event = event; stop = Some (record { done = length fault.done.items; draws = s.draws }) }) (lost_in acts.did) (lost_in close.did));
+  refused = refused ∙ sym (refused_in (record { at = at; event = event; stop = Some (record { done = length fault.done.items; draws = fault.draws }) }) (lost_in acts.did) (lost_in close.did));
   last = last;
 }
 

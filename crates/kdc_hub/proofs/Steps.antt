@@ -15,7 +15,7 @@ use Rattle.kdc_hub.specs.declared.event.Event.TheVariants.{Opened}
 use Rattle.kdc_hub.specs.declared.event.HubFault.{HubFault}
 use Rattle.kdc_state.specs.declared.state.State.{State}
 use Rattle.kdc_hub.specs.Issuing.{Issuing}
-use Rattle.kdc_hub.specs.StreamStep.{AreDraws, StreamStep, after_some, drawn, stream_step}
+use Rattle.kdc_hub.specs.StreamStep.{StreamStep, after_some, drawn, stream_step}
 use Rattle.kdc_hub.specs.Hub.{Standing, Step, Steps, brings, kept, opened, requests_of, stopped_issuing, most_connections}
 use Rattle.kdc_hub.proofs.Tables.{set_anew, taken_out}
 
@@ -25,21 +25,14 @@ Table = map.FinMap nat_cmp Splitting
 pub same_issuing : (k l : State) (r s : Stream) (a b : Bool) → k ≡ l → r ≡ s → a ≡ b → (let x : Issuing = record { kdc = k; random = r; accounts = a } in x) ≡ record { kdc = l; random = s; accounts = b }
 same_issuing k l r s a b e h f = λ i. record { kdc = e i; random = h i; accounts = f i }
 
--- before the first action there was no draw, or one
-pub none_drawn : (n : ℕ) → n ≡ 0 → AreDraws n 0
-none_drawn n e = (omega (arith, e), omega (arith, e))
-
-pub one_drawn : (n : ℕ) → n ≡ 0 → AreDraws n 1
-one_drawn n e = (omega (arith, e), omega (arith, e))
-
 -- nothing was answered, and nothing drawn, or 64 bytes
-pub stopped_before : (n : ℕ) (i : Issuing) (at : Moment) (requests : List (List ℕ)) → n ≡ 0 → i ≡ stopped_issuing i at requests n 0
+pub stopped_before : (n draws : ℕ) (i : Issuing) (at : Moment) (requests : List (List ℕ)) → n ≡ 0 → draws ≡ 0 → i ≡ stopped_issuing i at requests n draws
 unfolding after_some drawn
-stopped_before n i at requests e = rw e refl
+stopped_before n draws i at requests e d = rw (e, d) refl
 
-pub stopped_drawn : (n : ℕ) (i i' : Issuing) (at : Moment) (requests : List (List ℕ)) → n ≡ 0 → i'.kdc ≡ i.kdc → i'.random ≡ (fill_bytes 64 i.random).1 → i'.accounts ≡ i.accounts → i' ≡ stopped_issuing i at requests n 1
+pub stopped_drawn : (n draws : ℕ) (i i' : Issuing) (at : Moment) (requests : List (List ℕ)) → n ≡ 0 → draws ≡ 1 → i'.kdc ≡ i.kdc → i'.random ≡ (fill_bytes 64 i.random).1 → i'.accounts ≡ i.accounts → i' ≡ stopped_issuing i at requests n draws
 unfolding after_some drawn
-stopped_drawn n i i' at requests e kdc random accounts = rw e (same_issuing i'.kdc i.kdc i'.random _ i'.accounts i.accounts kdc random accounts)
+stopped_drawn n draws i i' at requests e d kdc random accounts = rw (e, d) (same_issuing i'.kdc i.kdc i'.random _ i'.accounts i.accounts kdc random accounts)
 
 pub same_standing : (i j : Issuing) (c d : Table) → i ≡ j → c ≡ d → (let s : Standing = record { issuing = i; connections = c } in s) ≡ record { issuing = j; connections = d }
 same_standing i j c d e h = rw (e, h) refl
@@ -95,12 +88,12 @@ module _ (hub : Standing) (at : Moment) (conn : ℕ) (piece : List ℕ) (o : Opt
   )
 
 -- nothing of the piece was read
-pub not_fed : (hub : Standing) (at : Moment) (conn : ℕ) (piece : List ℕ) (o : Option Splitting) (done : List Action) (place : Splitting) (table table' : Table)
-    → done ≡ [] → table ≡ map.insert hub.connections conn place → table' ≡ map.remove table conn
+pub not_fed : (hub : Standing) (at : Moment) (conn : ℕ) (piece : List ℕ) (o : Option Splitting) (done : List Action) (draws : ℕ) (place : Splitting) (table table' : Table)
+    → done ≡ [] → draws ≡ 0 → table ≡ map.insert hub.connections conn place → table' ≡ map.remove table conn
     → (done ≡ take (length done) (brings hub at conn piece o).actions)
-    × ((let x : Standing = record { issuing = hub.issuing; connections = table' } in x) ≡ record { issuing = stopped_issuing hub.issuing at (requests_of piece o) (length done) 0; connections = map.remove hub.connections conn })
-not_fed hub at conn piece o done place table table' e first then =
-    (rw e refl, same_standing hub.issuing _ table' _ (stopped_before (length done) hub.issuing at (requests_of piece o) (ap length e)) (then ∙ ap (λ m. map.remove m conn) first ∙ taken_out hub.connections conn place))
+    × ((let x : Standing = record { issuing = hub.issuing; connections = table' } in x) ≡ record { issuing = stopped_issuing hub.issuing at (requests_of piece o) (length done) draws; connections = map.remove hub.connections conn })
+not_fed hub at conn piece o done draws place table table' e d first then =
+    (rw e refl, same_standing hub.issuing _ table' _ (stopped_before (length done) draws hub.issuing at (requests_of piece o) (ap length e) d) (then ∙ ap (λ m. map.remove m conn) first ∙ taken_out hub.connections conn place))
 
 full_there : (hub : Standing) (conn : ℕ) → map.contains_key hub.connections conn ≡ false → nat_lt (map.len hub.connections) most_connections ≡ false → opened hub conn ≡ record { actions = Close conn Full ∷ []; hub = hub }
 full_there hub conn e h = rw (e, h) refl
@@ -108,15 +101,10 @@ full_there hub conn e h = rw (e, h) refl
 -- a connection for which there is no room
 pub table_full : (hub : Standing) (at : Moment) (conn : ℕ) (there : Bool) (n : ℕ) (r : Result (Vec Action Global) HubFault)
     → there ≡ map.contains_key hub.connections conn → there ≡ false → n ≡ map.len hub.connections → most_connections ≤ n
-    → IfOk r (λ actions. actions.items ≡ Close conn Full ∷ []) → IfErr r (λ fault. fault.done.items ≡ []) → IfErr r (λ fault. fault.conn ≡ Some conn)
+    → IfOk r (λ actions. actions.items ≡ Close conn Full ∷ []) → IfErr r (λ fault. fault.done.items ≡ []) → IfErr r (λ fault. fault.conn ≡ Some conn) → IfErr r (λ fault. fault.draws ≡ 0)
     → Steps hub at (Opened conn) r hub
-table_full hub at conn there n (Ok actions) is no_one len le ok done at_conn =
+table_full hub at conn there n (Ok actions) is no_one len le ok done at_conn draws =
     let e = full_there hub conn (sym is ∙ no_one) (le-ltb (map.len hub.connections) most_connections (omega (arith, len, le))) in
     (ok ∙ sym (ap (λ (s : Step). s.actions) e), sym (ap (λ (s : Step). s.hub) e))
-table_full hub at conn there n (Err fault) is no_one len le ok done at_conn = record {
-  draws = 0;
-  within = none_drawn _ (ap length done);
-  done = done;
-  state = same_standing _ _ _ _ (stopped_before _ hub.issuing at _ (ap length done)) refl;
-  conn = at_conn;
-}
+table_full hub at conn there n (Err fault) is no_one len le ok done at_conn draws =
+    (done, same_standing _ _ _ _ (stopped_before _ _ hub.issuing at _ (ap length done) draws) refl, at_conn)

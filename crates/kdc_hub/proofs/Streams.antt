@@ -1,5 +1,5 @@
 -- Answering the messages of a stream in order.
-use Rattle.std.proofs.Common.{◌≡◌, ◌⊎◌, inl, inr, ℕ, zero, suc, ◌+◌, true, false, List, [], ◌∷◌, ◌++◌, length, take, Option, Some, None, refl, sym, ap, subst, ◌∙◌, arith, append_assoc, length-append}
+use Rattle.std.proofs.Common.{◌≡◌, ℕ, zero, suc, ◌+◌, true, false, List, [], ◌∷◌, ◌++◌, length, take, Option, Some, None, refl, sym, ap, subst, ◌∙◌, arith, append_assoc, length-append}
 use Rattle.std.specs.Option.{is_some}
 use Rattle.std.proofs.lemmas.List.{append-nil, take_at}
 use Rattle.rand_core.specs.Stream.{Stream, fill_bytes}
@@ -14,25 +14,10 @@ use Rattle.kdc_hub.specs.declared.reply.Reply.{Reply}
 use Rattle.kdc_core.specs.View.{view}
 use Rattle.kdc_hub.specs.Accounts.{FirstHold, ReplyHolds, if_answered}
 use Rattle.kdc_hub.specs.Issuing.{Issuing, after, reply_of, too_long}
-use Rattle.kdc_hub.specs.StreamStep.{IsDrawn, StreamStep, after_reply, after_some, reply_then, drawn, messages_step, stream_step, stream_room, action_for}
+use Rattle.kdc_hub.specs.StreamStep.{StreamStep, after_reply, after_some, reply_then, drawn, messages_step, stream_step, stream_room, action_for}
 
 abbrev pub before : List Action → StreamStep → StreamStep
 before actions s = record s { actions = actions ++ s.actions }
-
--- nothing was drawn, or 64 bytes
-pub nothing_drawn : (random : Stream) → IsDrawn 0 random random
-unfolding drawn
-nothing_drawn random = record { draws = 0; within = (omega arith, omega arith); stream = refl }
-
-drawn_once : (random new : Stream) → new ≡ (fill_bytes 64 random).1 → IsDrawn 0 random new
-unfolding drawn
-drawn_once random new e = record { draws = 1; within = (omega arith, omega arith); stream = e }
-
-pub once_at_most : (random new : Stream) → (new ≡ random) ⊎ (new ≡ (fill_bytes 64 random).1) → IsDrawn 0 random new
-once_at_most random new drawn = elim drawn [
-  | inl e ↦ subst (IsDrawn 0 random) (sym e) (nothing_drawn random)
-  | inr e ↦ drawn_once random new e
-]
 
 -- the completed actions come first; the rest follows from the current issuer and what is left on the stream
 pub record IsOnTheWay (at : Moment) (conn : ℕ) (i₀ : Issuing) (s₀ : Splitting) (actions : List Action) (i : Issuing) (s : Splitting) : Type 0 where
@@ -205,13 +190,12 @@ module _ (at : Moment) (conn : ℕ) (i₀ : Issuing) (s₀ : Splitting) where
   stopped_kdc actions i s w n e =
       ap (λ (x : Issuing). x.kdc) (sym (after_none i (handed_out s).messages) ∙ sym (w.some 0) ∙ ap (λ k. after_some k i₀ at (handed_out s₀).messages) (let h : length actions + 0 ≡ n = omega (arith, e) in h))
 
-  -- with what was drawn for the next request
-  pub stopped_random : (actions : List Action) (i : Issuing) (s : Splitting) → IsOnTheWay at conn i₀ s₀ actions i s → (n : ℕ) (random : Stream) → n ≡ length actions → IsDrawn 0 i.random random → IsDrawn n i₀.random random
-  stopped_random actions i s w n random e d = record {
-    draws = length actions + d.draws;
-    within = (omega (arith, e), let few = d.within.1 in omega (arith, e, few));
-    stream = d.stream ∙ sym (w.random d.draws);
-  }
+  drawn_none : (random : Stream) → drawn 0 random ≡ random
+  unfolding drawn
+  drawn_none random = refl
+
+  pub stopped_random : (actions : List Action) (i : Issuing) (s : Splitting) → IsOnTheWay at conn i₀ s₀ actions i s → (n : ℕ) → n ≡ length actions + 0 → i.random ≡ drawn n i₀.random
+  stopped_random actions i s w n e = sym (drawn_none i.random) ∙ sym (w.random 0) ∙ ap (λ k. drawn k i₀.random) (sym e)
 
 -- the completed actions are the beginning of all actions
 pub beginning : (l actions more all : List Action) → l ≡ actions → all ≡ actions ++ more → l ≡ take (length l) all

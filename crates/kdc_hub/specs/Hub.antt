@@ -1,5 +1,5 @@
 -- What a hub does for an event.
-use Rattle.std.specs.Prelude.{◌≡◌, ℕ, Bool, true, false, List, [], ◌∷◌, length, take, Option, Some, None}
+use Rattle.std.specs.Prelude.{◌≡◌, ◌≤◌, ◌+◌, ℕ, Bool, true, false, List, [], ◌∷◌, length, take, Option, Some, None}
 use Rattle.std.specs.Prelude.{Result, Ok, Err, nat_lt, if◌then◌else◌, Vec}
 use Rattle.std.specs.Global.{Global}
 use Rattle.std.specs.Ordering.{nat_cmp}
@@ -17,7 +17,7 @@ use Rattle.kdc_hub.specs.declared.event.Peer.{Peer}
 use Rattle.kdc_hub.specs.declared.hub.Hub.{Hub}
 use Rattle.kdc_hub.specs.declared.reply.Reply.{Reply}
 use Rattle.kdc_hub.specs.Issuing.{Issuing, after, issuing, reply_of}
-use Rattle.kdc_hub.specs.StreamStep.{AreDraws, StreamStep, after_some, drawn, stream_step}
+use Rattle.kdc_hub.specs.StreamStep.{StreamStep, after_some, drawn, stream_step}
 
 -- the issuer, and the stream of each open connection
 pub record Standing : Type 0 where
@@ -120,16 +120,15 @@ event_connection (Opened conn) = Some conn
 event_connection (Bytes conn piece) = Some conn
 event_connection (Closed conn) = None
 
--- what a step that ran out of memory returned, and the hub afterwards
-pub record IsStopped (hub : Standing) (at : Moment) (event : Event) (fault : HubFault) (new : Standing) : Type 0 where
-  pub draws : ℕ
-  pub within : AreDraws (length fault.done.items) draws
-  pub done : fault.done.items ≡ (stopped hub at event (length fault.done.items) draws).actions
-  pub state : new ≡ (stopped hub at event (length fault.done.items) draws).hub
-  pub conn : fault.conn ≡ event_connection event
+-- one draw for each completed action, and perhaps one for the next
+abbrev pub AreDraws : HubFault → Type 0
+AreDraws fault = (length fault.done.items ≤ fault.draws) × (fault.draws ≤ length fault.done.items + 1)
 
 -- what a step returned, and the hub afterwards
 abbrev pub Steps : Standing → Moment → Event → Result (Vec Action Global) HubFault → Standing → Type 0
 Steps hub at event (Ok actions) new =
     (actions.items ≡ (hub_step hub at event).actions) × (new ≡ (hub_step hub at event).hub)
-Steps hub at event (Err fault) new = IsStopped hub at event fault new
+Steps hub at event (Err fault) new =
+    (fault.done.items ≡ (stopped hub at event (length fault.done.items) fault.draws).actions)
+    × (new ≡ (stopped hub at event (length fault.done.items) fault.draws).hub)
+    × (fault.conn ≡ event_connection event)

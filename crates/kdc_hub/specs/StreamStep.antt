@@ -1,5 +1,5 @@
 -- The answers to the messages of a connection.
-use Rattle.std.specs.Prelude.{◌≡◌, ◌≤◌, ◌+◌, ℕ, zero, suc, Bool, true, false, List, [], ◌∷◌, Option, Some, None}
+use Rattle.std.specs.Prelude.{ℕ, zero, suc, Bool, true, false, List, [], ◌∷◌, Option, Some, None}
 use Rattle.rand_core.specs.Stream.{Stream, fill_bytes}
 use Rattle.framing.specs.declared.fault.FrameFault.{FrameFault}
 use Rattle.framing.specs.Splitting.{Splitting, handed_out}
@@ -65,13 +65,3 @@ after_some (suc n) i at (request ∷ requests) =
 unfoldable pub drawn : ℕ → Stream → Stream
 drawn zero random = random
 drawn (suc n) random = drawn n (fill_bytes 64 random).1
-
--- if memory runs out: one draw for each completed action, and perhaps one for the next
-abbrev pub AreDraws : ℕ → ℕ → Type 0
-AreDraws done draws = (done ≤ draws) × (draws ≤ done + 1)
-
--- the generator before and after such draws
-pub record IsDrawn (done : ℕ) (old new : Stream) : Type 0 where
-  pub draws : ℕ
-  pub within : AreDraws done draws
-  pub stream : new ≡ drawn draws old

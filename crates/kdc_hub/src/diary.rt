@@ -1,5 +1,5 @@
 //! The record of a Wire in memory.
-ghost use Rattle.std.specs.Prelude.{◌≡◌, ◌∷◌, [], false, IfOk, OnErr};
+ghost use Rattle.std.specs.Prelude.{◌≡◌, ◌∷◌, [], Some, false, IfOk, OnErr};
 ghost use Rattle.kdc_hub.specs.Wire.{Records, kept};
 
 use crate::wires::Did;
@@ -13,7 +13,9 @@ pub struct Diary {
 }
 
 impl Diary {
-    pub fn new(alloc: Global) -> Diary {
+    pub fn new(alloc: Global) -> Diary
+        ensures { kept result.is_whole result.did.items ≡ Some [] }
+    {
         Diary {
             did: Vec::new(alloc),
             is_whole: true,

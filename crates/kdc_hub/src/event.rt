@@ -112,4 +112,6 @@ pub struct HubFault {
     pub done: Vec<Action>,
     /// The connection that was removed and has to be closed.
     pub conn: Option<u64>,
+    /// How often 64 random bytes were drawn during this event, which says where the generator stands.
+    pub draws: usize,
 }

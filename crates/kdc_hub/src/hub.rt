@@ -9,7 +9,7 @@ ghost use Rattle.principal_rows.specs.declared.limits.Limits.{Limits};
 ghost use Rattle.principals.specs.Database.{Principals};
 ghost use Rattle.replay.specs.declared.opening.Opening.TheVariants.{Restart};
 ghost use Rattle.replay.specs.declared.seen.Resumption.{Resumption};
-ghost use Rattle.kdc_hub.specs.Hub.{Standing, Steps, standing};
+ghost use Rattle.kdc_hub.specs.Hub.{AreDraws, Standing, Steps, standing};
 ghost use Rattle.kdc_hub.specs.Logged.{Entry, LogsNext, logged};
 ghost use Rattle.kdc_hub.specs.Accounts.{AccountsHold};
 ghost use Rattle.kdc_hub.specs.declared.event.Action.TheVariants.{Close};
@@ -107,6 +107,7 @@ impl<R: Rng> Hub<R> {
             → (logged start entries).hub ≡ standing R.stream self.old
             → LogsNext start entries at event result (standing R.stream self.new) }
         ensures step { Steps (standing R.stream self.old) at event result (standing R.stream self.new) }
+        ensures draws { IfErr result AreDraws }
         // The account of each request that it answers is true of the reply, at the state before that request.
         ensures accounts { AccountsHold (standing R.stream self.old) at event result }
         // The end of a connection allocates nothing.
@@ -118,6 +119,7 @@ impl<R: Rng> Hub<R> {
     /// Does the step, without the log.
     fn take(&mut self, alloc: Global, at: Moment, event: Event) -> Result<Vec<Action>, HubFault>
         ensures step { Steps (standing R.stream self.old) at event result (standing R.stream self.new) }
+        ensures draws { IfErr result AreDraws }
         ensures accounts { AccountsHold (standing R.stream self.old) at event result }
         ensures closed { (conn : ℕ) → event ≡ Closed conn → IsOk result }
     {
@@ -143,10 +145,11 @@ impl<R: Rng> Hub<R> {
     ) -> Result<Vec<Action>, HubFault>
         ensures step { Steps (standing R.stream self.old) at (Datagram peer request.now) result
             (standing R.stream self.new) }
+        ensures draws { IfErr result AreDraws }
         ensures accounts { AccountsHold (standing R.stream self.old) at (Datagram peer request.now) result }
     {
         let Ok(mut actions) = Vec::with_capacity(alloc, 1) else {
-            return Err(nothing_done(alloc, None));
+            return Err(nothing_done(alloc, None, 0));
         };
         match self.issuer.answer(alloc, at, DATAGRAM_ROOM, request) {
             Ok(Some(reply)) => {
@@ -157,12 +160,13 @@ impl<R: Rng> Hub<R> {
                 actions.push_reserved(Action::Pass { peer });
                 Ok(actions)
             }
-            Err(_) => Err(nothing_done(alloc, None)),
+            Err(_) => Err(nothing_done(alloc, None, 1)),
         }
     }
 
     fn open(&mut self, alloc: Global, at: Moment, conn: u64) -> Result<Vec<Action>, HubFault>
         ensures step { Steps (standing R.stream self.old) at (Opened conn) result (standing R.stream self.new) }
+        ensures draws { IfErr result AreDraws }
     {
         if self.connections.contains(conn) {
             return Ok(Vec::new(alloc));
@@ -173,7 +177,7 @@ impl<R: Rng> Hub<R> {
         let stream = Splitter::new(alloc, GREATEST_STREAM_REQUEST);
         match self.connections.put(conn, stream) {
             Ok(()) => Ok(Vec::new(alloc)),
-            Err(_) => Err(nothing_done(alloc, Some(conn))),
+            Err(_) => Err(nothing_done(alloc, Some(conn), 0)),
         }
     }
 
@@ -188,6 +192,7 @@ impl<R: Rng> Hub<R> {
     ) -> Result<Vec<Action>, HubFault>
         ensures step { Steps (standing R.stream self.old) at (Bytes conn piece.now) result
             (standing R.stream self.new) }
+        ensures draws { IfErr result AreDraws }
         ensures accounts { AccountsHold (standing R.stream self.old) at (Bytes conn piece.now) result }
     {
         let place = Splitter::new(alloc, GREATEST_STREAM_REQUEST);
@@ -196,7 +201,7 @@ impl<R: Rng> Hub<R> {
         };
         let Ok(()) = stream.feed(piece) else {
             self.connections.remove(conn);
-            return Err(nothing_done(alloc, Some(conn)));
+            return Err(nothing_done(alloc, Some(conn), 0));
         };
         match answer_stream(alloc, &mut self.issuer, at, conn, &mut stream) {
             Ok(served) => {
@@ -216,13 +221,15 @@ impl<R: Rng> Hub<R> {
 }
 
 /// Returns the fault for memory that ran out before any action.
-fn nothing_done(alloc: Global, conn: Option<u64>) -> HubFault
+fn nothing_done(alloc: Global, conn: Option<u64>, draws: usize) -> HubFault
     ensures done { result.done.items ≡ [] }
     ensures conn { result.conn ≡ conn }
+    ensures draws { result.draws ≡ draws }
 {
     HubFault {
         done: Vec::new(alloc),
         conn,
+        draws,
     }
 }
 
@@ -231,9 +238,10 @@ fn refuse_connection(alloc: Global, conn: u64) -> Result<Vec<Action>, HubFault>
     ensures ok { IfOk result (λ actions. actions.items ≡ Close conn Full ∷ []) }
     ensures done { IfErr result (λ fault. fault.done.items ≡ []) }
     ensures conn { IfErr result (λ fault. fault.conn ≡ Some conn) }
+    ensures draws { IfErr result (λ fault. fault.draws ≡ 0) }
 {
     let Ok(mut actions) = Vec::with_capacity(alloc, 1) else {
-        return Err(nothing_done(alloc, Some(conn)));
+        return Err(nothing_done(alloc, Some(conn), 0));
     };
     actions.push_reserved(Action::Close {
         conn,

@@ -1,5 +1,5 @@
 //! A Wire in memory.
-ghost use Rattle.std.specs.Prelude.{◌≡◌, if◌then◌else◌};
+ghost use Rattle.std.specs.Prelude.{◌≡◌, [], Some, if◌then◌else◌, option_copied};
 ghost use Rattle.kdc_hub.specs.Wire.{IsCounted};
 
 use crate::diary::Diary;
@@ -28,7 +28,9 @@ impl MemoryWire {
         alloc: Global,
         coming: VecDeque<(Moment, Event)>,
         calls_before_fault: Option<u64>,
-    ) -> MemoryWire {
+    ) -> MemoryWire
+        ensures records { ⟦<MemoryWire as Wire>⟧.recorded result ≡ Some [] }
+    {
         MemoryWire {
             coming,
             at: Moment { sec: 0, usec: 0 },
@@ -39,7 +41,9 @@ impl MemoryWire {
     }
 
     /// Returns what it did, in order, if there was enough memory to record all of it.
-    pub fn did(&self) -> Option<&[Did]> {
+    pub fn did(&self) -> Option<&[Did]>
+        ensures { option_copied result ≡ ⟦<MemoryWire as Wire>⟧.recorded self.now }
+    {
         if self.diary.is_whole {
             Some(self.diary.did.as_slice())
         } else {

@@ -1,9 +1,10 @@
 //! Answering the messages of a connection, in order.
-ghost use Rattle.std.specs.Prelude.{◌≡◌, ◌⊎◌, ◌++◌, ◌∷◌, [], true, false, length, take, Some, IfOk};
+ghost use Rattle.std.specs.Prelude.{◌≡◌, ◌+◌, if◌then◌else◌, ◌++◌, ◌∷◌, [], true, false, length, take, Some, IfOk};
 ghost use Rattle.std.specs.Prelude.{IfErr, OnOk, OnErr, is_some};
 ghost use Rattle.framing.specs.Splitting.{handed_out, left};
+ghost use Rattle.kdc_hub.specs.Hub.{AreDraws};
 ghost use Rattle.kdc_hub.specs.Issuing.{after, issuing, reply_of, too_long};
-ghost use Rattle.kdc_hub.specs.StreamStep.{IsDrawn, after_some, stream_step, stream_room, action_for};
+ghost use Rattle.kdc_hub.specs.StreamStep.{after_some, drawn, stream_step, stream_room, action_for};
 ghost use Rattle.kdc_hub.specs.Accounts.{FirstHold, ReplyHolds};
 ghost use Rattle.kdc_core.specs.View.{view};
 ghost use Rattle.rand_core.specs.Stream.{fill_bytes};
@@ -28,6 +29,13 @@ pub struct StreamStep {
     pub stays: bool,
 }
 
+/// Memory ran out for a request.
+#[derive(Clone, Copy)]
+struct RanOut {
+    /// Whether the random bytes for its reply were drawn before that.
+    drawn: bool,
+}
+
 /// Answers the complete messages of a stream.
 pub fn answer_stream<R: Rng>(
     alloc: Global,
@@ -49,8 +57,8 @@ pub fn answer_stream<R: Rng>(
     ensures kdc { IfErr result
         (λ fault. issuer.new.kdc ≡ (after_some (length fault.done.items) (issuing R.stream issuer.old) at
         (handed_out stream.old).messages).kdc) }
-    ensures drawn { IfErr result
-        (λ fault. IsDrawn (length fault.done.items) (R.stream issuer.old.rng) (R.stream issuer.new.rng)) }
+    ensures drawn { IfErr result (λ fault. R.stream issuer.new.rng ≡ drawn fault.draws (R.stream issuer.old.rng)) }
+    ensures draws { IfErr result AreDraws }
     ensures keeps { issuer.new.keeps_accounts ≡ issuer.old.keeps_accounts }
     ensures accounts { IfOk result (λ s.
         FirstHold (length s.actions.items) (issuing R.stream issuer.old) at stream_room (handed_out stream.old).messages) }
@@ -69,7 +77,7 @@ pub fn answer_stream<R: Rng>(
                             stays: false,
                         });
                     }
-                    Err(_) => return Err(out_of_memory(actions, conn)),
+                    Err(fault) => return Err(out_of_memory(actions, conn, fault.drawn)),
                 }
             }
             Ok(None) => {
@@ -80,7 +88,7 @@ pub fn answer_stream<R: Rng>(
             }
             Err(fault) => {
                 return match fault {
-                    FrameFault::Memory => Err(out_of_memory(actions, conn)),
+                    FrameFault::Memory => Err(out_of_memory(actions, conn, false)),
                     _ => refuse_length(alloc, issuer, at, conn, actions),
                 };
             }
@@ -88,18 +96,22 @@ pub fn answer_stream<R: Rng>(
     }
 }
 
-/// Returns the fault for memory that ran out after these replies.
-fn out_of_memory(done: Vec<Action>, conn: u64) -> HubFault
+/// Returns the fault for memory that ran out after these replies, and after one more draw or none.
+fn out_of_memory(done: Vec<Action>, conn: u64, drawn: bool) -> HubFault
     ensures done { result.done ≡ done }
     ensures conn { result.conn ≡ Some conn }
+    ensures draws { result.draws ≡ length done.items + (if drawn then 1 else 0) }
 {
+    let draws = done.len() + usize::from(drawn);
     HubFault {
         done,
         conn: Some(conn),
+        draws,
     }
 }
 
 /// Answers one request, and returns whether the connection stays open.
+#[tactic(auto, unfolding(crate::specs::StreamStep::drawn))]
 fn answer_request<R: Rng>(
     alloc: Global,
     issuer: &mut Issuer<R>,
@@ -107,7 +119,7 @@ fn answer_request<R: Rng>(
     conn: u64,
     request: &[u8],
     actions: &mut Vec<Action>,
-) -> Result<bool, AllocError>
+) -> Result<bool, RanOut>
     ensures action { OnOk result
         (actions.new.items ≡ actions.old.items
         ++ action_for conn (reply_of (issuing R.stream issuer.old) at stream_room request.now) ∷ []) }
@@ -120,11 +132,12 @@ fn answer_request<R: Rng>(
         (reply_of (issuing R.stream issuer.old) at stream_room request.now)) }
     ensures err { OnErr result ((actions.new.items ≡ actions.old.items) × (issuer.new.kdc ≡ issuer.old.kdc)) }
     ensures accounts { issuer.new.keeps_accounts ≡ issuer.old.keeps_accounts }
-    ensures drawn { OnErr result
-        ((R.stream issuer.new.rng ≡ R.stream issuer.old.rng)
-        ⊎ (R.stream issuer.new.rng ≡ (fill_bytes 64 (R.stream issuer.old.rng)).1)) }
+    ensures drawn { IfErr result
+        (λ fault. R.stream issuer.new.rng ≡ drawn (if fault.drawn then 1 else 0) (R.stream issuer.old.rng)) }
 {
-    actions.reserve(1)?;
+    if actions.reserve(1).is_err() {
+        return Err(RanOut { drawn: false });
+    }
     match issuer.answer(alloc, at, ROOM, request) {
         Ok(Some(reply)) => {
             actions.push_reserved(Action::Write { conn, reply });
@@ -137,7 +150,7 @@ fn answer_request<R: Rng>(
             });
             Ok(false)
         }
-        Err(fault) => Err(fault),
+        Err(_) => Err(RanOut { drawn: true }),
     }
 }
 
@@ -154,13 +167,14 @@ fn refuse_length<R: Rng>(
     ensures stays { IfOk result (λ s. s.stays ≡ false) }
     ensures conn { IfErr result (λ fault. fault.conn ≡ Some conn) }
     ensures done { IfErr result (λ fault. fault.done.items ≡ actions.items) }
+    ensures draws { IfErr result (λ fault. fault.draws ≡ length actions.items + 0) }
 {
     match push_refusal(alloc, issuer, at, conn, &mut actions) {
         Ok(()) => Ok(StreamStep {
             actions,
             stays: false,
         }),
-        Err(_) => Err(out_of_memory(actions, conn)),
+        Err(_) => Err(out_of_memory(actions, conn, false)),
     }
 }
 

@@ -19,5 +19,5 @@ pub use incoming::Incoming;
 pub use replies::{ReplyInputs, ReplyKey, ticket_reply};
 pub use services::{ServiceTerms, service_terms};
 pub use session_keys::session_key;
-pub use standing::{has_come, is_disabled, is_expired, is_service_denied};
+pub use standing::{denies_tickets, has_come, is_disabled, is_expired};
 pub use tickets::{ServiceKey, version_number};

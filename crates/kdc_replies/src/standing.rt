@@ -1,9 +1,11 @@
 //! The standing of a principal by its row, if it has one.
-ghost use Rattle.std.specs.Prelude.{◌≡◌, option_copied};
-ghost use Rattle.kdc_replies.specs.Standing.{has_come, is_disabled, is_expired, is_service_denied};
+ghost use Rattle.std.specs.Prelude.{◌≡◌, not, option_copied, option_map};
+ghost use Rattle.refusals.specs.Optional.{holds_of};
+ghost use Rattle.kdc_replies.specs.Standing.{denies_tickets, has_come, is_disabled, is_expired, is_tgs};
 
-use krb_fields::{Moment, Second};
+use krb_fields::{Moment, NameRef, Second};
 use principal_rows::Row;
+use principals::names_tgs;
 
 /// Checks whether it is disabled.
 pub fn is_disabled(row: Option<&Row>) -> bool
@@ -25,12 +27,30 @@ pub fn is_expired(row: Option<&Row>, at: Moment) -> bool
     }
 }
 
-/// Checks whether no tickets may be issued for it.
-pub fn is_service_denied(row: Option<&Row>) -> bool
-    ensures { result ≡ is_service_denied (option_copied row.entry) }
+/// Checks whether no tickets may be issued for the principal with this name and row. The ticket-granting service of
+/// the realm is always a service, whatever its row says.
+pub fn denies_tickets(realm: &[u8], name: Option<&NameRef<'_>>, row: Option<&Row>) -> bool
+    ensures { result
+        ≡ denies_tickets realm.now (option_map (λ name. name.components) (option_copied name.entry))
+        (option_copied row.entry) }
+{
+    is_no_service(row) && !is_tgs(realm, name)
+}
+
+fn is_no_service(row: Option<&Row>) -> bool
+    ensures { result ≡ holds_of (λ row. not row.policy.service) (option_copied row.entry) }
 {
     match row {
         Some(row) => !row.policy.service,
+        None => false,
+    }
+}
+
+fn is_tgs(realm: &[u8], name: Option<&NameRef<'_>>) -> bool
+    ensures { result ≡ is_tgs realm.now (option_map (λ name. name.components) (option_copied name.entry)) }
+{
+    match name {
+        Some(name) => names_tgs(name, realm),
         None => false,
     }
 }

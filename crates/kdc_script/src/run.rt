@@ -289,14 +289,13 @@ fn handle(alloc: Global, kdc: &mut Option<Kdc>, request: &Request) -> Result<Ans
     let Some(kdc) = kdc else {
         return Err(Stop::Fault);
     };
-    let answer = kdc.handle(
+    let reply = kdc.handle(
         alloc,
         request.at,
         &request.random,
         request.room,
         &request.octets,
     )?;
-    let reply = answer.reply;
     match reply {
         Some(reply) => Ok(Answer::Reply(reply)),
         None => Ok(Answer::NoReply),

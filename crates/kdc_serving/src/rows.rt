@@ -1,12 +1,12 @@
 //! The source of a realm's rows while it is served.
-ghost use Rattle.std.specs.Prelude.{◌≡◌, ◌∷◌, [], List, Option};
+ghost use Rattle.std.specs.Prelude.{◌≡◌, ◌∷◌, [], List, Option, IfOk};
 ghost use Rattle.kdc_hub.specs.Wire.{Records};
 ghost use Rattle.kdc_serving.specs.Recorded.{recorded_by_any};
 ghost use Rattle.kdc_serving.specs.declared.rows.Look.{Look};
 
 use kdc_hub::OtherRealm;
 use principals::Database;
-use std::alloc::Global;
+use std::alloc::{AllocError, Global};
 
 /// The result of a look at a source of rows.
 #[derive(Drop)]
@@ -17,6 +17,19 @@ pub enum Look {
     Changed(Database),
     /// There are new rows, but they can't be used.
     Failed,
+}
+
+impl Look {
+    /// Returns a copy.
+    pub fn copy(&self, alloc: Global) -> Result<Look, AllocError>
+        ensures { IfOk result (λ copy. copy ≡ self.now) }
+    {
+        Ok(match self {
+            Look::Unchanged => Look::Unchanged,
+            Look::Changed(database) => Look::Changed(database.copy(alloc)?),
+            Look::Failed => Look::Failed,
+        })
+    }
 }
 
 /// A source of a realm's rows while it is served. It may have a record, for contracts alone.

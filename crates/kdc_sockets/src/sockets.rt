@@ -58,6 +58,8 @@ pub struct Sockets<C> {
     unlooked: u32,
     /// The second in which accepting a connection failed. One may still be waiting.
     refused_at: Option<i64>,
+    /// How many datagrams and pieces were lost because memory ran out. The count stops at the greatest `u64`.
+    lost: u64,
     buffers: Buffers,
 }
 
@@ -139,6 +141,7 @@ impl<C: Clock + Drop> Sockets<C> {
             ready,
             unlooked: 0,
             refused_at: None,
+            lost: 0,
             buffers,
         })
     }
@@ -275,7 +278,10 @@ impl<C: Clock + Drop> Sockets<C> {
         }
         self.ready.datagrams.push_back(place)?;
         let (len, address) = received?;
-        let request = Octets::from_slice(alloc, &self.buffers.datagram[..len])?;
+        let Ok(request) = Octets::from_slice(alloc, &self.buffers.datagram[..len]) else {
+            self.lost = self.lost.saturating_add(1);
+            return Err(ErrorKind::OutOfMemory.into());
+        };
         let peer = Peer {
             address,
             socket: place,
@@ -330,12 +336,25 @@ impl<C: Clock + Drop> Sockets<C> {
                 match Octets::from_slice(alloc, &self.buffers.piece[..len]) {
                     Ok(piece) => Ok(Some(Event::Bytes { conn, piece })),
                     // With a piece missing, the rest of the stream could not be parsed.
-                    Err(_) => Ok(self.connections.lose(conn)),
+                    Err(_) => {
+                        self.lost = self.lost.saturating_add(1);
+                        Ok(self.connections.lose(conn))
+                    }
                 }
             }
             Err(error) if error.kind() == ErrorKind::WouldBlock => Ok(None),
             Err(_) => Ok(self.connections.lose(conn)),
         }
+    }
+
+    /// Ends a connection, once what is left of its replies is written.
+    pub fn end_connection(&mut self, conn: u64) {
+        self.connections.close(conn, self.at);
+    }
+
+    /// Returns how many datagrams and pieces were lost so far because memory ran out.
+    pub fn lost_requests(&self) -> u64 {
+        self.lost
     }
 
     /// Performs an action. The reply to a datagram is sent from the socket that received the datagram.

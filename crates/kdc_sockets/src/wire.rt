@@ -41,6 +41,16 @@ impl<C: Clock + Drop> SocketWire<C> {
     pub fn tcp_addresses(&self, alloc: Global) -> io::Result<Vec<SocketAddr>> {
         self.sockets.tcp_addresses(alloc)
     }
+
+    /// Ends a connection without another reply. Its peer gets what was written before, and then sees the end.
+    pub fn end_connection(&mut self, conn: u64) {
+        self.sockets.end_connection(conn);
+    }
+
+    /// Returns how many datagrams and pieces of streams were lost so far because memory ran out before they were read.
+    pub fn lost_requests(&self) -> u64 {
+        self.sockets.lost_requests()
+    }
 }
 
 impl<C: Clock + Drop> Peers for SocketWire<C> {

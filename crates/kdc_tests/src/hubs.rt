@@ -1,9 +1,12 @@
 //! Tests of a hub (`kdc_hub`) over a wire in memory. Its KDC, for the realm `A.B`, has no clients, so it answers each
 //! request with an error of code 6.
-use crate::fixtures::{holds, octets};
-use crate::kdcs::opened;
+use crate::fixtures::{BEGIN, END, JUDGED, holds, mark, octets};
+use crate::kdcs::{opened, with_one};
 use crate::messages::message;
-use kdc_hub::{Action, CloseReason, Did, Event, Hub, MemoryWire, Peer, Served, Wire, serve};
+use kdc_hub::{
+    Action, CloseReason, Did, Event, Hub, HubFault, MemoryWire, Peer, Served, Wire, serve,
+};
+use kdc_serving::{Look, MemoryRows, serve_life};
 use krb_elements::Octets;
 use krb_fields::Moment;
 use rand_chacha::ChaCha20Rng;
@@ -17,6 +20,9 @@ use std::test::Fail;
 /// The place of the last letter of `krbtgt` in the reply. The second request of the stream has `krbtgu` there.
 const LETTER: usize = 70;
 
+/// The place of the code in the reply.
+const CODE: usize = 42;
+
 /// An event.
 #[derive(Clone, Copy)]
 enum Come {
@@ -29,12 +35,15 @@ enum Come {
     Closed(u64),
 }
 
-/// What is done to a port or a connection. `s` and `w` send and write the reply whose service ends with this letter.
-/// Any other message counts as `?`. `c` closes, for a full table (`f`) or since memory ran out (`m`).
+/// What is done to a port or a connection. `s` and `w` send and write the reply whose service ends with this letter;
+/// `l` is the reply with code 61 (KRB_ERR_FIELD_TOOLONG). Any other message counts as `?`. `c` closes, for a full table
+/// (`f`), for a length (`l`), or since memory ran out (`m`).
 type Done = (u8, u64, u8);
 
-/// The length of a request of the stream, with its prefix.
+/// The length of a request of the stream, with its prefix. A length with its first bit set follows two requests.
 const ONE: usize = 111;
+
+const TWO: usize = 2 * ONE;
 
 /// Requests from two peers and on two connections, one of them in two pieces.
 const FOUR: &[Come] = &[
@@ -77,13 +86,14 @@ const FULL: &[Come] = &[
 /// Two requests in one piece, another one, and a datagram.
 const STEPS: &[Come] = &[
     Come::Opened(7, 7),
-    Come::Bytes(7, 0, 2 * ONE),
+    Come::Bytes(7, 0, TWO),
     Come::Bytes(7, 0, ONE),
     Come::Datagram(1001),
 ];
 
 /// What is done then. The connection ends if memory runs out while it opens, with its first piece, before or after a
-/// reply, or with its second piece. If memory runs out later, the datagram has no reply.
+/// reply, or with its second piece, and its later pieces get nothing. If memory runs out later, the datagram has no
+/// reply.
 const STEPS_DONE: &[&[Done]] = &[
     &[TO_7, OTHER_TO_7, TO_7, TO_1001],
     &[END_OF_7, TO_1001],
@@ -113,6 +123,8 @@ struct Case {
     all_calls: usize,
     /// What is done, and then what may be done if a call fails or memory runs out.
     ways: &'static [&'static [Done]],
+    /// Whether the run is a marked call.
+    is_marked: bool,
 }
 
 const EACH: Case = Case {
@@ -124,6 +136,7 @@ const EACH: Case = Case {
     faults: 0,
     all_calls: 68,
     ways: FOUR_DONE,
+    is_marked: false,
 };
 
 const NO_CALL_FAILS: Case = Case {
@@ -146,6 +159,24 @@ const CASES: &[Case] = &[
         ways: &[&[(b'c', 256, b'f')]],
         ..EACH
     },
+    Case {
+        what: "a length with its first bit set gets code 61 and closes",
+        comes: &[Come::Opened(1, 1), Come::Bytes(1, TWO, TWO + 4)],
+        rounds: 2,
+        events: 2,
+        all_calls: 4,
+        ways: &[&[(b'w', 1, b'l'), (b'c', 1, b'l')]],
+        ..EACH
+    },
+    Case {
+        what: "two bytes of a length and the end of the connection get nothing",
+        comes: &[Come::Opened(1, 1), Come::Bytes(1, 0, 2), Come::Closed(1)],
+        rounds: 3,
+        events: 3,
+        all_calls: 3,
+        ways: &[&[]],
+        ..EACH
+    },
 ];
 
 const OUT_OF_MEMORY: &[Case] = &[Case {
@@ -155,6 +186,7 @@ const OUT_OF_MEMORY: &[Case] = &[Case {
     events: 4,
     all_calls: 8,
     ways: STEPS_DONE,
+    is_marked: true,
     ..EACH
 }];
 
@@ -220,12 +252,23 @@ fn push_all(
     Ok(())
 }
 
+/// Returns the byte of a message at this place, if it differs from the other message only there.
+fn only(message: &[u8], wanted: &[u8], place: usize) -> Option<u8> {
+    let after = place.saturating_add(1);
+    let is_alike = message.get(..place) == wanted.get(..place)
+        && message.get(after..) == wanted.get(after..);
+    if is_alike {
+        message.get(place).copied()
+    } else {
+        None
+    }
+}
+
 /// Returns the letter of a reply, or `?` if it is another message.
 fn letter(message: &[u8], wanted: &[u8]) -> u8 {
-    match message.get(LETTER) {
-        Some(letter)
-            if message.get(..LETTER) == wanted.get(..LETTER)
-                && message.get(LETTER + 1..) == wanted.get(LETTER + 1..) => { *letter }
+    match (only(message, wanted, LETTER), only(message, wanted, CODE)) {
+        (Some(letter), _) => letter,
+        (None, Some(61)) => b'l',
         _ => b'?',
     }
 }
@@ -276,35 +319,45 @@ fn serve_with(
     alloc: Global,
     wire: &mut MemoryWire,
     hub: &mut Hub<ChaCha20Rng>,
-    rounds: u32,
+    case: &Case,
 ) -> Served {
-    serve(alloc, wire, hub, rounds)
+    if !case.is_marked {
+        return serve(alloc, wire, hub, case.rounds);
+    }
+    mark(alloc, BEGIN);
+    let served = serve(alloc, wire, hub, case.rounds);
+    mark(alloc, END);
+    served
 }
 
-/// Serves the events that come. Only this function drops a hub: each place with a drop takes long to prove.
-fn serve_wire(alloc: Global, wire: &mut MemoryWire, rounds: u32) -> Result<Served, Fail> {
+/// Serves the events that come. Only this function and `step_through` drop a hub: each place with a drop takes long to
+/// prove.
+fn serve_wire(alloc: Global, wire: &mut MemoryWire, case: &Case) -> Result<Served, Fail> {
     let kdc = opened(alloc, (0, 0), 0)?;
     let mut hub = Hub::new(alloc, kdc, ChaCha20Rng::from_seed([0; 32]), true);
-    Ok(serve_with(alloc, wire, &mut hub, rounds))
+    Ok(serve_with(alloc, wire, &mut hub, case))
 }
 
-fn look_at(alloc: Global, wire: &mut MemoryWire, rounds: u32) -> Result<Seen, Fail> {
-    let served = serve_wire(alloc, wire, rounds)?;
-    let did = wire.did().ok_or("memory")?;
-    Ok(Seen {
+/// Returns a summary, or `None` if the wire ran out of memory for its record.
+fn look_at(alloc: Global, wire: &mut MemoryWire, case: &Case) -> Result<Option<Seen>, Fail> {
+    let served = serve_wire(alloc, wire, case)?;
+    let Some(did) = wire.did() else {
+        return Ok(None);
+    };
+    Ok(Some(Seen {
         served,
         faults: wire.faults(),
         calls: did.len(),
         done: all_done(alloc, did)?,
-    })
+    }))
 }
 
-/// Serves these events for this many rounds. If `calls` is given, a call of the wire fails after that many calls.
-fn run(alloc: Global, comes: &[Come], calls: Option<u64>, rounds: u32) -> Result<Seen, Fail> {
+/// Serves the events of a case.
+fn run(alloc: Global, case: &Case) -> Result<Option<Seen>, Fail> {
     let mut coming = VecDeque::new(alloc);
-    push_all(alloc, &mut coming, comes)?;
-    let mut wire = MemoryWire::new(alloc, coming, calls);
-    look_at(alloc, &mut wire, rounds)
+    push_all(alloc, &mut coming, case.comes)?;
+    let mut wire = MemoryWire::new(alloc, coming, case.calls);
+    look_at(alloc, &mut wire, case)
 }
 
 /// Checks whether one of these ways was taken: the first one, unless something failed.
@@ -327,16 +380,96 @@ fn is_as_in(seen: &Seen, case: &Case) -> bool {
         && is_done(&seen.done, case.ways, has_refused || served.faults != 0)
 }
 
+fn is_as_in_record(seen: &Option<Seen>, case: &Case) -> bool {
+    match seen {
+        Some(seen) => is_as_in(seen, case),
+        None => false,
+    }
+}
+
+/// Runs a case, once more if the wire has no record of the first run.
 fn is_right(alloc: Global, case: &Case) -> Result<bool, Fail> {
-    let seen = run(alloc, case.comes, case.calls, case.rounds)?;
-    Ok(is_as_in(&seen, case))
+    let seen = run(alloc, case)?;
+    if seen.is_some() {
+        return Ok(is_as_in_record(&seen, case));
+    }
+    Ok(is_as_in_record(&run(alloc, case)?, case))
 }
 
 fn expect(rt: &(impl AllocGlobal + Abort), cases: &[Case]) -> Result<(), Fail> {
     for case in cases {
         let is_right = is_right(rt.alloc(), case)?;
         holds(rt, is_right, case.what);
+        mark(rt.alloc(), JUDGED);
     }
+    Ok(())
+}
+
+fn push_done(all: &mut Vec<Done>, actions: &[Action], wanted: &[u8]) -> Result<(), Fail> {
+    for action in actions {
+        all.push(done(action, wanted))?;
+    }
+    Ok(())
+}
+
+/// Appends what a step does. A connection that a fault names counts as closed. Returns whether memory ran out.
+fn push_step(
+    all: &mut Vec<Done>,
+    step: Result<Vec<Action>, HubFault>,
+    wanted: &[u8],
+) -> Result<bool, Fail> {
+    match step {
+        Ok(actions) => {
+            push_done(all, &actions, wanted)?;
+            Ok(false)
+        }
+        Err(fault) => {
+            push_done(all, &fault.done, wanted)?;
+            if let Some(conn) = fault.conn {
+                all.push((b'c', conn, b'm'))?;
+            }
+            Ok(true)
+        }
+    }
+}
+
+/// Takes a step for each event, as a marked call. Returns whether memory ran out.
+fn steps(
+    alloc: Global,
+    hub: &mut Hub<ChaCha20Rng>,
+    coming: &mut VecDeque<(Moment, Event)>,
+    all: &mut Vec<Done>,
+) -> Result<bool, Fail> {
+    let wanted = octets(alloc, message("CLIENT_UNKNOWN"))?;
+    let mut has_failed = false;
+    for _ in 0..coming.len() {
+        let Some((at, event)) = coming.pop_front() else {
+            break;
+        };
+        mark(alloc, BEGIN);
+        let step = hub.step(alloc, at, event);
+        mark(alloc, END);
+        if push_step(all, step, &wanted)? {
+            has_failed = true;
+        }
+    }
+    Ok(has_failed)
+}
+
+/// Takes the steps of `STEPS` with a new hub. Returns whether memory ran out.
+fn step_through(alloc: Global, all: &mut Vec<Done>) -> Result<bool, Fail> {
+    let mut coming = VecDeque::new(alloc);
+    push_all(alloc, &mut coming, STEPS)?;
+    let kdc = opened(alloc, (0, 0), 0)?;
+    let mut hub = Hub::new(alloc, kdc, ChaCha20Rng::from_seed([0; 32]), true);
+    steps(alloc, &mut hub, &mut coming, all)
+}
+
+#[test]
+fn a_fault_has_what_was_done_and_the_connection(rt: HostRuntime) -> Result<(), Fail> {
+    let mut all = Vec::new(rt.alloc());
+    let has_failed = step_through(rt.alloc(), &mut all)?;
+    holds(&rt, is_done(&all, STEPS_DONE, has_failed), "the steps");
     Ok(())
 }
 
@@ -345,7 +478,6 @@ fn events_are_served(rt: HostRuntime) -> Result<(), Fail> {
     expect(&rt, CASES)
 }
 
-// Passes if any one allocation of the hub fails (`rt try --test --fail-alloc N`).
 #[test]
 fn a_step_out_of_memory_ends_only_its_connection(rt: HostRuntime) -> Result<(), Fail> {
     expect(&rt, OUT_OF_MEMORY)
@@ -362,5 +494,50 @@ fn a_failed_call_costs_one_reply_at_most(rt: HostRuntime) -> Result<(), Fail> {
         let is_right = is_right(rt.alloc(), &case)?;
         holds(&rt, is_right, "a failed call");
     }
+    Ok(())
+}
+
+/// A request in the first of the 16 rounds before the source of the rows is looked at again, and one after it.
+const AROUND_A_LOOK: &[Come] = &[
+    Come::Datagram(1001),
+    Come::Opened(1, 15),
+    Come::Datagram(1002),
+];
+
+/// What is done if the client is unknown at first, and is then asked for preauthentication.
+const AROUND_A_LOOK_DONE: &[Done] = &[TO_1001, (b's', 1002, b'?')];
+
+/// Serves rows that change at the second look.
+fn live(alloc: Global, wire: &mut MemoryWire, rows: &mut MemoryRows) -> Result<(), Fail> {
+    let kdc = opened(alloc, (0, 0), 0)?;
+    let mut hub = Hub::new(alloc, kdc, ChaCha20Rng::from_seed([0; 32]), true);
+    serve_life(alloc, wire, rows, &mut hub, 17);
+    Ok(())
+}
+
+/// Returns a source whose second look finds a database with `u`.
+fn changing_rows(alloc: Global) -> Result<MemoryRows, Fail> {
+    let mut coming = VecDeque::new(alloc);
+    coming.push_back(Look::Unchanged)?;
+    coming.push_back(Look::Changed(with_one(alloc, b"A.B", b'u', (0, 0))?))?;
+    Ok(MemoryRows::new(alloc, coming))
+}
+
+/// Returns how many looks there were, and whether the requests got what they should.
+fn lived(alloc: Global, rows: &mut MemoryRows) -> Result<(usize, bool), Fail> {
+    let mut coming = VecDeque::new(alloc);
+    push_all(alloc, &mut coming, AROUND_A_LOOK)?;
+    let mut wire = MemoryWire::new(alloc, coming, None);
+    live(alloc, &mut wire, rows)?;
+    let done = all_done(alloc, wire.did().ok_or("memory")?)?;
+    let looks = rows.looks().ok_or("memory")?.len();
+    Ok((looks, done.as_slice() == AROUND_A_LOOK_DONE))
+}
+
+#[test]
+fn rows_that_change_are_served(rt: HostRuntime) -> Result<(), Fail> {
+    let mut rows = changing_rows(rt.alloc())?;
+    let found = lived(rt.alloc(), &mut rows)?;
+    holds(&rt, found == (2, true), "two looks");
     Ok(())
 }

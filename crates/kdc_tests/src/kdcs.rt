@@ -1,6 +1,6 @@
 //! Tests of a KDC (`kdc_core`) for the realm `A.B`: runs of events, with databases that are replaced, tidying, and
 //! resuming, and runs that continue after memory ran out. Other requests are tried over `kdcd script`.
-use crate::fixtures::{holds, octets};
+use crate::fixtures::{BEGIN, END, JUDGED, holds, mark, octets};
 use crate::messages::message;
 use enctypes::{Etype, Key};
 use kdc_core::{Event, Kdc, Opening, Resumption, RunFault, Seen};
@@ -8,7 +8,7 @@ use krb_elements::{Octets, Seq};
 use krb_fields::{Moment, Name};
 use principal_rows::{KeyList, Limits, Policy};
 use principals::{Change, ChangeFault, Database, RowChange};
-use std::alloc::Global;
+use std::alloc::{AllocError, Global};
 use std::process::Abort;
 use std::test::Fail;
 
@@ -274,17 +274,32 @@ fn extended(alloc: Global, mut database: Database, addition: &Change) -> Result<
 }
 
 /// Returns a database of this realm with one other principal. `krbtgt` has the key of the tests with that principal.
-fn with_one(alloc: Global, realm: &[u8], letter: u8, bytes: KeyBytes) -> Result<Database, Fail> {
+pub fn with_one(
+    alloc: Global,
+    realm: &[u8],
+    letter: u8,
+    bytes: KeyBytes,
+) -> Result<Database, Fail> {
     let addition = addition(alloc, letter, bytes)?;
     let tgs_key = if letter == b'h' { bytes } else { (0, 0) };
     extended(alloc, first_database(alloc, realm, tgs_key)?, &addition)
 }
 
-/// Returns a KDC whose database has only the ticket-granting service.
+/// Returns a KDC whose database has only the ticket-granting service, by a second call if memory ran out in the first
+/// one.
 pub fn opened(alloc: Global, tgs_key: KeyBytes, lock_after: u32) -> Result<Kdc, Fail> {
     let limits = limits(lock_after)?;
     let database = first_database(alloc, b"A.B", tgs_key)?;
-    Ok(Kdc::open(alloc, database, limits, Opening::First)?)
+    mark(alloc, BEGIN);
+    let found = Kdc::open(alloc, database, limits, Opening::First);
+    mark(alloc, END);
+    match found {
+        Ok(kdc) => Ok(kdc),
+        Err(AllocError) => {
+            let database = first_database(alloc, b"A.B", tgs_key)?;
+            Ok(Kdc::open(alloc, database, limits, Opening::First)?)
+        }
+    }
 }
 
 /// Returns the event of this request. The KDC draws the random bytes of this name.
@@ -503,7 +518,9 @@ fn are_outcomes(
 
 /// Runs the events. If memory runs out the run continues with the event at which it stopped.
 fn is_run(alloc: Global, kdc: &mut Kdc, events: &[Event], words: &[&str]) -> Result<bool, Fail> {
+    mark(alloc, BEGIN);
     let (done, first) = ran(alloc, kdc, events);
+    mark(alloc, END);
     let (_, rest) = ran(alloc, kdc, events.get(done..).unwrap_or(&[]));
     are_outcomes(alloc, &first, &rest, words)
 }
@@ -514,7 +531,9 @@ fn apply(alloc: Global, kdc: &mut Kdc, change: &Change) -> Result<(), ChangeFaul
 
 /// Checks whether a change is made the second time exactly if memory ran out the first time.
 fn is_added_once(alloc: Global, kdc: &mut Kdc, addition: &Change) -> bool {
+    mark(alloc, BEGIN);
     let first = apply(alloc, kdc, addition);
+    mark(alloc, END);
     let second = apply(alloc, kdc, addition);
     match first {
         Ok(()) => second == Err(ChangeFault::Exists),
@@ -562,11 +581,11 @@ fn expect_runs(rt: &(impl AllocGlobal + Abort), runs: &[Run]) -> Result<(), Fail
     for run in runs {
         let is_right = is_right(rt.alloc(), run)?;
         holds(rt, is_right, run.0);
+        mark(rt.alloc(), JUDGED);
     }
     Ok(())
 }
 
-// Passes if any one allocation of a run fails.
 #[test]
 fn each_event_gets_its_reply(rt: HostRuntime) -> Result<(), Fail> {
     expect_runs(&rt, RUNS)

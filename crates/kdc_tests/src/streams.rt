@@ -1,5 +1,5 @@
 //! Tests of cutting a stream into messages (`framing`).
-use crate::fixtures::holds;
+use crate::fixtures::{BEGIN, END, JUDGED, holds, mark};
 use framing::{FrameFault, Splitter, frame, prefix};
 use std::alloc::{AllocError, Global};
 
@@ -123,33 +123,52 @@ fn faults_have_texts(rt: HostRuntime) {
 
 /// Frames a message, a second time if memory runs out.
 fn framed(alloc: Global) -> Result<Vec<u8>, AllocError> {
-    match frame(alloc, &[0x6a]) {
+    mark(alloc, BEGIN);
+    let found = frame(alloc, &[0x6a]);
+    mark(alloc, END);
+    match found {
         Ok(octets) => Ok(octets),
         Err(AllocError) => frame(alloc, &[0x6a]),
     }
 }
 
+/// Feeds bytes, a second time if memory runs out.
+fn feeds_again(alloc: Global, splitter: &mut Splitter, octets: &[u8]) -> bool {
+    mark(alloc, BEGIN);
+    let found = splitter.feed(octets);
+    mark(alloc, END);
+    found.is_ok() || splitter.feed(octets).is_ok()
+}
+
 /// Checks whether the message is next, the second time if memory runs out.
 fn hands_out_again(alloc: Global, splitter: &mut Splitter) -> bool {
-    match splitter.next(alloc) {
+    mark(alloc, BEGIN);
+    let found = splitter.next(alloc);
+    mark(alloc, END);
+    match found {
         Ok(Some(next)) => next.as_slice() == [0x6au8].as_slice(),
         Err(FrameFault::Memory) => hands_out(alloc, splitter, &[0x6a]),
         _ => false,
     }
 }
 
-/// Frames a message, and cuts the stream into it. If one allocation fails (`rt try --test --fail-alloc N`), the call
-/// returns that memory ran out, and the next call succeeds.
+/// Frames a message, and cuts the stream into it and nothing more. Each call that runs out of memory is made again.
 fn is_cut_again(alloc: Global) -> Result<bool, AllocError> {
     let octets = framed(alloc)?;
     let mut splitter = Splitter::new(alloc, 65_535);
-    let is_fed = splitter.feed(&octets).is_ok() || splitter.feed(&octets).is_ok();
+    let is_fed = feeds_again(alloc, &mut splitter, &octets);
     let is_framed = octets.as_slice() == [0u8, 0, 0, 1, 0x6a].as_slice();
-    Ok(is_framed && is_fed && hands_out_again(alloc, &mut splitter))
+    Ok(
+        is_framed
+            && is_fed
+            && hands_out_again(alloc, &mut splitter)
+            && ends(alloc, &mut splitter, Ok(())),
+    )
 }
 
 #[test]
 fn a_call_out_of_memory_fails_and_the_next_succeeds(rt: HostRuntime) {
     holds(&rt, is_cut_again(rt.alloc()) == Ok(true), "a message");
+    mark(rt.alloc(), JUDGED);
     holds(&rt, prefix(0x0102_0304) == [1, 2, 3, 4], "a length");
 }

@@ -3,17 +3,23 @@ ghost use Rattle.std.specs.Prelude.{None};
 
 use kdc_sockets::{BindFault, SocketWire, now};
 use kdcd_run::{
-    FileFault, HeldFiles, Host, Journals, OpenedJournals, RowsFile, open_journals, read_at_most,
+    FileFault, HeldFiles, Host, JournalBeginning, JournalFile, JournalNews, Journals,
+    OpenedJournals, RowsFile, ServeOptions, StartNews, Started, open_journals, open_plain,
+    read_at_most, say_rights,
 };
 use krb_fields::Moment;
+use principal_rows::Limits;
 use principals::Database;
-use std::alloc::Global;
-use std::fs::File;
-use std::io;
-use std::io::Write;
+use ready_writer::SharedWriter;
+use std::alloc::{AllocError, Global};
+use std::io::{Error, ErrorKind, Stderr, Write};
 use std::net::SocketAddr;
 use std::random::RandomSource;
 use std::time::Duration;
+use std::{io, mem};
+
+/// Standard error, whose reader may stop reading while the server goes on. All that write to it hold the same one.
+pub type Errors = SharedWriter<Stderr>;
 
 /// How many milliseconds a round waits if nothing arrives.
 const WAIT: u64 = 100;
@@ -23,30 +29,70 @@ const LONGEST_SEED: usize = 16_777_216;
 
 /// The system, with the file of the database. It keeps no record.
 #[derive(Drop)]
-pub struct SystemHost<'a, W> {
-    pub rt: &'a HostRuntime,
-    pub rows: RowsFile<'a, HostRuntime, W>,
-    /// The files of the journal, once it was read.
-    pub journal: HeldFiles,
+pub struct SystemHost<'a> {
+    rt: &'a HostRuntime,
+    /// The file of the database, until it is handed over.
+    rows: Option<RowsFile<'a, HostRuntime, Errors>>,
+    /// The files of the journal, once it was read and until it begins.
+    held: HeldFiles,
+    errors: Errors,
+    /// The addresses of the sockets, once they are open.
+    udp: Vec<SocketAddr>,
+    tcp: Vec<SocketAddr>,
+    db: &'a str,
+    journal: Option<&'a str>,
+    is_quiet: bool,
+    limits: Limits,
 }
 
-impl<W: Write + Drop> Host for SystemHost<'_, W> {
+impl<'a> SystemHost<'a> {
+    /// The host of a server with these options, which writes its lines to `errors`.
+    pub fn new(
+        rt: &'a HostRuntime,
+        options: &ServeOptions<'a>,
+        errors: &Errors,
+    ) -> Result<SystemHost<'a>, AllocError> {
+        Ok(SystemHost {
+            rt,
+            rows: Some(RowsFile::new(rt, options.db, errors.share()?)),
+            held: HeldFiles::none(),
+            errors: errors.share()?,
+            udp: Vec::new(rt.alloc()),
+            tcp: Vec::new(rt.alloc()),
+            db: options.db,
+            journal: options.journal,
+            is_quiet: options.is_quiet,
+            limits: options.limits,
+        })
+    }
+}
+
+impl<'a> Host for SystemHost<'a> {
     type Sockets = SocketWire<HostRuntime>;
 
     type SocketFault = BindFault;
 
+    type Journal = JournalFile<'a, HostRuntime, Errors>;
+
+    type Rows = RowsFile<'a, HostRuntime, Errors>;
+
     ghost recorded = { λ _. None };
 
     fn read_rows(&mut self, alloc: Global) -> Result<Database, FileFault> {
-        let read = self.rows.read(alloc);
+        let Some(rows) = &mut self.rows else {
+            return Err(FileFault::Failed(Error::from(ErrorKind::NotFound)));
+        };
+        let read = rows.read(alloc);
         if read.is_err() {
-            self.rows.say_place();
+            rows.say_place();
         }
         read
     }
 
     fn read_seed(&mut self, alloc: Global, path: &str) -> Result<Vec<u8>, FileFault> {
-        read_at_most(alloc, File::open(self.rt, path)?, LONGEST_SEED)
+        let file = open_plain(self.rt, path)?;
+        say_rights(self.rt, &mut self.errors, "seed", path, &file.metadata()?);
+        read_at_most(alloc, file, LONGEST_SEED)
     }
 
     fn draw(&mut self) -> io::Result<[u8; 32]> {
@@ -62,16 +108,56 @@ impl<W: Write + Drop> Host for SystemHost<'_, W> {
         tcp: &[SocketAddr],
     ) -> Result<SocketWire<HostRuntime>, BindFault> {
         let wait = Duration::from_millis(WAIT);
-        SocketWire::bind(alloc, self.rt.clone()?, self.rt, udp, tcp, wait)
+        let sockets = SocketWire::bind(alloc, self.rt.clone()?, self.rt, udp, tcp, wait)?;
+        self.udp = sockets.udp_addresses(alloc)?;
+        self.tcp = sockets.tcp_addresses(alloc)?;
+        Ok(sockets)
     }
 
     fn read_journals(&mut self, alloc: Global, path: &str) -> Result<Journals, FileFault> {
         let OpenedJournals { journals, files } = open_journals(alloc, self.rt, path)?;
-        self.journal = files;
+        self.held = files;
         Ok(journals)
+    }
+
+    fn begin_journal(
+        &mut self,
+        alloc: Global,
+        path: &str,
+        beginning: JournalBeginning,
+    ) -> io::Result<JournalFile<'a, HostRuntime, Errors>> {
+        let held = mem::replace(&mut self.held, HeldFiles::none());
+        JournalFile::start(alloc, self.rt, path, self.errors.share()?, beginning, held)
+    }
+
+    fn announce(&mut self, news: StartNews) {
+        let started = Started {
+            udp: &self.udp,
+            tcp: &self.tcp,
+            db: self.db,
+            rows: news.row_count,
+            journal: news_of(self.journal, news),
+            refused: news.refused,
+            is_quiet: self.is_quiet,
+            limits: self.limits,
+        };
+        // If that fails, there is nobody to be told.
+        let _ = write!(self.errors, "{started}");
+    }
+
+    fn take_rows(&mut self) -> Option<RowsFile<'a, HostRuntime, Errors>> {
+        self.rows.take()
     }
 
     fn now(&mut self) -> io::Result<Moment> {
         now(self.rt)
+    }
+}
+
+/// What is said of the journal, if there is one.
+fn news_of<'a>(path: Option<&'a str>, news: StartNews) -> Option<JournalNews<'a>> {
+    match (path, news.journal) {
+        (Some(path), Some(found)) => Some(JournalNews { path, found }),
+        (None, _) | (_, None) => None,
     }
 }

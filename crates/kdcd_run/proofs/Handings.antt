@@ -29,8 +29,9 @@ use Rattle.kdc_hub.specs.StreamStep.{StreamStep, ending_step, messages_step, rep
 use Rattle.kdc_serving.specs.Life.{ArePeriods, Period, replacement, rounds_in, tidying, turns_of}
 use Rattle.kdc_serving.specs.declared.rows.Look.{Look}
 use Rattle.kdc_serving.specs.declared.rows.Look.TheVariants.{Unchanged, Changed, Failed as LookFailed}
-use Rattle.kdcd_run.specs.Handing.{HandsAllInLife, HandsAllInRounds, all_seen, handed_in}
+use Rattle.kdcd_run.specs.Handing.{HandsAllInLife, HandsAllInRounds, all_seen}
 use Rattle.kdcd_run.specs.Journal.{Handed, handed_at, handed_by}
+use Rattle.kdcd_run.specs.Served.{handed_in}
 
 -- ---- what actions name as remembered
 
@@ -151,23 +152,23 @@ seen_at at (seen ∷ all) = ap (λ l. seen ∷ l) (seen_at at all)
 
 module _ (at : Moment) (rest : List Did) where
   one_handed : (action : Action) (actions : List Action) (others : List Did)
-      → handed_in (Some at) (others ++ rest) ≡ handed_at at (seens actions) ++ handed_in (Some at) rest
-      → handed_by (Some at) action ++ handed_in (Some at) (others ++ rest)
-      ≡ handed_at at (seens (action ∷ actions)) ++ handed_in (Some at) rest
+      → handed_in at (others ++ rest) ≡ handed_at at (seens actions) ++ handed_in at rest
+      → handed_by at action ++ handed_in at (others ++ rest)
+      ≡ handed_at at (seens (action ∷ actions)) ++ handed_in at rest
   one_handed action actions others is =
-      ap (λ l. handed_by (Some at) action ++ l) is
-      ∙ sym (append_assoc (handed_by (Some at) action) (handed_at at (seens actions)) (handed_in (Some at) rest))
-      ∙ ap (λ l. l ++ handed_in (Some at) rest) (sym (map-append _ (seen_by (reply_in action)) (seens actions)))
+      ap (λ l. handed_by at action ++ l) is
+      ∙ sym (append_assoc (handed_by at action) (handed_at at (seens actions)) (handed_in at rest))
+      ∙ ap (λ l. l ++ handed_in at rest) (sym (map-append _ (seen_by (reply_in action)) (seens actions)))
 
   tried : (action : Action) (did others : List Did) → (did ≡ Acted action ∷ others) ⊎ (did ≡ Failed action ∷ others)
-      → handed_in (Some at) (did ++ rest) ≡ handed_by (Some at) action ++ handed_in (Some at) (others ++ rest)
-  tried action did others (inl is) = ap (λ d. handed_in (Some at) (d ++ rest)) is
-  tried action did others (inr is) = ap (λ d. handed_in (Some at) (d ++ rest)) is
+      → handed_in at (did ++ rest) ≡ handed_by at action ++ handed_in at (others ++ rest)
+  tried action did others (inl is) = ap (λ d. handed_in at (d ++ rest)) is
+  tried action did others (inr is) = ap (λ d. handed_in at (d ++ rest)) is
 
   acts_handed : (actions : List Action) (did : List Did) → Tries actions did
-      → handed_in (Some at) (did ++ rest) ≡ handed_at at (seens actions) ++ handed_in (Some at) rest
+      → handed_in at (did ++ rest) ≡ handed_at at (seens actions) ++ handed_in at rest
   unfolding Tries
-  acts_handed [] did is = ap (λ d. handed_in (Some at) (d ++ rest)) is
+  acts_handed [] did is = ap (λ d. handed_in at (d ++ rest)) is
   acts_handed (action ∷ actions) did (others, how, tries) =
       tried action did others how ∙ one_handed action actions others (acts_handed actions others tries)
 
@@ -201,21 +202,21 @@ module _ (hub : Standing) (entry : Entry) (acts close : List Did) (tries : IsRou
   abbrev actions : List Action
   actions = (step_of hub entry).actions
 
-  took_handed : handed_in (Some entry.at) ((acts ++ close) ++ did) ≡ handed_at entry.at (seens actions) ++ handed_in (Some entry.at) did
+  took_handed : handed_in entry.at ((acts ++ close) ++ did) ≡ handed_at entry.at (seens actions) ++ handed_in entry.at did
   took_handed =
-      ap (handed_in (Some entry.at)) (append_assoc acts close did)
+      ap (handed_in entry.at) (append_assoc acts close did)
       ∙ acts_handed entry.at (close ++ did) actions acts tries.0
       ∙ ap (λ l. handed_at entry.at (seens actions) ++ l)
       (acts_handed entry.at did (closing entry.stop entry.event) close tries.1
-      ∙ ap (λ s. handed_at entry.at s ++ handed_in (Some entry.at) did) (closing_none entry.stop entry.event))
+      ∙ ap (λ s. handed_at entry.at s ++ handed_in entry.at did) (closing_none entry.stop entry.event))
 
-  took : all_seen (handed_in (Some entry.at) did) ≡ newly_seen_in (logged hub (entries_of (Took entry acts close))).hub (map Stepped entries)
-      → all_seen (handed_in (Some entry.at) ((acts ++ close) ++ did))
+  took : all_seen (handed_in entry.at did) ≡ newly_seen_in (logged hub (entries_of (Took entry acts close))).hub (map Stepped entries)
+      → all_seen (handed_in entry.at ((acts ++ close) ++ did))
       ≡ newly_seen_in hub (map Stepped (entries_of (Took entry acts close) ++ entries))
   took rest =
       ap all_seen took_handed
-      ∙ all_seen_on (handed_at entry.at (seens actions)) (handed_in (Some entry.at) did)
-      ∙ ap (λ l. l ++ all_seen (handed_in (Some entry.at) did)) (seen_at entry.at (seens actions) ∙ step_only hub entry.at entry.stop entry.event)
+      ∙ all_seen_on (handed_at entry.at (seens actions)) (handed_in entry.at did)
+      ∙ ap (λ l. l ++ all_seen (handed_in entry.at did)) (seen_at entry.at (seens actions) ∙ step_only hub entry.at entry.stop entry.event)
       ∙ ap (λ l. turn_sees hub (Stepped entry) ++ l)
       (rest ∙ sym (ends_see (step_of hub entry).hub entry.at (lost_in acts) (lost_in close) entries))
 
@@ -226,24 +227,24 @@ in_rounds hub (PollFailed ∷ rounds) at a = in_rounds hub rounds at a.1
 in_rounds hub (NothingCame now ∷ rounds) at a = in_rounds hub rounds at a.1
 in_rounds hub (Took entry acts close ∷ rounds) at a =
     took hub entry acts close a.0 (flat_map did_in rounds) (flat_map entries_of rounds)
-    (in_rounds (logged hub (entries_of (Took entry acts close))).hub rounds (Some entry.at) a.1)
+    (in_rounds (logged hub (entries_of (Took entry acts close))).hub rounds entry.at a.1)
 
 -- ---- periods
 
 -- what is handed over by what was done afterwards begins at some moment
-pub record GoesOn (at : Option Moment) (done did : List Did) : Type 0 where
-  pub later : Option Moment
+pub record GoesOn (at : Moment) (done did : List Did) : Type 0 where
+  pub later : Moment
   pub is : handed_in at (done ++ did) ≡ handed_in at done ++ handed_in later did
 
 module _ (did : List Did) where
-  act_goes_on : (at : Option Moment) (action : Action) (done : List Did) → (r : GoesOn at done did)
+  act_goes_on : (at : Moment) (action : Action) (done : List Did) → (r : GoesOn at done did)
       → handed_by at action ++ handed_in at (done ++ did) ≡ (handed_by at action ++ handed_in at done) ++ handed_in r.later did
   act_goes_on at action done r =
       ap (λ l. handed_by at action ++ l) r.is ∙ sym (append_assoc (handed_by at action) (handed_in at done) (handed_in r.later did))
 
-  handed_on : (at : Option Moment) (done : List Did) → GoesOn at done did
+  handed_on : (at : Moment) (done : List Did) → GoesOn at done did
   handed_on at [] = record { later = at; is = refl }
-  handed_on at (Polled came event ∷ done) = let r = handed_on (Some came) done in record { later = r.later; is = r.is }
+  handed_on at (Polled came event ∷ done) = let r = handed_on came done in record { later = r.later; is = r.is }
   handed_on at (Waited now ∷ done) = let r = handed_on at done in record { later = r.later; is = r.is }
   handed_on at (Missed ∷ done) = let r = handed_on at done in record { later = r.later; is = r.is }
   handed_on at (Acted action ∷ done) = let r = handed_on at done in record { later = r.later; is = act_goes_on at action done r }

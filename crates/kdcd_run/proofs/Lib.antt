@@ -1,5 +1,6 @@
 pub mod Ready
+pub mod Serving
 mod Handings
 mod Decided
 mod Restarts
-mod Calls
+mod Floors

@@ -28,7 +28,8 @@ use Rattle.journal.specs.Holding.{ResumesWithHeld}
 use Rattle.journal.specs.declared.decision.Start.{Start}
 use Rattle.journal.specs.declared.decision.Start.TheVariants.{Resumes, Refuses}
 use Rattle.kdcd_run.specs.Handing.{HandsAllInLife}
-use Rattle.kdcd_run.specs.Processes.{AreProcesses, FindsAll, MayStart, OneTicketThroughRestarts, Process, beginning, beginning_by, history, known_after, known_at, known_by}
+use Rattle.kdcd_run.specs.Processes.{AreProcesses, FindsAll, MayStart, OneTicketThroughRestarts, Process, beginning, beginning_by, history, known_after, known_at}
+use Rattle.kdcd_run.specs.Resuming.{known_by}
 
 -- ---- within one process nothing resumes
 
@@ -124,43 +125,43 @@ follows_both state (event ∷ events) others a b = (a.0, follows_both (after_eve
 module _ (one_run : (start : Standing) (turns : List Turn) → IsOneRun start turns) (resumable : CanBeResumed) (begins : core.CanBeResumed)
     (hands : HandsAllInLife) (held : ResumesWithHeld) where
   -- what a process knows at its end covers its state
-  covers_at_end : (hub : Standing) (r : Resumption) (periods : List Period) (now : ℤ) → Covers hub.issuing.kdc r → ArePeriods None hub periods
+  covers_at_end : (at : Moment) (hub : Standing) (r : Resumption) (periods : List Period) (now : ℤ) → Covers hub.issuing.kdc r → ArePeriods None hub periods
       → core.AreUpTo now (events_in hub (flat_map turns_of periods))
       → Covers (after_turns hub (flat_map turns_of periods)).issuing.kdc
-      (record { floor = int_max r.floor (now -ℤ pos skew); seen = (known_after r periods).seen })
-  covers_at_end hub r periods now covers lived up_to =
+      (record { floor = int_max r.floor (now -ℤ pos skew); seen = (known_after at r periods).seen })
+  covers_at_end at hub r periods now covers lived up_to =
       subst (λ seen. Covers (after_turns hub (flat_map turns_of periods)).issuing.kdc (resumption_at now r seen))
-      (sym (hands None hub periods None lived))
+      (sym (hands None hub periods at lived))
       (resumable hub (flat_map turns_of periods) r now covers up_to)
 
-  module _ (hub : Standing) (r : Resumption) (periods : List Period) (p : Process) (covers : Covers hub.issuing.kdc r) (lived : ArePeriods None hub periods)
+  module _ (began : Moment) (hub : Standing) (r : Resumption) (periods : List Period) (p : Process) (covers : Covers hub.issuing.kdc r) (lived : ArePeriods None hub periods)
       (up_to : core.AreUpTo p.at.sec (events_in hub (flat_map turns_of periods))) where
     abbrev ended : Standing
     ended = after_turns hub (flat_map turns_of periods)
 
     -- and so do the journals that the next one finds
-    covers_next : (found : Resumption) (check : List ℕ) → FindsAll (known_after r periods) p.at (Resumes found check) → Covers ended.issuing.kdc found
+    covers_next : (found : Resumption) (check : List ℕ) → FindsAll (known_after began r periods) p.at (Resumes found check) → Covers ended.issuing.kdc found
     covers_next found check finds c stamp spent =
-        held finds.place finds.older finds.newer finds.low (known_after r periods) found check finds.holds
+        held finds.place finds.older finds.newer finds.low (known_after began r periods) found check finds.holds
         (subst (λ (at : Moment). finds.low ≤ℤ (at.sec -ℤ pos skew)) (sym finds.moment) finds.late) (sym finds.decided) c stamp
-        (subst (λ (at : Moment). IsTrue (is_spent (resumed_cache (record { floor = int_max r.floor (at.sec -ℤ pos skew); seen = (known_after r periods).seen }) c) stamp))
+        (subst (λ (at : Moment). IsTrue (is_spent (resumed_cache (record { floor = int_max r.floor (at.sec -ℤ pos skew); seen = (known_after began r periods).seen }) c) stamp))
         (sym finds.moment)
-        (covers_at_end hub r periods p.at.sec covers lived up_to c stamp spent))
+        (covers_at_end began hub r periods p.at.sec covers lived up_to c stamp spent))
 
-    next_with_all : (start : Start) → p.start ≡ start → MayStart (known_after r periods) p.at start
+    next_with_all : (start : Start) → p.start ≡ start → MayStart (known_after began r periods) p.at start
         → ResumesFollow ended.issuing.kdc (turn_events ended (beginning_by p start))
     next_with_all (Refuses doubt) is may = (tt, tt)
     next_with_all (Resumes found check) is may = (covers_next found check may, tt)
 
   -- what the next process begins with covers its state
-  next_covers : (hub : Standing) (p : Process) (start : Start) → Covers (after_turn hub (beginning_by p start)).issuing.kdc (known_by p start)
+  next_covers : (hub : Standing) (p : Process) (start : Start) → Covers (after_turn hub (beginning_by p start)).issuing.kdc (known_by (RestartAt p.at) start)
   next_covers hub p (Refuses doubt) = begins.opened p.database p.limits (RestartAt p.at)
   next_covers hub p (Resumes found check) = begins.resumed p.database p.limits found
 
-  all_follow : (hub : Standing) (r : Resumption) (periods : List Period) (processes : List Process) → Covers hub.issuing.kdc r
-      → AreProcesses hub r periods processes → ResumesFollow hub.issuing.kdc (events_in hub (history periods processes))
-  all_follow hub r periods [] covers lived = follows_none hub.issuing.kdc _ (life_none hub periods)
-  all_follow hub r periods (p ∷ ps) covers (lived, up_to, may, rest) =
+  all_follow : (at : Moment) (hub : Standing) (r : Resumption) (periods : List Period) (processes : List Process) → Covers hub.issuing.kdc r
+      → AreProcesses at hub r periods processes → ResumesFollow hub.issuing.kdc (events_in hub (history periods processes))
+  all_follow at hub r periods [] covers lived = follows_none hub.issuing.kdc _ (life_none hub periods)
+  all_follow at hub r periods (p ∷ ps) covers (lived, up_to, may, rest) =
       let turns = flat_map turns_of periods in
       let ended = after_turns hub turns in
       let next = after_turn ended (beginning p) in
@@ -170,17 +171,17 @@ module _ (one_run : (start : Standing) (turns : List Turn) → IsOneRun start tu
       (follows_none hub.issuing.kdc (events_in hub turns) (life_none hub periods))
       (subst (λ (s : State). ResumesFollow s (turn_events ended (beginning p) ++ events_in next others)) (one_run hub turns).kdc_is
       (follows_both ended.issuing.kdc (turn_events ended (beginning p)) (events_in next others)
-      (next_with_all hub r periods p covers lived up_to p.start refl may)
+      (next_with_all at hub r periods p covers lived up_to p.start refl may)
       (subst (λ (s : State). ResumesFollow s (events_in next others)) (turn_run ended (beginning p))
-      (all_follow next (known_at p) p.periods ps (next_covers ended p p.start) rest)))))
+      (all_follow p.at next (known_at p) p.periods ps (next_covers ended p p.start) rest)))))
     where
       -- a turn alone
       turn_run : (start : Standing) (turn : Turn) → (after_turn start turn).issuing.kdc ≡ run start.issuing.kdc (turn_events start turn)
       turn_run start turn = (one_run start (turn ∷ [])).kdc_is ∙ ap (run start.issuing.kdc) (append-nil (turn_events start turn))
 
   pub one_ticket_through_restarts : OneTicketSent → OneTicketThroughRestarts
-  one_ticket_through_restarts tickets database limits opening hub periods processes is processes_are follow c =
+  one_ticket_through_restarts tickets database limits opening at hub periods processes is processes_are follow c =
       tickets hub (history periods processes) follow
-      (all_follow hub (opening_resumption opening) periods processes
+      (all_follow at hub (opening_resumption opening) periods processes
       (subst (λ (s : State). Covers s (opening_resumption opening)) (sym is) (begins.opened database limits opening)) processes_are)
       c

@@ -1,31 +1,31 @@
 -- Which TGS-REQs are refused because the clock shows an earlier time than before, until when, and how often that is
 -- said.
-use Rattle.std.specs.Prelude.{◌+◌, ℤ, pos, ◌+ℤ◌, ◌-ℤ◌, Bool, true, false, not, ◌||◌, int_lt, Option, Some, None}
+use Rattle.std.specs.Prelude.{◌+◌, ◌*◌, ℤ, pos, ◌+ℤ◌, ◌-ℤ◌, Bool, true, false, not, ◌||◌, int_lt, Option, Some, None}
 use Rattle.std.specs.Prelude.{if◌then◌else◌}
 use Rattle.krb_fields.specs.Skew.{skew}
 use Rattle.krb_fields.specs.declared.moment.Moment.{Moment}
 use Rattle.replay.specs.Tidied.{day}
-use Rattle.replay.specs.declared.opening.Opening.{Opening}
-use Rattle.replay.specs.declared.opening.Opening.TheVariants.{First, Restart}
+use Rattle.kdc_hub.specs.declared.wires.Did.{Did}
+use Rattle.kdc_hub.specs.declared.wires.Did.TheVariants.{Polled, Waited, Missed, Acted, Failed}
 use Rattle.kdcd_run.specs.declared.clock_watch.ClockWatch.{ClockWatch}
 use Rattle.kdcd_run.specs.declared.clock_watch.Refused.{Refused}
 use Rattle.kdcd_run.specs.declared.clock_watch.Refused.TheVariants.{All, ServedLater}
 
--- when the server started, if it may have answered requests before
-abbrev pub restarted : Opening → Option Moment
-restarted First = None
-restarted (Restart at) = Some at
+-- what is refused right after a start: an authenticator below its floor may be a replay
+abbrev pub refused_at_start : ℤ → ℤ → Option Refused
+refused_at_start floor now = if int_lt now floor then Some (All floor) else None
 
--- what is refused right after the start: an authenticator before the end of the skew may be a replay
-abbrev pub refused_at_start : Opening → Option Refused
-refused_at_start First = None
-refused_at_start (Restart at) = Some (All (at.sec +ℤ pos (skew + 1)))
+-- the second before which a quiet start withholds refusals
+abbrev pub quiet_until : Option Refused → Bool → Option ℤ
+quiet_until None is_quiet = None
+quiet_until (Some (ServedLater until)) is_quiet = None
+quiet_until (Some (All until)) true = Some until
+quiet_until (Some (All until)) false = None
 
--- the second until which all are refused after a restart, if the clock shows an earlier time than the skew before it
-abbrev pub until_start : Option Moment → ℤ → Option ℤ
-until_start None now = None
-until_start (Some at) now =
-    if int_lt now (at.sec -ℤ pos skew) then Some (at.sec +ℤ pos (skew + 1)) else None
+-- The second until which all are refused after a start, if the clock shows an earlier time than the skew before it. Its
+-- floor is then one second after the skew behind it, or earlier.
+abbrev pub until_start : ℤ → ℤ → Option ℤ
+until_start floor now = if int_lt (now +ℤ pos (2 * skew + 1)) floor then Some floor else None
 
 -- the second up to which a tidying at the latest moment drops, if the clock shows an earlier one
 abbrev pub until_tidied : Option Moment → ℤ → Option ℤ
@@ -48,7 +48,7 @@ first_refused None None None = None
 
 abbrev pub refused_at : ClockWatch → ℤ → Option Refused
 refused_at w now =
-    first_refused (until_start w.started now) (until_tidied w.latest now) (until_served w.latest now)
+    first_refused (until_start w.floor now) (until_tidied w.latest now) (until_served w.latest now)
 
 -- it is said at once, and again after a minute; also where the clock went back behind the last time
 abbrev pub is_due : Option Moment → ℤ → Bool
@@ -74,7 +74,15 @@ said_after said (Some refused) now = if is_due said now.sec then Some now else s
 
 abbrev pub watched : ClockWatch → Moment → ClockWatch
 watched w now = record {
-  started = w.started;
+  floor = w.floor;
   latest = Some (later w.latest now);
   said = said_after w.said (refused_at w now.sec) now;
 }
+
+-- the watch after something that a Wire did
+abbrev pub clock_after : ClockWatch → Did → ClockWatch
+clock_after w (Polled at event) = watched w at
+clock_after w (Waited at) = watched w at
+clock_after w Missed = w
+clock_after w (Acted action) = w
+clock_after w (Failed action) = w

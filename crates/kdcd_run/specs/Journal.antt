@@ -1,10 +1,9 @@
 -- What a server's journal is handed, and which actions wait for it.
-use Rattle.std.specs.Prelude.{◌≡◌, Bool, true, false, not, ◌||◌, List, [], map, Option, Some, None}
+use Rattle.std.specs.Prelude.{◌≡◌, Bool, true, false, not, ◌||◌, List, map, Option, Some, None}
 use Rattle.krb_fields.specs.declared.moment.Moment.{Moment}
 use Rattle.replay.specs.declared.seen.Seen.{Seen}
 use Rattle.kdc_hub.specs.declared.event.Action.{Action}
 use Rattle.kdc_hub.specs.declared.event.Action.TheVariants.{SendTo, Pass, Write, Close}
-use Rattle.kdc_hub.specs.declared.reply.Reply.{Reply}
 use Rattle.kdc_hub.specs.declared.wires.Did.{Did}
 use Rattle.kdc_hub.specs.declared.wires.Did.TheVariants.{Polled, Waited, Missed, Acted, Failed}
 use Rattle.kdc_hub.specs.History.{reply_in, seen_by}
@@ -18,17 +17,12 @@ pub record Handed : Type 0 where
 abbrev pub handed_at : Moment → List Seen → List Handed
 handed_at at all = map (λ seen. record { at = at; seen = seen }) all
 
--- what is handed over for a reply, and for an action: the authenticator that the request made the KDC remember, if it
--- did
-abbrev pub handed_for : Option Moment → Option Reply → List Handed
-handed_for None reply = []
-handed_for (Some at) reply = handed_at at (seen_by reply)
-
-abbrev pub handed_by : Option Moment → Action → List Handed
-handed_by at action = handed_for at (reply_in action)
+-- what is handed over for an action: the authenticator that the request made the KDC remember, if it did
+abbrev pub handed_by : Moment → Action → List Handed
+handed_by at action = handed_at at (seen_by (reply_in action))
 
 -- where there is a journal
-abbrev pub Hands : {J : Type 0} → (J → Option (List Handed)) → Option J → Option Moment → Action → Option J → Type 0
+abbrev pub Hands : {J : Type 0} → (J → Option (List Handed)) → Option J → Moment → Action → Option J → Type 0
 Hands handed None at action new = new ≡ None
 Hands {J} handed (Some journal) at action new =
     (later : J) × (new ≡ Some later) × Records (handed journal) (handed_by at action) (handed later)
@@ -39,20 +33,15 @@ has_reply (Pass peer) = false
 has_reply (Write conn reply) = true
 has_reply (Close conn reason) = false
 
--- whether it has kept all that it was handed, since an event came
-abbrev pub has_all : {J : Type 0} → (J → Bool) → J → Option Moment → Bool
-has_all is_whole journal None = false
-has_all is_whole journal (Some at) = is_whole journal
-
--- An action with a reply may be done once the journal has kept all that it was handed. Where there is none, and of an
--- action without a reply, nothing is asked.
-abbrev pub may_act : {J : Type 0} → (J → Bool) → Option J → Option Moment → Action → Bool
-may_act is_whole None at action = true
-may_act is_whole (Some journal) at action = not (has_reply action) || has_all is_whole journal at
+-- Whether a journal has kept all that it was handed. Where there is none, and of an action without a reply, nothing is
+-- asked.
+abbrev pub is_kept : {J : Type 0} → (J → Bool) → Option J → Action → Bool
+is_kept is_whole None action = true
+is_kept is_whole (Some journal) action = not (has_reply action) || is_whole journal
 
 -- when the last event came, after something that a Wire did
-abbrev pub moment_after : Option Moment → Did → Option Moment
-moment_after at (Polled came event) = Some came
+abbrev pub moment_after : Moment → Did → Moment
+moment_after at (Polled came event) = came
 moment_after at (Waited now) = at
 moment_after at Missed = at
 moment_after at (Acted action) = at

@@ -2,8 +2,12 @@ pub mod Refusal
 pub mod Log
 pub mod Starting
 pub mod Clocks
+pub mod Memory
 pub mod Quiet
 pub mod Journal
+pub mod Withheld
+pub mod Served
 pub mod Handing
 pub mod Resuming
 pub mod Processes
+pub mod Server

@@ -1,5 +1,5 @@
 -- The entries of a server's log, and their lines.
-use Rattle.std.specs.Prelude.{◌≡◌, ◌⊎◌, ◌+◌, ◌-◌, ◌^◌, ℕ, min, decimal, codes, nat_lt, if◌then◌else◌, List, [], ◌∷◌, ◌++◌, map, Option, Some, None, Result, Ok, Err}
+use Rattle.std.specs.Prelude.{◌≡◌, ◌⊎◌, ◌+◌, ◌-◌, ◌^◌, ℕ, Bool, min, decimal, codes, nat_lt, if◌then◌else◌, List, [], ◌∷◌, ◌++◌, map, Option, Some, None, Result, Ok, Err}
 use Rattle.std.specs.Io.KnownBytes.{Appends}
 use Rattle.std.specs.declared.net.socket_addr.SocketAddr.{SocketAddr}
 use Rattle.krb_fields.specs.declared.moment.Moment.{Moment}
@@ -14,18 +14,20 @@ use Rattle.request_log.specs.Field.{Field}
 use Rattle.request_log.specs.Lines.{json_line, text_line}
 use Rattle.request_log.specs.declared.asker.Asker.{Asker}
 use Rattle.request_log.specs.declared.asker.Transport.TheVariants.{Udp, Tcp}
-use Rattle.kdcd_run.specs.declared.logged_wire.Came.{Came}
+use Rattle.kdcd_run.specs.declared.logging.Came.{Came}
 use Rattle.kdcd_run.specs.declared.request_lines.LogFormat.{LogFormat}
 use Rattle.kdcd_run.specs.declared.request_lines.LogFormat.TheVariants.{Text, Json}
 use Rattle.kdcd_run.specs.declared.request_lines.RequestLines.{RequestLines}
 
 -- ---- the entries for an action
 
--- an entry: when the request came, who sent it, and what became of it, or that memory ran out
+-- an entry: when the request came, who sent it, what the KDC made of it, or that memory ran out, and whether the reply
+-- was sent
 pub record LogEntry : Type 0 where
   pub at : Moment
   pub asker : Asker
   pub account : Option Account
+  pub is_sent : Bool
 
 -- what an action that answers says of the request; a length that is too large is no request
 abbrev pub reports : Option Account → List (Option Account)
@@ -52,24 +54,24 @@ asker_of source (Write conn reply) = record { transport = Tcp; peer = source }
 asker_of source (Close conn reason) = record { transport = Tcp; peer = source }
 
 -- one entry for each
-abbrev pub entries_by : Moment → Asker → List (Option Account) → List LogEntry
-entries_by at asker accounts = map (λ account. record { at = at; asker = asker; account = account }) accounts
+abbrev pub entries_by : Moment → Asker → Bool → List (Option Account) → List LogEntry
+entries_by at asker is_sent accounts =
+    map (λ account. record { at = at; asker = asker; account = account; is_sent = is_sent }) accounts
 
 -- an action has one entry for the request that it answers, if it answers one
-abbrev pub entries_of : Came → Action → List LogEntry
-entries_of came action = entries_by came.at (asker_of came.source action) (reported action)
+abbrev pub entries_of : Came → Action → Bool → List LogEntry
+entries_of came action is_sent = entries_by came.at (asker_of came.source action) is_sent (reported action)
 
 -- entries written one after another
 abbrev pub LogsAll : {L : Type 0} → (L → LogEntry → L → Type 0) → L → List LogEntry → L → Type 0
 LogsAll {L} Logs log [] new = new ≡ log
 LogsAll {L} Logs log (entry ∷ entries) new = (middle : L) × Logs log entry middle × LogsAll Logs middle entries new
 
--- where there is a log and an event has come
-abbrev pub LogsWhere : {L : Type 0} → (L → LogEntry → L → Type 0) → Option L → Option Came → Action → Option L → Type 0
-LogsWhere Logs None came action new = new ≡ None
-LogsWhere Logs (Some log) None action new = new ≡ Some log
-LogsWhere {L} Logs (Some log) (Some came) action new =
-    (later : L) × (new ≡ Some later) × LogsAll Logs log (entries_of came action) later
+-- where there is a log
+abbrev pub LogsWhere : {L : Type 0} → (L → LogEntry → L → Type 0) → Option L → Came → Action → Bool → Option L → Type 0
+LogsWhere Logs None came action is_sent new = new ≡ None
+LogsWhere {L} Logs (Some log) came action is_sent new =
+    (later : L) × (new ≡ Some later) × LogsAll Logs log (entries_of came action is_sent) later
 
 -- ---- the line of an entry
 
@@ -78,7 +80,7 @@ written Text fields = text_line fields
 written Json fields = json_line fields
 
 abbrev pub entry_line : LogFormat → LogEntry → List ℕ
-entry_line format entry = written format (entry_fields entry.at entry.asker entry.account)
+entry_line format entry = written format (entry_fields entry.at entry.asker entry.account entry.is_sent)
 
 -- ---- lines that are lost
 
@@ -94,7 +96,7 @@ module _ {W : Type 0} (contents : W → Option (List ℕ)) (log : RequestLines W
     pub lost : new.lost ≡ log.lost
     pub unreported : new.unreported ≡ 0
 
-  -- the line is counted as lost. That others were lost may be reported all the same
+  -- the line is counted as lost. That others were lost may still be reported
   pub record LosesLine : Type 0 where
     pub format : new.format ≡ log.format
     pub lost : new.lost ≡ min (log.lost + 1) (2 ^ 64 - 1)

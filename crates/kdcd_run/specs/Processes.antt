@@ -25,7 +25,9 @@ use Rattle.journal.specs.declared.decision.Found.TheVariants.{Whole}
 use Rattle.journal.specs.declared.decision.Start.{Start}
 use Rattle.journal.specs.declared.decision.Start.TheVariants.{Resumes, Refuses}
 use Rattle.journal.specs.declared.reading.Journal.{Journal}
-use Rattle.kdcd_run.specs.Handing.{all_seen, handed_in}
+use Rattle.kdcd_run.specs.Handing.{all_seen}
+use Rattle.kdcd_run.specs.Resuming.{known_by}
+use Rattle.kdcd_run.specs.Served.{handed_in}
 
 -- A process that follows others: its rows, its limits, the moment of its start, what it made of the journals, its
 -- random octets, whether it keeps accounts, and its life.
@@ -47,18 +49,14 @@ abbrev pub beginning : Process → Turn
 beginning p = beginning_by p p.start
 
 -- what it begins with
-abbrev pub known_by : Process → Start → Resumption
-known_by p (Resumes r check) = r
-known_by p (Refuses doubt) = opening_resumption (Restart p.at)
-
 abbrev pub known_at : Process → Resumption
-known_at p = known_by p p.start
+known_at p = known_by (Restart p.at) p.start
 
--- what a process began with, and every authenticator that its journal was handed in its life
-abbrev pub known_after : Resumption → List Period → Resumption
-known_after r periods = record {
+-- what a process that started at this moment began with, and every authenticator that its journal was handed in its life
+abbrev pub known_after : Moment → Resumption → List Period → Resumption
+known_after at r periods = record {
   floor = r.floor;
-  seen = r.seen ++ all_seen (handed_in None (flat_map did_in (rounds_in periods)));
+  seen = r.seen ++ all_seen (handed_in at (flat_map did_in (rounds_in periods)));
 }
 
 -- A start finds journals whose files hold all that the process before it knew, and its clock is behind nothing of them.
@@ -79,15 +77,15 @@ abbrev pub MayStart : Resumption → Moment → Start → Type 0
 MayStart r at (Refuses doubt) = ⊤
 MayStart r at (Resumes found check) = FindsAll r at (Resumes found check)
 
--- A process that began with this hub, knew this and lived so, and those that follow it. No start is before an event of
--- the process before it.
-abbrev pub AreProcesses : Standing → Resumption → List Period → List Process → Type 0
-AreProcesses hub r periods [] = ArePeriods None hub periods
-AreProcesses hub r periods (p ∷ ps) =
+-- A process that started at this moment with this hub, knew this and lived so, and those that follow it. No start is
+-- before an event of the process before it.
+abbrev pub AreProcesses : Moment → Standing → Resumption → List Period → List Process → Type 0
+AreProcesses at hub r periods [] = ArePeriods None hub periods
+AreProcesses at hub r periods (p ∷ ps) =
     ArePeriods None hub periods
     × AreUpTo p.at.sec (events_in hub (flat_map turns_of periods))
-    × MayStart (known_after r periods) p.at p.start
-    × AreProcesses (after_turn (after_turns hub (flat_map turns_of periods)) (beginning p)) (known_at p) p.periods ps
+    × MayStart (known_after at r periods) p.at p.start
+    × AreProcesses p.at (after_turn (after_turns hub (flat_map turns_of periods)) (beginning p)) (known_at p) p.periods ps
 
 -- the history of all of them
 abbrev pub history : List Period → List Process → List Turn
@@ -97,9 +95,9 @@ history periods (p ∷ ps) = flat_map turns_of periods ++ beginning p ∷ histor
 -- No authenticator gets two different tickets, whichever process sends them: a start that can't resume refuses what may
 -- have come before, and one that resumes knows it. No start is before the second of an earlier request.
 abbrev pub OneTicketThroughRestarts : Type 0
-OneTicketThroughRestarts = (database : Principals) (limits : Limits) (opening : Opening) (hub : Standing)
+OneTicketThroughRestarts = (database : Principals) (limits : Limits) (opening : Opening) (at : Moment) (hub : Standing)
     (periods : List Period) (processes : List Process)
     → hub.issuing.kdc ≡ opened_state database limits opening
-    → AreProcesses hub (opening_resumption opening) periods processes
+    → AreProcesses at hub (opening_resumption opening) periods processes
     → RestartsFollow (events_in hub (history periods processes)) → (c : Components)
     → OneForEach (tickets_sent c hub (history periods processes))

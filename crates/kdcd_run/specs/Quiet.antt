@@ -1,5 +1,5 @@
 -- Which replies a server withholds while it refuses all service tickets.
-use Rattle.std.specs.Prelude.{◌+◌, ◌-◌, ◌^◌, ℕ, min, ℤ, pos, Bool, false, ◌&&◌, int_lt, Option, Some, None}
+use Rattle.std.specs.Prelude.{ℤ, pos, Bool, false, ◌&&◌, int_lt, Option, Some, None}
 use Rattle.std.specs.Ordering.{int_eq}
 use Rattle.krb_fields.specs.Code.{number_of}
 use Rattle.krb_fields.specs.declared.moment.Moment.{Moment}
@@ -33,12 +33,6 @@ sends_skew (Write conn reply) = is_skewed reply.account
 sends_skew (Close conn reason) = false
 
 -- such a reply is withheld before the second up to which the server is quiet, if it is
-abbrev pub withholds : Option ℤ → Option Moment → Action → Bool
-withholds (Some until) (Some at) action = int_lt at.sec until && sends_skew action
-withholds (Some until) None action = false
-withholds None at action = false
-
--- the calls of the inner Wire that failed, with the actions that were withheld; the count stops at the greatest 64-bit
--- number
-abbrev pub fault_sum : ℕ → ℕ → ℕ
-fault_sum faults withheld = min (faults + withheld) (2 ^ 64 - 1)
+abbrev pub is_quiet : Option ℤ → Moment → Action → Bool
+is_quiet (Some until) at action = int_lt at.sec until && sends_skew action
+is_quiet None at action = false

@@ -4,11 +4,12 @@ use Rattle.principals_text.specs.RefusalWord.{read_refusal}
 use Rattle.principals_text.specs.Value.{text_database}
 use Rattle.principals_text.specs.declared.read_fault.ReadFault.TheVariants.{NotJson, Memory}
 use Rattle.kdcd_run.specs.declared.files.FileFault.{FileFault}
-use Rattle.kdcd_run.specs.declared.files.FileFault.TheVariants.{LongFile, ShortSeed, Database, Failed}
+use Rattle.kdcd_run.specs.declared.files.FileFault.TheVariants.{LongFile, ShortSeed, NotJournal, Database, Failed}
 
 abbrev pub refusal : FileFault → Option (List ℕ)
 refusal LongFile = Some (codes "LongFile")
 refusal ShortSeed = Some (codes "ShortSeed")
+refusal (NotJournal part) = Some (codes "NotJournal")
 refusal (Database fault) = read_refusal fault
 refusal (Failed error) = None
 
@@ -18,4 +19,5 @@ RefusesDatabase octets (Database fault) =
     (IsUtf8 octets → fault ≢ Memory → text_database octets ≡ Err fault) × (¬ (IsUtf8 octets) → fault ≡ NotJson)
 RefusesDatabase octets LongFile = ⊥
 RefusesDatabase octets ShortSeed = ⊥
+RefusesDatabase octets (NotJournal part) = ⊥
 RefusesDatabase octets (Failed error) = ⊥

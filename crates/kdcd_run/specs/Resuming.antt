@@ -1,12 +1,12 @@
 -- How a server with a journal starts.
-use Rattle.std.specs.Prelude.{◌≡◌, ◌||◌, not, ℕ, Bool, true, false, List, [], ◌∷◌, Option, is_some}
+use Rattle.std.specs.Prelude.{◌≡◌, ◌||◌, not, ℕ, ℤ, Bool, true, false, List, [], ◌∷◌, length, Option, is_some}
 use Rattle.std.specs.FinMap as map
 use Rattle.std.specs.Option.{option_copied}
 use Rattle.krb_fields.specs.declared.moment.Moment.{Moment}
 use Rattle.principal_rows.specs.declared.limits.Limits.{Limits}
 use Rattle.principals.specs.Database.{Principals}
 use Rattle.replay.specs.declared.opening.Opening.{Opening}
-use Rattle.replay.specs.declared.opening.Opening.TheVariants.{First, Restart}
+use Rattle.replay.specs.declared.seen.Resumption.{Resumption}
 use Rattle.kdc_state.specs.Resumed.{resumed_state}
 use Rattle.kdc_state.specs.State.{opened_state}
 use Rattle.kdc_state.specs.declared.state.State.{State}
@@ -17,24 +17,34 @@ use Rattle.journal.specs.declared.decision.Found.{Found}
 use Rattle.journal.specs.declared.decision.Found.TheVariants.{Nothing, Broken, Whole}
 use Rattle.journal.specs.declared.decision.Start.{Start}
 use Rattle.journal.specs.declared.decision.Start.TheVariants.{Resumes, Refuses}
-use Rattle.kdcd_run.specs.Starting.{HostDid, Held, ReadJournals, ReadRows, Showed, seed_by, seeded, seeding}
+use Rattle.kdc_core.specs.NewlySeen.{opening_resumption}
+use Rattle.kdcd_run.specs.Starting.{BeganJournal, HostDid, Held, ReadJournals, ReadRows, Showed, opened_by, seed_by}
+use Rattle.kdcd_run.specs.Starting.{seeded, seeding}
 use Rattle.kdcd_run.specs.declared.args.ServeOptions.{ServeOptions}
+use Rattle.kdcd_run.specs.declared.host.JournalBeginning.{JournalBeginning}
 use Rattle.kdcd_run.specs.declared.host.Journals.{Journals}
+use Rattle.kdcd_run.specs.declared.started.JournalFound.{JournalFound}
+use Rattle.kdcd_run.specs.declared.started.JournalFound.TheVariants.{Resumed, Doubted}
 
 abbrev pub is_there : Found → Bool
 is_there Nothing = false
 is_there Broken = true
 is_there (Whole journal) = true
 
--- how the KDC is opened, where it can't resume
-abbrev pub opened_by : Bool → Moment → Opening
-opened_by true at = First
-opened_by false at = Restart at
+-- what a start knows of the authenticators before it: what it resumes with, or only how it opens
+abbrev pub known_by : Opening → Start → Resumption
+known_by opening (Resumes resumption check) = resumption
+known_by opening (Refuses doubt) = opening_resumption opening
 
 -- the state that a start begins with
 abbrev pub started_state : Principals → Limits → Opening → Start → State
 started_state rows limits opening (Resumes resumption check) = resumed_state rows limits resumption
 started_state rows limits opening (Refuses doubt) = opened_state rows limits opening
+
+-- what is said of it
+abbrev pub found_by : Start → JournalFound
+found_by (Resumes resumption check) = Resumed (length resumption.seen)
+found_by (Refuses doubt) = Doubted doubt
 
 -- a first start finds no journal
 abbrev pub may_be_first : Bool → Journals → Bool
@@ -49,18 +59,32 @@ pub record IsDecided (rows : Principals) (journals : Journals) (at : Moment) (st
   pub is : start ≡ start_of place journals.older journals.newer
 
 -- What was asked of the host for these options, in this order: its sockets are held before the journals are read, and
--- these before it looks at the clock. And the hub that is made of it.
-pub record IsJournaled (options : ServeOptions) (path : List ℕ) (before after : Option (List HostDid)) (hub : Standing)
-    (journals : Journals) (start : Start) (at : Moment) (row_count : ℕ) : Type 0 where
+-- these before it looks at the clock. And the hub that is made of it, and what its journal is to begin with: the floor is
+-- that of what the start knows.
+pub record IsResumed (options : ServeOptions) (path : List ℕ) (before after : Option (List HostDid)) (hub : Standing)
+    (beginning : JournalBeginning) (row_count : ℕ) : Type 0 where
   pub rows : Principals
   pub octets : List ℕ
   pub did : Records before
       (ReadRows rows ∷ seeding (option_copied options.seed) octets ∷ Held options.udp.items options.tcp.items
-      ∷ ReadJournals path journals ∷ Showed at ∷ []) after
-  pub first : may_be_first options.is_first journals ≡ true
-  pub decided : IsDecided rows journals at start
-  pub kdc : hub.issuing.kdc ≡ started_state rows options.limits (opened_by options.is_first at) start
+      ∷ ReadJournals path beginning.journals ∷ Showed beginning.at ∷ []) after
+  pub first : may_be_first options.is_first beginning.journals ≡ true
+  pub decided : IsDecided rows beginning.journals beginning.at beginning.start
+  pub kdc : hub.issuing.kdc ≡ started_state rows options.limits (opened_by options.is_first beginning.at) beginning.start
+  pub realm : beginning.realm ≡ rows.realm
+  pub floor : beginning.floor ≡ (known_by (opened_by options.is_first beginning.at) beginning.start).floor
   pub random : hub.issuing.random ≡ seeded (seed_by (option_copied options.seed) octets)
   pub accounts : hub.issuing.accounts ≡ (is_some options.log || options.is_quiet)
   pub connections : hub.connections ≡ map.empty
   pub count : row_count ≡ map.len rows.rows
+
+-- the same, and then the journal began so
+pub record IsJournaled (options : ServeOptions) (path : List ℕ) (before after : Option (List HostDid)) (hub : Standing)
+    (at : Moment) (floor : ℤ) (row_count : ℕ) (found : JournalFound) : Type 0 where
+  pub beginning : JournalBeginning
+  pub middle : Option (List HostDid)
+  pub resumed : IsResumed options path before middle hub beginning row_count
+  pub began : Records middle (BeganJournal path beginning ∷ []) after
+  pub moment : at ≡ beginning.at
+  pub floor_is : floor ≡ beginning.floor
+  pub found_is : found ≡ found_by beginning.start

@@ -1,5 +1,5 @@
 -- How a server starts: what it asks of its host, in which order, and the hub that it makes of it.
-use Rattle.std.specs.Prelude.{◌≡◌, ◌||◌, ℕ, Bool, true, false, List, [], ◌∷◌, take, Option, Some, None, is_some}
+use Rattle.std.specs.Prelude.{◌≡◌, ◌||◌, ℕ, ℤ, Bool, true, false, List, [], ◌∷◌, take, Option, Some, None, is_some}
 use Rattle.std.specs.FinMap as map
 use Rattle.std.specs.Option.{option_copied}
 use Rattle.std.specs.declared.net.socket_addr.SocketAddr.{SocketAddr}
@@ -8,17 +8,20 @@ use Rattle.rand_core.specs.Steps.{steps_u32, stream_of}
 use Rattle.rand_chacha.specs.ChaCha.{next_word, of_seed}
 use Rattle.krb_fields.specs.declared.moment.Moment.{Moment}
 use Rattle.principals.specs.Database.{Principals}
+use Rattle.replay.specs.Opening.{opening_floor}
 use Rattle.replay.specs.declared.opening.Opening.{Opening}
 use Rattle.replay.specs.declared.opening.Opening.TheVariants.{First, Restart}
 use Rattle.kdc_state.specs.State.{opened_state}
 use Rattle.kdc_hub.specs.Hub.{Standing}
 use Rattle.kdc_hub.specs.Wire.{Records}
 use Rattle.kdcd_run.specs.declared.args.ServeOptions.{ServeOptions}
+use Rattle.kdcd_run.specs.declared.host.JournalBeginning.{JournalBeginning}
 use Rattle.kdcd_run.specs.declared.host.Journals.{Journals}
 
 -- A call of a host that succeeded, with its outcome: it read the rows of the database; it read the octets of the file
 -- of the seed at a path; the system gave random octets; sockets for datagrams and sockets that take connections are
--- held at these addresses from then on; it holds the journal at a path, and read these; the clock showed a moment.
+-- held at these addresses from then on; it holds the journal at a path, and read these; the clock showed a moment; the
+-- journal at a path began so.
 pub data HostDid : Type 0 where
   ReadRows : Principals → HostDid
   ReadSeed : List ℕ → List ℕ → HostDid
@@ -26,6 +29,7 @@ pub data HostDid : Type 0 where
   Held : List SocketAddr → List SocketAddr → HostDid
   ReadJournals : List ℕ → Journals → HostDid
   Showed : Moment → HostDid
+  BeganJournal : List ℕ → JournalBeginning → HostDid
 
 -- the octets come from the file that the option names, or else from the system
 abbrev pub seeding : Option (List ℕ) → List ℕ → HostDid
@@ -43,30 +47,26 @@ pub record IsSeed (path : Option (List ℕ)) (before after : Option (List HostDi
   pub did : Records before (seeding path octets ∷ []) after
   pub is : seed ≡ seed_by path octets
 
--- a restart is at the moment that the clock shows
-abbrev pub looks : Opening → List HostDid
-looks First = []
-looks (Restart at) = Showed at ∷ []
-
-abbrev pub is_first : Opening → Bool
-is_first First = true
-is_first (Restart at) = false
+-- how the KDC is opened, where it does not resume
+abbrev pub opened_by : Bool → Moment → Opening
+opened_by true at = First
+opened_by false at = Restart at
 
 -- what ChaCha20 gives under a seed: it has ten double rounds
 abbrev pub seeded : List ℕ → Stream
 seeded seed = stream_of (steps_u32 (next_word 10)) (of_seed seed)
 
 -- What was asked of the host for these options, in this order: its sockets are held before it looks at the clock. And
--- the hub that is made of it, with how its KDC was opened, and how many rows it serves.
-pub record IsReady (options : ServeOptions) (before after : Option (List HostDid)) (hub : Standing)
-    (opening : Opening) (row_count : ℕ) : Type 0 where
+-- the hub that is made of it, with the moment and the floor of the start, and how many rows it serves.
+pub record IsReady (options : ServeOptions) (before after : Option (List HostDid)) (hub : Standing) (at : Moment)
+    (floor : ℤ) (row_count : ℕ) : Type 0 where
   pub rows : Principals
   pub octets : List ℕ
   pub did : Records before
       (ReadRows rows ∷ seeding (option_copied options.seed) octets ∷ Held options.udp.items options.tcp.items
-      ∷ looks opening) after
-  pub first : is_first opening ≡ options.is_first
-  pub kdc : hub.issuing.kdc ≡ opened_state rows options.limits opening
+      ∷ Showed at ∷ []) after
+  pub kdc : hub.issuing.kdc ≡ opened_state rows options.limits (opened_by options.is_first at)
+  pub floor_is : floor ≡ opening_floor (opened_by options.is_first at)
   pub random : hub.issuing.random ≡ seeded (seed_by (option_copied options.seed) octets)
   pub accounts : hub.issuing.accounts ≡ (is_some options.log || options.is_quiet)
   pub connections : hub.connections ≡ map.empty

@@ -72,17 +72,19 @@ Once it listens, standard error says where, which database with how many rows, u
 limits. Port 0 is one that the system chooses. If the clock goes back, a line a minute says which TGS-REQs are refused
 for that, and until when. With --log each request is a line: the time in UTC, the peer, udp or tcp, as or tgs, the
 client, the service, and the outcome: `ticket` with its lifetime, or `refused` with the error's code and a word for it;
-then rule=NAME for a refusal, and etype=, flags=, until= and renew= for a ticket. A line that can't be written is lost.
+then rule=NAME for a refusal, and etype=, flags=, until= and renew= for a ticket; and sent=no if the reply was withheld or
+could not be sent. A line that can't be written is lost.
 
 With --journal the server appends each authenticator that enters a replay cache to FILE before it sends the reply. The
 next start reads FILE, refuses these authenticators, and refuses nothing else. It does so only if the journal is of this
 realm and of this boot of the system, whole, and not later than the clock. Otherwise it starts as without a journal, and
 standard error says why. FILE and FILE.old take turns every ten minutes. FILE.lock keeps a second server from FILE; it
-stays there. While FILE can't be written the server sends no reply, and standard error says so. --first is refused if
-there is a journal, since it is for the first start alone.
+stays there. While FILE can't be written the server sends no reply, and standard error says so. If FILE, or FILE.old,
+FILE.new or FILE.lock, is something else than a journal's, the start is refused, and it stays as it is. --first is
+refused if there is a journal, since it is for the first start alone.
 
 Status: 0 after the last round; 1 if a file is refused (`refused NAME`: NotJson, BadVersion, BadRow, NoTicketGranter,
-ShortSeed, LongFile); 2 for a usage error; 3 if a file, a socket, the clock or memory failed (`failed`). Standard error
+ShortSeed, LongFile, NotJournal); 2 for a usage error; 3 if a file, a socket, the clock or memory failed (`failed`). Standard error
 says why the server did not start.";
 
 const SERVE: SubcommandRow = SubcommandRow {
@@ -170,7 +172,7 @@ const SERVE: SubcommandRow = SubcommandRow {
         },
         FlagRow {
             name: "quiet-start",
-            help: "Send no reply to a TGS-REQ while all are refused after the start, so that clients ask another KDC",
+            help: "Send no reply to a TGS-REQ while all are refused after the start, and close its connection: clients then ask another KDC",
         },
         FlagRow {
             name: "fixed",

@@ -1,10 +1,12 @@
 //! Watching a clock that may go back.
-ghost use Rattle.std.specs.Prelude.{◌≡◌, None, Some};
+ghost use Rattle.std.specs.Prelude.{◌≡◌, None};
+ghost use Rattle.kdc_hub.specs.Wire.{polled};
 ghost use Rattle.kdcd_run.specs.Clocks as clocks;
 
-use kdc_core::Opening;
+use kdc_hub::{Event, WireFault};
 use krb_fields::{Moment, SKEW, Second};
 use std::fmt;
+use std::io::Write;
 use text_fields::UtcDate;
 
 /// The seconds of a day.
@@ -41,21 +43,23 @@ impl fmt::Display for Refused {
     }
 }
 
-/// Returns which requests are refused right after a start.
-pub fn refused_at_start(opening: Opening) -> Option<Refused>
-    ensures { result ≡ clocks.refused_at_start opening }
+/// Returns which requests are refused right after a start with this floor at this moment. A floor before that moment
+/// refuses only what is too old.
+pub fn refused_at_start(floor: i64, at: Moment) -> Option<Refused>
+    ensures { result ≡ clocks.refused_at_start floor at.sec }
 {
-    match opening {
-        Opening::First => None,
-        Opening::Restart(at) => Some(Refused::All(at.sec + SKEW + 1)),
+    if at.sec < floor {
+        Some(Refused::All(floor))
+    } else {
+        None
     }
 }
 
 /// A watch over a server's clock: when requests are refused because it went back, and when that was said last.
 #[derive(Clone, Copy, Debug, PartialEq, Eq)]
 pub struct ClockWatch {
-    /// When the server started, if it may have answered requests before.
-    started: Option<Moment>,
+    /// The floor of the server's start.
+    floor: i64,
     /// The latest moment that the clock showed.
     latest: Option<Moment>,
     /// When it was last said that requests are refused, while they are.
@@ -63,16 +67,12 @@ pub struct ClockWatch {
 }
 
 impl ClockWatch {
-    /// Returns the watch of a server that starts so.
-    pub fn new(opening: Opening) -> ClockWatch
-        ensures { result ≡ record { started = clocks.restarted opening; latest = None; said = None } }
+    /// Returns the watch of a server that starts with this floor.
+    pub fn new(floor: i64) -> ClockWatch
+        ensures { result ≡ record { floor = floor; latest = None; said = None } }
     {
-        let started = match opening {
-            Opening::First => None,
-            Opening::Restart(at) => Some(at),
-        };
         ClockWatch {
-            started,
+            floor,
             latest: None,
             said: None,
         }
@@ -101,7 +101,7 @@ impl ClockWatch {
     fn refused(&self, now: Moment) -> Option<Refused>
         ensures { result ≡ clocks.refused_at self.now now.sec }
     {
-        if let Some(until) = until_start(&self.started, now) {
+        if let Some(until) = until_start(self.floor, now) {
             return Some(Refused::All(until));
         }
         if let Some(until) = until_tidied(&self.latest, now) {
@@ -114,19 +114,14 @@ impl ClockWatch {
     }
 }
 
-/// Returns until when all are refused after a restart, if the clock shows an earlier time than the skew before it.
-fn until_start(started: &Option<Moment>, now: Moment) -> Option<i64>
-    ensures { result ≡ clocks.until_start started.now now.sec }
+/// Returns until when all are refused after a start, if the clock shows an earlier time than the skew before it.
+fn until_start(floor: i64, now: Moment) -> Option<i64>
+    ensures { result ≡ clocks.until_start floor now.sec }
 {
-    match started {
-        None => None,
-        Some(at) => {
-            if now.sec < at.sec - SKEW {
-                Some(at.sec + SKEW + 1)
-            } else {
-                None
-            }
-        }
+    if now.sec + 2 * SKEW + 1 < floor {
+        Some(floor)
+    } else {
+        None
     }
 }
 
@@ -163,7 +158,7 @@ fn until_served(latest: &Option<Moment>, now: Moment) -> Option<i64>
 }
 
 /// Checks whether it has to be said again that requests are refused.
-fn is_due(said: &Option<Moment>, now: Moment) -> bool
+pub(crate) fn is_due(said: &Option<Moment>, now: Moment) -> bool
     ensures { result ≡ clocks.is_due said.now now.sec }
 {
     match said {
@@ -178,5 +173,27 @@ fn later(latest: &Option<Moment>, now: Moment) -> Moment
     match latest {
         None => now,
         Some(latest) => { if latest.sec < now.sec { now } else { *latest } }
+    }
+}
+
+/// Writes once a minute which requests are refused, while the clock shows an earlier time than before. A lost line comes
+/// again in a minute.
+pub(crate) fn watch<E: Write>(
+    clock: &mut ClockWatch,
+    errors: &mut E,
+    outcome: &Result<(Moment, Option<Event>), WireFault>,
+)
+    ensures { clock.new ≡ clocks.clock_after clock.old (polled outcome.now) }
+{
+    match outcome {
+        Ok((at, Some(_))) => say_refused(errors, clock.take(*at)),
+        Ok((at, None)) => say_refused(errors, clock.take(*at)),
+        Err(_) => {}
+    }
+}
+
+fn say_refused<E: Write>(errors: &mut E, refused: Option<Refused>) {
+    if let Some(refused) = refused {
+        let _ = writeln!(errors, "kdcd: the clock went back: {refused}");
     }
 }

@@ -4,6 +4,7 @@ ghost use Rattle.principals_text.specs.Value.{text_database};
 ghost use Rattle.kdcd_run.specs.Refusal.{RefusesDatabase, refusal};
 ghost use Rattle.kdcd_run.specs.declared.files.FileFault.TheVariants.{Failed, ShortSeed};
 
+use crate::journal_parts::JournalPart;
 use principals::Database;
 use principals_text::{LONGEST_TEXT, ReadFault, fault_place};
 use std::alloc::{AllocError, Global};
@@ -17,6 +18,8 @@ pub enum FileFault {
     LongFile,
     /// The file of the seed has fewer than 32 bytes.
     ShortSeed,
+    /// Something else than a journal has the name of one of its files.
+    NotJournal(JournalPart),
     /// The text denotes no database.
     Database(ReadFault),
     /// The file could not be read, or memory ran out.
@@ -31,6 +34,7 @@ impl FileFault {
         match self {
             FileFault::LongFile => Some("LongFile"),
             FileFault::ShortSeed => Some("ShortSeed"),
+            FileFault::NotJournal(_) => Some("NotJournal"),
             FileFault::Database(fault) => fault.refusal(),
             FileFault::Failed(_) => None,
         }
@@ -42,6 +46,7 @@ impl fmt::Display for FileFault {
         match self {
             FileFault::LongFile => f.write_str("it is longer than the maximum"),
             FileFault::ShortSeed => f.write_str("it has fewer than 32 bytes"),
+            FileFault::NotJournal(part) => write!(f, "{part}"),
             FileFault::Database(fault) => write!(f, "{fault}"),
             FileFault::Failed(error) => write!(f, "{error}"),
         }

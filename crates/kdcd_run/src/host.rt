@@ -1,10 +1,17 @@
 //! The host of a server.
-ghost use Rattle.std.specs.Prelude.{◌∷◌, [], List, Option, IfOk};
+ghost use Rattle.std.specs.Prelude.{◌≡◌, ◌∷◌, [], List, Option, IfOk};
 ghost use Rattle.kdc_hub.specs.Wire.{Records};
-ghost use Rattle.kdcd_run.specs.Starting.{HostDid, ReadRows, ReadSeed, Drew, Held, ReadJournals, Showed};
+ghost use Rattle.kdc_serving.specs.Recorded.{recorded_by_any};
+ghost use Rattle.kdcd_run.specs.Served.{IsNew};
+ghost use Rattle.kdcd_run.specs.Starting.{HostDid, ReadRows, ReadSeed, Drew, Held, ReadJournals, Showed, BeganJournal};
 
+use crate::clock_watch::Refused;
 use crate::files::FileFault;
-use journal::Found;
+use crate::keeping::JournalWriter;
+use crate::sockets::Sockets;
+use crate::started::JournalFound;
+use journal::{Found, Start};
+use kdc_serving::RowSource;
 use krb_elements::Octets;
 use krb_fields::Moment;
 use principals::Database;
@@ -23,13 +30,42 @@ pub struct Journals {
     pub newer: Found,
 }
 
+/// What the journal of a server begins with.
+#[derive(Drop)]
+pub struct JournalBeginning {
+    pub realm: Octets,
+    /// When the server started.
+    pub at: Moment,
+    /// The floor of the start.
+    pub floor: i64,
+    /// What the start made of the journals that it found.
+    pub start: Start,
+    pub journals: Journals,
+}
+
+/// A start, as it is announced.
+#[derive(Clone, Copy)]
+pub struct StartNews {
+    /// The number of rows.
+    pub row_count: usize,
+    /// What it made of the journal, if there is one.
+    pub journal: Option<JournalFound>,
+    /// Which requests are refused after it, if any are.
+    pub refused: Option<Refused>,
+}
+
 /// The database, random octets, sockets, journal and clock of a server. A host may keep a record, for contracts alone.
 pub trait Host {
     /// Sockets that are held.
-    type Sockets: Drop;
+    type Sockets: Sockets + Drop;
 
     /// Why sockets can't be opened.
     type SocketFault: Drop;
+
+    type Journal: JournalWriter + Drop;
+
+    /// The source of the rows after the start.
+    type Rows: RowSource + Drop;
 
     // The calls so far that succeeded, with their outcomes, in order, if the host keeps a record.
     ghost recorded: { Self → Option (List HostDid) };
@@ -54,13 +90,34 @@ pub trait Host {
         udp: &[SocketAddr],
         tcp: &[SocketAddr],
     ) -> Result<Self::Sockets, Self::SocketFault>
-        ensures { IfOk result (λ _. Records (recorded self.old) (Held udp.now tcp.now ∷ []) (recorded self.new)) };
+        ensures held { IfOk result (λ _. Records (recorded self.old) (Held udp.now tcp.now ∷ []) (recorded self.new)) }
+        ensures new { IfOk result (λ sockets. IsNew (Self.Sockets.recorded sockets)) };
 
     /// Holds the journal at a path, and reads it with the one that went before it. From then on no other process appends
     /// to it.
     fn read_journals(&mut self, alloc: Global, path: &str) -> Result<Journals, FileFault>
         ensures { IfOk result (λ journals.
             Records (recorded self.old) (ReadJournals path.now journals ∷ []) (recorded self.new)) };
+
+    /// Begins the journal at a path, or goes on with the one that was read.
+    fn begin_journal(
+        &mut self,
+        alloc: Global,
+        path: &str,
+        beginning: JournalBeginning,
+    ) -> io::Result<Self::Journal>
+        ensures began { IfOk result (λ _.
+            Records (recorded self.old) (BeganJournal path.now beginning ∷ []) (recorded self.new)) }
+        ensures new { IfOk result (λ journal. IsNew (Self.Journal.handed journal)) };
+
+    /// Announces that the server serves from now on.
+    fn announce(&mut self, news: StartNews)
+        ensures { recorded self.new ≡ recorded self.old };
+
+    /// Hands over the source of the rows, which knows the rows that were read. No change of theirs is missed.
+    fn take_rows(&mut self) -> Option<Self::Rows>
+        ensures records { recorded self.new ≡ recorded self.old }
+        ensures new { IsNew (recorded_by_any Self.Rows.recorded result) };
 
     /// Returns the moment that the clock shows.
     fn now(&mut self) -> io::Result<Moment>

@@ -1,11 +1,12 @@
 //! The journal of a running server: what it appends, and when the files take turns.
-ghost use Rattle.std.specs.Prelude.{◌≡◌, None};
+ghost use Rattle.std.specs.Prelude.{◌≡◌, ◌≤ℤ◌, IfOk, None};
 ghost use Rattle.std.specs.Option.{is_some};
 ghost use Rattle.std.specs.Result.{is_ok};
 
-use crate::host::Journals;
-use crate::journal_files::{HeldFiles, OWNER_ONLY, OpenedJournals, Paths};
-use crate::journal_wire::{JournalWriter, NotKept};
+use crate::host::{JournalBeginning, Journals};
+use crate::journal_files::{HeldFiles, OWNER_ONLY};
+use crate::journal_parts::{Paths, require_replaceable};
+use crate::keeping::{JournalWriter, NotKept};
 use journal::{Found, Place, Start, WriteFault, above, floor_on, write_beginning, write_seen};
 use kdc_core::Seen;
 use krb_der::KTime;
@@ -35,24 +36,11 @@ struct Tail {
     last: i64,
 }
 
-/// The start of a server, from which its journal begins.
-#[derive(Drop)]
-pub struct JournalBeginning {
-    pub realm: Octets,
-    /// When the server started.
-    pub at: Moment,
-    /// The floor of the start.
-    pub floor: i64,
-    /// What the start made of the journals that it found.
-    pub start: Start,
-    pub opened: OpenedJournals,
-}
-
 /// The journal of a running server, which logs its faults. It keeps no record.
 #[derive(Drop)]
 pub struct JournalFile<'a, F, W> {
     files: &'a F,
-    paths: Paths<'a>,
+    paths: Paths,
     /// The file whose lock keeps other servers from this journal, as long as it is open.
     lock: Option<File>,
     /// Where faults are logged.
@@ -68,25 +56,27 @@ pub struct JournalFile<'a, F, W> {
 }
 
 impl<'a, F: Files<File = File>, W: Write + Drop> JournalFile<'a, F, W> {
-    /// Begins the journal at a path. Either it goes on behind what was read, or it starts with the floor of the start.
+    /// Begins the journal at a path, whose open files these are. Either it goes on behind what was read, or it starts with
+    /// the floor of the start.
     pub fn start(
         alloc: Global,
         files: &'a F,
-        path: &'a str,
+        path: &str,
         lines: W,
         beginning: JournalBeginning,
-    ) -> io::Result<JournalFile<'a, F, W>> {
+        held: HeldFiles,
+    ) -> io::Result<JournalFile<'a, F, W>>
+        // What it writes in front of a file is of this realm, and of a floor that is not below that of the start.
+        ensures realm { IfOk result (λ journal. journal.realm ≡ beginning.realm) }
+        ensures floor { IfOk result (λ journal. beginning.floor ≤ℤ journal.floor) }
+    {
         let JournalBeginning {
             realm,
             at,
             floor,
             start,
-            opened,
-        } = beginning;
-        let OpenedJournals {
             journals,
-            files: held,
-        } = opened;
+        } = beginning;
         let HeldFiles { lock, newer } = held;
         let mut journal = JournalFile {
             files,
@@ -99,30 +89,52 @@ impl<'a, F: Files<File = File>, W: Write + Drop> JournalFile<'a, F, W> {
             floor,
             is_said: false,
         };
-        match (&start, newer) {
-            (Start::Resumes { check, .. }, Some(file)) => {
-                journal.go_on(&journals, file, *check);
-            }
-            (Start::Resumes { .. } | Start::Refuses { .. }, newer) => {
-                journal.begin_first(alloc, at, newer.is_some())?;
-            }
-        }
+        journal.begin(alloc, at, &start, &journals, newer)?;
         Ok(journal)
     }
 
+    /// Goes on behind the newer of these journals, whose open file this is, or begins the first file.
+    fn begin(
+        &mut self,
+        alloc: Global,
+        at: Moment,
+        start: &Start,
+        journals: &Journals,
+        newer: Option<File>,
+    ) -> io::Result<()>
+        ensures realm { self.new.realm ≡ self.old.realm }
+        ensures floor { self.old.floor ≤ℤ self.new.floor }
+    {
+        match (start, newer) {
+            (Start::Resumes { check, .. }, Some(file)) => {
+                self.go_on(journals, file, *check);
+                Ok(())
+            }
+            (Start::Resumes { .. } | Start::Refuses { .. }, newer) => {
+                self.begin_first(alloc, at, newer.is_some())
+            }
+        }
+    }
+
     /// Begins the first file of a server. A file that is there becomes the older one.
-    fn begin_first(&mut self, alloc: Global, at: Moment, is_there: bool) -> io::Result<()> {
+    fn begin_first(&mut self, alloc: Global, at: Moment, is_there: bool) -> io::Result<()>
+        ensures realm { self.new.realm ≡ self.old.realm }
+        ensures floor { self.old.floor ≤ℤ self.new.floor }
+    {
         if is_there {
-            fs::rename(self.files, self.paths.newer, self.paths.older.as_str())?;
+            self.make_older(alloc)?;
         }
         let tail = self.beginning(alloc, at, &[])?;
-        fs::rename(self.files, self.paths.beside.as_str(), self.paths.newer)?;
+        self.make_newer(alloc)?;
         self.tail = Some(tail);
         Ok(())
     }
 
     /// Goes on behind the newer of these journals, whose open file and last check these are.
-    fn go_on(&mut self, journals: &Journals, file: File, check: [u8; 16]) {
+    fn go_on(&mut self, journals: &Journals, file: File, check: [u8; 16])
+        ensures realm { self.new.realm ≡ self.old.realm }
+        ensures floor { self.old.floor ≤ℤ self.new.floor }
+    {
         let Found::Whole(newer) = &journals.newer else {
             return;
         };
@@ -143,6 +155,7 @@ impl<'a, F: Files<File = File>, W: Write + Drop> JournalFile<'a, F, W> {
             at,
         };
         let written = write_beginning(alloc, &place, self.floor, link).map_err(io_error)?;
+        require_replaceable(alloc, self.files, beside)?;
         match fs::remove_file(self.files, beside) {
             Ok(()) => {}
             Err(error) if error.kind() == ErrorKind::NotFound => {}
@@ -162,23 +175,41 @@ impl<'a, F: Files<File = File>, W: Write + Drop> JournalFile<'a, F, W> {
     /// Begins a file that links to the newer one, which becomes the older one.
     fn turned(&self, alloc: Global, at: Moment, check: &[u8; 16]) -> io::Result<Tail> {
         let tail = self.beginning(alloc, at, check)?;
-        match fs::rename(self.files, self.paths.newer, self.paths.older.as_str()) {
+        match self.make_older(alloc) {
             Ok(()) => {}
             // Somebody removed it. The next start finds that it is missing.
             Err(error) if error.kind() == ErrorKind::NotFound => {}
             Err(error) => return Err(error),
         }
-        fs::rename(self.files, self.paths.beside.as_str(), self.paths.newer)?;
+        self.make_newer(alloc)?;
         Ok(tail)
     }
 
     /// Begins a file in place of the newer one, with no link. Its floor is above all that could not be kept. The older file
     /// goes, since it may be why there is no room.
     fn begun_anew(&self, alloc: Global, at: Moment) -> io::Result<Tail> {
-        let _ = fs::remove_file(self.files, self.paths.older.as_str());
+        let older = self.paths.older.as_str();
+        if require_replaceable(alloc, self.files, older).is_ok() {
+            let _ = fs::remove_file(self.files, older);
+        }
         let tail = self.beginning(alloc, at, &[])?;
-        fs::rename(self.files, self.paths.beside.as_str(), self.paths.newer)?;
+        self.make_newer(alloc)?;
         Ok(tail)
+    }
+
+    /// Makes the newer file the older one.
+    fn make_older(&self, alloc: Global) -> io::Result<()> {
+        let (newer, older) = (self.paths.newer.as_str(), self.paths.older.as_str());
+        require_replaceable(alloc, self.files, newer)?;
+        require_replaceable(alloc, self.files, older)?;
+        fs::rename(self.files, newer, older)
+    }
+
+    /// Makes the file beside the newer one the newer one.
+    fn make_newer(&self, alloc: Global) -> io::Result<()> {
+        let newer = self.paths.newer.as_str();
+        require_replaceable(alloc, self.files, newer)?;
+        fs::rename(self.files, self.paths.beside.as_str(), newer)
     }
 
     /// Goes on in another file if that is due. If that fails, it goes on in this one.
@@ -189,7 +220,7 @@ impl<'a, F: Files<File = File>, W: Write + Drop> JournalFile<'a, F, W> {
         match self.turned(alloc, at, &tail.check) {
             Ok(turned) => turned,
             Err(error) => {
-                say(&mut self.lines, self.paths.newer, &error);
+                say(&mut self.lines, self.paths.newer.as_str(), &error);
                 Tail {
                     last: at.sec.saturating_add(BETWEEN_TURNS),
                     ..tail
@@ -217,12 +248,21 @@ impl<'a, F: Files<File = File>, W: Write + Drop> JournalFile<'a, F, W> {
     {
         match self.begun_anew(alloc, at) {
             Ok(tail) => {
-                say_mended(&mut self.lines, &mut self.is_said, self.paths.newer);
+                say_mended(
+                    &mut self.lines,
+                    &mut self.is_said,
+                    self.paths.newer.as_str(),
+                );
                 self.tail = Some(tail);
                 Ok(())
             }
             Err(error) => {
-                say_lost(&mut self.lines, &mut self.is_said, self.paths.newer, &error);
+                say_lost(
+                    &mut self.lines,
+                    &mut self.is_said,
+                    self.paths.newer.as_str(),
+                    &error,
+                );
                 self.tail = None;
                 Err(NotKept)
             }
@@ -241,7 +281,12 @@ impl<F: Files<File = File>, W: Write + Drop> JournalWriter for JournalFile<'_, F
         }
         if let Err(error) = self.append_seen(alloc, at, seen) {
             self.tail = None;
-            say_lost(&mut self.lines, &mut self.is_said, self.paths.newer, &error);
+            say_lost(
+                &mut self.lines,
+                &mut self.is_said,
+                self.paths.newer.as_str(),
+                &error,
+            );
         }
         self.mend(alloc, at)
     }

@@ -1,14 +1,16 @@
 //! The files of a journal: which process holds them, and what is found in them.
 use crate::files::{FileFault, read_at_most, read_whole};
 use crate::host::Journals;
+use crate::journal_parts::Paths;
+use crate::plain_files::{open_plain, open_plain_with, own_user};
 use journal::{Found, JournalFault, read_journal};
 use krb_elements::Octets;
 use std::alloc::{AllocError, Global};
-use std::fs::{File, OpenFile, OpenOptions, TryLockError};
+use std::fs::{File, OpenOptions, TryLockError};
+use std::io;
 use std::io::{Error, ErrorKind};
-use std::os::unix::fs::{MetadataExt, OpenOptionsExt, PermissionsExt};
+use std::os::unix::fs::{MetadataExt, OpenOptionsExt};
 use std::rt::Files;
-use std::{fs, io};
 
 /// The mode of a journal's files: only their owner reads and writes them.
 pub(crate) const OWNER_ONLY: u32 = 0o600;
@@ -19,32 +21,8 @@ const OTHERS_WRITE: u32 = 0o022;
 /// The file in which the system names its current boot.
 const BOOT_ID: &str = "/proc/sys/kernel/random/boot_id";
 
-/// A path that belongs to the user of this process.
-const SELF: &str = "/proc/self";
-
 /// The greatest length of a boot's name, in octets.
 const LONGEST_BOOT_ID: usize = 255;
-
-/// The paths of a journal's files.
-#[derive(Drop)]
-pub(crate) struct Paths<'a> {
-    /// The file that is appended to.
-    pub(crate) newer: &'a str,
-    /// The file that went before it.
-    pub(crate) older: String,
-    /// A new file, until it is renamed into place.
-    pub(crate) beside: String,
-}
-
-impl<'a> Paths<'a> {
-    pub(crate) fn new(alloc: Global, newer: &'a str) -> Result<Paths<'a>, AllocError> {
-        Ok(Paths {
-            newer,
-            older: format!(in alloc; "{newer}.old")?,
-            beside: format!(in alloc; "{newer}.new")?,
-        })
-    }
-}
 
 /// The open files of a journal. No other server uses them until these are closed.
 #[derive(Drop)]
@@ -72,21 +50,23 @@ pub struct OpenedJournals {
     pub files: HeldFiles,
 }
 
-/// Locks the journal at a path, opens it, and reads it with the one that went before it.
+/// Locks the journal at a path, opens it, and reads it with the one that went before it. If something else than a journal
+/// has one of its names, it is refused, and nothing is changed.
 pub fn open_journals<F: Files<File = File>>(
     alloc: Global,
     files: &F,
     path: &str,
 ) -> Result<OpenedJournals, FileFault> {
     let paths = Paths::new(alloc, path)?;
-    let lock = open_locked(alloc, files, path)?;
+    paths.check(alloc, files)?;
+    let lock = open_locked(files, paths.lock.as_str())?;
     let newer = open_newer(files, path)?;
     let boot = boot_id(alloc, files)?;
     Ok(OpenedJournals {
         journals: Journals {
             boot,
-            older: found_at(alloc, files, paths.older.as_str())?,
-            newer: found_at(alloc, files, path)?,
+            older: found_older(alloc, files, paths.older.as_str())?,
+            newer: found_in_file(alloc, files, newer.as_ref())?,
         },
         files: HeldFiles {
             lock: Some(lock),
@@ -97,11 +77,10 @@ pub fn open_journals<F: Files<File = File>>(
 
 /// Locks `PATH.lock`, which stays there. The system releases the lock when the process ends, however it ends. The
 /// journal's own files are renamed and replaced, so a lock of theirs would leave a gap between two of them.
-fn open_locked<F: Files<File = File>>(alloc: Global, files: &F, path: &str) -> io::Result<File> {
-    let beside = format!(in alloc; "{path}.lock")?;
+fn open_locked<F: Files<File = File>>(files: &F, path: &str) -> io::Result<File> {
     let mut how = OpenOptions::new();
     how.write(true).create(true).mode(OWNER_ONLY);
-    let file = how.open(files, beside.as_str())?;
+    let file = how.open(files, path)?;
     match file.try_lock() {
         Ok(()) => Ok(file),
         Err(TryLockError::WouldBlock) => Err(Error::new(
@@ -112,11 +91,16 @@ fn open_locked<F: Files<File = File>>(alloc: Global, files: &F, path: &str) -> i
     }
 }
 
-/// Opens the file that is appended to, if it exists.
+/// Opens the file that is read and then appended to, if it exists.
 fn open_newer<F: Files<File = File>>(files: &F, path: &str) -> io::Result<Option<File>> {
     let mut how = OpenOptions::new();
-    how.append(true);
-    match how.open(files, path) {
+    how.read(true).append(true);
+    if_there(open_plain_with(files, &how, path))
+}
+
+/// Returns what was opened, or `None` if nothing is there.
+fn if_there(opened: io::Result<File>) -> io::Result<Option<File>> {
+    match opened {
         Ok(file) => Ok(Some(file)),
         Err(error) if error.kind() == ErrorKind::NotFound => Ok(None),
         Err(error) => Err(error),
@@ -129,19 +113,28 @@ fn boot_id<F: Files<File = File>>(alloc: Global, files: &F) -> Result<Octets, Fi
     Ok(Octets::from_slice(alloc, octets.trim_ascii())?)
 }
 
-/// Reads what is at a path. A file of another user, or one that others may write, is no journal.
-fn found_at<F: Files<File = File>>(
+fn found_older<F: Files<File = File>>(
     alloc: Global,
     files: &F,
     path: &str,
 ) -> Result<Found, FileFault> {
-    if !fs::exists(files, path)? {
+    let file = if_there(open_plain(files, path))?;
+    found_in_file(alloc, files, file.as_ref())
+}
+
+/// Reads what is in an open file. One of another user, or one that others may write, is no journal.
+fn found_in_file<F: Files<File = File>>(
+    alloc: Global,
+    files: &F,
+    file: Option<&File>,
+) -> Result<Found, FileFault> {
+    let Some(file) = file else {
         return Ok(Found::Nothing);
-    }
-    if !is_ours(files, path)? {
+    };
+    if !is_ours(files, file)? {
         return Ok(Found::Broken);
     }
-    match read_whole(alloc, File::open(files, path)?) {
+    match read_whole(alloc, file) {
         Ok(text) => found_in(alloc, &text),
         Err(FileFault::LongFile) => Ok(Found::Broken),
         Err(fault) => Err(fault),
@@ -158,9 +151,7 @@ fn found_in(alloc: Global, text: &[u8]) -> Result<Found, FileFault> {
 }
 
 /// Checks whether a file belongs to the user of this process, and nobody else may write it.
-fn is_ours(files: &impl Files, path: &str) -> io::Result<bool> {
-    let file = fs::metadata(files, path)?;
-    let process = fs::metadata(files, SELF)?;
-    let mode = file.permissions().mode();
-    Ok(file.is_file() && file.uid() == process.uid() && mode & OTHERS_WRITE == 0)
+fn is_ours<F: Files>(files: &F, file: &File) -> io::Result<bool> {
+    let file = file.metadata()?;
+    Ok(file.uid() == own_user(files)? && file.mode() & OTHERS_WRITE == 0)
 }

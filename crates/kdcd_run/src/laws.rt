@@ -1,18 +1,16 @@
 //! Laws over the life of a server with a journal, and over its processes.
-ghost use Rattle.kdcd_run.specs.Handing.{HandsAllInLife, HandsAllInRounds, RecordsAllCalls};
+ghost use Rattle.kdcd_run.specs.Handing.{HandsAllInLife, HandsAllInRounds};
 ghost use Rattle.kdcd_run.specs.Processes.{OneTicketThroughRestarts};
 
 use journal::every_journal;
 use kdc_core::any_run;
 use kdc_hub::one_run;
 
-/// Over every life of a server, what a journal is handed, action by action, is what the requests made the KDC remember:
-/// all of it, in order, and nothing else.
+/// Over every life of a server, what a journal is handed, act by act, is what the requests made the KDC remember: all of
+/// it, in order, and nothing else. A `ServerWire` hands its journal this, and nothing else (`served`).
 pub fn every_life()
     ensures rounds { HandsAllInRounds }
     ensures life { HandsAllInLife }
-    // A journal that keeps a record has these in it.
-    ensures calls { RecordsAllCalls }
 {}
 
 /// Over all processes of a server with a journal, no authenticator gets two different tickets. Each start that resumes

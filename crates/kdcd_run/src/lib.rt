@@ -1,5 +1,5 @@
-//! Starting `kdcd serve`: its command line, its files, and the wrappers of the wire that log, watch the clock and keep
-//! a journal.
+//! Starting and running `kdcd serve`: its command line, its files, and its wire, which keeps a journal, logs, and watches
+//! the clock.
 #![tactic(auto)]
 
 mod args;
@@ -8,30 +8,42 @@ mod files;
 mod host;
 mod journal_file;
 mod journal_files;
-mod journal_wire;
+mod journal_parts;
+mod keeping;
+mod key_places;
 mod laws;
-mod logged_wire;
-mod quiet_wire;
+mod logging;
+mod memory_watch;
+mod plain_files;
+mod quiet;
 mod request_lines;
 mod resuming;
 mod rows_file;
+mod server;
+mod server_wire;
+mod sockets;
 mod started;
 mod starting;
-mod watched_wire;
+mod tally;
 
 pub use crate::args::{ArgsFault, ServeOptions, read_args, serve_options};
-pub use crate::clock_watch::{ClockWatch, Refused, refused_at_start};
+pub use crate::clock_watch::{ClockWatch, Refused};
 pub use crate::files::{FileFault, database_of, read_at_most, read_whole, seed_of};
-pub use crate::host::{Host, Journals};
-pub use crate::journal_file::{JournalBeginning, JournalFile};
+pub use crate::host::{Host, JournalBeginning, Journals, StartNews};
+pub use crate::journal_file::JournalFile;
 pub use crate::journal_files::{HeldFiles, OpenedJournals, open_journals};
-pub use crate::journal_wire::{JournalWire, JournalWriter, NotKept, WithholdingWire};
+pub use crate::journal_parts::JournalPart;
+pub use crate::keeping::{JournalWriter, NotKept};
 pub use crate::laws::{every_life, every_restart};
-pub use crate::logged_wire::{LogWriter, LoggedWire};
-pub use crate::quiet_wire::QuietWire;
+pub use crate::logging::{Came, LogWriter};
+pub use crate::memory_watch::MemoryWatch;
+pub use crate::plain_files::{open_plain, say_rights};
 pub use crate::request_lines::{LogFormat, RequestLines};
 pub use crate::resuming::{JournaledServer, start_with_journal};
 pub use crate::rows_file::RowsFile;
-pub use crate::started::{JournalFound, JournalNews, Started, quiet_until};
+pub use crate::server::{Ran, Server, run_server};
+pub use crate::server_wire::{Outlets, ServerWire};
+pub use crate::sockets::Sockets;
+pub use crate::started::{JournalFound, JournalNews, Started};
 pub use crate::starting::{ReadyServer, StartFault, start_server};
-pub use crate::watched_wire::WatchedWire;
+pub use crate::tally::{FaultCount, Tally};

@@ -1,9 +1,9 @@
 //! The lines of a server's log.
-ghost use Rattle.std.specs.Prelude.{◌≡◌, IfOk, OnOk, option_copied};
+ghost use Rattle.std.specs.Prelude.{◌≡◌, None, IfOk, OnOk, option_copied};
 ghost use Rattle.std.specs.Io.KnownBytes.{Appends};
 ghost use Rattle.kdcd_run.specs.Log.{LogsLine, TriesLine, TriesLost, entry_line};
 
-use crate::logged_wire::LogWriter;
+use crate::logging::LogWriter;
 use kdc_hub::Account;
 use krb_fields::Moment;
 use request_log::{Asker, json_line, text_line};
@@ -65,11 +65,16 @@ impl<W: Write> RequestLines<W> {
         at: Moment,
         asker: Asker,
         account: Option<&Account>,
+        is_sent: bool,
     ) -> io::Result<()>
-        ensures { TriesLine W.contents self.old self.new (entry_line self.old.format
-            (record { at = at; asker = asker; account = option_copied account.entry })) result }
+        ensures { TriesLine W.contents self.old self.new (entry_line self.old.format (record {
+          at = at;
+          asker = asker;
+          account = option_copied account.entry;
+          is_sent = is_sent;
+        })) result }
     {
-        let line = line_of(alloc, self.format, at, asker, account)?;
+        let line = line_of(alloc, self.format, at, asker, account, is_sent)?;
         self.report_lost()?;
         self.write_line(&line)
     }
@@ -95,29 +100,45 @@ impl<W: Write> RequestLines<W> {
 }
 
 impl<W: Write> LogWriter for RequestLines<W> {
+    ghost logged = { λ _. None };
+
     ghost Logs = { LogsLine W.contents };
 
-    fn write_entry(&mut self, alloc: Global, at: Moment, asker: Asker, account: Option<&Account>) {
-        if self.try_entry(alloc, at, asker, account).is_err() {
+    ghost records = { λ _ _ _ _. tt };
+
+    fn write_entry(
+        &mut self,
+        alloc: Global,
+        at: Moment,
+        asker: Asker,
+        account: Option<&Account>,
+        is_sent: bool,
+    ) {
+        if self.try_entry(alloc, at, asker, account, is_sent).is_err() {
             self.lost = self.lost.saturating_add(1);
             self.unreported = self.unreported.saturating_add(1);
         }
     }
 }
 
-/// Returns the line for a request that `asker` sent at a moment.
+/// Returns the line for a request that `asker` sent at a moment, and whether its reply was sent.
 fn line_of(
     alloc: Global,
     format: LogFormat,
     at: Moment,
     asker: Asker,
     account: Option<&Account>,
+    is_sent: bool,
 ) -> Result<Vec<u8>, AllocError>
-    ensures { IfOk result (λ line. line.items ≡ entry_line format
-        (record { at = at; asker = asker; account = option_copied account.entry })) }
+    ensures { IfOk result (λ line. line.items ≡ entry_line format (record {
+      at = at;
+      asker = asker;
+      account = option_copied account.entry;
+      is_sent = is_sent;
+    })) }
 {
     match format {
-        LogFormat::Text => text_line(alloc, at, asker, account),
-        LogFormat::Json => json_line(alloc, at, asker, account),
+        LogFormat::Text => text_line(alloc, at, asker, account, is_sent),
+        LogFormat::Json => json_line(alloc, at, asker, account, is_sent),
     }
 }

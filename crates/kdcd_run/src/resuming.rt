@@ -3,57 +3,82 @@ ghost use Rattle.std.specs.Prelude.{◌≡◌, IfOk, true, false};
 ghost use Rattle.kdc_hub.specs.Hub.{standing};
 ghost use Rattle.rand_core.specs.Steps.{steps_u32, stream_of};
 ghost use Rattle.rand_chacha.specs.ChaCha.{next_word};
-ghost use Rattle.kdcd_run.specs.Resuming.{IsDecided, IsJournaled, is_there, may_be_first, opened_by, started_state};
+ghost use Rattle.kdcd_run.specs.Resuming.{IsDecided, IsJournaled, IsResumed, is_there, known_by, may_be_first};
+ghost use Rattle.kdcd_run.specs.Resuming.{started_state};
+ghost use Rattle.kdcd_run.specs.Served.{IsNew};
 
 use crate::args::ServeOptions;
-use crate::clock_watch::{Refused, refused_at_start};
-use crate::host::{Host, Journals};
-use crate::journal_file::{JournalBeginning, JournalFile};
-use crate::journal_files::{HeldFiles, OpenedJournals};
-use crate::starting::{ReadyServer, StartFault, keeps_accounts, take_seed};
+use crate::files::FileFault;
+use crate::host::{Host, JournalBeginning, Journals};
+use crate::key_places::placed;
+use crate::started::JournalFound;
+use crate::starting::{ReadyServer, StartFault, keeps_accounts, opened_by, take_seed};
 use journal::{Found, Place, Start, start_of};
 use kdc_core::{Kdc, Opening};
 use kdc_hub::Hub;
 use krb_elements::Octets;
-use krb_fields::{Moment, SKEW};
+use krb_fields::Moment;
 use principal_rows::Limits;
 use principals::Database;
 use rand_chacha::ChaCha20Rng;
 use rand_core::SeedableRng;
 use std::alloc::{AllocError, Global};
-use std::fs::File;
-use std::io;
-use std::io::Write;
-use std::rt::Files;
-
-/// How many seconds after a restart its floor is.
-const AFTER: i64 = SKEW + 1;
 
 /// A server that has its sockets and its journal, before its first round.
 #[derive(Drop)]
-pub struct JournaledServer<S> {
-    /// Its `opening` has the floor of this start.
+pub struct JournaledServer<S, J> {
     pub server: ReadyServer<S>,
-    pub journals: Journals,
-    /// What the start makes of the journals.
-    pub start: Start,
-    /// When it started.
-    pub at: Moment,
-    pub realm: Octets,
+    pub journal: J,
+    /// What the start made of the journals that it found.
+    pub found: JournalFound,
+}
+
+/// A server that has its sockets, and what its journal is to begin with.
+#[derive(Drop)]
+struct ResumedServer<S> {
+    server: ReadyServer<S>,
+    beginning: JournalBeginning,
 }
 
 /// Starts a server as `start_server` does, with the journal at a path. It opens its sockets, then reads the journals, and
-/// only then reads the clock. So no earlier process appends to a journal after it was read.
+/// only then reads the clock. So no earlier process appends to a journal after it was read. Then its journal begins.
 pub fn start_with_journal<'a, H: Host>(
     alloc: Global,
     host: &mut H,
     options: &ServeOptions<'a>,
     path: &'a str,
-) -> Result<JournaledServer<H::Sockets>, StartFault<'a, H::SocketFault>>
-    ensures { IfOk result (λ ready.
-        IsJournaled options.now path.now (H.recorded host.old) (H.recorded host.new)
-        (standing (stream_of (steps_u32 (next_word 10))) ready.server.hub) ready.journals ready.start ready.at
-        ready.server.row_count) }
+) -> Result<JournaledServer<H::Sockets, H::Journal>, StartFault<'a, H::SocketFault>>
+    ensures start { IfOk result (λ ready. IsJournaled options.now path.now (H.recorded host.old) (H.recorded host.new)
+        (standing (stream_of (steps_u32 (next_word 10))) ready.server.hub) ready.server.at ready.server.floor
+        ready.server.row_count ready.found) }
+    ensures sockets { IfOk result (λ ready. IsNew (H.Sockets.recorded ready.server.sockets)) }
+    ensures journal { IfOk result (λ ready. IsNew (H.Journal.handed ready.journal)) }
+{
+    let ResumedServer { server, beginning } = resume(alloc, host, options, path)?;
+    let found = JournalFound::of(&beginning.start);
+    match host.begin_journal(alloc, path, beginning) {
+        Ok(journal) => Ok(JournaledServer {
+            server,
+            journal,
+            found,
+        }),
+        Err(error) => Err(StartFault::File(path, FileFault::Failed(error))),
+    }
+}
+
+/// Starts a server as `start_with_journal` does, up to the beginning of its journal.
+fn resume<'a, H: Host>(
+    alloc: Global,
+    host: &mut H,
+    options: &ServeOptions<'a>,
+    path: &'a str,
+) -> Result<ResumedServer<H::Sockets>, StartFault<'a, H::SocketFault>>
+    ensures resumed { IfOk result (λ resumed. IsResumed options.now path.now (H.recorded host.old) (H.recorded host.new)
+        (standing (stream_of (steps_u32 (next_word 10))) resumed.server.hub) resumed.beginning
+        resumed.server.row_count) }
+    ensures at { IfOk result (λ resumed. resumed.server.at ≡ resumed.beginning.at) }
+    ensures floor { IfOk result (λ resumed. resumed.server.floor ≡ resumed.beginning.floor) }
+    ensures sockets { IfOk result (λ resumed. IsNew (H.Sockets.recorded resumed.server.sockets)) }
 {
     let rows = match host.read_rows(alloc) {
         Ok(rows) => rows,
@@ -79,19 +104,24 @@ pub fn start_with_journal<'a, H: Host>(
     let start = decide(alloc, &rows, &journals, at)?;
     let realm = Octets::from_slice(alloc, rows.realm())?;
     let opened = opened_by(options.is_first, at);
+    let floor = floor_by(opened, &start);
     let kdc = open(alloc, rows, options.limits, opened, &start)?;
     let rng = ChaCha20Rng::from_seed(seed);
-    Ok(JournaledServer {
+    Ok(ResumedServer {
         server: ReadyServer {
-            hub: Hub::new(alloc, kdc, rng, keeps_accounts(options)),
+            hub: Hub::new(alloc, placed(kdc, seed), rng, keeps_accounts(options)),
             sockets,
-            opening: opening_like(opened, &start),
+            at,
+            floor,
             row_count,
         },
-        journals,
-        start,
-        at,
-        realm,
+        beginning: JournalBeginning {
+            realm,
+            at,
+            floor,
+            start,
+            journals,
+        },
     })
 }
 
@@ -129,17 +159,6 @@ fn decide(
     start_of(alloc, &place, &journals.older, &journals.newer)
 }
 
-/// Returns how the KDC starts if it can't resume.
-fn opened_by(is_first: bool, at: Moment) -> Opening
-    ensures { result ≡ opened_by is_first at }
-{
-    if is_first {
-        Opening::First
-    } else {
-        Opening::Restart(at)
-    }
-}
-
 fn open(
     alloc: Global,
     rows: Database,
@@ -155,57 +174,12 @@ fn open(
     }
 }
 
-/// Returns an opening with the floor of the start.
-fn opening_like(opened: Opening, start: &Start) -> Opening {
+/// Returns the floor of a start.
+fn floor_by(opening: Opening, start: &Start) -> i64
+    ensures { result ≡ (known_by opening start.now).floor }
+{
     match start {
-        Start::Refuses { .. } => opened,
-        Start::Resumes { resumption, .. } => {
-            match Moment::new(resumption.floor.saturating_sub(AFTER), 0) {
-                Some(at) => Opening::Restart(at),
-                None => Opening::First,
-            }
-        }
-    }
-}
-
-impl<S: Drop> JournaledServer<S> {
-    /// Returns which requests are refused after the start. A floor before the moment of the start refuses only what is
-    /// too old.
-    pub fn refused(&self) -> Option<Refused> {
-        let refused = refused_at_start(self.server.opening)?;
-        match refused {
-            Refused::All(until) if until > self.at.sec => Some(refused),
-            Refused::All(_) | Refused::ServedLater(_) => None,
-        }
-    }
-
-    /// Begins the journal of this server, or goes on with the one that was read, whose open files these are.
-    pub fn begin_journal<'a, F: Files<File = File>, W: Write + Drop>(
-        self,
-        alloc: Global,
-        files: &'a F,
-        path: &'a str,
-        lines: W,
-        held: HeldFiles,
-    ) -> (ReadyServer<S>, io::Result<JournalFile<'a, F, W>>) {
-        let JournaledServer {
-            server,
-            journals,
-            start,
-            at,
-            realm,
-        } = self;
-        let beginning = JournalBeginning {
-            realm,
-            at,
-            floor: server.opening.floor(),
-            start,
-            opened: OpenedJournals {
-                journals,
-                files: held,
-            },
-        };
-        let journal = JournalFile::start(alloc, files, path, lines, beginning);
-        (server, journal)
+        Start::Resumes { resumption, .. } => resumption.floor,
+        Start::Refuses { .. } => opening.floor(),
     }
 }

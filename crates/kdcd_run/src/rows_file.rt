@@ -2,11 +2,12 @@
 ghost use Rattle.std.specs.Prelude.{None};
 
 use crate::files::{FileFault, database_of, place_of, read_whole};
+use crate::plain_files::{open_plain, say_rights};
 use kdc_serving::{Look, OtherRealm, RowSource};
 use principals::Database;
 use std::alloc::Global;
-use std::fs::{File, Metadata};
-use std::io::{Error, ErrorKind, Write};
+use std::fs::{Metadata, OpenFile};
+use std::io::Write;
 use std::os::unix::fs::MetadataExt;
 use std::rt::{Clock, Files};
 use std::time::Instant;
@@ -73,13 +74,24 @@ impl<'a, F: Files + Clock, W: Write + Drop> RowsFile<'a, F, W> {
         }
     }
 
-    /// Reads the rows of the file.
+    /// Reads the rows of the file. Logs if others have rights on it.
     pub fn read(&mut self, alloc: Global) -> Result<Database, FileFault> {
         self.place = None;
-        let octets = read_whole(alloc, File::open(self.files, self.path)?)?;
+        let file = open_plain(self.files, self.path)?;
+        let standing = file.metadata()?;
+        let octets = read_whole(alloc, file)?;
         let read = database_of(alloc, &octets);
-        if let Err(fault) = &read {
-            self.place = place_of(alloc, &octets, fault);
+        match &read {
+            Ok(_) => {
+                say_rights(
+                    self.files,
+                    &mut self.lines,
+                    "database",
+                    self.path,
+                    &standing,
+                )
+            }
+            Err(fault) => self.place = place_of(alloc, &octets, fault),
         }
         read
     }
@@ -106,11 +118,6 @@ impl<'a, F: Files + Clock, W: Write + Drop> RowsFile<'a, F, W> {
             return self.retried_rows(alloc);
         }
         self.failed_at = None;
-        if !metadata.is_file() {
-            // Reading a pipe might wait.
-            let fault = Error::new(ErrorKind::InvalidInput, "it is no file");
-            return Err(FileFault::Failed(fault));
-        }
         Ok(Some(self.read_or_note(alloc)?))
     }
 

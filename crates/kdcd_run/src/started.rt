@@ -1,7 +1,10 @@
 //! The lines that a server writes once it listens.
+ghost use Rattle.std.specs.Prelude.{◌≡◌};
+ghost use Rattle.kdcd_run.specs.Clocks.{quiet_until};
+ghost use Rattle.kdcd_run.specs.Resuming.{found_by};
+
 use crate::clock_watch::Refused;
 use journal::{Doubt, Start};
-use krb_fields::Second;
 use principal_rows::Limits;
 use std::fmt;
 use std::net::SocketAddr;
@@ -23,7 +26,9 @@ pub enum JournalFound {
 
 impl JournalFound {
     /// Returns what a start made of its journal.
-    pub fn of(start: &Start) -> JournalFound {
+    pub fn of(start: &Start) -> JournalFound
+        ensures { result ≡ found_by start.now }
+    {
         match start {
             Start::Resumes { resumption, .. } => JournalFound::Resumed(resumption.seen.len()),
             Start::Refuses { doubt } => JournalFound::Doubted(*doubt),
@@ -90,10 +95,13 @@ fn write_refused<W: fmt::Write>(
 }
 
 /// Returns the second before which refused requests get no reply, if the start is quiet.
-pub fn quiet_until(refused: Option<Refused>, is_quiet: bool) -> Option<Second> {
+pub fn quiet_until(refused: Option<Refused>, is_quiet: bool) -> Option<i64>
+    ensures { result ≡ quiet_until refused is_quiet }
+{
     match refused {
-        Some(Refused::All(until)) if is_quiet => Second::new(until),
-        Some(_) | None => None,
+        Some(Refused::All(until)) => { if is_quiet { Some(until) } else { None } }
+        Some(Refused::ServedLater(_)) => None,
+        None => None,
     }
 }
 

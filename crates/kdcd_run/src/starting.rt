@@ -1,17 +1,19 @@
 //! Starting a server as its options say.
-ghost use Rattle.std.specs.Prelude.{◌≡◌, ◌||◌, IfOk, Some, is_some};
+ghost use Rattle.std.specs.Prelude.{◌≡◌, ◌||◌, IfOk, is_some};
 ghost use Rattle.std.specs.Option.{option_copied};
 ghost use Rattle.kdc_hub.specs.Hub.{standing};
-ghost use Rattle.kdc_hub.specs.Wire.{Records};
+ghost use Rattle.kdcd_run.specs.Served.{IsNew};
 ghost use Rattle.rand_core.specs.Steps.{steps_u32, stream_of};
 ghost use Rattle.rand_chacha.specs.ChaCha.{next_word};
-ghost use Rattle.kdcd_run.specs.Starting.{IsReady, IsSeed, is_first, looks};
+ghost use Rattle.kdcd_run.specs.Starting.{IsReady, IsSeed, opened_by};
 
 use crate::args::ServeOptions;
 use crate::files::{FileFault, seed_of};
 use crate::host::Host;
+use crate::key_places::placed;
 use kdc_core::{Kdc, Opening};
 use kdc_hub::Hub;
+use krb_fields::Moment;
 use rand_chacha::ChaCha20Rng;
 use rand_core::SeedableRng;
 use std::alloc::{AllocError, Global};
@@ -73,8 +75,10 @@ impl<S> StartFault<'_, S> {
 pub struct ReadyServer<S> {
     pub hub: Hub<ChaCha20Rng>,
     pub sockets: S,
-    /// How its KDC started.
-    pub opening: Opening,
+    /// When it started.
+    pub at: Moment,
+    /// The second since 1970 below which every time is too old for its KDC.
+    pub floor: i64,
     /// The number of rows that it serves.
     pub row_count: usize,
 }
@@ -86,9 +90,9 @@ pub fn start_server<'a, H: Host>(
     host: &mut H,
     options: &ServeOptions<'a>,
 ) -> Result<ReadyServer<H::Sockets>, StartFault<'a, H::SocketFault>>
-    ensures { IfOk result (λ ready.
-        IsReady options.now (H.recorded host.old) (H.recorded host.new)
-        (standing (stream_of (steps_u32 (next_word 10))) ready.hub) ready.opening ready.row_count) }
+    ensures start { IfOk result (λ ready. IsReady options.now (H.recorded host.old) (H.recorded host.new)
+        (standing (stream_of (steps_u32 (next_word 10))) ready.hub) ready.at ready.floor ready.row_count) }
+    ensures sockets { IfOk result (λ ready. IsNew (H.Sockets.recorded ready.sockets)) }
 {
     let rows = match host.read_rows(alloc) {
         Ok(rows) => rows,
@@ -100,13 +104,18 @@ pub fn start_server<'a, H: Host>(
         Ok(sockets) => sockets,
         Err(fault) => return Err(StartFault::Sockets(fault)),
     };
-    let opening = take_opening(host, options.is_first)?;
+    let at = match host.now() {
+        Ok(at) => at,
+        Err(error) => return Err(StartFault::Clock(error)),
+    };
+    let opening = opened_by(options.is_first, at);
     let kdc = Kdc::open(alloc, rows, options.limits, opening)?;
     let rng = ChaCha20Rng::from_seed(seed);
     Ok(ReadyServer {
-        hub: Hub::new(alloc, kdc, rng, keeps_accounts(options)),
+        hub: Hub::new(alloc, placed(kdc, seed), rng, keeps_accounts(options)),
         sockets,
-        opening,
+        at,
+        floor: opening.floor(),
         row_count,
     })
 }
@@ -145,19 +154,13 @@ fn read_seed<H: Host>(alloc: Global, host: &mut H, path: &str) -> Result<[u8; 32
     seed_of(&octets)
 }
 
-/// Returns how the server starts: for the first time, or again at the moment that the clock shows.
-fn take_opening<'a, H: Host>(
-    host: &mut H,
-    starts_first: bool,
-) -> Result<Opening, StartFault<'a, H::SocketFault>>
-    ensures first { IfOk result (λ opening. is_first opening ≡ starts_first) }
-    ensures looks { IfOk result (λ opening. Records (H.recorded host.old) (looks opening) (H.recorded host.new)) }
+/// Returns how the KDC starts where it does not resume.
+pub(crate) fn opened_by(is_first: bool, at: Moment) -> Opening
+    ensures { result ≡ opened_by is_first at }
 {
-    if starts_first {
-        return Ok(Opening::First);
-    }
-    match host.now() {
-        Ok(at) => Ok(Opening::Restart(at)),
-        Err(error) => Err(StartFault::Clock(error)),
+    if is_first {
+        Opening::First
+    } else {
+        Opening::Restart(at)
     }
 }

@@ -28,9 +28,12 @@ values_from wanted tag p (line ∷ lines) =
 abbrev pub values_of : LinePlace → List ℕ → List ℕ → List (List ℕ)
 values_of wanted tag text = values_from wanted tag (section_place []) (lines_of text)
 
--- `default_realm` of `[libdefaults]`
+-- the relations of `[libdefaults]` with this tag
+abbrev pub library_values : List ℕ → List ℕ → List (List ℕ)
+library_values tag text = values_of (section_place (codes "libdefaults")) tag text
+
 abbrev pub default_realms : List ℕ → List (List ℕ)
-default_realms text = values_of (section_place (codes "libdefaults")) (codes "default_realm") text
+default_realms text = library_values (codes "default_realm") text
 
 -- `kdc` of a realm in `[realms]`
 abbrev pub kdc_values : List ℕ → List ℕ → List (List ℕ)

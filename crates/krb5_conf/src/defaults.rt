@@ -3,7 +3,7 @@ ghost use Rattle.std.specs.Prelude.{◌≡◌, map, IfOk};
 ghost use Rattle.std.specs.List.{slice_get};
 ghost use Rattle.std.specs.Option.{option_map};
 ghost use Rattle.krb5_conf.specs.Kdc.{kdc_texts};
-ghost use Rattle.krb5_conf.specs.Values.{default_realms, kdc_values};
+ghost use Rattle.krb5_conf.specs.Values.{default_realms, kdc_values, library_values};
 
 use crate::kdc::plain_texts;
 use crate::place::LinePlace;
@@ -20,6 +20,19 @@ pub fn default_realm(alloc: Global, text: &[u8]) -> Result<Option<&[u8]>, AllocE
             .first()
             .copied(),
     )
+}
+
+/// Returns the values with this tag in `[libdefaults]`, in order, as written. The first counts.
+pub fn library_settings<'a>(
+    alloc: Global,
+    text: &'a [u8],
+    tag: &[u8],
+) -> Result<Vec<&'a [u8]>, AllocError>
+    ensures { IfOk result (λ found.
+        map (λ value. value.now) found.items ≡ library_values tag.now text.now) }
+{
+    let wanted = LinePlace::of_section(b"libdefaults");
+    values(alloc, text, wanted, tag)
 }
 
 /// Returns the texts that name a realm's KDCs, in order: each `kdc` of the realm in `[realms]`. Those with a `/`, such

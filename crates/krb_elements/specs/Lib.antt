@@ -1,5 +1,6 @@
 pub mod Sent
 pub mod Format
+pub mod Taking
 pub mod Spells
 pub mod Written
 pub mod Continues
@@ -17,3 +18,4 @@ pub mod ShortTextLaws
 pub mod TextLengthLaws
 pub mod InsideLaws
 pub mod CopyLaws
+pub mod DecodedLaws

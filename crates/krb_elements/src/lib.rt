@@ -8,12 +8,15 @@ mod codec;
 mod fault;
 mod lent;
 mod lists;
+mod messages;
 mod microseconds;
 mod octets;
+mod owned_lists;
 mod reading;
 mod seq;
 mod simple;
 mod string;
+mod taking;
 mod uint32;
 mod writing;
 
@@ -21,6 +24,7 @@ pub use codec::{Application, Coded, Fielded, MakeOwned, Round, Untagged, applica
 pub use fault::Fault;
 pub use lent::Lent;
 pub use lists::SeqRef;
+pub use messages::{decode, encode};
 pub use microseconds::Microseconds;
 pub use octets::{Octets, OctetsRef};
 pub use reading::{
@@ -29,5 +33,8 @@ pub use reading::{
 };
 pub use seq::Seq;
 pub use string::{KerberosString, KerberosStringRef};
+pub use taking::{
+    TakeFields, TakeOwned, take_owned, take_owned_optional, take_sequence, take_whole,
+};
 pub use uint32::UInt32;
 pub use writing::{Encode, EncodeFields, write, write_field, write_inside, write_optional};

@@ -1,6 +1,6 @@
 -- A service with the key of an issued ticket accepts what its client presents.
 use Rattle.std.proofs.Common.{◌≡◌, ℕ, ℤ, pos, ◌+ℤ◌, ◌-ℤ◌, ◌≤ℤ◌, Bool, true, false, not, ◌&&◌, ◌||◌, cond, List, [], ◌∷◌, length, Option, Some, None, Result, Ok, refl, sym, ap, ◌∙◌, is_some, is_none, arith}
-use Rattle.std.specs.Prelude.{IfSome, int_lt, nat_eq, option_map, ⊤}
+use Rattle.std.specs.Prelude.{IfSome, int_lt, nat_eq, option_and_then, option_map, ⊤}
 use Rattle.std.specs.Ordering.{eq_by_cmp, int_eq}
 use Rattle.std.specs.Cmp.Lexicographic.{bytes_decides, pointwise}
 use Rattle.std.proofs.lemmas.Bool.Decides.{Decides-int_eq}
@@ -33,7 +33,7 @@ use Rattle.kdc_replies.specs.Issue.{Issue, issued_ticket, issued_ticket_part}
 use Rattle.client_core.specs.Presenting.{subkey_part}
 use Rattle.client_core.specs.ServiceRequests.{ap_authenticator, ap_options, asks_ap}
 use Rattle.client_core.specs.declared.service_asked.ServiceAsked.{ServiceAsked}
-use Rattle.ap_accept.specs.Accepts.{accepted, accepts, if_presented, if_request, refusal_by, request_of, unless_invalid, unless_seen}
+use Rattle.ap_accept.specs.Accepts.{Answer, accepted, accepts, answer_by, recorded_by, recorded_of, request_of}
 use Rattle.ap_opening.specs.Authenticators.{authenticator_of, session_key_of, subkey_in}
 use Rattle.ap_opening.specs.Keytab.{held_in, service_of, ticket_key}
 use Rattle.ap_opening.specs.Tickets.{opened_with, shown_ticket}
@@ -41,6 +41,8 @@ use Rattle.ap_accept.specs.Authenticators.{subkey_of}
 use Rattle.ap_accept.specs.Presented.{presented, presented_as}
 use Rattle.ap_accept.specs.PresentedLaws.{all_found}
 use Rattle.ap_accept.specs.Reply.{asks_reply}
+use Rattle.ap_accept.specs.StageLaws.{accepts_staged, recorded_staged}
+use Rattle.ap_accept.specs.Stages.{if_presented, refusal_by, seen_by, seen_if, staged_if, unless_seen}
 use Rattle.ap_opening.specs.Validity.{ticket_terms}
 use Rattle.ap_accept.specs.Validity.{validity_rules}
 use Rattle.ap_accept.specs.declared.presented.Presented.{Presented}
@@ -185,7 +187,16 @@ module _ (issue : Issue) (state : State) (sent : Moment) (asked : ServiceAsked) 
 
     pub answer_is : (own octets : List ℕ) → request_of octets ≡ Some ap_req → presented state.keytab ap_req ≡ Ok p → (accepts state at own octets).answer ≡ Ok (accepted own asked.mutual_required p)
     answer_is own octets read opened =
-        ap (λ (o : Option ApReq). (if_request state at.sec own o).answer) read
+        ap (λ (a : Answer). a.answer) (accepts_staged state at own octets)
+        ∙ (ap (λ (o : Option ApReq). (staged_if state at.sec own o).answer) read
         ∙ (ap (λ (r : Result Presented ApRefusal). (if_presented state at.sec own (asks_reply ap_req) r).answer) opened
         ∙ (ap (λ (v : Verdict ⊤). (unless_seen state at.sec own (asks_reply ap_req) p (refusal_by v)).answer) may.fresh
-        ∙ (λ i. unless_invalid own (asked_for asked.mutual_required i) p (valid_is i))))
+        ∙ (λ i. answer_by own (asked_for asked.mutual_required i) (valid_is i) (Some p)))))
+
+    -- and its authenticator is recorded
+    pub recorded_is : (octets : List ℕ) → request_of octets ≡ Some ap_req → presented state.keytab ap_req ≡ Ok p → recorded_by state at.sec octets ≡ Some p
+    recorded_is octets read opened =
+        ap (λ (o : Option ApReq). option_and_then (recorded_of state at.sec) o) read
+        ∙ (recorded_staged state at.sec ap_req
+        ∙ (ap (λ (r : Result Presented ApRefusal). seen_if state at.sec r) opened
+        ∙ ap (λ (v : Verdict ⊤). seen_by p (refusal_by v)) may.fresh))

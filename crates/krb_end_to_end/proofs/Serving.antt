@@ -1,7 +1,6 @@
 -- The result for the credential of an issued ticket, after the client has made an AP-REQ from it.
 use Rattle.std.proofs.Common.{◌≡◌, ℕ, Bool, true, false, List, Option, Some, None, is_some, Result, Ok, Err, refl, sym, ap, subst, ◌∙◌}
 use Rattle.std.specs.Prelude.{IfSome}
-use Rattle.std.specs.Result.{result_ok}
 use Rattle.cred_files.specs.declared.credential.Credential.{Credential}
 use Rattle.enctypes.specs.Key.{IsKey}
 use Rattle.enctypes.specs.KeyUsage.{usage_number}
@@ -23,7 +22,7 @@ use Rattle.client_core.specs.declared.fault.ClientFault.{ClientFault}
 use Rattle.client_core.specs.declared.fault.ClientFault.TheVariants as client_faults
 use Rattle.client_core.specs.declared.service_asked.ServiceAsked.{ServiceAsked}
 use Rattle.client_core.specs.declared.sessions.Session.{Session}
-use Rattle.ap_accept.specs.Accepts.{IsAnswer, accepted, accepts, presented_by, presented_if, request_of}
+use Rattle.ap_accept.specs.Accepts.{IsAnswer, accepted, accepts, recorded_by, request_of}
 use Rattle.ap_accept.specs.Presented.{presented}
 use Rattle.ap_accept.specs.Reply.{IsApReply, reply_if, reply_part}
 use Rattle.ap_accept.specs.declared.accepted.Accepted.{Accepted}
@@ -35,7 +34,7 @@ use Rattle.krb_end_to_end.specs.Credential.{IsCredentialOf, issued_credential, i
 use Rattle.krb_end_to_end.specs.Joined.{IsAccepted, IsHeard, IsJoined, IsUnheard, MayBeAccepted, moment_part}
 use Rattle.krb_end_to_end.specs.declared.fault.JoinedFault.{JoinedFault}
 use Rattle.krb_end_to_end.specs.declared.fault.JoinedFault.TheVariants.{NoReply, NotTaken, NotPresentable, NotAccepted, NotAnswered, Memory}
-use Rattle.krb_end_to_end.proofs.Accepted.{answer_is, auth, p, presented_is}
+use Rattle.krb_end_to_end.proofs.Accepted.{answer_is, auth, p, presented_is, recorded_is}
 use Rattle.krb_end_to_end.proofs.Answered.{answer_taken}
 
 ok_same : {A E : Type 0} (x y : A) (r : Result A E) → r ≡ Ok x → r ≡ Ok y → x ≡ y
@@ -102,11 +101,11 @@ module _ (issue : Issue) (state : State) (credential : Credential) (sent at : Mo
 
   -- ---- the answer
 
-  found : presented_by state octets ≡ Some (p issue state sent asked confounder)
-  found = ap (presented_if state) read ∙ ap result_ok opened
+  found : recorded_by state at.sec octets ≡ Some (p issue state sent asked confounder)
+  found = recorded_is issue state sent asked confounder at may octets read opened
 
   -- the session key decrypts the AP-REP
-  answers : (a : Accepted) → IfSome (presented_by state octets) (λ p. IfSome a.ap_rep (λ reply. IsApReply p.session_key own p.authenticator reply))
+  answers : (a : Accepted) → IfSome (recorded_by state at.sec octets) (λ p. IfSome a.ap_rep (λ reply. IsApReply p.session_key own p.authenticator reply))
       → IfSome a.ap_rep (λ reply. IsApReply issue.grant.session_key own (auth issue state sent asked confounder) reply)
   answers a reply = subst (λ (o : Option Presented). IfSome o (λ p. IfSome a.ap_rep (λ reply. IsApReply p.session_key own p.authenticator reply))) found reply
 
@@ -127,7 +126,7 @@ module _ (issue : Issue) (state : State) (credential : Credential) (sent at : Mo
 
   -- and the client accepts its reply
   pub accepted_so : (a : Accepted) (heard : Result Accepted JoinedFault) (key : Key) → session_key credential ≡ Some key → IsAnswer (Ok a) (accepts state at own octets).answer
-      → IfSome (presented_by state octets) (λ p. IfSome a.ap_rep (λ reply. IsApReply p.session_key own p.authenticator reply)) → IsHeard key sent a heard → IsJoined issue asked sent heard
+      → IfSome (recorded_by state at.sec octets) (λ p. IfSome a.ap_rep (λ reply. IsApReply p.session_key own p.authenticator reply)) → IsHeard key sent a heard → IsJoined issue asked sent heard
   accepted_so a (Ok b) key e h reply heard = subst (λ (x : Accepted). IsAccepted issue asked sent x) (sym heard.0) (joined a h (answers a reply))
   accepted_so a (Err (NotAnswered fault)) key e h reply heard =
       let shared : issue.grant.session_key ≡ key = some_same issue.grant.session_key key (sym of.key ∙ e) in

@@ -50,7 +50,7 @@ pub record MayBeAccepted (issue : Issue) (state : State) (now : ℤ) (sent : Mom
   pub started : issue.grant.times.start ≤ℤ (now +ℤ pos skew)
   pub not_ended : (now -ℤ pos skew) ≤ℤ issue.grant.times.end
   pub fresh : verdict (cache_of state (service_of (issued_ticket issue)) issue.grant.client.components) now
-      (sent.sec, sent.usec) state.limits.remembered ≡ Fresh
+      (sent.sec, sent.usec) state.options.remembered ≡ Fresh
 
 -- the authenticator's time and nothing else: what a service encrypts into the AP-REP
 abbrev pub moment_part : Moment → EncApRepPart

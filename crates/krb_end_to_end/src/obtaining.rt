@@ -84,8 +84,7 @@ fn replied(
         ≡ after_request kdc.old issuing.now.at issuing.now.random issuing.now.room request.now) }
     ensures err { OnErr result (kdc.new ≡ kdc.old) }
 {
-    let answer = kdc.handle(alloc, issuing.at, &issuing.random, issuing.room, request)?;
-    Ok(answer.reply)
+    kdc.handle(alloc, issuing.at, &issuing.random, issuing.room, request)
 }
 
 /// Looks at the random bytes, which are enough for a session key, and at the bytes of a reply.

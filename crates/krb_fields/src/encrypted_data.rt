@@ -5,8 +5,9 @@ ghost use Rattle.krb_fields.specs.EncryptedData.{encrypted_data_of, encrypted_da
 
 use krb_der::{DerFault, Reader, Writer};
 use krb_elements::{
-    Coded, Decode, DecodeFields, Encode, EncodeFields, Fielded, MakeOwned, Octets, OctetsRef,
-    UInt32, Untagged, take_field, take_optional, write_field, write_optional,
+    Coded, Decode, DecodeFields, Encode, EncodeFields, Fault, Fielded, MakeOwned, Octets,
+    OctetsRef, ReadOwned, TakeFields, TakeOwned, UInt32, Untagged, take_field, take_optional,
+    take_owned, take_sequence, take_whole, write_field, write_optional,
 };
 use std::alloc::{AllocError, Global};
 
@@ -64,5 +65,28 @@ impl<C: MakeOwned> MakeOwned for EncryptedData<C> {
             kvno: self.kvno,
             cipher: self.cipher.copy(alloc)?,
         })
+    }
+}
+
+impl<C: TakeOwned> TakeFields for EncryptedData<C> {
+    #[tactic(auto, unfolding(crate::specs::EncryptedData::encrypted_data_form))]
+    fn take_fields(alloc: Global, fields: &mut Reader<'_>) -> Result<EncryptedData<C>, Fault> {
+        Ok(EncryptedData {
+            etype: take_field(fields, 0)?,
+            kvno: take_optional(fields, 1)?,
+            cipher: take_owned(alloc, fields, 2)?,
+        })
+    }
+}
+
+impl<C: TakeOwned> TakeOwned for EncryptedData<C> {
+    fn take_parts(alloc: Global, reader: &mut Reader<'_>) -> Result<EncryptedData<C>, Fault> {
+        take_sequence(alloc, reader)
+    }
+}
+
+impl<C: TakeOwned> ReadOwned for EncryptedData<C> {
+    fn read_parts(alloc: Global, bytes: &[u8]) -> Result<EncryptedData<C>, Fault> {
+        take_whole(alloc, bytes)
     }
 }

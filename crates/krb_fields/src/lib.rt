@@ -30,7 +30,7 @@ pub use moment::{Moment, SKEW};
 pub use name::{Name, NameRef};
 pub use name_limits::{MAX_COMPONENTS, MAX_OCTETS, is_component};
 pub use name_text::{NT_PRINCIPAL, NameFault, component_from_text, component_to_text};
-pub use pa_data::{PaData, PaDataRef};
+pub use pa_data::{MethodData, PaData, PaDataRef};
 pub use pa_data_type::{PA_ENC_TIMESTAMP, PA_ETYPE_INFO2, PA_TGS_REQ};
 pub use second::Second;
 pub use ticket_flag::TicketFlag;

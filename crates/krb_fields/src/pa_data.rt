@@ -5,8 +5,9 @@ ghost use Rattle.krb_fields.specs.PaData.{pa_data_of, pa_data_form};
 
 use krb_der::{DerFault, Reader, Writer};
 use krb_elements::{
-    Coded, Decode, DecodeFields, Encode, EncodeFields, Fielded, MakeOwned, Octets, OctetsRef,
-    Untagged, take_field, write_field,
+    Coded, Decode, DecodeFields, Encode, EncodeFields, Fault, Fielded, MakeOwned, Octets,
+    OctetsRef, Seq, TakeFields, TakeOwned, Untagged, take_field, take_owned, take_sequence,
+    write_field,
 };
 use std::alloc::{AllocError, Global};
 
@@ -19,6 +20,9 @@ pub struct PaData<V = Octets> {
 
 /// A borrowed [`PaData`].
 pub type PaDataRef<'a> = PaData<OctetsRef<'a>>;
+
+/// METHOD-DATA (RFC 4120, section 5.9.1): the preauthentication data of an error.
+pub type MethodData = Seq<PaData>;
 
 impl<V: Coded> Coded for PaData<V> {
     ghost codec = { pa_data_of V.codec };
@@ -60,5 +64,21 @@ impl<V: MakeOwned> MakeOwned for PaData<V> {
             padata_type: self.padata_type,
             padata_value: self.padata_value.copy(alloc)?,
         })
+    }
+}
+
+impl<V: TakeOwned> TakeFields for PaData<V> {
+    #[tactic(auto, unfolding(crate::specs::PaData::pa_data_form))]
+    fn take_fields(alloc: Global, fields: &mut Reader<'_>) -> Result<PaData<V>, Fault> {
+        Ok(PaData {
+            padata_type: take_field(fields, 1)?,
+            padata_value: take_owned(alloc, fields, 2)?,
+        })
+    }
+}
+
+impl<V: TakeOwned> TakeOwned for PaData<V> {
+    fn take_parts(alloc: Global, reader: &mut Reader<'_>) -> Result<PaData<V>, Fault> {
+        take_sequence(alloc, reader)
     }
 }

@@ -1,13 +1,16 @@
-//! `krb_login NAME SERVICE`: logs in to the default realm with the password on the first line of standard input, gets a
-//! service ticket, and prints when it ends. It is an example of a program that uses `client_login` and `client_files`.
+//! `krb_login NAME SERVICE KEYTAB`: logs in to the default realm with the password on the first line of standard input,
+//! checks with the keytab of a service of this computer that the KDC is the realm's, and prints when the service's ticket
+//! ends. It is an example of a program that lets somebody in by a password.
 #![tactic(auto)]
 
-use client_files::{Cause, Config, Defaults, Fault, Variable, at, at_file, login_fault};
+use client_files::{
+    Cause, Config, Defaults, Fault, Variable, at, at_file, login_fault, read_keytab,
+};
 use client_login::{
     KdcClient, Kdcs, Login, LoginFault, Password, Secret, Transports, Wishes, granting_service,
 };
 use client_sockets::{SocketNetwork, now};
-use cred_files::{Credential, Principal};
+use cred_files::{Credential, Keytab, Principal};
 use file_store::{FileCause, FileStore, ask_password, draw_seed};
 use krb_elements::Octets;
 use krb_fields::{Name, component_to_text};
@@ -17,7 +20,7 @@ use std::alloc::Global;
 use std::process::ExitCode;
 use std::{env, io};
 
-/// The status if a login is refused or gets no reply.
+/// The status if a login is refused, gets no reply, or is not verified.
 const REFUSED: u8 = 1;
 
 /// The status of a usage error.
@@ -25,13 +28,20 @@ const USAGE: u8 = 2;
 
 type Client<'a> = KdcClient<SocketNetwork<'a, HostRuntime>>;
 
+/// A service of this computer, whose keys the network doesn't know.
+#[derive(Drop)]
+struct OwnService {
+    name: Name,
+    keytab: Keytab,
+}
+
 fn main(rt: HostRuntime) -> io::Result<ExitCode> {
     let args: Vec<String> = env::args(&rt)?.collect(rt.alloc())?;
-    let [_, name, service] = args.as_slice() else {
-        println!(rt; "usage: krb_login NAME SERVICE")?;
+    let [_, name, service, keytab] = args.as_slice() else {
+        println!(rt; "usage: krb_login NAME SERVICE KEYTAB")?;
         return Ok(ExitCode::from(USAGE));
     };
-    match run(&rt, name.as_str(), service.as_str()) {
+    match run(&rt, name.as_str(), service.as_str(), keytab.as_str()) {
         Ok(ticket) => {
             println!(rt; "{}", ticket.times.end_time.seconds())?;
             Ok(ExitCode::SUCCESS)
@@ -43,33 +53,35 @@ fn main(rt: HostRuntime) -> io::Result<ExitCode> {
     }
 }
 
-/// Logs in, and gets a ticket for the service.
-fn run(rt: &HostRuntime, name: &str, service: &str) -> Result<Credential, Fault> {
+/// Reads what a login needs, logs in, and returns the service's ticket.
+fn run(rt: &HostRuntime, name: &str, service: &str, keytab: &str) -> Result<Credential, Fault> {
     let alloc = rt.alloc();
-    let service = read_name(alloc, service)?;
+    let service = OwnService {
+        name: read_name(alloc, service)?,
+        keytab: read_keytab(alloc, &mut FileStore::new(rt), keytab)?,
+    };
     let mut client = new_client(rt)?;
     let login = read_login(rt, &mut client, name)?;
     let secret = Secret::Password(read_password(rt, &login, name)?);
-    match get_ticket(rt, &mut client, &login, &secret, &service)? {
+    let seed = at_file(alloc, draw_seed(&mut FileStore::new(rt)))?;
+    let mut rng = ChaCha20Rng::from_seed(seed);
+    match log_in(alloc, &mut client, &mut rng, &login, &secret, &service) {
         Ok(ticket) => Ok(ticket),
         Err(fault) => Err(login_fault(alloc, &client.kdcs, name, fault)),
     }
 }
 
-fn get_ticket(
-    rt: &HostRuntime,
+/// Logs in, and returns a ticket that only a KDC with the service's key can have sealed.
+fn log_in(
+    alloc: Global,
     client: &mut Client<'_>,
+    rng: &mut ChaCha20Rng,
     login: &Login,
     secret: &Secret,
-    service: &Name,
-) -> Result<Result<Credential, LoginFault>, Fault> {
-    let alloc = rt.alloc();
-    let seed = at_file(alloc, draw_seed(&mut FileStore::new(rt)))?;
-    let mut rng = ChaCha20Rng::from_seed(seed);
-    match client.log_in(alloc, &mut rng, login, secret) {
-        Ok(granting) => Ok(client.service_ticket(alloc, &mut rng, &granting, service)),
-        Err(fault) => Ok(Err(fault)),
-    }
+    service: &OwnService,
+) -> Result<Credential, LoginFault> {
+    let granting = client.log_in(alloc, rng, login, secret)?;
+    client.verify(alloc, rng, &granting, &service.name, &service.keytab)
 }
 
 /// Returns a client whose KDCs are not known yet, at the moment that the clock shows.
@@ -100,8 +112,7 @@ fn read_login(rt: &HostRuntime, client: &mut Client<'_>, name: &str) -> Result<L
     };
     let config = Config::read(alloc, &mut FileStore::new(rt), &defaults)?;
     let realm = config.default_realm(alloc)?;
-    let kdcs = config.kdcs(alloc, &mut client.kdcs.exchange, realm.as_slice())?;
-    client.kdcs.addresses.extend_from_slice(&kdcs.addresses)?;
+    client.kdcs.places = config.kdcs(alloc, realm.as_slice())?;
     let service = granting_service(alloc, &realm)?;
     Ok(Login {
         client: Principal { realm, name },

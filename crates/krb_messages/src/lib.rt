@@ -2,6 +2,7 @@
 #![tactic(auto)]
 
 mod kdc_req;
+mod kdc_req_owned;
 mod krb_error;
 mod numbers;
 mod req_body;

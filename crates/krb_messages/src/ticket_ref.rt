@@ -1,8 +1,8 @@
-//! Borrowed tickets.
+//! Borrowed tickets, and copies of them.
 ghost use Rattle.std.specs.Prelude.{◌≡◌, IfOk};
 
 use crate::ticket::{Ticket, TicketRef};
-use krb_elements::MakeOwned;
+use krb_elements::{Fault, MakeOwned, ReadOwned, read};
 use std::alloc::{AllocError, Global};
 
 impl<'a> TicketRef<'a> {
@@ -11,5 +11,12 @@ impl<'a> TicketRef<'a> {
         ensures { IfOk result (λ ticket. ticket ≡ self.now) }
     {
         self.copy(alloc)
+    }
+}
+
+impl ReadOwned for Ticket {
+    fn read_parts(alloc: Global, bytes: &[u8]) -> Result<Ticket, Fault> {
+        let found: TicketRef<'_> = read(bytes)?;
+        Ok(found.to_ticket(alloc)?)
     }
 }

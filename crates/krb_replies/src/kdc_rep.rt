@@ -11,9 +11,9 @@ ghost use Rattle.krb_replies.specs.KdcRep as trees;
 use crate::numbers::{AS_REP, TGS_REP};
 use krb_der::{DerFault, Reader, Writer};
 use krb_elements::{
-    Application, Coded, Decode, DecodeFields, Encode, EncodeFields, Fielded, KerberosString,
-    KerberosStringRef, MakeOwned, Seq, SeqRef, read, take_field, take_fixed, take_optional,
-    write_field, write_optional,
+    Application, Coded, Decode, DecodeFields, Encode, EncodeFields, Fault, Fielded, KerberosString,
+    KerberosStringRef, MakeOwned, ReadOwned, Seq, SeqRef, read, take_field, take_fixed,
+    take_optional, write_field, write_optional,
 };
 use krb_fields::{EncryptedData, EncryptedDataRef, Name, NameRef, PaData, PaDataRef};
 use krb_messages::{PVNO, Ticket, TicketRef};
@@ -143,6 +143,22 @@ impl<const TYPE: u8, P: MakeOwned, S: MakeOwned, N: MakeOwned, T: MakeOwned, E: 
             ticket: self.ticket.copy(alloc)?,
             enc_part: self.enc_part.copy(alloc)?,
         })
+    }
+}
+
+fn copied<const TYPE: u8>(
+    alloc: Global,
+    found: &KdcRepRef<'_, TYPE>,
+) -> Result<KdcRep<TYPE>, AllocError>
+    ensures { IfOk result (λ copy. copy ≡ found.now) }
+{
+    found.copy(alloc)
+}
+
+impl<const TYPE: u8> ReadOwned for KdcRep<TYPE> {
+    fn read_parts(alloc: Global, bytes: &[u8]) -> Result<KdcRep<TYPE>, Fault> {
+        let found: KdcRepRef<'_, TYPE> = read(bytes)?;
+        Ok(copied(alloc, &found)?)
     }
 }
 

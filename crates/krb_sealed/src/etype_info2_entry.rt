@@ -5,8 +5,9 @@ ghost use Rattle.krb_sealed.specs.EtypeInfo2Entry.{etype_info2_entry_of, etype_i
 
 use krb_der::{DerFault, Reader, Writer};
 use krb_elements::{
-    Coded, Decode, DecodeFields, Encode, EncodeFields, Fielded, KerberosString, KerberosStringRef,
-    MakeOwned, Octets, OctetsRef, Untagged, take_field, take_optional, write_field, write_optional,
+    Coded, Decode, DecodeFields, Encode, EncodeFields, Fault, Fielded, KerberosString,
+    KerberosStringRef, MakeOwned, Octets, OctetsRef, Seq, TakeFields, TakeOwned, Untagged,
+    take_field, take_optional, take_owned_optional, take_sequence, write_field, write_optional,
 };
 use std::alloc::{AllocError, Global};
 
@@ -22,6 +23,9 @@ pub struct EtypeInfo2Entry<S = KerberosString, O = Octets> {
 
 /// A borrowed [`EtypeInfo2Entry`].
 pub type EtypeInfo2EntryRef<'a> = EtypeInfo2Entry<KerberosStringRef<'a>, OctetsRef<'a>>;
+
+/// ETYPE-INFO2: the entries, in order of preference.
+pub type EtypeInfo2 = Seq<EtypeInfo2Entry>;
 
 impl<S: Coded, O: Coded> Coded for EtypeInfo2Entry<S, O> {
     ghost codec = { etype_info2_entry_of S.codec O.codec };
@@ -70,5 +74,22 @@ impl<S: MakeOwned, O: MakeOwned> MakeOwned for EtypeInfo2Entry<S, O> {
             salt: self.salt.copy(alloc)?,
             s2kparams: self.s2kparams.copy(alloc)?,
         })
+    }
+}
+
+impl<S: TakeOwned, O: TakeOwned> TakeFields for EtypeInfo2Entry<S, O> {
+    #[tactic(auto, unfolding(crate::specs::EtypeInfo2Entry::etype_info2_entry_form))]
+    fn take_fields(alloc: Global, fields: &mut Reader<'_>) -> Result<EtypeInfo2Entry<S, O>, Fault> {
+        Ok(EtypeInfo2Entry {
+            etype: take_field(fields, 0)?,
+            salt: take_owned_optional(alloc, fields, 1)?,
+            s2kparams: take_owned_optional(alloc, fields, 2)?,
+        })
+    }
+}
+
+impl<S: TakeOwned, O: TakeOwned> TakeOwned for EtypeInfo2Entry<S, O> {
+    fn take_parts(alloc: Global, reader: &mut Reader<'_>) -> Result<EtypeInfo2Entry<S, O>, Fault> {
+        take_sequence(alloc, reader)
     }
 }

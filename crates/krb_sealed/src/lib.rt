@@ -20,6 +20,6 @@ pub use enc_kdc_rep_part::{EncKdcRepPart, EncKdcRepPartRef};
 pub use enc_ticket_part::{
     EncTicketPart, EncTicketPartRef, decode_enc_ticket_part, encode_enc_ticket_part,
 };
-pub use etype_info2_entry::{EtypeInfo2Entry, EtypeInfo2EntryRef};
+pub use etype_info2_entry::{EtypeInfo2, EtypeInfo2Entry, EtypeInfo2EntryRef};
 pub use last_req::LastReq;
 pub use pa_enc_ts_enc::{PaEncTsEnc, decode_pa_enc_ts_enc, encode_pa_enc_ts_enc};

@@ -1,7 +1,7 @@
 //! Logins of one client, one after another.
-use crate::network::{SECOND_PORT, Said, SaidNetwork};
+use crate::network::{HOST, SECOND_PORT, Said, SaidNetwork};
 use client_login::{
-    KdcClient, Kdcs, Login, Password, Secret, Transports, Wishes, granting_service,
+    KdcClient, KdcPlace, Kdcs, Login, Password, Secret, Transports, Wishes, granting_service,
 };
 use cred_files::Principal;
 use krb_elements::{KerberosString, Octets};
@@ -15,18 +15,19 @@ use std::test::Fail;
 
 type Client = KdcClient<SaidNetwork>;
 
-/// A client of two KDCs.
+/// A client of two KDCs: one at an address, and one at a host whose name is looked up.
 fn client(alloc: Global) -> Result<Client, Fail> {
     let at = Moment::new(1_704_067_200, 0).ok_or("a moment")?;
     let first = SocketAddr::from(([192, 0, 2, 1], 88));
-    let second = SocketAddr::from(([192, 0, 2, 2], SECOND_PORT));
-    let addresses = Vec::from_array(alloc, [first, second])?;
+    let mut places = Vec::new(alloc);
+    places.push(KdcPlace::of_address(alloc, first)?)?;
+    places.push(KdcPlace::of_host(alloc, HOST, SECOND_PORT)?)?;
     let exchange = SaidNetwork {
         said: Said::Nothing,
         ways: String::new(alloc),
     };
     Ok(KdcClient {
-        kdcs: Kdcs::new(exchange, addresses, Transports::UdpFirst),
+        kdcs: Kdcs::new(exchange, places, Transports::UdpFirst),
         at,
     })
 }
@@ -58,8 +59,14 @@ fn fault(alloc: Global, client: &mut Client) -> Result<String, Fail> {
 
 /// What each message of a login gets; why there is no ticket, and the messages.
 const LOGINS: &[(Said, &str, &str)] = &[
+    // a host is looked up when its turn comes, and only once
+    (
+        Said::Error(6),
+        "192.0.2.1:88: error 6: the client is not in the database",
+        "u",
+    ),
     // a KDC that is silent is not asked first afterwards
-    (Said::Nothing, "no KDC replied: timed out", "utUT"),
+    (Said::Nothing, "no KDC replied: timed out", "utlUT"),
     (
         Said::Error(6),
         "192.0.2.1:88: error 6: the client is not in the database",

@@ -28,11 +28,17 @@ const CODE: usize = 42;
 /// The port of the second KDC.
 pub const SECOND_PORT: u16 = 89;
 
+/// The host of the second KDC, and its address.
+pub const HOST: &str = "kdc.example.com";
+
+const SECOND_ADDRESS: [u8; 4] = [192, 0, 2, 2];
+
 /// An exchange in which each message gets the same.
 #[derive(Drop)]
 pub struct SaidNetwork {
     pub said: Said,
-    /// The messages: `u` for a datagram, `t` for one over TCP; `U` and `T` for those to the second KDC.
+    /// The messages: `u` for a datagram, `t` for one over TCP; `U` and `T` for those to the second KDC; `l` for a host
+    /// that is looked up.
     pub ways: String,
 }
 
@@ -56,6 +62,16 @@ impl Network for SaidNetwork {
             Said::NoMemory => Err(Error::from(ErrorKind::OutOfMemory)),
             Said::Error(code) => error_of(alloc, code),
         }
+    }
+
+    /// The only host is the second KDC.
+    fn look_up(&mut self, alloc: Global, host: &str, port: u16) -> io::Result<Vec<SocketAddr>> {
+        self.ways.push('l')?;
+        let mut addresses = Vec::new(alloc);
+        if host == HOST {
+            addresses.push(SocketAddr::from((SECOND_ADDRESS, port)))?;
+        }
+        Ok(addresses)
     }
 }
 

@@ -2,3 +2,4 @@ pub mod Printed
 pub mod Shown
 pub mod Named
 pub mod Dates
+mod Fields

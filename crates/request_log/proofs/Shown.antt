@@ -16,7 +16,7 @@ use Rattle.request_log.specs.Lines.{longest, shown, shown_octet, spaced, text_li
 use Rattle.request_log.specs.declared.field.FieldName.{FieldName}
 use Rattle.request_log.specs.declared.field.FieldName.TheVariants.{Time, Peer, Transport, Exchange, Client, Service}
 use Rattle.request_log.specs.declared.field.FieldName.TheVariants.{Outcome, Lifetime, Code, Reason, Rule, Etype}
-use Rattle.request_log.specs.declared.field.FieldName.TheVariants.{Flags, Until, Renew, Repeat}
+use Rattle.request_log.specs.declared.field.FieldName.TheVariants.{Flags, Until, Renew, Repeat, Sent}
 
 pub one_decides : (o : ℕ) → Decides (is_printable o) (IsPrintable o)
 one_decides o = Decides-and _ _ (leb-true 32 o, le-leb 32 o) (leb-true o 126, le-leb o 126)
@@ -77,6 +77,7 @@ name_is Flags = refl
 name_is Until = refl
 name_is Renew = refl
 name_is Repeat = refl
+name_is Sent = refl
 
 pub name_printable : (n : FieldName) → All IsPrintable (name_text n)
 name_printable n = by_all (name_text n) (name_is n)

@@ -1,5 +1,5 @@
 -- The fields of a log entry, by the account of the request.
-use Rattle.std.specs.Prelude.{ℕ, ℤ, List, [], ◌∷◌, ◌++◌, codes, decimal, length, take, nat_lt, unsigned_abs}
+use Rattle.std.specs.Prelude.{ℕ, ℤ, Bool, true, false, List, [], ◌∷◌, ◌++◌, codes, decimal, length, take, nat_lt, unsigned_abs}
 use Rattle.std.specs.Prelude.{Option, Some, None, if◌then◌else◌}
 use Rattle.std.specs.Net.Text.{socket_text}
 use Rattle.std.specs.declared.net.socket_addr.SocketAddr.{SocketAddr}
@@ -32,7 +32,7 @@ use Rattle.request_log.specs.declared.asker.Transport.{Transport as Carrier}
 use Rattle.request_log.specs.declared.asker.Transport.TheVariants.{Udp, Tcp}
 use Rattle.request_log.specs.declared.field.FieldName.TheVariants.{Time, Peer, Transport, Exchange, Client, Service}
 use Rattle.request_log.specs.declared.field.FieldName.TheVariants.{Outcome, Lifetime, Code, Reason, Rule, Etype as Etypes}
-use Rattle.request_log.specs.declared.field.FieldName.TheVariants.{Flags, Until, Renew, Repeat}
+use Rattle.request_log.specs.declared.field.FieldName.TheVariants.{Flags, Until, Renew, Repeat, Sent}
 
 -- ---- values
 
@@ -143,5 +143,10 @@ abbrev pub head_fields : ℤ → Asker → List Field
 head_fields sec asker =
     field Time (date_text sec) ∷ field Peer (peer_text asker.peer) ∷ field Transport (carrier asker.transport) ∷ []
 
-abbrev pub entry_fields : Moment → Asker → Option Account → List Field
-entry_fields at asker account = head_fields at.sec asker ++ account_fields account
+-- whether the reply was sent, if it was not
+abbrev pub sent_fields : Bool → List Field
+sent_fields true = []
+sent_fields false = field Sent (codes "no") ∷ []
+
+abbrev pub entry_fields : Moment → Asker → Option Account → Bool → List Field
+entry_fields at asker account is_sent = head_fields at.sec asker ++ (account_fields account ++ sent_fields is_sent)

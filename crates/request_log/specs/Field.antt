@@ -3,7 +3,7 @@ use Rattle.std.specs.Prelude.{ℕ, Bool, true, false, List, [], ◌∷◌, ◌++
 use Rattle.request_log.specs.declared.field.FieldName.{FieldName}
 use Rattle.request_log.specs.declared.field.FieldName.TheVariants.{Time, Peer, Transport, Exchange, Client, Service}
 use Rattle.request_log.specs.declared.field.FieldName.TheVariants.{Outcome, Lifetime, Code, Reason, Rule, Etype}
-use Rattle.request_log.specs.declared.field.FieldName.TheVariants.{Flags, Until, Renew, Repeat}
+use Rattle.request_log.specs.declared.field.FieldName.TheVariants.{Flags, Until, Renew, Repeat, Sent}
 
 -- a field: a name, and the bytes of its value
 pub record Field : Type 0 where
@@ -31,6 +31,7 @@ name_text Flags = codes "flags"
 name_text Until = codes "until"
 name_text Renew = codes "renew"
 name_text Repeat = codes "repeat"
+name_text Sent = codes "sent"
 
 -- whether a line of text has this value at a fixed place, without its name
 abbrev pub is_column : FieldName → Bool
@@ -50,6 +51,7 @@ is_column Flags = false
 is_column Until = false
 is_column Renew = false
 is_column Repeat = false
+is_column Sent = false
 
 -- fields, followed by others one by one
 abbrev pub with_fields : List Field → List Field → List Field

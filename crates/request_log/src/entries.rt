@@ -1,6 +1,7 @@
 //! The entries of the log.
 ghost use Rattle.std.specs.Prelude.{◌≡◌, ◌++◌, ◌∷◌, [], List, OnOk, option_copied};
 ghost use Rattle.request_log.specs.Entry.{account_fields, carrier, entry_fields, head_fields, names_fields};
+ghost use Rattle.request_log.specs.Entry.{sent_fields};
 ghost use Rattle.request_log.specs.Field.{Field, field, with_fields};
 ghost use Rattle.request_log.specs.declared.field.FieldName.TheVariants as names;
 
@@ -15,21 +16,46 @@ use kdc_core::Account;
 use krb_fields::{Moment, Name};
 use std::alloc::{AllocError, Global};
 
-/// Writes the fields of the log entry for a request that `asker` sent and that came in at `at`. There is no account if
-/// memory ran out.
+/// Writes the fields of the log entry for a request that `asker` sent and that came in at `at`, and whether its reply was
+/// sent. There is no account if memory ran out.
 pub fn put_entry<W: FieldWriter>(
     line: &mut W,
     alloc: Global,
     at: Moment,
     asker: Asker,
     account: Option<&Account>,
+    is_sent: bool,
 ) -> Result<(), AllocError>
-    ensures { (fields : List Field) → W.Holds line.old fields
-        → OnOk result (W.Holds line.new (with_fields fields (entry_fields at asker (option_copied account.entry)))) }
+    ensures { (fields : List Field) → W.Holds line.old fields → OnOk result
+        (W.Holds line.new (with_fields fields (entry_fields at asker (option_copied account.entry) is_sent))) }
 {
     let mut value = Vec::with_capacity(alloc, USUAL_VALUE)?;
     put_head(line, alloc, &mut value, at, asker)?;
-    put_account(line, alloc, &mut value, account)
+    put_outcome(line, alloc, &mut value, account, is_sent)
+}
+
+fn put_outcome<W: FieldWriter>(
+    line: &mut W,
+    alloc: Global,
+    value: &mut Vec<u8>,
+    account: Option<&Account>,
+    is_sent: bool,
+) -> Result<(), AllocError>
+    ensures { (fields : List Field) → W.Holds line.old fields → OnOk result
+        (W.Holds line.new (with_fields fields (account_fields (option_copied account.entry) ++ sent_fields is_sent))) }
+{
+    put_account(line, alloc, value, account)?;
+    put_sent(line, alloc, is_sent)
+}
+
+fn put_sent<W: FieldWriter>(line: &mut W, alloc: Global, is_sent: bool) -> Result<(), AllocError>
+    ensures { (fields : List Field) → W.Holds line.old fields
+        → OnOk result (W.Holds line.new (with_fields fields (sent_fields is_sent))) }
+{
+    if is_sent {
+        return Ok(());
+    }
+    line.put_printable(alloc, FieldName::Sent, b"no")
 }
 
 fn put_head<W: FieldWriter>(

@@ -39,6 +39,8 @@ pub enum FieldName {
     Renew,
     /// Whether the reply is one that was sent before.
     Repeat,
+    /// `no` if the reply was not sent.
+    Sent,
 }
 
 impl FieldName {
@@ -63,6 +65,7 @@ impl FieldName {
             FieldName::Until => "until",
             FieldName::Renew => "renew",
             FieldName::Repeat => "repeat",
+            FieldName::Sent => "sent",
         }
     }
 
@@ -76,7 +79,8 @@ impl FieldName {
             | FieldName::Flags
             | FieldName::Until
             | FieldName::Renew
-            | FieldName::Repeat => false,
+            | FieldName::Repeat
+            | FieldName::Sent => false,
             FieldName::Time
             | FieldName::Peer
             | FieldName::Transport

@@ -51,9 +51,10 @@ pub fn json_line(
     at: Moment,
     asker: Asker,
     account: Option<&Account>,
+    is_sent: bool,
 ) -> Result<Vec<u8>, AllocError>
     ensures text { IfOk result (λ line.
-        line.items ≡ json_line (entry_fields at asker (option_copied account.entry))) }
+        line.items ≡ json_line (entry_fields at asker (option_copied account.entry) is_sent)) }
     // The result is a single line, whatever the names contain.
     ensures one { IfOk result (λ line. IsLine line.items) }
 {
@@ -61,7 +62,7 @@ pub fn json_line(
         out: Writer::new(Vec::new(alloc)),
     };
     fields.out.begin_object()?;
-    put_entry(&mut fields, alloc, at, asker, account)?;
+    put_entry(&mut fields, alloc, at, asker, account, is_sent)?;
     fields.out.end_object()?;
     let mut line = fields.out.into_inner();
     line.push(b'\n')?;

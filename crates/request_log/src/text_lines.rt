@@ -50,9 +50,10 @@ pub fn text_line(
     at: Moment,
     asker: Asker,
     account: Option<&Account>,
+    is_sent: bool,
 ) -> Result<Vec<u8>, AllocError>
     ensures text { IfOk result (λ line.
-        line.items ≡ text_line (entry_fields at asker (option_copied account.entry))) }
+        line.items ≡ text_line (entry_fields at asker (option_copied account.entry) is_sent)) }
     // The result is a single line, whatever the names contain.
     ensures one { IfOk result (λ line. IsLine line.items) }
     ensures short { IfOk result (λ line. length line.items ≤ longest + 1) }
@@ -60,7 +61,7 @@ pub fn text_line(
     let mut fields = TextFields {
         text: Vec::with_capacity(alloc, LONGEST + 1)?,
     };
-    put_entry(&mut fields, alloc, at, asker, account)?;
+    put_entry(&mut fields, alloc, at, asker, account, is_sent)?;
     let mut line = fields.text;
     line.truncate(LONGEST);
     line.push(b'\n')?;

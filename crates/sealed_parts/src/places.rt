@@ -5,6 +5,7 @@ ghost use Rattle.enctypes.specs.ReadyKey as keys;
 use enctypes::{Key, KeyUsage, ReadyChecksum, ReadyKey};
 use std::alloc::{AllocError, Global};
 use std::cell::{RefCell, RefMut};
+use std::hash::{DefaultHasher, Hasher};
 
 /// How many keys are kept.
 const PLACES: usize = 256;
@@ -65,16 +66,23 @@ impl<K: Prepared> Places<K> {
         Ok(Places { places })
     }
 
-    /// Returns the place of a key for a usage. Returns `None` while it is in use.
-    pub fn place_of(&self, key: &Key, usage: KeyUsage) -> Option<RefMut<'_, Option<K>>> {
-        self.places.get(index_of(key, usage))?.try_borrow_mut().ok()
+    /// Returns the place of a key for a usage, by a hash that has begun with a secret. Returns `None` while it is in use.
+    pub fn place_of(
+        &self,
+        secret: &DefaultHasher,
+        key: &Key,
+        usage: KeyUsage,
+    ) -> Option<RefMut<'_, Option<K>>> {
+        let index = index_of(*secret, key, usage);
+        self.places.get(index)?.try_borrow_mut().ok()
     }
 }
 
 /// Returns the index of a key's place for a usage.
-fn index_of(key: &Key, usage: KeyUsage) -> usize {
-    let first = key.bytes().first().copied().unwrap_or(0);
-    (usize::from(first) + usage.number() as usize) % PLACES
+fn index_of(mut hasher: DefaultHasher, key: &Key, usage: KeyUsage) -> usize {
+    hasher.write(key.bytes());
+    hasher.write_u32(usage.number());
+    (hasher.finish() % PLACES as u64) as usize
 }
 
 /// Returns the key prepared for this usage, after putting it in this place if it isn't there.

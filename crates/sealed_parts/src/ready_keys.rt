@@ -14,9 +14,11 @@ use krb_fields::EncryptedData;
 use std::alloc::{AllocError, Global};
 use std::cell::RefMut;
 use std::fmt;
+use std::hash::{DefaultHasher, Hasher};
 
 /// A cache of recently used keys, each prepared for one usage. Most requests use keys that were used shortly before.
-/// Each key has a fixed place and evicts the one that was there.
+/// Each key has a fixed place and evicts the one that was there. The places come from a hash with a secret. So nobody can
+/// choose a key that shares a place with another one, and learn about that key from the time that its use takes.
 ///
 /// It affects speed only: each use checks that the place holds this key for this usage. So contracts don't see its
 /// contents.
@@ -24,15 +26,25 @@ use std::fmt;
 pub struct ReadyKeys {
     for_parts: Places<ReadyKey>,
     for_checksums: Places<ReadyChecksum>,
+    // The hash that has taken in the secret, and nothing else.
+    secret: DefaultHasher,
 }
 
 impl ReadyKeys {
-    /// Returns an empty cache, with room for all keys that it will hold.
+    /// Returns an empty cache, with room for all keys that it will hold. Its places have no secret yet.
     pub fn new(alloc: Global) -> Result<ReadyKeys, AllocError> {
         Ok(ReadyKeys {
             for_parts: Places::new(alloc)?,
             for_checksums: Places::new(alloc)?,
+            secret: DefaultHasher::new(),
         })
+    }
+
+    /// Places keys by this secret from now on: 16 random bytes.
+    pub fn place_by(&mut self, secret: &[u8; 16]) {
+        let mut hasher = DefaultHasher::new();
+        hasher.write(secret);
+        self.secret = hasher;
     }
 
     /// Decrypts like `open_part`, faster if the key is in the cache for this usage. It is afterwards.
@@ -84,7 +96,7 @@ impl ReadyKeys {
         ensures { IsTrue result
             ↔ (octets.now ≡ mac key.now.etype key.now.bytes (usage_number usage) text.now) }
     {
-        if let Some(mut place) = self.for_checksums.place_of(key, usage) {
+        if let Some(mut place) = self.for_checksums.place_of(&self.secret, key, usage) {
             if let Some(ready) = made_ready(&mut place, key, usage) {
                 return ready.verify(text, octets);
             }
@@ -98,7 +110,7 @@ impl ReadyKeys {
         if usage == KeyUsage::TgsRepEncPartSubkey {
             return None;
         }
-        self.for_parts.place_of(key, usage)
+        self.for_parts.place_of(&self.secret, key, usage)
     }
 }
 

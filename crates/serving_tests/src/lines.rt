@@ -387,7 +387,7 @@ type Log = RequestLines<Vec<u8>>;
 /// Writes the line of a request.
 fn write(alloc: Global, log: &mut Log, asker: Asker, account: Option<Account>) {
     if let Some(now) = Moment::new(MIDNIGHT, 999_999) {
-        log.write_entry(alloc, now, asker, account.as_ref());
+        log.write_entry(alloc, now, asker, account.as_ref(), true);
     }
 }
 

@@ -4,6 +4,7 @@ pub mod Terms
 pub mod Rules
 pub mod Issue
 pub mod Decision
+pub mod Refusals
 pub mod Answer
 pub mod Issued
 pub mod Outcome
@@ -14,3 +15,4 @@ pub mod IssuedLaws
 pub mod AskedLaws
 pub mod OutcomeLaws
 pub mod StandingLaws
+pub mod RefusalsLaws

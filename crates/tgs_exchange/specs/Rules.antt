@@ -2,7 +2,7 @@
 -- and then, once the authenticator is known to be new, those of the ticket and of the request. Each rule has its
 -- section of RFC 4120; the codes for rows that are disabled or have expired are those of section 7.5.9.
 use Rattle.std.specs.Prelude.{ℤ, Bool, false, not, ◌&&◌, ◌||◌, nat_eq, int_lt, is_none, is_some, List, []}
-use Rattle.std.specs.Prelude.{◌∷◌, Option, Some, None, Result}
+use Rattle.std.specs.Prelude.{◌∷◌, Option, Some, None, Result, option_map}
 use Rattle.std.specs.Cmp.Lexicographic.{pointwise}
 use Rattle.refusals.specs.Optional.{holds_of}
 use Rattle.refusals.specs.Refusals.{Rule, decided}
@@ -13,7 +13,7 @@ use Rattle.krb_fields.specs.declared.ticket_flag.TicketFlag.{TicketFlag}
 use Rattle.krb_fields.specs.declared.ticket_flag.TicketFlag.TheVariants.{Forwardable, Proxiable, MayPostdate, Invalid}
 use Rattle.krb_fields.specs.declared.ticket_flag.TicketFlag.TheVariants.{Renewable}
 use Rattle.krb_messages.specs.ReqBody.{ReqBody}
-use Rattle.kdc_replies.specs.Standing.{is_disabled, is_expired, is_service_denied}
+use Rattle.kdc_replies.specs.Standing.{denies_tickets, is_disabled, is_expired}
 use Rattle.principal_rows.specs.declared.row.Row.{Row}
 use Rattle.ticket_times.specs.Asked.{asks, keeps_ticket}
 use Rattle.ticket_times.specs.TicketTerms.{has_flag, start_of_ticket, renewal_of_ticket}
@@ -71,6 +71,10 @@ is_not_yet_valid ticket now body =
 abbrev pub is_service_unknown : TgsView → ReqBody → Bool
 is_service_unknown v body = not (pointwise nat_eq body.realm v.realm) || is_none body.sname || is_none v.service
 
+-- no tickets may be issued for the service
+abbrev pub is_service_denied : TgsView → ReqBody → Bool
+is_service_denied v body = denies_tickets v.realm (option_map (λ name. name.components) body.sname) v.service
+
 -- it is to be renewed or validated for another service than its own
 abbrev pub is_for_other_service : ReqBody → Name → Bool
 is_for_other_service body ticket_service = keeps_ticket body && not (is_named body.sname ticket_service)
@@ -120,7 +124,7 @@ rules_by v now body p found times =
     (is_not_yet_valid ticket now body, Ap NotYetValid)  -- 3.2.3
     ∷ (has_ended ticket now, Ap TicketExpired)  -- 3.2.3
     ∷ (is_service_unknown v body, ServiceUnknown)  -- 3.3.3
-    ∷ (is_service_denied v.service, ServiceDenied)  -- 3.3.3
+    ∷ (is_service_denied v body, ServiceDenied)  -- 3.3.3
     ∷ (is_disabled v.service, ServiceRevoked)  -- 3.3.3
     ∷ (is_expired v.service now, ServiceExpired)  -- 3.3.3
     ∷ (is_for_other_service body p.ticket_service, OtherService)  -- 3.3.2

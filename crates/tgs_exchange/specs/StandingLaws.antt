@@ -1,10 +1,11 @@
 -- The TGS exchange issues tickets only to clients, and for services, in good standing.
 use Rattle.std.proofs.Common.{◌≡◌, ℤ, ℕ, List, Option, Some, None, Result, Ok, Err, IfSome, refl, ap}
 use Rattle.std.proofs.lemmas.Bool.{or_parts}
-use Rattle.std.specs.Prelude.{◌||◌, not, nat_eq, is_none}
+use Rattle.std.specs.Prelude.{◌||◌, not, nat_eq, is_none, option_map}
 use Rattle.std.specs.Cmp.Lexicographic.{pointwise}
 use Rattle.kdc_replies.specs.GoodStanding.{AreInGoodStanding}
 use Rattle.kdc_replies.specs.GoodStandingLaws.{in_good_standing}
+use Rattle.krb_fields.specs.Name.{Components}
 use Rattle.krb_fields.specs.declared.moment.Moment.{Moment}
 use Rattle.krb_messages.specs.ReqBody.{ReqBody}
 use Rattle.refusals.specs.ClearLaws.{AreClear, decided_clear}
@@ -25,20 +26,23 @@ use Rattle.tgs_exchange.specs.Issued.{issued, issued_by}
 use Rattle.tgs_exchange.specs.declared.terms.Admission.{Admission}
 use Rattle.tgs_exchange.specs.declared.terms.Terms.{Terms}
 
+abbrev service_name : ReqBody → Option Components
+service_name body = option_map (λ name. name.components) body.sname
+
 module _ (v : TgsView) (body : ReqBody) (p : Presented) where
   clear_standing : (now : ℤ) (found : Option Terms) (times : Option Times)
       → AreClear (client_rules v now p.ticket.authtime) → AreClear (rules_by v now body p found times)
-      → AreInGoodStanding v.client v.service now
+      → AreInGoodStanding v.realm (service_name body) v.client v.service now
   clear_standing now found times client clear =
       let service = or_parts (not (pointwise nat_eq body.realm v.realm) || is_none body.sname) (is_none v.service)
       clear.1.1.0 in
-      in_good_standing v.client v.service now client.0 client.1.0 client.1.1.0 service.1 clear.1.1.1.0
+      in_good_standing v.realm (service_name body) v.client v.service now client.0 client.1.0 client.1.1.0 service.1 clear.1.1.1.0
       clear.1.1.1.1.0 clear.1.1.1.1.1.0
 
   module _ (at : Moment) (random : List ℕ) where
     admitted_standing : AreClear (client_rules v at.sec p.ticket.authtime) → (r : Result Admission TgsRefusal)
         → admitted v at.sec body p ≡ r
-        → IfSome (issued_by v at random body p (by_admission r)) (λ _. AreInGoodStanding v.client v.service at.sec)
+        → IfSome (issued_by v at random body p (by_admission r)) (λ _. AreInGoodStanding v.realm (service_name body) v.client v.service at.sec)
     admitted_standing client (Ok admission) is =
         let found = terms v body in
         let times = times_of v.limits at.sec (ticket_terms p.ticket) body found in
@@ -48,7 +52,7 @@ module _ (v : TgsView) (body : ReqBody) (p : Presented) where
 
     judged_standing : AreClear (client_rules v at.sec p.ticket.authtime) → (verdict : Verdict Kept)
         → IfSome (issued_by v at random body p (by_verdict v at.sec body p verdict))
-        (λ _. AreInGoodStanding v.client v.service at.sec)
+        (λ _. AreInGoodStanding v.realm (service_name body) v.client v.service at.sec)
     judged_standing client Skew = tt
     judged_standing client (Repeat kept) = tt
     judged_standing client Full = tt
@@ -57,7 +61,7 @@ module _ (v : TgsView) (body : ReqBody) (p : Presented) where
     client_standing : (refused : Option TgsRefusal)
         → first_holding (client_rules v at.sec p.ticket.authtime) ≡ refused
         → IfSome (issued_by v at random body p (by_client v at.sec body p refused))
-        (λ _. AreInGoodStanding v.client v.service at.sec)
+        (λ _. AreInGoodStanding v.realm (service_name body) v.client v.service at.sec)
     client_standing (Some refusal) is = tt
     client_standing None is =
         judged_standing
@@ -66,5 +70,5 @@ module _ (v : TgsView) (body : ReqBody) (p : Presented) where
         (verdict_on v at.sec p)
 
     -- of what is issued
-    pub issued_standing : IfSome (issued v at random body p) (λ _. AreInGoodStanding v.client v.service at.sec)
+    pub issued_standing : IfSome (issued v at random body p) (λ _. AreInGoodStanding v.realm (service_name body) v.client v.service at.sec)
     issued_standing = client_standing (first_holding (client_rules v at.sec p.ticket.authtime)) refl

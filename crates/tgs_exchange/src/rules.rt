@@ -5,12 +5,12 @@ ghost use Rattle.tgs_exchange.specs.Rules.{admitted_by, asks_bad_option, client_
 ghost use Rattle.tgs_exchange.specs.Rules.{has_nothing_to_validate, is_before, is_for_other_service};
 ghost use Rattle.tgs_exchange.specs.Rules.{is_not_yet_valid, is_renewed_too_late, is_service_unknown};
 ghost use Rattle.tgs_exchange.specs.Rules.{is_ticket_revoked, is_validated_too_early, lacks_flag, rules_by};
-ghost use Rattle.tgs_exchange.specs.Rules.{starts_late};
+ghost use Rattle.tgs_exchange.specs.Rules.{is_service_denied, starts_late};
 
 use crate::terms::{Admission, Terms, admission_of, times_of};
 use crate::view::TgsView;
 use ap_opening::{ApRefusal, has_ended, has_not_started, ticket_terms};
-use kdc_replies::{is_disabled, is_expired, is_service_denied};
+use kdc_replies::{denies_tickets, is_disabled, is_expired};
 use krb_fields::{KdcOption, Moment, Name, Second, TicketFlag};
 use krb_messages::ReqBodyRef;
 use principal_rows::Row;
@@ -73,7 +73,7 @@ fn rules_by(
             TgsRefusal::Ap(ApRefusal::TicketExpired),
         ),
         (is_service_unknown(view, body), TgsRefusal::ServiceUnknown),
-        (is_service_denied(view.service), TgsRefusal::ServiceDenied),
+        (is_service_denied(view, body), TgsRefusal::ServiceDenied),
         (is_disabled(view.service), TgsRefusal::ServiceRevoked),
         (is_expired(view.service, at), TgsRefusal::ServiceExpired),
         (
@@ -137,6 +137,13 @@ fn is_service_unknown(view: &TgsView<'_>, body: &ReqBodyRef<'_>) -> bool
     ensures { result ≡ is_service_unknown view.now body.now }
 {
     body.realm.as_slice() != view.realm || body.sname.is_none() || view.service.is_none()
+}
+
+/// Checks whether no tickets may be issued for the service.
+fn is_service_denied(view: &TgsView<'_>, body: &ReqBodyRef<'_>) -> bool
+    ensures { result ≡ is_service_denied view.now body.now }
+{
+    denies_tickets(view.realm, body.sname.as_ref(), view.service)
 }
 
 /// Checks whether the ticket is to be renewed or validated for another service than its own.

@@ -76,10 +76,16 @@ addressee realm body ticket_service =
     else if is_for_asked body ticket_service then AskedFor
     else Other
 
--- the row whose keys may have encrypted the ticket
+-- the row, if tickets are issued for its principal
+abbrev pub if_service : Option Row → Option Row
+if_service (Some row) = if row.policy.service then Some row else None
+if_service None = None
+
+-- The row whose keys may have encrypted the ticket. The ticket-granting service is always a service; any other
+-- principal only if its row says so: else a user, who knows a password, could make tickets in any client's name.
 abbrev pub row_of : TicketView → Addressee → Option Row
 row_of v Tgs = v.tgs
-row_of v AskedFor = v.service
+row_of v AskedFor = if_service v.service
 row_of v Other = None
 
 abbrev pub is_ours : Addressee → Bool

@@ -7,7 +7,7 @@ ghost use Rattle.sealed_parts.specs.Parts.{IsSpelledWithin};
 ghost use Rattle.ap_opening.specs.Tickets.{shown_ticket as shown};
 ghost use Rattle.tgs_opening.specs.Tickets.{addressee, ap_req_in, ap_req_of, held_by, held_key, holds_type};
 ghost use Rattle.tgs_opening.specs.Tickets.{is_for_asked, is_named, is_ours, request_rules, row_of, tgs_data};
-ghost use Rattle.tgs_opening.specs.Tickets.{ticket_key};
+ghost use Rattle.tgs_opening.specs.Tickets.{if_service, ticket_key};
 
 use crate::refusal::TgsRefusal;
 use crate::view::TicketView;
@@ -136,9 +136,18 @@ fn row_of<'v>(view: &TicketView<'v>, whom: Addressee) -> Option<&'v Row>
 {
     match whom {
         Addressee::Tgs => view.tgs,
-        Addressee::AskedFor => view.service,
+        Addressee::AskedFor => if_service(view.service),
         Addressee::Other => None,
     }
+}
+
+/// Returns the row if tickets are issued for its principal. Otherwise no ticket is decrypted with its keys: a user knows
+/// the keys of a password, and could make tickets with them in any client's name.
+fn if_service(row: Option<&Row>) -> Option<&Row>
+    ensures { option_copied result ≡ if_service (option_copied row.entry) }
+{
+    let row = row?;
+    if row.policy.service { Some(row) } else { None }
 }
 
 /// Checks whether the ticket is of this realm, for one of those services.

@@ -3,6 +3,20 @@ use enctypes::{Etype, Key};
 use std::alloc::Global;
 use std::test::Fail;
 
+// The marks that `tools/refuse_allocations.py` reads. It refuses each allocation between `BEGIN` and `END`, one at a
+// time. By `JUDGED`, a test has checked all that has to hold after a refusal.
+
+pub const BEGIN: usize = 1 << 62;
+
+pub const END: usize = 1 << 61;
+
+pub const JUDGED: usize = 1 << 60;
+
+/// Asks for as many bytes as no system has. The script takes the request as a mark; without it, nothing happens.
+pub fn mark(alloc: Global, mark: usize) {
+    let _ = Vec::<u8>::with_capacity(alloc, mark);
+}
+
 /// Returns bytes that count up from this one.
 pub fn up<const N: usize>(first: u8) -> [u8; N] {
     let mut octets = [first; N];

@@ -1,6 +1,6 @@
 //! The services of the tests, and their keytabs in hexadecimal digits (docs/FORMATS.md).
 use crate::bytes::octets;
-use ap_accept::{Acceptor, Opening};
+use ap_accept::{Acceptor, AcceptorOptions, Opening};
 use cred_files::Keytab;
 use principal_rows::Limits;
 use std::alloc::Global;
@@ -47,11 +47,18 @@ pub fn limits(remembered: u32) -> Result<Limits, Fail> {
     }
 }
 
-/// Returns an acceptor with the keys of this keytab.
-pub fn opened(alloc: Global, digits: &str, limits: Limits) -> Result<Acceptor, Fail> {
+/// Returns the keytab with these hexadecimal digits.
+pub fn keytab(alloc: Global, digits: &str) -> Result<Keytab, Fail> {
     let octets = octets(alloc, digits)?;
     match Keytab::read(alloc, &octets) {
-        Ok(keytab) => Ok(Acceptor::open(alloc, keytab, limits, Opening::First)?),
+        Ok(keytab) => Ok(keytab),
         Err(_) => Err(Fail::from("no keytab")),
     }
+}
+
+/// Returns an acceptor with the keys of this keytab. A replay cache has this many places for each client.
+pub fn opened(alloc: Global, digits: &str, remembered: u32) -> Result<Acceptor, Fail> {
+    let keytab = keytab(alloc, digits)?;
+    let options = AcceptorOptions { remembered };
+    Ok(Acceptor::open(alloc, keytab, options, Opening::First)?)
 }

@@ -3,7 +3,7 @@
 ghost use Rattle.std.specs.Prelude.{◌<◌};
 
 use crate::cryptography::vectors::{DIGITS, Function, Row, TEXTS};
-use crate::expect::{are, bytes, same};
+use crate::expect::{BEGIN, END, JUDGED, are, bytes, mark, same};
 use enctypes::{Etype, string_to_key};
 use prf_kdf::{
     hmac_sha1, hmac_sha256, hmac_sha384, kdf_sha256, kdf_sha384, n_fold, pbkdf2_sha1,
@@ -55,16 +55,19 @@ fn is_key(
     Ok(key.etype() == etype && are(alloc, key.bytes(), digits))
 }
 
-// Passes if any one allocation fails.
 #[test]
 fn keys_and_texts_make_what_the_standards_say(rt: HostRuntime) {
+    let alloc = rt.alloc();
     for (function, key, text, count, digits) in TEXTS {
         let given = (key.as_bytes(), text.as_bytes(), *count);
-        let mut found = makes(rt.alloc(), *function, given, *digits);
+        mark(alloc, BEGIN);
+        let mut found = makes(alloc, *function, given, *digits);
+        mark(alloc, END);
         if found.is_err() {
-            found = makes(rt.alloc(), *function, given, *digits);
+            found = makes(alloc, *function, given, *digits);
         }
         same(&rt, digits, &found, &Ok(true));
+        mark(alloc, JUDGED);
     }
 }
 

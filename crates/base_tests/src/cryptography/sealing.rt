@@ -1,6 +1,6 @@
 //! Tests of encryption, decryption and checksums (`enctypes`).
 use crate::cryptography::fixtures::{ETYPES, TEXT, USAGE, base_key, sized};
-use crate::expect::{are, bytes, same};
+use crate::expect::{BEGIN, END, JUDGED, are, bytes, mark, same};
 use enctypes::{Etype, Key, KeyUsage, ReadyKey, checksum, open, seal, verify};
 use std::alloc::{AllocError, Global};
 
@@ -99,15 +99,18 @@ const SEALED: &[(Etype, &str, usize, &str)] = &[
     ),
 ];
 
-// Passes if any one allocation fails.
 #[test]
 fn sealed_texts_of_the_standards(rt: HostRuntime) {
+    let alloc = rt.alloc();
     for (etype, confounder, len, digits) in SEALED {
-        let mut found = is_sealed(rt.alloc(), *etype, &sized(*confounder), *len, *digits);
+        mark(alloc, BEGIN);
+        let mut found = is_sealed(alloc, *etype, &sized(*confounder), *len, *digits);
+        mark(alloc, END);
         if found.is_err() {
-            found = is_sealed(rt.alloc(), *etype, &sized(*confounder), *len, *digits);
+            found = is_sealed(alloc, *etype, &sized(*confounder), *len, *digits);
         }
         same(&rt, digits, &found, &Ok(true));
+        mark(alloc, JUDGED);
     }
 }
 

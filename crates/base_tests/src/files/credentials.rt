@@ -4,7 +4,7 @@ ghost use Rattle.cred_files.specs.Cache.{FitsButForTimes};
 ghost use Rattle.cred_files.specs.Principal as formats;
 
 use crate::cryptography::fixtures::sized;
-use crate::expect::{are, bytes, same, written};
+use crate::expect::{BEGIN, END, JUDGED, are, bytes, mark, same, written};
 use cred_files::{
     Cache, Credential, FileFault, Keytab, KeytabEntry, Miss, Principal, SessionKey, Times,
 };
@@ -78,7 +78,10 @@ fn file(alloc: Global, way: Way, octets: &[u8]) -> Result<Vec<u8>, FileFault> {
 
 /// Does the same, in a second call if memory ran out in the first one.
 fn file_again(alloc: Global, way: Way, octets: &[u8]) -> Result<Vec<u8>, FileFault> {
-    match file(alloc, way, octets) {
+    mark(alloc, BEGIN);
+    let found = file(alloc, way, octets);
+    mark(alloc, END);
+    match found {
         Err(FileFault::Memory) => file(alloc, way, octets),
         found => found,
     }
@@ -129,13 +132,13 @@ fn count(alloc: Global, octets: &[u8]) -> Result<usize, FileFault> {
     Ok(Keytab::read(alloc, octets)?.len())
 }
 
-// Passes if any one allocation of the calls fails.
 #[test]
 fn files_are_read_and_written(rt: HostRuntime) {
     let alloc = rt.alloc();
     for (way, digits) in WRITTEN {
         let octets = bytes(alloc, *digits);
         written(&rt, file_again(alloc, *way, &octets), &octets);
+        mark(alloc, JUDGED);
     }
 }
 
@@ -316,12 +319,17 @@ const PUT: &[(i64, Result<(), FileFault>, i64)] = &[
 
 fn are_put(rt: &impl Abort, alloc: Global, cache: &mut Cache) {
     for (end, wanted, found) in PUT {
+        let before = end_of(alloc, cache, b"h");
+        mark(alloc, BEGIN);
         let mut outcome = put(alloc, cache, *end);
+        mark(alloc, END);
         if outcome == Err(FileFault::Memory) {
+            same(rt, end, &end_of(alloc, cache, b"h"), &before);
             outcome = put(alloc, cache, *end);
         }
         same(rt, end, &outcome, wanted);
         same(rt, end, &end_of(alloc, cache, b"h"), &Ok(*found));
+        mark(alloc, JUDGED);
     }
     same(
         rt,
@@ -331,7 +339,6 @@ fn are_put(rt: &impl Abort, alloc: Global, cache: &mut Cache) {
     );
 }
 
-// Passes if any one allocation of a call that puts a credential fails.
 #[test]
 fn credentials_are_put_and_found(rt: HostRuntime) {
     match new_cache(rt.alloc()) {

@@ -1,9 +1,10 @@
 //! Tests of single DER values (`krb_der`).
 ghost use Rattle.std.specs.Prelude.{◌<◌};
 
-use crate::expect::{bytes, same, shows, written};
-use krb_der::{DerFault, Items, Reader, Writer};
+use crate::expect::{BEGIN, END, JUDGED, bytes, mark, same, shows, written};
+use krb_der::{DerFault, Items, KTime, Reader, Writer};
 use std::alloc::{AllocError, Global};
+use std::process::Abort;
 
 // X.690, section 8.3.
 #[test]
@@ -118,6 +119,62 @@ fn put_each_type(out: &mut Writer) -> Result<(), AllocError> {
     out.put_octets(&[1, 2])?;
     out.put_tlv(0x1b, &[0x75])?;
     out.put_bytes(&[0x30, 0])
+}
+
+/// Calls of a writer with the byte 0, and its bytes afterwards.
+const CALLS: &[(usize, &str)] = &[
+    (0, "000202ff7f"),
+    (1, "0003050040000010"),
+    (2, "0004020102"),
+    (3, "001b0175"),
+    (4, "003000"),
+    (5, "00180f31393730303130313030303030305a"),
+    (6, "00a000"),
+    (7, "a00100"),
+];
+
+fn call(out: &mut Writer, place: usize) -> Result<(), AllocError> {
+    match place {
+        0 => out.put_int(-129),
+        1 => out.put_bits(0x4000_0010),
+        2 => out.put_octets(&[1, 2]),
+        3 => out.put_tlv(0x1b, &[0x75]),
+        4 => out.put_bytes(&[0x30, 0]),
+        5 => out.put_time(KTime::of(0)),
+        6 => out.begin(0xa0),
+        _ if out.len() == 1 => out.wrap(0, 0xa0),
+        _ => Ok(()),
+    }
+}
+
+/// Returns a writer with one byte and no room for another one.
+fn full(alloc: Global) -> Result<Writer, AllocError> {
+    let mut out = Writer::with_capacity(alloc, 1)?;
+    out.put_bytes(&[0])?;
+    Ok(out)
+}
+
+/// Makes the call, a second time if memory ran out. Then the writer has its one byte still.
+fn is_called(rt: &impl Abort, alloc: Global, out: &mut Writer, place: usize) {
+    mark(alloc, BEGIN);
+    let mut found = call(out, place);
+    mark(alloc, END);
+    if found.is_err() {
+        same(rt, &place, &out.len(), &1);
+        found = call(out, place);
+    }
+    same(rt, &place, &found, &Ok(()));
+}
+
+#[test]
+fn a_writer_without_memory_is_unchanged(rt: HostRuntime) {
+    let alloc = rt.alloc();
+    for (place, digits) in CALLS {
+        let mut out = full(alloc).unwrap_or(Writer::new(alloc));
+        is_called(&rt, alloc, &mut out, *place);
+        same(&rt, place, &out.finish(), &bytes(alloc, *digits));
+        mark(alloc, JUDGED);
+    }
 }
 
 #[test]

@@ -1,5 +1,5 @@
 //! Tests of names, flags, codes and moments (`krb_fields`).
-use crate::expect::{same, shows, written};
+use crate::expect::{BEGIN, END, JUDGED, mark, same, shows, written};
 use krb_elements::KerberosString;
 use krb_fields::{
     ApOption, Code, Flags, KdcOption, Moment, Name, NameFault, TicketFlag, component_from_text,
@@ -173,6 +173,7 @@ fn salts_join_realm_and_components(rt: HostRuntime) {
     for (realm, components, salt) in SALTS {
         let salted = salt_again(rt.alloc(), *realm, *components);
         written(&rt, salted.map(KerberosString::into_vec), *salt);
+        mark(rt.alloc(), JUDGED);
     }
 }
 
@@ -182,7 +183,10 @@ fn salt_again(
     realm: &[u8],
     components: &[&[u8]],
 ) -> Result<KerberosString, AllocError> {
-    match salt_of(alloc, realm, components) {
+    mark(alloc, BEGIN);
+    let found = salt_of(alloc, realm, components);
+    mark(alloc, END);
+    match found {
         Err(AllocError) => salt_of(alloc, realm, components),
         found => found,
     }
@@ -369,15 +373,17 @@ fn is_printed(alloc: Global, code: Code, text: &str) -> Result<bool, AllocError>
     Ok(printed.as_str() == text)
 }
 
-/// If one allocation fails (`rt try --test --fail-alloc N`), the first call returns that memory ran out, and the next
-/// call succeeds.
 #[test]
 fn names_work_after_memory_ran_out(rt: HostRuntime) {
+    let alloc = rt.alloc();
     for (text, _) in NAMES {
-        let mut found = is_written(rt.alloc(), *text);
+        mark(alloc, BEGIN);
+        let mut found = is_written(alloc, *text);
+        mark(alloc, END);
         if found == Err(NameFault::Memory) {
-            found = is_written(rt.alloc(), *text);
+            found = is_written(alloc, *text);
         }
         same(&rt, text, &found, &Ok(true));
+        mark(alloc, JUDGED);
     }
 }

@@ -3,7 +3,7 @@
 ghost use Rattle.std.specs.Prelude.{◌≡◌, ◌<◌, ◌*◌, length, IfOk};
 ghost use Rattle.krb_messages.specs.KdcReq.{SpellsKdcReq, message, without_octets};
 
-use crate::expect::{bytes, same, shows, written};
+use crate::expect::{BEGIN, END, JUDGED, bytes, mark, same, shows, written};
 use crate::messages::vectors::*;
 use krb_ap::{ApReq, decode_ap_rep, decode_ap_req, encode_ap_rep, encode_ap_req, read_ap_req};
 use krb_der::DerFault;
@@ -251,12 +251,21 @@ fn again(alloc: Global, kind: Kind, octets: &[u8]) -> Result<Vec<u8>, Fault> {
     }
 }
 
-/// Asserts that the message is written as it was read. Writes it again if memory ran out.
+/// Reads a message and writes it again, as a marked call.
+fn marked_again(alloc: Global, kind: Kind, octets: &[u8]) -> Result<Vec<u8>, Fault> {
+    mark(alloc, BEGIN);
+    let found = again(alloc, kind, octets);
+    mark(alloc, END);
+    found
+}
+
+/// Asserts that the message is written as it was read. Reads and writes it again if memory ran out.
 fn is_written(rt: &impl Abort, alloc: Global, kind: Kind, octets: &[u8]) {
-    match again(alloc, kind, octets) {
+    match marked_again(alloc, kind, octets) {
         Err(Fault::Memory) => written(rt, again(alloc, kind, octets), octets),
         found => written(rt, found, octets),
     }
+    mark(alloc, JUDGED);
 }
 
 /// Reads an AP-REQ in place, and copies it.
@@ -298,8 +307,6 @@ fn messages_are_read(rt: HostRuntime) {
     }
 }
 
-/// If one allocation fails (`rt try --test --fail-alloc N`), the first call returns that memory ran out, and the next
-/// call succeeds.
 #[test]
 fn messages_are_written(rt: HostRuntime) {
     for (kind, digits, _) in MESSAGES {

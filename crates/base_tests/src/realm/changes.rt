@@ -1,8 +1,8 @@
 //! Tests of changes of a database (`principals`).
-use crate::expect::{holds, same};
+use crate::expect::{BEGIN, END, JUDGED, mark, same};
 use crate::realm::fixtures::{Checks, LONGEST, Seen, Step, TOO_LONG, change, check, seen};
 use principals::{ChangeFault, Database};
-use std::alloc::{AllocError, Global};
+use std::alloc::Global;
 use std::process::Abort;
 
 /// A change of the principal with these components, its outcome, and the number of rows and the row of `u` afterwards.
@@ -55,30 +55,25 @@ const CASES: &[Case] = &[
     (Step::Remove, &[U], Ok(()), 3, None),
 ];
 
-/// Makes these changes.
+/// Makes these changes. One that runs out of memory changes nothing, and is made again.
 pub fn are_changed(rt: &impl Abort, alloc: Global, database: &mut Database, cases: &[Case]) {
     for (place, (step, components, wanted, rows, wanted_row)) in cases.iter().enumerate() {
-        let found = change(alloc, database, *components, *step);
+        let before = (database.len(), seen(alloc, database, &[U]));
+        mark(alloc, BEGIN);
+        let mut found = change(alloc, database, *components, *step);
+        mark(alloc, END);
+        if found == Err(ChangeFault::Memory) {
+            let left = (database.len(), seen(alloc, database, &[U]));
+            same(rt, &place, &left, &before);
+            found = change(alloc, database, *components, *step);
+        }
         let after = (found, database.len(), seen(alloc, database, &[U]));
         same(rt, &place, &after, &(*wanted, *rows, Ok(*wanted_row)));
+        mark(alloc, JUDGED);
     }
-}
-
-/// Adds a row, and checks that the database is unchanged if memory ran out. Passes if any one allocation fails.
-pub fn is_left_without_memory(rt: &impl Abort, alloc: Global, database: &mut Database) {
-    let made = change(alloc, database, &[U], Step::Add);
-    let found = (made, database.len(), seen(alloc, database, &[U]));
-    let is_possible = matches!(
-        found,
-        (Ok(()), 2, Ok(Some((1, 1, false))))
-            | (Ok(()), 2, Err(AllocError))
-            | (Err(ChangeFault::Memory), 1, Ok(None))
-    );
-    holds(rt, is_possible, "it is added, or memory ran out");
 }
 
 #[test]
 fn rows_are_changed(rt: HostRuntime) {
     check(&rt, rt.alloc(), &Checks::Changes(CASES));
-    check(&rt, rt.alloc(), &Checks::WithoutMemory);
 }

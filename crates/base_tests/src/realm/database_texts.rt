@@ -1,5 +1,5 @@
 //! Tests of the text of a database (`principals`).
-use crate::expect::same;
+use crate::expect::{BEGIN, END, JUDGED, mark, same};
 use principals::Database;
 use principals_text::ReadFault;
 use std::alloc::{AllocError, Global};
@@ -130,7 +130,6 @@ fn is_no_service_kept(alloc: Global) -> Read {
     read_as(alloc, text.as_str(), text.as_str())
 }
 
-// Passes if any one allocation fails.
 #[test]
 fn a_text_is_read_and_written_in_version_3(rt: HostRuntime) {
     let alloc = rt.alloc();
@@ -140,11 +139,14 @@ fn a_text_is_read_and_written_in_version_3(rt: HostRuntime) {
         (VERSION_3, Ok((true, true))),
         ("[]", Err(ReadFault::NotJson)),
     ] {
+        mark(alloc, BEGIN);
         let mut found = read_as(alloc, text, VERSION_3);
+        mark(alloc, END);
         if found == Err(ReadFault::Memory) {
             found = read_as(alloc, text, VERSION_3);
         }
         same(&rt, &text, &found, &wanted);
+        mark(alloc, JUDGED);
     }
 }
 

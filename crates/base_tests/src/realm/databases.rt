@@ -1,5 +1,5 @@
 //! Tests of databases and the order of names in them (`principals`).
-use crate::expect::{bytes, same, shows};
+use crate::expect::{BEGIN, END, JUDGED, bytes, mark, same, shows};
 use crate::realm::fixtures::{Checks, LONGEST, Step, TOO_LONG, change, check, first, seen};
 use krb_elements::read;
 use krb_fields::{Name, NameFault, NameRef};
@@ -74,7 +74,6 @@ fn rows(alloc: Global, realm: &[u8]) -> Result<usize, FirstFault> {
     Ok(first(alloc, realm)?.len())
 }
 
-// Passes if any one allocation fails.
 #[test]
 fn a_realm_has_1_to_255_bytes(rt: HostRuntime) {
     for (realm, wanted) in [
@@ -83,11 +82,14 @@ fn a_realm_has_1_to_255_bytes(rt: HostRuntime) {
         (b"", Err(FirstFault::BadName)),
         (TOO_LONG, Err(FirstFault::BadName)),
     ] {
+        mark(rt.alloc(), BEGIN);
         let mut found = rows(rt.alloc(), realm);
+        mark(rt.alloc(), END);
         if found == Err(FirstFault::Memory) {
             found = rows(rt.alloc(), realm);
         }
         same(&rt, &realm, &found, &wanted);
+        mark(rt.alloc(), JUDGED);
     }
 }
 

@@ -1,7 +1,6 @@
 //! Times, names, keys and databases that several modules use. They have no contracts, so that tests with them are quick
 //! to prove.
-use crate::expect::same;
-use crate::realm::changes::{Case, are_changed, is_left_without_memory};
+use crate::realm::changes::{Case, are_changed};
 use crate::realm::databases::is_first;
 use enctypes::{Etype, Key};
 use krb_fields::{Moment, Name};
@@ -95,7 +94,6 @@ pub fn seen(alloc: Global, database: &Database, components: &[&[u8]]) -> Result<
 /// What is checked of a first database.
 pub enum Checks {
     First,
-    WithoutMemory,
     Changes(&'static [Case]),
 }
 
@@ -105,17 +103,8 @@ pub fn check(rt: &impl Abort, alloc: Global, checks: &Checks) {
     match database(alloc) {
         Ok(mut database) => match checks {
             Checks::First => is_first(rt, alloc, &mut database),
-            Checks::WithoutMemory => is_left_without_memory(rt, alloc, &mut database),
             Checks::Changes(cases) => are_changed(rt, alloc, &mut database, *cases),
         },
-        Err(fault) => {
-            let may_fail = matches!(checks, Checks::WithoutMemory);
-            same(
-                rt,
-                &"without memory",
-                &(fault, may_fail),
-                &(FirstFault::Memory, true),
-            );
-        }
+        Err(fault) => panic!(rt; "{fault:?}"),
     }
 }

@@ -1,5 +1,5 @@
 //! Tests of rows, keys, limits and maps from names (`principal_rows`).
-use crate::expect::{same, shows};
+use crate::expect::{BEGIN, END, JUDGED, mark, same, shows};
 use enctypes::{Etype, Key};
 use krb_elements::KerberosString;
 use krb_fields::Name;
@@ -33,12 +33,13 @@ fn bytes_of(keys: &KeyList, etype: Etype) -> Option<&[u8]> {
     Some(keys.find(etype)?.bytes())
 }
 
-// Passes if any one allocation fails.
 #[test]
 fn a_key_list_holds_each_type_once_and_finds_keys_by_them(rt: HostRuntime) {
     let alloc = rt.alloc();
     let (first, second, third) = (key(AES_256), key(AES_256_SHA2), key(AES_128));
+    mark(alloc, BEGIN);
     let mut found = finds_keys(alloc, &[first, second]);
+    mark(alloc, END);
     if found == Err(KeyListFault::Memory) {
         found = finds_keys(alloc, &[first, second]);
     }
@@ -54,6 +55,7 @@ fn a_key_list_holds_each_type_once_and_finds_keys_by_them(rt: HostRuntime) {
         found,
         "(Ok((2, true, true)), Err(Empty), Err(Doubled), Err(Doubled))",
     );
+    mark(alloc, JUDGED);
 }
 
 /// Returns the number of versions of a first row, the current one, and whether its key is found.

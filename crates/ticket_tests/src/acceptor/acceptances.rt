@@ -1,11 +1,11 @@
 //! Tests of the answers of an acceptor.
 use crate::acceptor::made::{Made, is_as_made};
 use crate::acceptor::made_by_mit::{KEYTAB, MADE, MADE_AT};
-use crate::acceptor::requests::{CODES, FULL, LATER_CODES, MADE_IN_PYTHON, TWICE};
+use crate::acceptor::requests::{CODES, FULL, LATER_CODES, MADE_IN_PYTHON, MUTUAL, SECOND, TWICE};
 use crate::asking::{MIDNIGHT, moment};
-use crate::bytes::{octets, up};
-use crate::services::{OWN, limits, opened};
-use ap_accept::{Acceptor, ApFault, ApRefusal};
+use crate::bytes::{BEGIN, END, JUDGED, mark, octets, up};
+use crate::services::{OTHER_TYPE, OWN, keytab, opened};
+use ap_accept::{Accepted, Acceptor, ApFault, ApRefusal};
 use krb_fields::Moment;
 use std::alloc::Global;
 use std::test::Fail;
@@ -64,7 +64,7 @@ const CACHE_TRIALS: &[Trial] = &[
         codes: FULL,
         ..NONE
     },
-    // If one allocation fails, the replay cache is unchanged, and the same AP-REQ is accepted afterwards.
+    // If memory runs out, the replay cache is unchanged, and the same AP-REQ is accepted afterwards.
     Trial {
         codes: TWICE,
         ..NONE
@@ -80,7 +80,17 @@ fn answer(
     octets: &[u8],
     made: Option<&Made>,
 ) -> Result<bool, ApFault> {
-    match acceptor.accept(alloc, at, &up(48), octets) {
+    let found = acceptor.accept(alloc, at, &up(48), octets);
+    compared(alloc, found, made)
+}
+
+/// Returns the fault, or whether the contents are these, if there are any.
+fn compared(
+    alloc: Global,
+    found: Result<Accepted, ApFault>,
+    made: Option<&Made>,
+) -> Result<bool, ApFault> {
+    match found {
         Ok(accepted) => match made {
             Some(made) => Ok(is_as_made(alloc, &accepted, made)),
             None => Ok(true),
@@ -89,8 +99,7 @@ fn answer(
     }
 }
 
-/// Returns the same, and tries once more if memory ran out. So the tests pass if any one allocation of an acceptor
-/// fails.
+/// Returns the same, by a second call if memory ran out in the first one.
 fn answer_at_last(
     alloc: Global,
     acceptor: &mut Acceptor,
@@ -98,9 +107,12 @@ fn answer_at_last(
     octets: &[u8],
     made: Option<&Made>,
 ) -> Result<bool, ApFault> {
-    match answer(alloc, acceptor, at, octets, made) {
+    mark(alloc, BEGIN);
+    let found = acceptor.accept(alloc, at, &up(48), octets);
+    mark(alloc, END);
+    match found {
         Err(ApFault::Memory) => answer(alloc, acceptor, at, octets, made),
-        found => found,
+        found => compared(alloc, found, made),
     }
 }
 
@@ -122,7 +134,7 @@ fn is_sealed(
 ) -> bool {
     for place in start..end {
         flip(octets, place);
-        let found = answer_at_last(alloc, acceptor, at, octets, None);
+        let found = answer(alloc, acceptor, at, octets, None);
         flip(octets, place);
         if found != Err(ApFault::Refused(rule)) {
             return false;
@@ -134,7 +146,7 @@ fn is_sealed(
 /// Checks whether no proper prefix is an AP-REQ.
 fn is_whole(alloc: Global, acceptor: &mut Acceptor, at: Moment, octets: &[u8]) -> bool {
     for end in 0..octets.len() {
-        let found = answer_at_last(alloc, acceptor, at, &octets[..end], None);
+        let found = answer(alloc, acceptor, at, &octets[..end], None);
         if found != Err(ApFault::NotAnApReq) {
             return false;
         }
@@ -197,19 +209,20 @@ fn is_passed_by(
         if !is_judged(alloc, acceptor, at, made, changed)? {
             return Ok(false);
         }
+        mark(alloc, JUDGED);
     }
     for (wanted, digits) in trial.codes {
         if code(alloc, acceptor, at, digits)? != *wanted {
             return Ok(false);
         }
+        mark(alloc, JUDGED);
     }
     Ok(true)
 }
 
 /// Checks whether a new acceptor answers as it has to. Only this function owns one.
 fn is_passed(alloc: Global, trial: &Trial, changed: bool) -> Result<bool, Fail> {
-    let limits = limits(trial.remembered)?;
-    let mut acceptor = opened(alloc, trial.keytab, limits)?;
+    let mut acceptor = opened(alloc, trial.keytab, trial.remembered)?;
     is_passed_by(alloc, &mut acceptor, moment(trial.after, 0), trial, changed)
 }
 
@@ -220,6 +233,34 @@ fn are_passed(alloc: Global, trials: &[Trial]) -> Result<(), Fail> {
                 return Err(Fail::new(place));
             }
         }
+    }
+    Ok(())
+}
+
+/// Keytabs that replace one another, each with AP-REQs and the codes of their refusals, or 0.
+const ROTATION: &[(&str, &[(i32, &str)])] = &[
+    (OWN, &[(0, MUTUAL)]),
+    (OTHER_TYPE, &[(45, MUTUAL), (45, SECOND)]),
+    (OWN, &[(34, MUTUAL), (0, SECOND), (34, SECOND)]),
+];
+
+fn is_rotated_by(alloc: Global, acceptor: &mut Acceptor) -> Result<bool, Fail> {
+    for (digits, codes) in ROTATION {
+        acceptor.replace(keytab(alloc, digits)?);
+        for (wanted, ap_req) in *codes {
+            if code(alloc, acceptor, moment(0, 0), ap_req)? != *wanted {
+                return Ok(false);
+            }
+        }
+    }
+    Ok(true)
+}
+
+#[test]
+fn a_rotation_of_keys_keeps_the_replay_caches(rt: HostRuntime) -> Result<(), Fail> {
+    let mut acceptor = opened(rt.alloc(), OTHER_TYPE, 64)?;
+    if !is_rotated_by(rt.alloc(), &mut acceptor)? {
+        return Err(Fail::from("another code"));
     }
     Ok(())
 }

@@ -1,9 +1,9 @@
 //! Tests of the requests of a client and of what it takes for a reply, also from a KDC that is not its own or is
 //! faulty.
 use crate::asking::{
-    HOST, MIDNIGHT, POSTDATED, Parts, TGS, WANT, Want, asked, moment, request, service_asked,
+    HOST, MIDNIGHT, POSTDATED, Parts, REALM, TGS, WANT, Want, asked, moment, request, service_asked,
 };
-use crate::bytes::{is_spelled, key_from, octets, up};
+use crate::bytes::{BEGIN, END, JUDGED, is_spelled, key_from, mark, octets, up};
 use crate::client::messages::{
     AP_REP, AP_REQ, AS_REP, CLIENT_UNKNOWN, OTHER_NAME, OTHER_REALM, PLAIN, PREAUTH_REQUIRED,
     REPEATED, STAMPED, TGS_REP, TGS_REQ,
@@ -11,12 +11,14 @@ use crate::client::messages::{
 use crate::outcomes::Outcome::{CannotOpen, Differs, Memory, NotAReply, Other, Refused, Taken};
 use crate::outcomes::{Outcome, outcome_by};
 use client_core::{
-    Asked, ClientFault, Mismatch, ap_request, is_presentable, read_ap_reply, read_as_reply,
-    read_tgs_reply,
+    Asked, ClientFault, EtypeInfo2, Mismatch, ap_request, is_presentable, password_key,
+    read_ap_reply, read_as_reply, read_tgs_reply,
 };
 use cred_files::Credential;
 use enctypes::{Etype, Key};
-use krb_fields::Moment;
+use krb_elements::{KerberosString, Octets, Seq};
+use krb_fields::{Moment, Name};
+use krb_sealed::EtypeInfo2Entry;
 use std::alloc::{AllocError, Global};
 use std::test::Fail;
 
@@ -112,9 +114,12 @@ fn as_req(alloc: Global, first: Option<u8>) -> Result<Vec<u8>, AllocError> {
 /// The first byte of a timestamp's key, and the AS-REQ.
 const AS_REQS: &[(Option<u8>, &str)] = &[(None, PLAIN), (Some(64), STAMPED)];
 
-/// Checks whether the AS-REQ has these bytes, even if one allocation fails.
+/// Checks whether the AS-REQ has these bytes, in a second call if memory ran out in the first one.
 fn is_as_req(alloc: Global, first: Option<u8>, digits: &str) -> bool {
-    match written(as_req(alloc, first), digits) {
+    mark(alloc, BEGIN);
+    let found = written(as_req(alloc, first), digits);
+    mark(alloc, END);
+    match found {
         Memory => matches!(written(as_req(alloc, first), digits), Taken),
         found => matches!(found, Taken),
     }
@@ -124,6 +129,7 @@ fn is_as_req(alloc: Global, first: Option<u8>, digits: &str) -> bool {
 fn as_requests_are_written(rt: HostRuntime) -> Result<(), Fail> {
     for (first, digits) in AS_REQS {
         assert!(rt; is_as_req(rt.alloc(), *first, digits));
+        mark(rt.alloc(), JUDGED);
     }
     Ok(())
 }
@@ -335,7 +341,7 @@ fn come_of(alloc: Global, kind: Kind, twist: &Twist, asked: &Asked, reply: &[u8]
     }
 }
 
-/// Checks whether the reply comes out as expected, even if one allocation fails.
+/// Checks whether the reply comes out as expected, in a second call if memory ran out in the first one.
 fn is_due(alloc: Global, kind: Kind, twist: &Twist) -> Result<bool, Fail> {
     let want = Want {
         service: twist.service.unwrap_or(kind.service()),
@@ -343,10 +349,12 @@ fn is_due(alloc: Global, kind: Kind, twist: &Twist) -> Result<bool, Fail> {
     };
     let reply = octets(alloc, twist.reply.unwrap_or(kind.reply()))?;
     let asked = asked(alloc, &want, ETYPES)?;
-    let found = match come_of(alloc, kind, twist, &asked, &reply) {
-        Memory => come_of(alloc, kind, twist, &asked, &reply),
-        found => found,
-    };
+    mark(alloc, BEGIN);
+    let mut found = come_of(alloc, kind, twist, &asked, &reply);
+    mark(alloc, END);
+    if found == Memory {
+        found = come_of(alloc, kind, twist, &asked, &reply);
+    }
     Ok(found == twist.outcome)
 }
 
@@ -355,6 +363,7 @@ fn are_due(alloc: Global, kind: Kind, twists: &[Twist]) -> Result<(), Fail> {
         if !is_due(alloc, kind, twist)? {
             return Err(Fail::new(place));
         }
+        mark(alloc, JUDGED);
     }
     Ok(())
 }
@@ -400,13 +409,16 @@ fn hear(alloc: Global, first: u8, at: Moment, reply: &[u8]) -> Outcome {
     }
 }
 
-/// Returns the same, even if one allocation fails.
+/// Returns the same, by a second call if memory ran out in the first one.
 fn hear_at_last(alloc: Global, first: u8, at: Moment, digits: &str) -> Result<Outcome, Fail> {
     let reply = octets(alloc, digits)?;
-    Ok(match hear(alloc, first, at, &reply) {
-        Memory => hear(alloc, first, at, &reply),
-        found => found,
-    })
+    mark(alloc, BEGIN);
+    let mut found = hear(alloc, first, at, &reply);
+    mark(alloc, END);
+    if found == Memory {
+        found = hear(alloc, first, at, &reply);
+    }
+    Ok(found)
 }
 
 #[test]
@@ -414,6 +426,59 @@ fn an_ap_reply_repeats_the_moment(rt: HostRuntime) -> Result<(), Fail> {
     for (first, after, usec, digits, due) in AP_REPLIES {
         let found = hear_at_last(rt.alloc(), *first, moment(*after, *usec), digits)?;
         assert!(rt; found == *due);
+        mark(rt.alloc(), JUDGED);
     }
+    Ok(())
+}
+
+/// Returns an entry with type 18, the salt `ATHENA.MIT.EDUraeburn`, and a count of 1.
+fn entry(alloc: Global) -> Result<EtypeInfo2Entry, AllocError> {
+    Ok(EtypeInfo2Entry {
+        etype: 18,
+        salt: Some(KerberosString::from_slice(alloc, b"ATHENA.MIT.EDUraeburn")?),
+        s2kparams: Some(Octets::from_slice(alloc, &[0, 0, 0, 1])?),
+    })
+}
+
+/// Returns an ETYPE-INFO2 with this entry.
+fn info(alloc: Global) -> Result<EtypeInfo2, AllocError> {
+    let mut info = Seq::new(alloc);
+    info.push(entry(alloc)?)?;
+    Ok(info)
+}
+
+/// The key of `password` for it (RFC 3962, appendix B).
+const PASSWORD_KEY: &str = "fe697b52bc0d3ce14432ba036a92e65bbb52280990a2fa27883998d72af30161";
+
+/// Returns whether the key of `password` has these bytes.
+fn derived(alloc: Global, name: &Name, info: &EtypeInfo2) -> Outcome {
+    match password_key(alloc, b"password", REALM, name, info) {
+        Ok(key) => {
+            if is_spelled(key.bytes(), PASSWORD_KEY) {
+                Taken
+            } else {
+                Other
+            }
+        }
+        Err(fault) => outcome_by(&fault),
+    }
+}
+
+/// Returns the same for that ETYPE-INFO2, by a second call if memory ran out in the first one.
+fn derived_at_last(alloc: Global) -> Result<Outcome, Fail> {
+    let name = Name::new(alloc, 1, &[b"u"])?;
+    let info = info(alloc)?;
+    mark(alloc, BEGIN);
+    let mut found = derived(alloc, &name, &info);
+    mark(alloc, END);
+    if found == Memory {
+        found = derived(alloc, &name, &info);
+    }
+    Ok(found)
+}
+
+#[test]
+fn a_password_has_its_key(rt: HostRuntime) -> Result<(), Fail> {
+    assert!(rt; derived_at_last(rt.alloc())? == Taken);
     Ok(())
 }

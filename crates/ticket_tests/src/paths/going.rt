@@ -401,7 +401,7 @@ fn is_ended(
 /// Checks the same in a new realm. Only this function owns one.
 fn is_ended_anew(alloc: Global, way: &Way, trip: &Trip) -> Result<bool, Fail> {
     let limits = limits(64)?;
-    let mut acceptor = opened(alloc, way.keytab, limits)?;
+    let mut acceptor = opened(alloc, way.keytab, limits.remembered)?;
     let mut kdc = kdc(alloc, trip.types, limits)?;
     let mut found = Vec::new(alloc);
     is_ended(alloc, &mut kdc, &mut acceptor, way, trip, &mut found)

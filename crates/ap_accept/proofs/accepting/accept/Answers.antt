@@ -35,4 +35,4 @@ pub returns-clause-reply : goal.returns-clause-reply
 returns-clause-reply c =
     let read : request_of c.args.ap_req.now ≡ Some c.in-Ok.request = search rules in
     let opened : presented c.args.state.now.keytab c.in-Ok.request ≡ Ok c.in_ok-presented.presented = search rules in
-    answered c.args.state.now c.args.confounder.now c.args.ap_req.now c.in-Ok.request c.in_ok-presented.presented c.judge.result read opened c.judge.ensures.reply
+    answered c.args.state.now c.args.at c.args.confounder.now c.args.ap_req.now c.in-Ok.request c.in_ok-presented.presented c.judge.result read opened c.judge.ensures.reply

@@ -2,5 +2,5 @@ use Rattle.client_login.specs.Faults.{IsUnheard}
 use Rattle.client_login.proofs.asking.ask.Given as goal
 
 -- after the fault so far, other KDCs are tried
-abbrev pub invariant-loop-kdc : goal.invariant-loop-kdc
-invariant-loop-kdc g l = IsUnheard g.X.Network.answers l.end.why l.end.kdc
+abbrev pub invariant-loop-place : goal.invariant-loop-place
+invariant-loop-place g l = IsUnheard g.X.Network.answers l.end.why l.end.kdc

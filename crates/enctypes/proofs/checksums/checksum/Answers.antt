@@ -1,5 +1,5 @@
 use Rattle.std.proofs.Common.{length, ap, ◌∙◌, arith}
-use Rattle.enctypes.proofs.Sizes.{mac_len-most, length-cut_hmac}
+use Rattle.enctypes.specs.Sizes.{mac_len-most, length-cut_hmac}
 use Rattle.enctypes.proofs.checksums.checksum.Goals as goal
 
 pub returns-clause-len : goal.returns-clause-len

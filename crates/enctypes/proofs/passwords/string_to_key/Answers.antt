@@ -3,7 +3,7 @@ use Rattle.std.proofs.lemmas.List.{length-take-le}
 use Rattle.enctypes.specs.declared.etype.Etype.{Etype}
 use Rattle.enctypes.specs.Key.{ProtocolKey}
 use Rattle.enctypes.specs.Derivation.{derived, stretched, string_key}
-use Rattle.enctypes.proofs.Sizes.{key_len-most}
+use Rattle.enctypes.specs.Sizes.{key_len-most}
 use Rattle.enctypes.proofs.passwords.string_to_key.Goals as goal
 
 pub returns : goal.returns

@@ -5,7 +5,7 @@ use Rattle.enctypes.specs.declared.purpose.Purpose.{Purpose}
 use Rattle.enctypes.specs.declared.purpose.Purpose.TheVariants.{Encryption, Integrity}
 use Rattle.enctypes.specs.Derivation.{derived, usage_constant, derived_key, derived_len}
 use Rattle.enctypes.specs.Etype.{key_len}
-use Rattle.enctypes.proofs.Sizes.{key_len-cases, derived_len-most, length-derived_key}
+use Rattle.enctypes.specs.Sizes.{key_len-cases, derived_len-most, length-derived_key}
 use Rattle.enctypes.proofs.ready_key.sealing_keys.Goals as goal
 
 -- what a call with the usage's constant writes into the front of an array is the derived key

@@ -3,8 +3,8 @@ use Rattle.std.proofs.lemmas.List.{take_all}
 use Rattle.std.specs.Int.{div_ceil}
 use Rattle.prf_kdf.proofs.Blocks.{blocks_written}
 use Rattle.enctypes.specs.Derivation.{dr_block, dr_blocks}
-use Rattle.enctypes.proofs.RandomBlocks.{dr_block_first, dr_block_more, dr_blocks_none, dr_blocks_more}
-use Rattle.enctypes.proofs.RandomBlocks.{length-dr_block, length-dr_blocks, dr_is}
+use Rattle.enctypes.specs.RandomBlocks.{dr_block_first, dr_block_more, dr_blocks_none, dr_blocks_more}
+use Rattle.enctypes.specs.RandomBlocks.{length-dr_block, length-dr_blocks, dr_is}
 use Rattle.enctypes.proofs.simplified.derive_random.Goals as goal
 
 pub loop-i-init : goal.loop-i-init

@@ -4,7 +4,7 @@ use Rattle.std.proofs.lemmas.Result.{IfOk-weaker, IfErr-weaker}
 use Rattle.framing.specs.Splitting.{handed_out}
 use Rattle.framing.specs.Messages.{message_then}
 use Rattle.kdc_hub.specs.StreamStep.{StreamStep}
-use Rattle.kdc_hub.proofs.Streams.{all_hold, beginning, done_hold, rest_holds, goes_on, goes_out, comes_to_rest, meets_fault, nothing_drawn, once_at_most, stopped_kdc, stopped_random}
+use Rattle.kdc_hub.proofs.Streams.{all_hold, beginning, done_hold, rest_holds, goes_on, goes_out, comes_to_rest, meets_fault, stopped_kdc, stopped_random}
 use Rattle.kdc_hub.proofs.stream.answer_stream.Goals as goal
 
 pub loop-request-preserved : goal.loop-request-preserved
@@ -40,11 +40,6 @@ returns-in-Err-answer_request-clause-kdc g c =
     c.in-Err-answer_request.ensures.err.1
     ∙ stopped_kdc _ _ _ _ _ _ _ c.loop-request.invariant _ (ap (λ v. length v.items) c.out_of_memory.ensures.done ∙ ap length c.in-Err-answer_request.ensures.err.0)
 
-pub returns-in-Err-answer_request-clause-drawn : goal.returns-in-Err-answer_request-clause-drawn
-returns-in-Err-answer_request-clause-drawn g c =
-    stopped_random _ _ _ _ _ _ _ c.loop-request.invariant _ _ (ap (λ v. length v.items) c.out_of_memory.ensures.done ∙ ap length c.in-Err-answer_request.ensures.err.0)
-    (once_at_most _ _ c.in-Err-answer_request.ensures.drawn)
-
 pub returns-in-Ok-None-clause-actions : goal.returns-in-Ok-None-clause-actions
 returns-in-Ok-None-clause-actions g c = ap (λ (r : StreamStep). r.actions) (comes_to_rest _ _ _ _ _ _ _ c.loop-request.invariant _ (c.in-Ok-None.ensures.rest (ap Ok c.in-Ok-None.field-0-is)))
 
@@ -58,8 +53,7 @@ pub returns-in-Memory-clause-kdc : goal.returns-in-Memory-clause-kdc
 returns-in-Memory-clause-kdc g c = stopped_kdc _ _ _ _ _ _ _ c.loop-request.invariant _ (ap (λ v. length v.items) c.out_of_memory-in-Memory.ensures.done)
 
 pub returns-in-Memory-clause-drawn : goal.returns-in-Memory-clause-drawn
-returns-in-Memory-clause-drawn g c =
-    stopped_random _ _ _ _ _ _ _ c.loop-request.invariant _ _ (ap (λ v. length v.items) c.out_of_memory-in-Memory.ensures.done) (nothing_drawn _)
+returns-in-Memory-clause-drawn g c = stopped_random _ _ _ _ _ _ _ c.loop-request.invariant _ c.out_of_memory-in-Memory.ensures.draws
 
 pub returns-in_default-clause-actions : goal.returns-in_default-clause-actions
 returns-in_default-clause-actions g c = IfOk-weaker c.refuse_length.result _ _
@@ -84,7 +78,7 @@ pub returns-in_default-clause-kdc : goal.returns-in_default-clause-kdc
 returns-in_default-clause-kdc g c = IfErr-weaker c.refuse_length.result _ _ (λ f e. stopped_kdc _ _ _ _ _ _ _ c.loop-request.invariant _ (ap length e)) c.refuse_length.ensures.done
 
 pub returns-in_default-clause-drawn : goal.returns-in_default-clause-drawn
-returns-in_default-clause-drawn g c = IfErr-weaker c.refuse_length.result _ _ (λ f e. stopped_random _ _ _ _ _ _ _ c.loop-request.invariant _ _ (ap length e) (nothing_drawn _)) c.refuse_length.ensures.done
+returns-in_default-clause-drawn g c = IfErr-weaker c.refuse_length.result _ _ (λ f e. stopped_random _ _ _ _ _ _ _ c.loop-request.invariant _ e) c.refuse_length.ensures.draws
 
 pub returns-in-Ok-false-clause-keeps : goal.returns-in-Ok-false-clause-keeps
 returns-in-Ok-false-clause-keeps g c = c.answer_request.ensures.accounts ∙ c.loop-request.invariant.accounts

@@ -1,4 +1,3 @@
-use Rattle.kdcd_run.proofs.Calls.{records_all_calls}
 use Rattle.kdcd_run.proofs.Handings.{in_life, in_rounds}
 use Rattle.kdcd_run.proofs.laws.every_life.Goals as goal
 
@@ -7,6 +6,3 @@ returns-clause-rounds c = in_rounds
 
 pub returns-clause-life : goal.returns-clause-life
 returns-clause-life c = in_life
-
-pub returns-clause-calls : goal.returns-clause-calls
-returns-clause-calls c = records_all_calls

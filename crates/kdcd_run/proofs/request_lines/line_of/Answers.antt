@@ -4,5 +4,5 @@ use Rattle.kdcd_run.proofs.request_lines.line_of.Goals as goal
 
 pub returns-in-Text : goal.returns-in-Text
 returns-in-Text c =
-    subst (λ format. IfOk c.text_line.result (λ line. line.items ≡ entry_line format (record { at = c.args.at; asker = c.args.asker; account = option_copied c.args.account })))
+    subst (λ format. IfOk c.text_line.result (λ line. line.items ≡ entry_line format (record { at = c.args.at; asker = c.args.asker; account = option_copied c.args.account; is_sent = c.args.is_sent })))
     (sym c.in-Text.is) c.text_line.ensures.text

@@ -1,25 +1,28 @@
-use Rattle.std.proofs.Common.{◌∙◌, ap, subst, [], ◌∷◌}
+use Rattle.std.proofs.Common.{rules, ◌∙◌, SFits, w64, ap, subst, [], ◌∷◌}
 use Rattle.std.specs.Option.{option_copied}
 use Rattle.kdc_hub.specs.Wire.{Records}
+use Rattle.kdc_state.specs.State.{opened_state}
 use Rattle.rand_core.specs.Steps.{steps_u32, stream_of}
 use Rattle.rand_chacha.specs.ChaCha.{next_word}
+use Rattle.replay.specs.Opening.{opening_floor}
+use Rattle.std.proofs.lemmas.Int.{to_z-of_z}
 use Rattle.kdcd_run.specs.Starting.{Held, IsSeed, seeded}
 use Rattle.kdcd_run.proofs.Ready.{all_recorded}
 use Rattle.kdcd_run.proofs.starting.start_server.Goals as goal
 
--- src/starting.rt:76:1
-pub returns : goal.returns
-returns g c =
+pub returns-clause-start : goal.returns-clause-start
+returns-clause-start g c =
     let seed : IsSeed (option_copied c.args.options.now.seed) (g.H.Host.recorded c.read_rows.new.self) (g.H.Host.recorded c.take_seed.new.host) c.in_ok-seed.seed = c.in_ok-seed.ensures in
     let held : Records (g.H.Host.recorded c.take_seed.new.host) (Held c.args.options.now.udp.items c.args.options.now.tcp.items ∷ []) (g.H.Host.recorded c.hold.new.self) =
     subst (λ us. Records (g.H.Host.recorded c.take_seed.new.host) (Held us c.args.options.now.tcp.items ∷ []) (g.H.Host.recorded c.hold.new.self)) c.deref.ensures.value
-    (subst (λ ts. Records (g.H.Host.recorded c.take_seed.new.host) (Held c.deref.result.now ts ∷ []) (g.H.Host.recorded c.hold.new.self)) c.deref-2.ensures.value c.in-Ok-hold.ensures) in
+    (subst (λ ts. Records (g.H.Host.recorded c.take_seed.new.host) (Held c.deref.result.now ts ∷ []) (g.H.Host.recorded c.hold.new.self)) c.deref-2.ensures.value c.in-Ok-hold.ensures.held) in
+    let fits : SFits w64 c.floor.result = search rules in
     record {
       rows = c.in-Ok.rows;
       octets = seed.octets;
-      did = all_recorded _ _ _ _ _ _ _ _ _ c.in-Ok.ensures seed.did held c.in_ok-opening.ensures.looks;
-      first = c.in_ok-opening.ensures.first;
-      kdc = c.new.ensures.kdc ∙ c.in_ok-kdc.ensures.opened;
+      did = all_recorded _ _ _ _ _ _ _ _ _ c.in-Ok.ensures seed.did held c.in-Ok-now.ensures;
+      kdc = c.new.ensures.kdc ∙ c.placed.ensures ∙ c.in_ok-kdc.ensures.opened ∙ ap (λ o. opened_state c.in-Ok.rows c.args.options.now.limits o) c.opened_by-opening.ensures;
+      floor_is = simp to_z-of_z (c.floor.ensures ∙ ap opening_floor c.opened_by-opening.ensures);
       random = c.new.ensures.random ∙ ap (λ r. stream_of (steps_u32 (next_word 10)) r) c.from_seed-rng.ensures ∙ ap seeded seed.is;
       accounts = c.new.ensures.accounts ∙ c.keeps_accounts.ensures;
       connections = c.new.ensures.connections;

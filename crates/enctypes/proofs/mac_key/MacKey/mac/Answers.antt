@@ -1,7 +1,6 @@
 use Rattle.std.proofs.Common.{subst, ◌∙◌}
 use Rattle.std.specs.List.{flat_map}
 use Rattle.prf_kdf.proofs.MacKeys.{mac-sha1, mac-sha256, mac-sha384}
-use Rattle.enctypes.specs.declared.mac_key.MacKey.{MacKey}
 use Rattle.enctypes.specs.ReadyKey.{IsMacKey}
 use Rattle.enctypes.proofs.MacKeys.{cut-sha1, cut-sha256, cut-sha384}
 use Rattle.enctypes.proofs.mac_key.MacKey.mac.Goals as goal

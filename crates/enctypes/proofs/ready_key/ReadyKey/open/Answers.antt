@@ -6,8 +6,8 @@ use Rattle.std.proofs.lemmas.List.Elements.{All-from_get_or}
 use Rattle.enctypes.specs.declared.etype.Etype.{Etype}
 use Rattle.enctypes.specs.KeyUsage.{usage_number}
 use Rattle.enctypes.specs.Sealing.{deciphered}
-use Rattle.enctypes.proofs.OpenedLaws.{opened-some, opened-none, opens_what_was_sealed}
-use Rattle.enctypes.proofs.Sealed.{IsSealed}
+use Rattle.enctypes.specs.OpenedLaws.{opened-some, opened-none, opens_what_was_sealed}
+use Rattle.enctypes.specs.Sealed.{IsSealed}
 use Rattle.enctypes.proofs.SealingSteps.{IsRecomputed, recomputed, shifted}
 use Rattle.enctypes.proofs.ready_key.ReadyKey.open.Goals as goal
 

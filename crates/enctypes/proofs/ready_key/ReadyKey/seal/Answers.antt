@@ -2,10 +2,10 @@ use Rattle.std.proofs.Common.{◌≡◌, ℕ, ◌<◌, List, ◌++◌, All, get_
 use Rattle.std.proofs.lemmas.List.{take_at}
 use Rattle.std.proofs.lemmas.List.Elements.{All-from_get_or}
 use Rattle.enctypes.specs.KeyUsage.{usage_number}
-use Rattle.enctypes.proofs.OpenedLaws.{opens_what_was_sealed}
-use Rattle.enctypes.proofs.Sealed.{length-seal}
+use Rattle.enctypes.specs.OpenedLaws.{opens_what_was_sealed}
+use Rattle.enctypes.specs.Sealed.{length-seal}
 use Rattle.enctypes.proofs.SealingSteps.{put_together, sealed_is}
-use Rattle.enctypes.proofs.Sizes.{mac_len-most}
+use Rattle.enctypes.specs.Sizes.{mac_len-most}
 use Rattle.enctypes.proofs.ready_key.ReadyKey.seal.Goals as goal
 
 octets : (l : List ℕ) → ((i : ℕ) → get_or l i 0 < 256) → All (λ b. b < 256) l

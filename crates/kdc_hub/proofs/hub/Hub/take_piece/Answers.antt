@@ -5,21 +5,15 @@ use Rattle.std.specs.FinMap as map
 use Rattle.kdc_hub.specs.Hub.{standing}
 use Rattle.kdc_hub.specs.Issuing.{issuing}
 use Rattle.kdc_hub.proofs.Tables.{is_there}
-use Rattle.kdc_hub.proofs.Steps.{none_drawn, stays_there, is_closed, is_stopped, not_fed}
+use Rattle.kdc_hub.proofs.Steps.{stays_there, is_closed, is_stopped, not_fed}
 use Rattle.kdc_hub.proofs.hub.Hub.take_piece.Goals as goal
 
 pub returns-in_default-feed-clause-step : goal.returns-in_default-feed-clause-step
 returns-in_default-feed-clause-step g c =
     let p = not_fed (standing g.R.Rng.stream c.args.self.now) c.args.at c.args.conn c.args.piece.now (map.get c.args.self.now.connections c.args.conn)
-    c.nothing_done.result.done.items c.new-place.result c.replace.new.self c.remove.new.self
-    c.nothing_done.ensures.done (c.in-Some.ensures.put refl) c.remove.ensures in
-    record {
-      draws = 0;
-      within = none_drawn _ (ap (λ l. length l) c.nothing_done.ensures.done);
-      done = p.0;
-      state = p.1;
-      conn = c.nothing_done.ensures.conn;
-    }
+    c.nothing_done.result.done.items c.nothing_done.result.draws c.new-place.result c.replace.new.self c.remove.new.self
+    c.nothing_done.ensures.done c.nothing_done.ensures.draws (c.in-Some.ensures.put refl) c.remove.ensures in
+    (p.0, p.1, c.nothing_done.ensures.conn)
 
 pub returns-then-served-clause-step : goal.returns-then-served-clause-step
 returns-then-served-clause-step g c =
@@ -43,15 +37,9 @@ pub returns-clause-step : goal.returns-clause-step
 returns-clause-step g c =
     let p = is_stopped (standing g.R.Rng.stream c.args.self.now) c.args.at c.args.conn c.args.piece.now (map.get c.args.self.now.connections c.args.conn) c.in-Some.stream c.feed.new.self
     (sym c.in-Some.ensures.taken) c.in-Ok.ensures.ok
-    c.in-Err.fault.done.items (issuing g.R.Rng.stream c.answer_stream.new.issuer) c.in-Err.ensures.drawn.draws c.new-place.result c.replace.new.self c.remove-in-Err.new.self
-    c.in-Err.ensures.done c.in-Err.ensures.kdc c.in-Err.ensures.drawn.stream c.answer_stream.ensures.keeps (c.in-Some.ensures.put refl) c.remove-in-Err.ensures in
-    record {
-      draws = c.in-Err.ensures.drawn.draws;
-      within = c.in-Err.ensures.drawn.within;
-      done = p.0;
-      state = p.1;
-      conn = c.in-Err.ensures.conn;
-    }
+    c.in-Err.fault.done.items (issuing g.R.Rng.stream c.answer_stream.new.issuer) c.in-Err.fault.draws c.new-place.result c.replace.new.self c.remove-in-Err.new.self
+    c.in-Err.ensures.done c.in-Err.ensures.kdc c.in-Err.ensures.drawn c.answer_stream.ensures.keeps (c.in-Some.ensures.put refl) c.remove-in-Err.ensures in
+    (p.0, p.1, c.in-Err.ensures.conn)
 
 pub returns-in_default-clause-accounts : goal.returns-in_default-clause-accounts
 returns-in_default-clause-accounts g c = none_hold _ c.args.at _ _ _ (ap (λ l. length l) c.new.ensures.items)

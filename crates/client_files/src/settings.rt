@@ -1,0 +1,201 @@
+//! What the `[libdefaults]` of a `krb5.conf` say of first tickets, and of the cache.
+use crate::configs::Config;
+use crate::faults::{Cause, Fault};
+use crate::file_names::{NameOf, path_in};
+use std::alloc::{AllocError, Global};
+use text_fields::number_u32;
+
+/// What a `krb5.conf` says of first tickets.
+#[derive(Clone, Copy)]
+pub struct Settings {
+    /// `ticket_lifetime`, in seconds.
+    pub life: Option<u32>,
+    /// `renew_lifetime`, in seconds.
+    pub renew_life: Option<u32>,
+    pub forwardable: bool,
+    pub proxiable: bool,
+}
+
+impl Settings {
+    /// What a `krb5.conf` says that has none of them.
+    pub const NONE: Settings = Settings {
+        life: None,
+        renew_life: None,
+        forwardable: false,
+        proxiable: false,
+    };
+}
+
+// The text after a setting whose value is not accepted.
+
+const NO_TIME: &str = "it takes a time, such as 36000, 10h, 1d 12h or 10:00:00";
+
+const NO_CHOICE: &str = "it takes true or false";
+
+const NO_TEXT: &str = "it is not UTF-8";
+
+const NO_TOKEN: &str = "of what stands between %{ and } only uid, euid and TEMP are known";
+
+impl Config {
+    /// Returns what it says of first tickets.
+    pub fn settings(&self, alloc: Global) -> Result<Settings, Fault> {
+        Ok(Settings {
+            life: self.seconds(alloc, "ticket_lifetime")?,
+            renew_life: self.seconds(alloc, "renew_lifetime")?,
+            forwardable: self.choice(alloc, "forwardable")?,
+            proxiable: self.choice(alloc, "proxiable")?,
+        })
+    }
+
+    /// Returns the path of the cache that `default_ccache_name` names for a user, if it is there.
+    pub fn cache_path(&self, alloc: Global, user: u32) -> Result<Option<String>, Fault> {
+        let tag = "default_ccache_name";
+        let Some(name) = self.text_of(alloc, tag)? else {
+            return Ok(None);
+        };
+        match with_tokens(alloc, path_in(name, NameOf::CacheSetting)?, user)? {
+            Some(path) => Ok(Some(path)),
+            None => Err(self.setting_fault(alloc, tag, NO_TOKEN)),
+        }
+    }
+
+    /// Returns the seconds of a setting. Zero counts as absent, as in MIT's library.
+    fn seconds(&self, alloc: Global, tag: &str) -> Result<Option<u32>, Fault> {
+        let Some(text) = self.text_of(alloc, tag)? else {
+            return Ok(None);
+        };
+        match seconds_of(text) {
+            Some(0) => Ok(None),
+            Some(seconds) => Ok(Some(seconds)),
+            None => Err(self.setting_fault(alloc, tag, NO_TIME)),
+        }
+    }
+
+    /// Returns whether a setting is true.
+    fn choice(&self, alloc: Global, tag: &str) -> Result<bool, Fault> {
+        let Some(text) = self.text_of(alloc, tag)? else {
+            return Ok(false);
+        };
+        match choice_of(text) {
+            Some(choice) => Ok(choice),
+            None => Err(self.setting_fault(alloc, tag, NO_CHOICE)),
+        }
+    }
+
+    fn text_of(&self, alloc: Global, tag: &str) -> Result<Option<&str>, Fault> {
+        let Some(octets) = self.setting(alloc, tag)? else {
+            return Ok(None);
+        };
+        match str::from_utf8(octets) {
+            Ok(text) => Ok(Some(text)),
+            Err(_) => Err(self.setting_fault(alloc, tag, NO_TEXT)),
+        }
+    }
+
+    fn setting_fault(&self, alloc: Global, tag: &str, text: &'static str) -> Fault {
+        let path = self.path();
+        match format!(in alloc; "{path}: {tag}") {
+            Ok(subject) => Fault::of(subject, Cause::BadSetting(text)),
+            Err(error) => Fault::from(error),
+        }
+    }
+}
+
+/// The words for yes and no, in lower case.
+const CHOICES: &[(&str, bool)] = &[
+    ("true", true),
+    ("t", true),
+    ("yes", true),
+    ("y", true),
+    ("1", true),
+    ("on", true),
+    ("false", false),
+    ("f", false),
+    ("no", false),
+    ("n", false),
+    ("0", false),
+    ("off", false),
+];
+
+fn choice_of(text: &str) -> Option<bool> {
+    for (word, choice) in CHOICES {
+        if text.eq_ignore_ascii_case(word) {
+            return Some(*choice);
+        }
+    }
+    None
+}
+
+/// Reads a time: seconds; hours, minutes and seconds with colons; or numbers with their units.
+fn seconds_of(text: &str) -> Option<u32> {
+    if text.contains(':') {
+        return clock_seconds(text);
+    }
+    match number_u32(text) {
+        Some(seconds) => Some(seconds),
+        None => unit_seconds(text),
+    }
+}
+
+/// Reads a time such as `10:00` or `10:00:00`.
+fn clock_seconds(text: &str) -> Option<u32> {
+    let mut total: u32 = 0;
+    let mut unit: u32 = 3_600;
+    for part in text.split(':') {
+        if unit == 0 {
+            return None;
+        }
+        total = total.checked_add(number_u32(part)?.checked_mul(unit)?)?;
+        unit /= 60;
+    }
+    Some(total)
+}
+
+/// The seconds in each unit of time.
+const UNITS: &[(char, u32)] = &[('s', 1), ('m', 60), ('h', 3_600), ('d', 86_400)];
+
+/// Reads a time such as `10h` or `1d 12h`.
+fn unit_seconds(text: &str) -> Option<u32> {
+    let mut total: u32 = 0;
+    let mut number: Option<u32> = None;
+    for c in text.chars() {
+        match c.to_digit(10) {
+            Some(digit) => number = Some(number.unwrap_or(0).checked_mul(10)?.checked_add(digit)?),
+            None if c == ' ' && number.is_none() => {}
+            None => {
+                total = total.checked_add(number?.checked_mul(unit_of(c)?)?)?;
+                number = None;
+            }
+        }
+    }
+    match number {
+        None if !text.is_empty() => Some(total),
+        _ => None,
+    }
+}
+
+fn unit_of(c: char) -> Option<u32> {
+    for (unit, seconds) in UNITS {
+        if *unit == c {
+            return Some(*seconds);
+        }
+    }
+    None
+}
+
+/// Returns a path with the text for each `%{..}` in it; `None` if one of them is not known.
+fn with_tokens(alloc: Global, path: &str, user: u32) -> Result<Option<String>, AllocError> {
+    let mut whole = String::new(alloc);
+    let mut parts = path.split("%{");
+    if let Some(first) = parts.next() {
+        whole.push_str(first)?;
+    }
+    for part in parts {
+        match part.split_once('}') {
+            Some(("uid" | "euid", rest)) => write!(whole, "{user}{rest}")?,
+            Some(("TEMP", rest)) => write!(whole, "/tmp{rest}")?,
+            _ => return Ok(None),
+        }
+    }
+    Ok(Some(whole))
+}

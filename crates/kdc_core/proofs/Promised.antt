@@ -1,0 +1,120 @@
+-- What is promised of an answer, from what the answer is.
+use Rattle.std.proofs.Common.{◌≡◌, ◌≤◌, ◌<◌, ℕ, Bool, List, length, get_or, Option, Some, Result, Ok, Err, IfOk, IfSome, OnOk, OnErr}
+use Rattle.std.proofs.Common.{refl, ap, sym, subst, ◌∙◌, option_map}
+use Rattle.kdc_replies.specs.Incoming.{Incoming}
+use Rattle.krb_fields.specs.Name.{Components}
+use Rattle.kdc_state.specs.State.{cache_of}
+use Rattle.kdc_state.specs.declared.state.State.{State}
+use Rattle.kdc_core.proofs.Frame.{database_kept, limits_kept, other_kept}
+use Rattle.kdc_core.proofs.Holders.{seen_shown, unshown_alike}
+use Rattle.kdc_core.specs.Account.{AccountSpelled, account_if, account_to}
+use Rattle.kdc_core.specs.AccountLaws.{account_holds, names_are_named}
+use Rattle.kdc_core.specs.AgreementLaws.{after_agrees, names_agree, view_agrees}
+use Rattle.kdc_core.specs.Answer.{IsReply, OneTicketTwoKeys, ReplyOpens, after_incoming, answer_to}
+use Rattle.kdc_core.specs.Answered.{IsAnswered}
+use Rattle.kdc_core.specs.Contents.{contents}
+use Rattle.kdc_core.specs.Issued.{IsReplyOf, issued}
+use Rattle.kdc_core.specs.IssuedLaws.{replies_issued, replies_sent}
+use Rattle.kdc_core.specs.NewlySeen.{newly_seen_to}
+use Rattle.kdc_core.specs.ReplyIn.{IsReplyIn}
+use Rattle.kdc_core.specs.Request.{request_of}
+use Rattle.kdc_core.specs.RequestLaws.{request_is}
+use Rattle.kdc_core.specs.RulingLaws.{is_ruled}
+use Rattle.kdc_core.specs.Shown.{IsSeenAlike, ShowsTicket}
+use Rattle.kdc_core.specs.StandingLaws.{issued_standing}
+use Rattle.kdc_core.specs.View.{named, view}
+use Rattle.kdc_core.specs.declared.account.Answer.{Answer}
+
+-- what is known of an answer
+record IsGiven (before : State) (q : Incoming) (wants_account : Bool) (given : Answer) : Type 0 where
+  reply : given.reply ≡ (answer_to (view before q.octets) q).reply
+  account : given.account ≡ account_if wants_account (account_to (view before q.octets) q)
+  newly_seen : given.newly_seen ≡ newly_seen_to (view before q.octets) q
+  spelled : IsReply (view before q.octets) q.at q.random (request_of q.octets) given.reply
+  outcome : AccountSpelled (view before q.octets) q given.reply (contents (view before q.octets) (request_of q.octets))
+  opens : ReplyOpens (view before q.octets) q.at q.random (request_of q.octets)
+
+module _ (before : State) (q : Incoming) (wants_account : Bool) (given : Answer) (after : State)
+    (long : 32 ≤ length q.random) (bytes : (i : ℕ) → get_or q.octets i 0 < 256) where
+  answered : IsGiven before q wants_account given → after ≡ after_incoming before q
+      → IsAnswered before q wants_account given after
+  answered g is =
+      let v = view before q.octets in
+      let kept = (answer_to v q).kept in
+      let whole : Result Answer Bool = Ok given in
+      let sent : OneTicketTwoKeys v q.at q.random (request_of q.octets) given.reply =
+      replies_sent v q.at q.random (λ (a : Answer). a.reply) (request_of q.octets) whole g.spelled g.opens in
+      record {
+        request = λ r. request_is q.octets r bytes;
+        reply = g.reply;
+        ruled = is_ruled v q;
+        spelled = g.spelled;
+        keys = sent;
+        issued = replies_issued v q.at q.random long (λ (a : Answer). a.reply) (request_of q.octets) whole sent;
+        standing = issued_standing before q.at q.random q.octets;
+        account = g.account;
+        names = names_are_named before q;
+        holds = account_holds v q long (λ (a : Answer). account_to v q) (λ (a : Answer). a.reply) whole refl g.outcome g.opens;
+        newly_seen = g.newly_seen;
+        shown = subst (λ o. IfSome o (λ seen. ShowsTicket before q.octets seen.client.components)) (sym g.newly_seen) (seen_shown before q);
+        state = is;
+        database = ap (λ (s : State). s.database) is ∙ database_kept before (named before q.octets).client kept;
+        limits = ap (λ (s : State). s.limits) is ∙ limits_kept before (named before q.octets).client kept;
+        caches = λ name other. ap (λ (s : State). cache_of s name) is ∙ other_kept before (named before q.octets).client kept name other;
+        holder = λ name unshown. subst (λ (s : State). IsSeenAlike (cache_of before name) (cache_of s name)) (sym is) (unshown_alike before q name unshown);
+        agreement = λ other agrees. ap (λ v. answer_to v q) (view_agrees before other q.octets agrees);
+        same_account = λ other agrees. ap (λ v. account_to v q) (view_agrees before other q.octets agrees);
+        same_names = λ other agrees. names_agree before other q.octets agrees;
+        afterwards = λ other agrees. after_agrees before other q agrees;
+      }
+
+-- of a call
+pub is_answered : {E : Type 0} (before old : State) (q : Incoming) (wants_account : Bool) (r : Result Answer E) (after : State)
+    → before ≡ old → 32 ≤ length q.random → ((i : ℕ) → get_or q.octets i 0 < 256)
+    → IfOk r (λ given. given.reply ≡ (answer_to (view before q.octets) q).reply)
+    → IfOk r (λ given. given.account ≡ account_if wants_account (account_to (view before q.octets) q))
+    → IfOk r (λ given. given.newly_seen ≡ newly_seen_to (view before q.octets) q)
+    → IfOk r (λ given. IsReply (view before q.octets) q.at q.random (request_of q.octets) given.reply)
+    → IfOk r (λ given. AccountSpelled (view before q.octets) q given.reply (contents (view before q.octets) (request_of q.octets)))
+    → IfOk r (λ given. ReplyOpens (view before q.octets) q.at q.random (request_of q.octets))
+    → OnOk r (after ≡ after_incoming before q)
+    → IfOk r (λ given. IsAnswered old q wants_account given after)
+is_answered before old q wants_account (Ok given) after same long bytes reply account seen spelled outcome opens is =
+    subst (λ (s : State). IsAnswered s q wants_account given after) same
+    (answered before q wants_account given after long bytes
+    (record { reply = reply; account = account; newly_seen = seen; spelled = spelled; outcome = outcome; opens = opens }) is)
+is_answered before old q wants_account (Err e) after same long bytes reply account seen spelled outcome opens is = tt
+
+-- what holds of the state after any call that answers or changes nothing
+pub after_either : {E : Type 0} (r : Result Answer E) (old new : State) (P : State → Type 0) → IfOk r (λ given. P new)
+    → OnErr r (new ≡ old) → P old → P new
+after_either (Ok given) old new P ok err same = ok
+after_either (Err e) old new P ok err same = subst P (sym err) same
+
+-- ---- of the reply alone
+
+module _ {V E : Type 0} (items : V → List ℕ) where
+  pub of_reply : (r : Result Answer E) (alone : Result (Option V) E) (P : Option (List ℕ) → Type 0) → IsReplyIn items r alone
+      → IfOk r (λ given. P given.reply) → IfOk alone (λ reply. P (option_map items reply))
+  of_reply (Ok given) (Ok reply) P is h = subst P (sym is) h
+  of_reply (Ok given) (Err error) P is h = tt
+  of_reply (Err error) (Ok reply) P is h = absurd is
+  of_reply (Err error) (Err other) P is h = tt
+
+  pub on_reply : (r : Result Answer E) (alone : Result (Option V) E) (P : Type 0) → IsReplyIn items r alone
+      → IfOk r (λ given. P) → OnOk alone P
+  on_reply (Ok given) (Ok reply) P is h = h
+  on_reply (Ok given) (Err error) P is h = tt
+  on_reply (Err error) (Ok reply) P is h = absurd is
+  on_reply (Err error) (Err other) P is h = tt
+
+  pub on_error : (r : Result Answer E) (alone : Result (Option V) E) (P : Type 0) → IsReplyIn items r alone
+      → OnErr r P → OnErr alone P
+  on_error (Ok given) (Ok reply) P is h = tt
+  on_error (Ok given) (Err error) P is h = absurd is
+  on_error (Err error) (Ok reply) P is h = tt
+  on_error (Err error) (Err other) P is h = h
+
+pub if_answered : {E : Type 0} (r : Result Answer E) (P Q : Answer → Type 0) → IfOk r P → ((given : Answer) → P given → Q given) → IfOk r Q
+if_answered (Ok given) P Q h f = f given h
+if_answered (Err e) P Q h f = tt

@@ -1,0 +1,116 @@
+//! The files beside one another that make up a journal, and whether what has their names is a journal's.
+use crate::files::FileFault;
+use crate::plain_files::open_plain;
+use journal::{HEAD, may_be_journal};
+use std::alloc::{AllocError, Global};
+use std::io::{Error, ErrorKind, Read};
+use std::rt::Files;
+use std::{fmt, fs, io};
+
+/// A file of a journal.
+#[derive(Clone, Copy, Debug, PartialEq, Eq)]
+pub enum JournalPart {
+    /// The file that is appended to.
+    Newer,
+    /// The file that went before it.
+    Older,
+    /// A new file, until it is renamed into place.
+    Beside,
+    /// The file that is locked. It is empty.
+    Lock,
+}
+
+impl fmt::Display for JournalPart {
+    fn fmt<W: fmt::Write>(&self, f: &mut fmt::Formatter<W>) -> fmt::Result {
+        f.write_str(match self {
+            JournalPart::Newer => "it is no journal, and stays as it is",
+            JournalPart::Older => "the file .old beside it is no journal, and stays as it is",
+            JournalPart::Beside => "the file .new beside it is no journal, and stays as it is",
+            JournalPart::Lock => "the file .lock beside it is no empty file, and stays as it is",
+        })
+    }
+}
+
+/// The paths of a journal's files.
+#[derive(Drop)]
+pub(crate) struct Paths {
+    pub(crate) newer: String,
+    pub(crate) older: String,
+    pub(crate) beside: String,
+    pub(crate) lock: String,
+}
+
+impl Paths {
+    pub(crate) fn new(alloc: Global, path: &str) -> Result<Paths, AllocError> {
+        Ok(Paths {
+            newer: format!(in alloc; "{path}")?,
+            older: format!(in alloc; "{path}.old")?,
+            beside: format!(in alloc; "{path}.new")?,
+            lock: format!(in alloc; "{path}.lock")?,
+        })
+    }
+
+    /// Refuses names that something else than a journal has. Nothing is changed by that.
+    pub(crate) fn check<F: Files>(&self, alloc: Global, files: &F) -> Result<(), FileFault> {
+        check_part(alloc, files, self.newer.as_str(), JournalPart::Newer)?;
+        check_part(alloc, files, self.older.as_str(), JournalPart::Older)?;
+        check_part(alloc, files, self.beside.as_str(), JournalPart::Beside)?;
+        check_lock(files, self.lock.as_str())
+    }
+}
+
+fn check_part<F: Files>(
+    alloc: Global,
+    files: &F,
+    path: &str,
+    part: JournalPart,
+) -> Result<(), FileFault> {
+    if may_be_replaced(alloc, files, path)? {
+        return Ok(());
+    }
+    Err(FileFault::NotJournal(part))
+}
+
+fn check_lock<F: Files>(files: &F, path: &str) -> Result<(), FileFault> {
+    match fs::metadata(files, path) {
+        Ok(file) if file.is_file() && file.len() == 0 => Ok(()),
+        Ok(_) => Err(FileFault::NotJournal(JournalPart::Lock)),
+        Err(error) if error.kind() == ErrorKind::NotFound => Ok(()),
+        Err(error) => Err(FileFault::Failed(error)),
+    }
+}
+
+/// Fails if the name of a journal's file belongs to something else by now.
+pub(crate) fn require_replaceable<F: Files>(
+    alloc: Global,
+    files: &F,
+    path: &str,
+) -> io::Result<()> {
+    match may_be_replaced(alloc, files, path) {
+        Ok(true) => Ok(()),
+        Ok(false) => Err(Error::new(
+            ErrorKind::AlreadyExists,
+            "a file that is no journal has the name of one of its files",
+        )),
+        Err(FileFault::Failed(error)) => Err(error),
+        Err(_) => Err(Error::from(ErrorKind::InvalidData)),
+    }
+}
+
+/// Checks whether a path has nothing, or a plain file that begins as a journal does.
+fn may_be_replaced<F: Files>(alloc: Global, files: &F, path: &str) -> Result<bool, FileFault> {
+    match fs::metadata(files, path) {
+        Ok(file) if file.is_file() => begins_as_journal(alloc, files, path),
+        Ok(_) => Ok(false),
+        Err(error) if error.kind() == ErrorKind::NotFound => Ok(true),
+        Err(error) => Err(FileFault::Failed(error)),
+    }
+}
+
+fn begins_as_journal<F: Files>(alloc: Global, files: &F, path: &str) -> Result<bool, FileFault> {
+    let mut head = Vec::new(alloc);
+    open_plain(files, path)?
+        .take(HEAD as u64)
+        .read_to_end(&mut head)?;
+    Ok(may_be_journal(&head))
+}

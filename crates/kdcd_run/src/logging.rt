@@ -1,0 +1,175 @@
+//! Logging the requests of a server.
+ghost use Rattle.std.specs.Prelude.{◌≡◌, ◌∷◌, [], Bool, List, Option, option_copied};
+ghost use Rattle.kdc_hub.specs.Wire.{Records, polled};
+ghost use Rattle.kdcd_run.specs.Journal.{moment_after};
+ghost use Rattle.kdcd_run.specs.Log.{LogEntry, LogsAll, LogsWhere, asker_of, closing_reports, entries_by};
+ghost use Rattle.kdcd_run.specs.Log.{entries_of, reports};
+
+use kdc_hub::{Account, Action, CloseReason, Event, Peers, Reply, WireFault};
+use krb_fields::Moment;
+use request_log::{Asker, Transport};
+use std::alloc::Global;
+use std::net::SocketAddr;
+
+/// Takes the entries of a log.
+pub trait LogWriter {
+    // The entries so far, in order, if it keeps a record.
+    ghost logged: { Self → Option (List LogEntry) };
+
+    // What the writer becomes by an entry.
+    ghost Logs: { Self → LogEntry → Self → Type 0 };
+
+    /// Writes the entry for a request, and whether its reply was sent. There is no account if memory ran out.
+    fn write_entry(
+        &mut self,
+        alloc: Global,
+        at: Moment,
+        asker: Asker,
+        account: Option<&Account>,
+        is_sent: bool,
+    )
+        ensures { Logs self.old (record {
+          at = at;
+          asker = asker;
+          account = option_copied account.entry;
+          is_sent = is_sent;
+        }) self.new };
+
+    // By an entry its record grows by that one.
+    ghost records: { (log : Self) (entry : LogEntry) (new : Self) → Logs log entry new
+        → Records (logged log) (entry ∷ []) (logged new) };
+}
+
+/// When an event came, and the peer's address if it came on a connection whose peer is known.
+#[derive(Clone, Copy)]
+pub struct Came {
+    pub at: Moment,
+    pub source: Option<SocketAddr>,
+}
+
+/// Returns the last event after a poll.
+pub(crate) fn came_after(
+    peers: &impl Peers,
+    came: Came,
+    outcome: &Result<(Moment, Option<Event>), WireFault>,
+) -> Came
+    ensures { result.at ≡ moment_after came.at (polled outcome.now) }
+{
+    match outcome {
+        Ok((at, Some(event))) => Came {
+            at: *at,
+            source: source_of(peers, event),
+        },
+        Ok((_, None)) => came,
+        Err(_) => came,
+    }
+}
+
+/// Returns the address that the connection of an event came from, if it is known.
+fn source_of(peers: &impl Peers, event: &Event) -> Option<SocketAddr> {
+    match event {
+        Event::Opened { conn } | Event::Bytes { conn, .. } | Event::Closed { conn } => {
+            peers.peer(*conn)
+        }
+        Event::Datagram { .. } => None,
+    }
+}
+
+/// Writes the entry for the request that an action answers to a log, if there is one.
+pub(crate) fn log_where<L: LogWriter>(
+    alloc: Global,
+    log: &mut Option<L>,
+    came: Came,
+    action: &Action,
+    is_sent: bool,
+)
+    ensures { LogsWhere L.Logs log.old came action.now is_sent log.new }
+{
+    if let Some(log) = log {
+        log_action(alloc, log, came, action, is_sent);
+    }
+}
+
+/// Writes the entry for the request that an action answers, if it answers one.
+fn log_action<L: LogWriter>(alloc: Global, log: &mut L, came: Came, action: &Action, is_sent: bool)
+    ensures { LogsAll L.Logs log.old (entries_of came action.now is_sent) log.new }
+{
+    let at = came.at;
+    let asker = asker_of(came.source, action);
+    match action {
+        Action::SendTo { reply, .. } => log_reply(alloc, log, at, asker, reply, is_sent),
+        Action::Pass { .. } => log.write_entry(
+            alloc,
+            at,
+            asker,
+            Some(&Account::NoRequest),
+            is_sent,
+        ),
+        Action::Write { reply, .. } => log_reply(alloc, log, at, asker, reply, is_sent),
+        Action::Close { reason, .. } => log_close(alloc, log, at, asker, *reason, is_sent),
+    }
+}
+
+/// Writes the entry for the request that a reply answers. Without an account it answers no request.
+fn log_reply<L: LogWriter>(
+    alloc: Global,
+    log: &mut L,
+    at: Moment,
+    asker: Asker,
+    reply: &Reply,
+    is_sent: bool,
+)
+    ensures { LogsAll L.Logs log.old (entries_by at asker is_sent (reports reply.now.account)) log.new }
+{
+    match &reply.account {
+        Some(account) => log.write_entry(alloc, at, asker, Some(account), is_sent),
+        None => {}
+    }
+}
+
+/// Writes the entry for the request for which a connection is closed, if it is closed for one.
+fn log_close<L: LogWriter>(
+    alloc: Global,
+    log: &mut L,
+    at: Moment,
+    asker: Asker,
+    reason: CloseReason,
+    is_sent: bool,
+)
+    ensures { LogsAll L.Logs log.old (entries_by at asker is_sent (closing_reports reason)) log.new }
+{
+    match reason {
+        CloseReason::NoRequest => log.write_entry(
+            alloc,
+            at,
+            asker,
+            Some(&Account::NoRequest),
+            is_sent,
+        ),
+        CloseReason::BadLength => log.write_entry(
+            alloc,
+            at,
+            asker,
+            Some(&Account::NoRequest),
+            is_sent,
+        ),
+        CloseReason::Full => {}
+        CloseReason::OutOfMemory => log.write_entry(alloc, at, asker, None, is_sent),
+    }
+}
+
+/// Returns who sent the request that an action answers, by the address that its connection came from.
+fn asker_of(source: Option<SocketAddr>, action: &Action) -> Asker
+    ensures { result ≡ asker_of source action.now }
+{
+    match action {
+        Action::SendTo { peer, .. } | Action::Pass { peer } => Asker {
+            transport: Transport::Udp,
+            peer: Some(peer.address),
+        },
+        Action::Write { .. } | Action::Close { .. } => Asker {
+            transport: Transport::Tcp,
+            peer: source,
+        },
+    }
+}

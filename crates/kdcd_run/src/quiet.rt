@@ -1,0 +1,51 @@
+//! Which replies a quiet start withholds.
+ghost use Rattle.std.specs.Prelude.{◌≡◌, option_copied};
+ghost use Rattle.kdcd_run.specs.Quiet.{is_quiet, is_skew, is_skewed, sends_skew};
+
+use kdc_core::TgsOutcome;
+use kdc_hub::{Account, Action};
+use krb_fields::Moment;
+
+/// The number of KRB_AP_ERR_SKEW (RFC 4120, section 7.5.9).
+const SKEW_ERROR: i32 = 37;
+
+/// Checks whether an action refuses a TGS-REQ with KRB_AP_ERR_SKEW before the second up to which a server is quiet, so
+/// that the client asks another KDC.
+pub(crate) fn is_quiet(until: &Option<i64>, at: Moment, action: &Action) -> bool
+    ensures { result ≡ is_quiet until.now at action.now }
+{
+    match until {
+        Some(until) => at.sec < *until && sends_skew(action),
+        None => false,
+    }
+}
+
+/// Checks whether an action refuses a TGS-REQ with KRB_AP_ERR_SKEW.
+fn sends_skew(action: &Action) -> bool
+    ensures { result ≡ sends_skew action.now }
+{
+    match action {
+        Action::SendTo { reply, .. } | Action::Write { reply, .. } => {
+            is_skewed(reply.account.as_ref())
+        }
+        Action::Pass { .. } | Action::Close { .. } => false,
+    }
+}
+
+fn is_skewed(account: Option<&Account>) -> bool
+    ensures { result ≡ is_skewed (option_copied account.entry) }
+{
+    match account {
+        Some(Account::Tgs { outcome, .. }) => is_skew(outcome),
+        Some(Account::NoRequest | Account::As { .. }) | None => false,
+    }
+}
+
+fn is_skew(outcome: &TgsOutcome) -> bool
+    ensures { result ≡ is_skew outcome.now }
+{
+    match outcome {
+        TgsOutcome::Refused(refusal) => refusal.code().number() == SKEW_ERROR,
+        TgsOutcome::Issued(_) | TgsOutcome::Resent(_) | TgsOutcome::TooBig => false,
+    }
+}

@@ -1,0 +1,189 @@
+//! The wire of a server.
+ghost use Rattle.std.specs.Prelude.{◌≡◌, ◌∷◌, [], ℕ, true, false, None};
+ghost use Rattle.std.specs.Result.{is_ok};
+ghost use Rattle.kdc_hub.specs.Wire.{IsCounted, Records, acted, faults_of, polled};
+ghost use Rattle.kdc_hub.specs.Rounds.{action_connection};
+ghost use Rattle.kdcd_run.specs.Clocks.{clock_after};
+ghost use Rattle.kdcd_run.specs.Journal.{Hands, moment_after};
+ghost use Rattle.kdcd_run.specs.Log.{LogsWhere};
+ghost use Rattle.kdcd_run.specs.Memory.{after_act, memory_after};
+ghost use Rattle.kdcd_run.specs.Served.{IsNew, Serves, record_of};
+ghost use Rattle.kdcd_run.specs.Withheld.{EndsOnly, may_send};
+
+use crate::clock_watch::{ClockWatch, watch};
+use crate::keeping::{JournalWriter, keep_for};
+use crate::logging::{Came, LogWriter, came_after, log_where};
+use crate::memory_watch::{MemoryWatch, watch_memory};
+use crate::quiet::is_quiet;
+use crate::sockets::Sockets;
+use crate::tally::Tally;
+use kdc_hub::{Action, Event, Wire, WireFault};
+use krb_fields::Moment;
+use std::alloc::Global;
+use std::io::Write;
+
+/// What a server writes to, and what counts its failed calls.
+#[derive(Drop)]
+pub struct Outlets<L, E, T> {
+    pub log: Option<L>,
+    /// Where it is said that the clock went back, and that memory ran out.
+    pub errors: E,
+    pub tally: T,
+}
+
+/// The sockets of a server. Before it sends a reply, it has its journal keep what the reply makes the KDC remember. It
+/// withholds a reply if the journal can't, or if the start is quiet and the reply is one that a quiet start withholds: then
+/// the act fails, and ends the connection that it was for. After each act it writes to its log.
+///
+/// Its record is that of its tally: all that was polled, and all acts that were tried, with those that were withheld.
+#[derive(Drop)]
+pub struct ServerWire<S: Wire, J: JournalWriter, L: LogWriter, E, T: Tally> {
+    sockets: S,
+    tally: T,
+    journal: Option<J>,
+    log: Option<L>,
+    /// The second before which it is quiet, if the start is.
+    quiet_until: Option<i64>,
+    clock: ClockWatch,
+    memory: MemoryWatch,
+    /// Where it is said that the clock went back, and that memory ran out.
+    errors: E,
+    /// The last event, or the start.
+    came: Came,
+    // The sockets, the journal and the log have recorded what the tally says.
+    ghost served: { ∥ Serves (T.recorded tally) (S.recorded sockets) (record_of J.handed journal)
+        (record_of L.logged log) came.at ∥₁ },
+}
+
+impl<S: Wire, J: JournalWriter, L: LogWriter, E, T: Tally> ServerWire<S, J, L, E, T> {
+    /// The wire of a server that started at this moment, with this floor.
+    pub fn new(
+        sockets: S,
+        journal: Option<J>,
+        outlets: Outlets<L, E, T>,
+        quiet_until: Option<i64>,
+        floor: i64,
+        at: Moment,
+    ) -> ServerWire<S, J, L, E, T>
+        requires sockets { IsNew (S.recorded sockets) }
+        requires journal { IsNew (record_of J.handed journal) }
+        requires log { IsNew (record_of L.logged outlets.log) }
+        requires tally { IsNew (T.recorded outlets.tally) }
+        ensures sockets { result.sockets ≡ sockets }
+        ensures journal { result.journal ≡ journal }
+        ensures log { result.log ≡ outlets.log }
+        ensures tally { result.tally ≡ outlets.tally }
+        ensures quiet { result.quiet_until ≡ quiet_until }
+        ensures clock { result.clock ≡ record { floor = floor; latest = None; said = None } }
+        ensures memory { result.memory ≡ record { awaits = false; count = 0; reported = 0; said = None } }
+        ensures came { result.came ≡ record { at = at; source = None } }
+    {
+        ServerWire {
+            sockets,
+            tally: outlets.tally,
+            journal,
+            log: outlets.log,
+            quiet_until,
+            clock: ClockWatch::new(floor),
+            memory: MemoryWatch::new(),
+            errors: outlets.errors,
+            came: Came { at, source: None },
+        }
+    }
+
+    pub fn log(&self) -> Option<&L> {
+        self.log.as_ref()
+    }
+}
+
+impl<S: Sockets, J: JournalWriter, L: LogWriter, E: Write, T: Tally> Wire
+    for ServerWire<S, J, L, E, T> {
+    ghost recorded = { λ o. T.recorded o.tally };
+
+    ghost fault_count = { λ o. T.fault_count o.tally };
+
+    /// Polls the sockets, and looks at the clock and at what the last event got.
+    fn poll(&mut self, alloc: Global) -> Result<(Moment, Option<Event>), WireFault>
+        ensures records { Records (T.recorded self.old.tally) (polled result ∷ []) (T.recorded self.new.tally) }
+        ensures counted { IsCounted (T.fault_count self.old.tally) (faults_of result) (T.fault_count self.new.tally) }
+        ensures polls { Records (S.recorded self.old.sockets) (polled result ∷ []) (S.recorded self.new.sockets) }
+        ensures came { self.new.came.at ≡ moment_after self.old.came.at (polled result) }
+        ensures clock { self.new.clock ≡ clock_after self.old.clock (polled result) }
+        ensures memory { (lost : ℕ) × (self.new.memory ≡ memory_after lost self.old.memory (polled result)) }
+        ensures journal { self.new.journal ≡ self.old.journal }
+        ensures log { self.new.log ≡ self.old.log }
+        ensures quiet { self.new.quiet_until ≡ self.old.quiet_until }
+    {
+        let polled = self.sockets.poll(alloc);
+        self.tally.add_poll(alloc, &polled);
+        watch(&mut self.clock, &mut self.errors, &polled);
+        let lost = self.sockets.lost();
+        watch_memory(&mut self.memory, &mut self.errors, lost, &polled);
+        self.came = came_after(&self.sockets, self.came, &polled);
+        polled
+    }
+
+    /// Does an action, or withholds it and ends its connection.
+    fn act(&mut self, alloc: Global, action: &Action) -> Result<(), WireFault>
+        ensures records { Records (T.recorded self.old.tally) (acted action.now result ∷ []) (T.recorded self.new.tally) }
+        ensures counted { IsCounted (T.fault_count self.old.tally) (faults_of result) (T.fault_count self.new.tally) }
+        // The authenticator that the reply makes the KDC remember is handed to the journal, and no other.
+        ensures handed { Hands J.handed self.old.journal self.old.came.at action.now self.new.journal }
+        // If the journal has kept all, and the start is not quiet about it, the action is done.
+        ensures sent { may_send J.is_whole self.new.journal self.old.quiet_until self.old.came.at action.now ≡ true
+            → Records (S.recorded self.old.sockets) (acted action.now result ∷ []) (S.recorded self.new.sockets) }
+        // Otherwise nothing is sent, and a connection ends: so an authenticator is kept before the reply to its request is
+        // sent, and a client on a connection can ask another server at once.
+        ensures withheld { may_send J.is_whole self.new.journal self.old.quiet_until self.old.came.at action.now ≡ false
+            → EndsOnly S.HangsUp self.old.sockets (action_connection action.now) self.new.sockets × (is_ok result ≡ false) }
+        // The log has an entry for the request that the action answers, if it answers one, and no other.
+        ensures logged { LogsWhere L.Logs self.old.log self.old.came action.now (is_ok result) self.new.log }
+        ensures came { self.new.came ≡ self.old.came }
+        ensures clock { self.new.clock ≡ self.old.clock }
+        ensures memory { self.new.memory ≡ after_act self.old.memory action.now }
+        ensures quiet { self.new.quiet_until ≡ self.old.quiet_until }
+    {
+        let is_kept = keep_for(alloc, &mut self.journal, self.came.at, action);
+        let is_quiet = is_quiet(&self.quiet_until, self.came.at, action);
+        let outcome = send(alloc, &mut self.sockets, is_kept && !is_quiet, action);
+        self.tally.add_act(alloc, action, outcome);
+        self.memory.note(action);
+        log_where(alloc, &mut self.log, self.came, action, outcome.is_ok());
+        outcome
+    }
+
+    /// How often a poll failed, or an act failed or was withheld.
+    fn faults(&self) -> u64 {
+        self.tally.faults()
+    }
+}
+
+/// Does an action if it may be done. If not, it fails, and its connection ends.
+fn send<S: Sockets>(
+    alloc: Global,
+    sockets: &mut S,
+    may_send: bool,
+    action: &Action,
+) -> Result<(), WireFault>
+    ensures sent { may_send ≡ true
+        → Records (S.recorded sockets.old) (acted action.now result ∷ []) (S.recorded sockets.new) }
+    ensures withheld { may_send ≡ false
+        → EndsOnly S.HangsUp sockets.old (action_connection action.now) sockets.new × (is_ok result ≡ false) }
+{
+    if may_send {
+        sockets.act(alloc, action)
+    } else {
+        end_withheld(sockets, action.connection());
+        Err(WireFault)
+    }
+}
+
+/// Ends the connection whose reply is withheld, if it is one.
+fn end_withheld<S: Sockets>(sockets: &mut S, conn: Option<u64>)
+    ensures { EndsOnly S.HangsUp sockets.old conn sockets.new }
+{
+    match conn {
+        Some(conn) => sockets.hang_up(conn),
+        None => {}
+    }
+}
