@@ -13,7 +13,7 @@
  * slowly its peer sends and reads: a limit for each read alone would let a peer that sends a byte now and then keep it, and all others
  * with it, since this example serves one connection at a time.
  *
- * docs/SERVICES-C.md says how to build it.
+ * docs/SERVICES.md, 'In C', says how to build it.
  */
 #include "ap_accept.h"
 

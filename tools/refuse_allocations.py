@@ -2,12 +2,12 @@
 """Runs the tests of crates and refuses each allocation of each call that they mark, one at a time. It needs Linux, Python 3, and the folder `bin`
 of the toolchain on the path.
 
-    python3 tools/refuse_allocations.py [--crates FOLDER] [--only WORD] [CRATE ..]
+    python3 tools/refuse_allocations.py [--programs FOLDER] [--only WORD] [CRATE ..]
 
-The tests are the programs crates/NAME/out/NAME_tests, which `rt ci` and `rt test` build. A test marks the beginning and the end of a call (`mark`
-of `base_tests/src/expect.rt`); after it, the test calls again if memory ran out, and asserts what the second call returns and what the first one
-left. A library that is loaded before the C library forks at each allocation of a marked call (`refused_memory.c`): in the child this allocation
-fails, and the rest of the test has to pass. So one run of a test refuses all allocations of its calls.
+The tests are the programs crates/NAME/out/NAME_tests, which `rt ci` and `rt test` build, or FOLDER/NAME_tests. A test marks the beginning and the
+end of a call (`mark` of `base_tests/src/expect.rt`); after it, the test calls again if memory ran out, and asserts what the second call returns and
+what the first one left. A library that is loaded before the C library forks at each allocation of a marked call (`refused_memory.c`): in the child
+this allocation fails, and the rest of the test has to pass. So one run of a test refuses all allocations of its calls.
 
 It prints a line for each test with marks: how many calls it made, and how many allocations were refused. Below it stand the first ends of children
 that were not as they should be. The last line is `N passed, M failed`, and the status is 1 if anything was wrong."""
@@ -64,7 +64,7 @@ def tests_in(program):
 
 def main():
     words = argparse.ArgumentParser(description=__doc__, formatter_class=argparse.RawDescriptionHelpFormatter)
-    words.add_argument("--crates", type=pathlib.Path, default=TOP / "crates", help="the folder of the crates")
+    words.add_argument("--programs", type=pathlib.Path, default=TOP / "crates", help="the folder of the tests' programs, or that of the crates")
     words.add_argument("--only", default="", metavar="WORD", help="the tests with this word in their names")
     words.add_argument("names", nargs="*", default=CRATES, metavar="CRATE", help="by default " + ", ".join(CRATES))
     words, notes = words.parse_args(), Notes()
@@ -72,9 +72,10 @@ def main():
     with tempfile.TemporaryDirectory() as folder, ThreadPoolExecutor(processors()) as pool:
         library = refused_memory(folder)
         for crate in words.names:
-            program = words.crates / crate / "out" / f"{crate}_tests"
-            if not program.is_file():
-                notes.note(crate, f"{program} is not there")
+            places = [words.programs / f"{crate}_tests", words.programs / crate / "out" / f"{crate}_tests"]
+            program = next((place for place in places if place.is_file()), None)
+            if not program:
+                notes.note(crate, f"{places[-1]} is not there")
                 continue
             tests = [name for name in tests_in(program) if words.only in name]
             found = list(pool.map(lambda name: Seen(program, name, library), tests))

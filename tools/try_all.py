@@ -5,9 +5,10 @@ a service in Rattle and in C, hostile peers and servers, attacks of users, a ser
 that fail. It also checks the unit of systemd, the words of pages and comments, and that the texts of edits still stand. It needs Linux and
 Python 3; a C compiler for some parts.
 
-    python3 tools/try_all.py [--only PART ..] [--stock FOLDER] [--all-lines]
+    python3 tools/try_all.py [--only PART ..] [--programs FOLDER] [--stock FOLDER] [--all-lines]
 
-Each program is crates/NAME/out/NAME, which `rt ci` and `rt run` build. If the library for C is not there, it is built (`tools/c_library.py`).
+Each program is crates/NAME/out/NAME, which `rt ci` and `rt run` build, or FOLDER/NAME, as `tools/quick_build.py` leaves it. If the library for C
+is not there, it is built (`tools/c_library.py`).
 The stock programs are those on the path. If the system knows Debian's packages, they are unpacked in a folder, that of --stock or one that is
 removed at the end; nothing is installed. A line `left out:` names what is missing. Parts run side by side, and a part that fails is run once
 more, alone. With few processors, or beside other work, each has more time. Below each part are the lines of what was wrong, or with --all-lines
@@ -109,7 +110,7 @@ class Groups:
 class Stock:
     """The folders with the programs of MIT and Heimdal, and the programs that are compiled for a part."""
 
-    def __init__(self, folder, scratch, groups):
+    def __init__(self, folder, scratch, groups, library):
         mit, heimdal = ("krb5kdc", "kdb5_util", "kadmin.local", "kinit", "kvno"), ("kgetcred", "kdc", "kadmin.heimdal")
         roots = {"mit": "/" * self.has(*mit), "heimdal": "/" * self.has(*heimdal)}
         if not all(roots.values()) and self.has("apt-get", "dpkg"):
@@ -117,7 +118,7 @@ class Stock:
             roots = {name: root or found.get(name, "") for name, root in roots.items()}
         self.roots = {name: root for name, root in roots.items() if root}
         self.environment, self.scratch, self.groups, self.alone = unpacked(*self.roots.values()), scratch, groups, threading.Lock()
-        self.lacks_sanitizers = False
+        self.lacks_sanitizers, self.library = False, library
 
     @staticmethod
     def has(*programs):
@@ -183,12 +184,12 @@ class Stock:
             if not self.can_compile(PROBE):
                 raise Missing("a C compiler cc that makes programs")
             self.lacks_sanitizers = not self.can_compile(PROBE, *SANITIZERS)
-            if not LIBRARY.exists():
+            if self.library == LIBRARY and not LIBRARY.exists():
                 ran = self.groups.ran(script("c_library.py"))
                 if ran.returncode:
                     raise RuntimeError(f"the library for C is not built: {ran.stdout[-600:]}")
             for name in ("ap_service", "ap_judged"):
-                self.compile(name, *[] if self.lacks_sanitizers else SANITIZERS, LIBRARY, kit() / "c" / "liblibc_c.a")
+                self.compile(name, *[] if self.lacks_sanitizers else SANITIZERS, self.library, kit() / "c" / "liblibc_c.a")
 
     def services_and_clients(self):
         self.clients_of_services()
@@ -220,37 +221,42 @@ def script(name, *words):
     return [sys.executable, str(TOOLS / name), *map(str, words)]
 
 
-def parts(stock):
-    """The parts, the longest first."""
+def parts(stock, programs):
+    """The parts, the longest first, over the programs of this folder or of the crates."""
+    def over(name, *words):
+        return script(name, *words, *["--programs", programs] * bool(programs))
+
+    one = lambda *names: [word for name in names if programs for word in (f"--{name.replace('_', '-')}", programs / name)]
     made = {name: stock.scratch / name for name in ("ap_client", "mk_req", "ap_service", "ap_judged")}
     words = [word for name, place in made.items() for word in (f"--{name.replace('_', '-')}", place)]
     roots = [word for name, root in stock.roots.items() for word in (f"--{name}", root)]
-    operator = lambda each: Part(f"operators: {each}", script("try_operators.py", "--only", each, "--requests", REQUESTS))
-    client = lambda each, *needs: Part(f"clients of {each}", script("try_client.py", "--only", each, *roots), *needs)
-    fault = lambda each: Part(f"faults: {each}", script("try_faults.py", "--only", each))
-    server = lambda each: Part(f"server: {each}", script("try_server.py", "--only", each))
-    attack = lambda each: Part(f"attacks: {each}", script("try_attacks.py", "--only", each))
+    operator = lambda each: Part(f"operators: {each}", over("try_operators.py", "--only", each, "--requests", REQUESTS))
+    client = lambda each, *needs: Part(f"clients of {each}", over("try_client.py", "--only", each, *roots), *needs)
+    fault = lambda each: Part(f"faults: {each}", over("try_faults.py", "--only", each))
+    server = lambda each: Part(f"server: {each}", over("try_server.py", "--only", each))
+    realm, way = one("kadm", "kdcd", "kclient"), one("kadm", "kdcd", "kclient", "ap_whois")
+    attack = lambda each: Part(f"attacks: {each}", over("try_attacks.py", "--only", each))
     return [
-        Part("services in C by MIT's library", script("services_in_c.py", "--quick", *words), stock.services_and_clients, True),
-        Part("services in C", script("services_in_c.py", "--without-mit", *words), stock.services, True),
-        *[Part(f"hostile {each}", script("hostile_kdc.py", "--only", each)) for each in ("answers", "octets", "files")],
+        Part("services in C by MIT's library", script("services_in_c.py", "--quick", *words, *realm), stock.services_and_clients, True),
+        Part("services in C", script("services_in_c.py", "--without-mit", *words, *realm), stock.services, True),
+        *[Part(f"hostile {each}", over("hostile_kdc.py", "--only", each)) for each in ("answers", "octets", "files")],
         fault("sockets"), attack("memory"),
         *map(operator, ("stock", "words", "log", "limits", "pairs", "kclient")),
         *map(fault, ("memory", "each", "killed", "journal")),
-        Part("each allocation of each marked call", script("refuse_allocations.py")),
-        Part("kadm killed at its calls", script("kill_kadm.py", "--every", 7), stock.strace),
-        Part("sessions of kadm", script("try_sessions.py")),
-        Part("command lines of kclient", script("try_kclient.py")),
-        Part("logins that are verified", script("try_login.py")),
+        Part("each allocation of each marked call", over("refuse_allocations.py")),
+        Part("kadm killed at its calls", script("kill_kadm.py", "--every", 7, *one("kadm")), stock.strace),
+        Part("sessions of kadm", over("try_sessions.py")),
+        Part("command lines of kclient", over("try_kclient.py")),
+        Part("logins that are verified", over("try_login.py")),
         client("kdcd"), client("mit", lambda: stock.need("mit")), client("heimdal", lambda: stock.need("heimdal")),
         *map(operator, ("lock", "change", "kadm", "addresses", "terminal")),
-        Part("scripts", script("try_script.py")),
+        Part("scripts", over("try_script.py")),
         *map(server, ("journals", "logs", "life", "places", "clocks", "options", "starts")),
         *map(attack, ("forged", "noise")),
-        Part("the unit", script("try_unit.py")),
-        Part("the whole way", script("whole_way.py")),
-        Part("the whole way by MIT's library", script("whole_way.py", "--mk-req", made["mk_req"]), lambda: stock.with_krb5("mk_req")),
-        Part("README.md", script("try_readme.py")),
+        Part("the unit", over("try_unit.py")),
+        Part("the whole way", script("whole_way.py", *way)),
+        Part("the whole way by MIT's library", script("whole_way.py", *way, "--mk-req", made["mk_req"]), lambda: stock.with_krb5("mk_req")),
+        Part("README.md", over("try_readme.py")),
         Part("words of pages and comments", script("try_words.py")),
         Part("texts of edits", script("try_edits.py", "--stale")),
     ]
@@ -317,6 +323,7 @@ def try_parts(chosen, stock, shows_all):
 def main():
     words = argparse.ArgumentParser(description=__doc__, formatter_class=argparse.RawDescriptionHelpFormatter)
     words.add_argument("--only", nargs="+", metavar="WORD", help="the parts with one of these words in their names")
+    words.add_argument("--programs", type=pathlib.Path, help="the folder of the programs, their tests and the library for C")
     words.add_argument("--stock", type=pathlib.Path, help="the folder to unpack the stock programs in, and keep")
     words.add_argument("--all-lines", action="store_true")
     words, groups = words.parse_args(), Groups()
@@ -324,8 +331,9 @@ def main():
     with tempfile.TemporaryDirectory() as folder:
         scratch = pathlib.Path(folder, "programs")
         scratch.mkdir()
-        stock = Stock(words.stock or pathlib.Path(folder, "stock"), scratch, groups)
-        chosen = [part for part in parts(stock) if not words.only or any(word in part.name for word in words.only)]
+        programs = words.programs and words.programs.resolve()
+        stock = Stock(words.stock or pathlib.Path(folder, "stock"), scratch, groups, programs / LIBRARY.name if programs else LIBRARY)
+        chosen = [part for part in parts(stock, programs) if not words.only or any(word in part.name for word in words.only)]
         passed, failed = try_parts(chosen, stock, words.all_lines)
     print(f"{passed} passed, {failed} failed")
     sys.exit(1 if failed else 0)

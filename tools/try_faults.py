@@ -430,6 +430,7 @@ def try_each(trial):
         trial.note(f"{DATAGRAMS} datagrams are answered, each asked once", "" if answered == DATAGRAMS else f"{answered} are")
         try_remembered(trial, server, peer)
     server.end()
+    try_kept(trial)
     first, second = first_session_key(trial), first_session_key(trial)
     trial.note("two starts give different session keys", "" if first != second else "the first one is the same")
 
@@ -458,6 +459,24 @@ def try_remembered(trial, server, peer):
     trial.note("each that comes again gets the reply of before", f"{others} get another" if others else "")
     address, first = server.addresses[1][1], requests[0]
     trial.note("also over two connections", "" if [ask_tcp(address, first) for _ in range(2)] == [replies[0]] * 2 else "they get others")
+
+
+def try_kept(trial):
+    """A request of as many bytes as `--kept` gets the same reply when it comes again, and one of a byte more is refused."""
+    realm, now = REALM.encode(), int(time.time())
+    server = trial.serve("--first")
+    with datagrams(server.udp) as peer:
+        ticket, key = ticket_in(key_of(b"a password", realm + b"v"), ask_udp(peer, login("v")))
+    server.end()
+    request = tgs_req(realm, b"v", (b"h",), ticket, key, now, 0)
+    for kept, wanted in ((len(request), "the same"), (len(request) - 1, "34"), (0, "34"), (65535, "the same")):
+        server = trial.serve(f"--first --kept {kept}")
+        with datagrams(server.udp) as peer:
+            first, again = ask_udp(peer, request), ask_udp(peer, request)
+        server.end()
+        found = "the same" if first == again else answer(again)
+        is_well = first[:1] == b"\x6d" and found == wanted
+        trial.note(f"with --kept {kept} a request of {len(request)} bytes that comes again gets {wanted}", "" if is_well else f"{answer(first)}, {found}")
 
 
 def try_killed(trial):

@@ -104,7 +104,7 @@ class Sequence:
         host = f"127.{next(HOSTS)}.0.1"
         self.relay = Relay(host, trial.server.udp)
         self.folder = trial.folder / host
-        self.uses_own, self.own = table.uses_own, OWN.format(os.geteuid() if self.user is None else self.user)
+        self.uses_own, self.own = table.uses_own, OWN.format(self.user)
         self.placed = {
             "FIRST": self.relay.first.address, "SECOND": self.relay.second.address, "OWN": self.own,
             "HOST": host.replace(".0.1", ".1"), "PORT": self.relay.second.address.rpartition(":")[2],
@@ -289,8 +289,9 @@ class Commands(Trial):
         for table in TABLES:
             if chosen and table.name not in chosen:
                 continue
-            if table.uses_own and self.other is None and os.path.exists(OWN.format(os.geteuid())):
-                self.leave(f"{table.name}: the user has a cache, which would be replaced")
+            if table.uses_own and self.other is None:
+                # The user's own cache may be there, and other trials may look for it.
+                self.leave(f"{table.name}: it needs another user, at whose place for a cache nobody else looks")
                 continue
             for runs in table.sequences():
                 yield Sequence(self, table, list(filter(self.can_run, runs)))

@@ -54,6 +54,7 @@ BAD = {
     **dict.fromkeys(("greatest-life", "greatest-renewable"), NUMBERS),
     **dict.fromkeys(("udp", "tcp", "kdc"), ADDRESSES),
     "remembered": (*NUMBERS, "0", "65537"),
+    "kept": (*NUMBERS, "65536"),
     "log-format": ("", "nonsense", "JSON", "text,json"),
     "types": ("", "16", "18,18", "18,", ",18", "18 17", "18;17", "aes256-cts", "18,17,20,19,23"),
     "field": ("", "nonsense", "Disabled"),
@@ -79,7 +80,7 @@ COMMANDS = {
     "kadm show": "db! name!",
     "kadm keytab": "db! name! out! append- keep-mode-",
     "kadm migrate": "db! users-are-no-services- keep-mode-",
-    "kdcd serve": "db! udp!* tcp* log- log-format first- journal quiet-start- fixed- seed rounds remembered lock-after lock-seconds "
+    "kdcd serve": "db! udp!* tcp* log- log-format first- journal quiet-start- fixed- seed rounds remembered kept lock-after lock-seconds "
     "greatest-life greatest-renewable",
     "kclient kinit": "kdc* realm name! password-file keytab cache service seed life start least-count renewable- "
     "forwardable- proxiable- tcp- renew- validate-",
@@ -246,7 +247,7 @@ def try_limits(trial):
     """Each option of `kdcd serve`, its limits at their ends, and requests to servers with them."""
     trial.realm("limits")
     limits = ("lock-after", "lock-seconds", "greatest-life", "greatest-renewable")
-    for name, ends in {"remembered": (1, 65536), **dict.fromkeys(limits, (0, MOST))}.items():
+    for name, ends in {"remembered": (1, 65536), "kept": (0, 65535), **dict.fromkeys(limits, (0, MOST))}.items():
         for end in ends:
             seconds = " --lock-seconds 9" if name == "lock-after" and end else ""
             words = f"kdcd serve --db database --udp 127.0.0.1:0 --rounds 0 --{name} {end}{seconds}"

@@ -228,6 +228,8 @@ REFUSED = """
     --db d UDP:88 --remembered 65537 -> --remembered
     --db d UDP:88 --remembered x -> --remembered
     --db d UDP:88 --remembered -1 -> --remembered
+    --db d UDP:88 --kept 65536 -> --kept
+    --db d UDP:88 --kept x -> --kept
     --db d UDP:88 --lock-after 4294967296 --lock-seconds 1 -> --lock-after
     --db d UDP:88 --lock-after 3 -> --lock-after
     --db d UDP:88 --lock-seconds 4294967296 -> --lock-seconds
@@ -249,11 +251,13 @@ ACCEPTED = f"""
     UDP:0 UDP:0 UDP:0 UDP:0 TCP:0 TCP:0 TCP:0 TCP:0
     UDP:0 --remembered 1
     UDP:0 --remembered 65536
+    UDP:0 --kept 0
+    UDP:0 --kept 65535
     UDP:0 --lock-seconds 3
     UDP:0 --lock-after 0 --lock-seconds 0 --greatest-life 0 --greatest-renewable 0
     UDP:0 --lock-after {MOST} --lock-seconds {MOST} --greatest-life {MOST} --greatest-renewable {MOST}
     UDP:0 UDP:0 TCP:0 --tcp 127.0.0.2:0 ANY:0 --rounds 7 --seed s --first --quiet-start --fixed --log --greatest-renewable 5 --greatest-life 4 \
---lock-seconds 3 --lock-after 2 --remembered 1
+--lock-seconds 3 --lock-after 2 --kept 6 --remembered 1
     ANY:0
     ANY:0 --first
     ANY:0 --quiet-start
@@ -262,7 +266,7 @@ ACCEPTED = f"""
     ANY:0 --log
 """
 # The limits of a server, and what they are without their options.
-LIMITS = {"remembered": 4096, "lock-after": 0, "lock-seconds": 0, "greatest-life": 36000, "greatest-renewable": 604800}
+LIMITS = {"remembered": 4096, "kept": 4096, "lock-after": 0, "lock-seconds": 0, "greatest-life": 36000, "greatest-renewable": 604800}
 REFUSES, QUIET = f"restart: all TGS-REQs are refused until {utc(T + REFUSING)}", "quiet start: they get no reply until then"
 
 

@@ -1,7 +1,7 @@
 #!/usr/bin/env python3
 """Checks the English of the repository as far as a script can: phrases that a reader of Kerberos has to translate back, in pages, code and
-tools, and lines of pages that are too wide. It compares the manual pages with the options of the programs, and checks them with `mandoc -Tlint`,
-if that is on the path.
+tools, lines of pages that are too wide, pages that are too long, and links and paths that lead nowhere. It compares the manual pages with the
+options of the programs, and checks them with `mandoc -Tlint`, if that is on the path.
 
     python3 tools/try_words.py
 
@@ -19,7 +19,7 @@ from trial import Notes
 TOP = pathlib.Path(__file__).resolve().parent.parent
 # Where people read, by the names of the columns of PHRASES.
 KINDS = {
-    "pages": ("README.md", "docs/*.md", "docs/man/*"),
+    "pages": ("*.md", "docs/*.md", "docs/man/*"),
     "code": ("crates/*/src/**/*.rt", "crates/*/specs/**/*.antt", "crates/*/proofs/**/*.antt"),
     "tools": ("tools/*.py", "tools/*.c", "tools/bench/*", "tools/kadm_sessions/*", "docs/*.h"),
 }
@@ -35,16 +35,27 @@ PHRASES = (
     ("whoever|who asks", "the caller, the peer, the client", 0, 0, 0),
     ("of which|of whom|that which", "two sentences", 0, 2, 1),
     ("what it is that|in vain|all the same", "a verb", 0, 0, 0),
-    ("where there (?:is|are) none", "if it is absent", 0, 1, 0),
+    ("where there (?:is|are) none", "if it is absent", 0, 0, 0),
     ("so many", "N, this many", 0, 0, 0),
-    ("tells?|told(?!-)", "returns, logs, records", 3, 13, 3),
+    ("tells?|told(?!-)", "returns, logs, records", 1, 13, 3),
 )
 # A space of a phrase: in comments the next line begins with the comment's own sign.
 GAP = r"(?:[ \t]+|[ \t]*\n[ \t]*(?:///?|//!|--|\*|#)?[ \t]*)"
 # The widest line of a page, but for rows of tables, which can't be broken.
-WIDEST, WIDEST_OF_README, MOST_LINES_OF_README = 120, 100, 100
+WIDEST, WIDEST_OF_README = 120, 100
+# How many lines a page has at most.
+MOST_LINES = {
+    "README.md": 100, "CONTRIBUTING.md": 300, "docs/DECISIONS.md": 350, "docs/FORMATS.md": 450, "docs/MAP.md": 150, "docs/PERFORMANCE.md": 130,
+    "docs/SERVICES.md": 220, "docs/PROTOCOL.md": 330,
+}
+# A link of a page, and a path of this repository that a page or a comment names.
+LINK, PATH = re.compile(r"\]\(([^)#\s]*)(?:#([^)\s]*))?\)"), re.compile(r"(?<![\w/.$-])((?:crates|docs|tools)/[\w./*-]*[\w*])")
+# What such a path may be that is made by a build, or stands for others.
+OTHER = re.compile(r"/out(/|$)|\*|\b(NAME|CRATE)\b")
 # How wide lines begin that have to stay: a program prints them as one.
-KEPT = ("    accepted u@A.B", "    2026-11-23T22:46:18Z", '    {"time":', "    krbtgt/A.B@A.B from", "    kdcd: the clock went back")
+KEPT = (
+    "    accepted u@A.B", "    2026-11-23T22:46:18Z", '    {"time":', "    krbtgt/A.B@A.B from", "    kdcd: the clock went back", "    kdcd: limits",
+)
 # How many wide lines a page still has. A number may only fall.
 WIDE = {}
 
@@ -88,13 +99,42 @@ def wide_lines(page, widest):
     return [f"line {number}" for number, line in lines if len(line) > widest and not line.startswith(("|", *KEPT))]
 
 
+def pages():
+    return sorted([*TOP.glob("*.md"), *TOP.glob("docs/*.md")])
+
+
 def check_widths(notes):
-    readme = TOP / "README.md"
-    for page in (readme, *sorted(TOP.glob("docs/*.md"))):
-        widest, name = WIDEST_OF_README if page == readme else WIDEST, str(page.relative_to(TOP))
+    for page in pages():
+        name = str(page.relative_to(TOP))
+        widest = WIDEST_OF_README if name == "README.md" else WIDEST
         check_count(notes, f"{name}: lines of more than {widest} columns", wide_lines(page, widest), WIDE.get(name, 0))
-    count = len(readme.read_text().splitlines())
-    notes.note("README.md: its length", f"{count} lines, and {MOST_LINES_OF_README} at most" * (count > MOST_LINES_OF_README))
+    for name, most in MOST_LINES.items():
+        count = len((TOP / name).read_text().splitlines())
+        notes.note(f"{name}: its length", f"{count} lines, and {most} at most" * (count > most))
+
+
+def anchors(page):
+    """The names of a page's headings, as in a link to them."""
+    heads = re.findall(r"^#+ (.*)$", page.read_text(), re.M)
+    return {re.sub(r"[^\w -]", "", head.lower()).replace(" ", "-") for head in heads}
+
+
+def check_links(notes):
+    for page in pages():
+        text, faults = page.read_text(), []
+        for target, anchor in LINK.findall(text):
+            place = (page.parent / target).resolve() if target else page
+            if "://" in target:
+                continue
+            if not place.exists():
+                faults.append(f"{target} is not there")
+            elif anchor and anchor not in anchors(place):
+                faults.append(f"{target} has no heading {anchor}")
+        faults += [f"{path} is not there" for path in PATH.findall(text) if not OTHER.search(path) and not (TOP / path).exists()]
+        notes.note(f"{page.relative_to(TOP)}: its links and paths", ", ".join(sorted(set(faults))))
+    named = {(path, file) for kind in ("code", "tools") for file in files(kind) for path in re.findall(r"\bdocs/[\w.-]*\w\b", file.read_text())}
+    faults = [f"{path} in {file.relative_to(TOP)}" for path, file in sorted(named) if not (TOP / path).exists()]
+    notes.note("pages that code and tools name", ", ".join(faults))
 
 
 def check_options(notes):
@@ -121,6 +161,7 @@ def main():
     notes = Notes()
     check_phrases(notes)
     check_widths(notes)
+    check_links(notes)
     check_options(notes)
     check_manuals(notes)
     notes.end()

@@ -9,7 +9,7 @@ use std::alloc::{AllocError, Global};
 const FILE: &str = "FILE";
 
 /// The version of the programs. `--version` prints it after a program's name.
-pub const VERSION: &str = "0.1.0";
+pub const VERSION: &str = "0.9.0";
 
 /// How often an option may appear on a command line.
 #[derive(Clone, Copy, Debug, PartialEq, Eq)]

@@ -36,7 +36,7 @@ use Rattle.replay.specs.declared.keep.Bears.TheVariants.{Ticket, Error}
 use Rattle.replay.specs.declared.keep.Kept.{Kept}
 use Rattle.replay.specs.declared.cache.ReplayCache.{ReplayCache}
 use Rattle.replay.specs.declared.opening.Opening.TheVariants.{First, Restart as OpenedAgain}
-use Rattle.tgs_exchange.specs.Answer.{TgsAnswer, answer_by, is_ticket, kept_of, longest_kept, tgs_answer, tgs_error}
+use Rattle.tgs_exchange.specs.Answer.{TgsAnswer, answer_by, is_ticket, kept_of, tgs_answer, tgs_error}
 use Rattle.tgs_exchange.specs.Decision.{decision}
 use Rattle.tgs_exchange.specs.Issue.{tgs_rep}
 use Rattle.tgs_exchange.specs.View.{TgsView}
@@ -68,9 +68,9 @@ reply_bears_one r = refl
 -- ---- what the TGS exchange stores
 
 -- a request and its reply, or nothing if the request is too long
-kept_marked : (request : List ℕ) (bears : Bears) (octets : List ℕ) → is_ticket bears ≡ bears_ticket octets
-    → IsMarked (kept_of request bears octets)
-kept_marked request bears octets is = by_length (nat_lt longest_kept (length request))
+kept_marked : (longest : ℕ) (request : List ℕ) (bears : Bears) (octets : List ℕ) → is_ticket bears ≡ bears_ticket octets
+    → IsMarked (kept_of longest request bears octets)
+kept_marked longest request bears octets is = by_length (nat_lt longest (length request))
   where
     by_length : (long : Bool)
         → IsMarked (if long then nothing_kept else record { request = request; reply = octets; bears = bears })
@@ -88,14 +88,14 @@ module _ (v : TgsView) (incoming : Incoming) (body : ReqBody) (p : Presented) wh
   decision_marked (Refuses refusal) = tt
   decision_marked (Records refusal) =
       let e = tgs_error v.realm incoming.at body refusal in
-      kept_marked incoming.octets Error (written krb_error e) (sym (error_bears_none e))
+      kept_marked v.limits.kept incoming.octets Error (written krb_error e) (sym (error_bears_none e))
   decision_marked (Repeats kept) =
       either (pointwise nat_eq incoming.octets kept.request) _ _
       (either (is_ticket kept.bears && nat_lt incoming.room (length kept.reply)) _ _ tt tt) tt
   decision_marked (Issues admission) =
       let reply = tgs_rep v incoming.at incoming.random body p admission in
       either (nat_lt incoming.room (length (written (kdc_rep 13) reply))) _ _ tt
-      (kept_marked incoming.octets Ticket (written (kdc_rep 13) reply) (sym (reply_bears_one reply)))
+      (kept_marked v.limits.kept incoming.octets Ticket (written (kdc_rep 13) reply) (sym (reply_bears_one reply)))
 
   tgs_marked : IfSome (tgs_answer v incoming body p).kept IsMarked
   tgs_marked = decision_marked (decision v incoming.at.sec body p)

@@ -28,7 +28,7 @@ use Rattle.replay.specs.declared.keep.Kept.{Kept}
 use Rattle.replay.specs.declared.cache.ReplayCache.{ReplayCache}
 use Rattle.replay.specs.declared.verdict.Verdict.{Verdict}
 use Rattle.replay.specs.declared.verdict.Verdict.TheVariants.{Fresh, Skew, Repeat, Full as NoPlace}
-use Rattle.tgs_exchange.specs.Answer.{TgsAnswer, answer_by, is_ticket, kept_of, kept_reply, longest_kept, refused, recording, tgs_answer, tgs_error, within_room}
+use Rattle.tgs_exchange.specs.Answer.{TgsAnswer, answer_by, is_ticket, kept_of, kept_reply, refused, recording, tgs_answer, tgs_error, within_room}
 use Rattle.tgs_exchange.specs.Decision.{decision, stamp_of, verdict_on}
 use Rattle.tgs_exchange.specs.DecisionLaws.{HasSaid, has_said}
 use Rattle.tgs_exchange.specs.View.{TgsView}
@@ -165,11 +165,11 @@ module _ (v : TgsView) (incoming : Incoming) (body : ReqBody) (p : Presented) wh
   room_gives e octets = by_length (nat_lt incoming.room (length octets))
     where
       by_length : (long : Bool)
-          → IfSome (handed (stamp_of p) (if long then too_long else recording incoming.octets Ticket octets).reply)
-          (Gives (option_map asked (if long then too_long else recording incoming.octets Ticket octets).kept))
+          → IfSome (handed (stamp_of p) (if long then too_long else recording v incoming.octets Ticket octets).reply)
+          (Gives (option_map asked (if long then too_long else recording v incoming.octets Ticket octets).kept))
       by_length true = error_handed (stamp_of p) (too_big v.realm incoming.at body) _
       by_length false = handed_where (bears_ticket octets) (stamp_of p, octets) _
-          (refl, subst (λ v. Give (kept_of incoming.octets Ticket octets) v octets) (sym e) (fresh_kept incoming.octets octets (nat_lt longest_kept (length incoming.octets))))
+          (refl, subst (λ w. Give (kept_of v.limits.kept incoming.octets Ticket octets) w octets) (sym e) (fresh_kept incoming.octets octets (nat_lt v.limits.kept (length incoming.octets))))
 
   kept_gives : (kept : Kept) → verdict_on v incoming.at.sec p ≡ Repeat kept → (long : Bool)
       → IfSome (handed (stamp_of p) (if long then too_long else no_trace kept.reply).reply) (Gives (Some (asked kept)))

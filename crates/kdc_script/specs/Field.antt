@@ -20,13 +20,14 @@ pub record IsMomentText (at : Moment) (sec_text usec_text : List ℕ) : Type 0 w
   pub usec : IsNumberText at.usec usec_text
   pub usec_fits : IsMicrosecond at.usec
 
--- the limits: five numbers; the size of a replay cache is 1 to 65536 authenticators
+-- the limits: five numbers; the size of a replay cache is 1 to 65536 authenticators. The replies to requests of up to 4096
+-- bytes are kept
 abbrev pub AreLimitsTexts : Limits → List (List ℕ) → Type 0
 AreLimitsTexts limits (remembered ∷ lock_after ∷ lock_seconds ∷ life ∷ renewable ∷ []) =
     IsU32Text limits.remembered remembered × IsU32Text limits.lock_after lock_after
     × IsU32Text limits.lock_seconds lock_seconds
     × IsU32Text limits.greatest_life life × IsU32Text limits.greatest_renewable renewable
-    × (1 ≤ limits.remembered) × (limits.remembered ≤ 65536)
+    × (1 ≤ limits.remembered) × (limits.remembered ≤ 65536) × (limits.kept ≡ 4096)
 AreLimitsTexts limits texts = ⊥
 
 -- `-` for no bytes, otherwise hexadecimal in either case

@@ -1,5 +1,5 @@
 //! A TCP connection and its unsent bytes.
-ghost use Rattle.std.specs.Prelude.{◌≡◌};
+ghost use Rattle.std.specs.Prelude.{◌≡◌, true, false};
 ghost use Rattle.std.specs.Io.{ReadsAtMost};
 
 use framing::prefix;
@@ -34,7 +34,10 @@ pub struct Connection {
 
 impl Connection {
     /// Returns a new connection from this address.
-    pub fn new(alloc: Global, stream: TcpStream, peer: SocketAddr, at: Instant) -> Connection {
+    pub fn new(alloc: Global, stream: TcpStream, peer: SocketAddr, at: Instant) -> Connection
+        ensures open { result.is_closing ≡ false }
+        ensures peer { result.peer ≡ peer }
+    {
         Connection {
             stream,
             peer,
@@ -47,12 +50,16 @@ impl Connection {
     }
 
     /// Returns the peer's address.
-    pub fn peer(&self) -> SocketAddr {
+    pub fn peer(&self) -> SocketAddr
+        ensures { result ≡ self.now.peer }
+    {
         self.peer
     }
 
     /// Checks whether no more replies will follow.
-    pub fn is_closing(&self) -> bool {
+    pub fn is_closing(&self) -> bool
+        ensures { result ≡ self.now.is_closing }
+    {
         self.is_closing
     }
 
@@ -80,7 +87,10 @@ impl Connection {
 
     /// Writes the reply to a complete request after its length prefix, as far as it fits, and keeps the rest. Fails if
     /// too many bytes are unsent.
-    pub fn write(&mut self, message: &[u8], at: Instant) -> Result<()> {
+    pub fn write(&mut self, message: &[u8], at: Instant) -> Result<()>
+        ensures closing { self.new.is_closing ≡ self.old.is_closing }
+        ensures peer { self.new.peer ≡ self.old.peer }
+    {
         self.idle_since = at;
         if message.len() > MOST_UNSENT {
             return Err(Error::from(ErrorKind::InvalidInput));
@@ -96,7 +106,10 @@ impl Connection {
     }
 
     /// Marks that no more replies will follow, and writes what fits.
-    pub fn close(&mut self, at: Instant) -> Result<()> {
+    pub fn close(&mut self, at: Instant) -> Result<()>
+        ensures closing { self.new.is_closing ≡ true }
+        ensures peer { self.new.peer ≡ self.old.peer }
+    {
         if !self.is_closing {
             self.is_closing = true;
             self.idle_since = at;
@@ -105,14 +118,20 @@ impl Connection {
     }
 
     /// Marks that the peer sends nothing more. The unsent bytes are still written.
-    pub fn end(&mut self, at: Instant) -> Result<()> {
+    pub fn end(&mut self, at: Instant) -> Result<()>
+        ensures closing { self.new.is_closing ≡ true }
+        ensures peer { self.new.peer ≡ self.old.peer }
+    {
         self.is_at_end = true;
         self.close(at)
     }
 
     /// Writes what fits. After the last byte of the last reply, shuts down the sending side. It does so once, since
     /// each shutdown would raise another event for the connection.
-    pub fn flush(&mut self, at: Instant) -> Result<()> {
+    pub fn flush(&mut self, at: Instant) -> Result<()>
+        ensures closing { self.new.is_closing ≡ self.old.is_closing }
+        ensures peer { self.new.peer ≡ self.old.peer }
+    {
         for _ in 0..self.unsent.len() {
             if self.unsent.is_empty() || !self.write_once()? {
                 break;
@@ -129,7 +148,10 @@ impl Connection {
     }
 
     /// Writes once, and returns whether more may fit.
-    fn write_once(&mut self) -> Result<bool> {
+    fn write_once(&mut self) -> Result<bool>
+        ensures closing { self.new.is_closing ≡ self.old.is_closing }
+        ensures peer { self.new.peer ≡ self.old.peer }
+    {
         match self.stream.write(&self.unsent) {
             Ok(0) => Err(Error::from(ErrorKind::WriteZero)),
             Ok(sent) => {

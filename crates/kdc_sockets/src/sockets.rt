@@ -1,4 +1,8 @@
 //! The sockets of a wire, which take turns.
+ghost use Rattle.std.specs.Prelude.{◌≡◌, option_map};
+ghost use Rattle.kdc_hub.specs.Rounds.{action_connection};
+ghost use Rattle.kdc_sockets.specs.Table.{HasEnded, KeepsOthersOf, held_at};
+
 use crate::bind_fault::BindFault;
 use crate::connections::{Connections, MOST_CONNECTIONS};
 use crate::moment::now;
@@ -157,7 +161,9 @@ impl<C: Clock + Drop> Sockets<C> {
     }
 
     /// Returns the address of a connection's peer.
-    pub fn peer(&self, conn: u64) -> Option<SocketAddr> {
+    pub fn peer(&self, conn: u64) -> Option<SocketAddr>
+        ensures { result ≡ option_map (λ connection. connection.peer) (held_at self.now.connections.held.entries conn) }
+    {
         self.connections.peer(conn)
     }
 
@@ -348,7 +354,9 @@ impl<C: Clock + Drop> Sockets<C> {
     }
 
     /// Ends a connection, once what is left of its replies is written.
-    pub fn end_connection(&mut self, conn: u64) {
+    pub fn end_connection(&mut self, conn: u64)
+        ensures { HasEnded self.old.connections.held.entries conn self.new.connections.held.entries }
+    {
         self.connections.close(conn, self.at);
     }
 
@@ -358,7 +366,10 @@ impl<C: Clock + Drop> Sockets<C> {
     }
 
     /// Performs an action. The reply to a datagram is sent from the socket that received the datagram.
-    pub fn act(&mut self, action: &Action) -> io::Result<()> {
+    pub fn act(&mut self, action: &Action) -> io::Result<()>
+        ensures { KeepsOthersOf (action_connection action.now) self.old.connections.held.entries
+            self.new.connections.held.entries }
+    {
         match action {
             Action::SendTo { peer, reply } => {
                 let socket = peer.socket as usize;

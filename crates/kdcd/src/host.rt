@@ -72,7 +72,7 @@ impl<'a> Host for SystemHost<'a> {
 
     type SocketFault = BindFault;
 
-    type Journal = JournalFile<'a, HostRuntime, Errors>;
+    type Journal = Option<JournalFile<'a, HostRuntime, Errors>>;
 
     type Rows = RowsFile<'a, HostRuntime, Errors>;
 
@@ -125,9 +125,15 @@ impl<'a> Host for SystemHost<'a> {
         alloc: Global,
         path: &str,
         beginning: JournalBeginning,
-    ) -> io::Result<JournalFile<'a, HostRuntime, Errors>> {
+    ) -> io::Result<Option<JournalFile<'a, HostRuntime, Errors>>> {
         let held = mem::replace(&mut self.held, HeldFiles::none());
-        JournalFile::start(alloc, self.rt, path, self.errors.share()?, beginning, held)
+        let errors = self.errors.share()?;
+        let journal = JournalFile::start(alloc, self.rt, path, errors, beginning, held)?;
+        Ok(Some(journal))
+    }
+
+    fn no_journal(&mut self) -> Option<JournalFile<'a, HostRuntime, Errors>> {
+        None
     }
 
     fn announce(&mut self, news: StartNews) {

@@ -23,7 +23,7 @@ type StartFault<'a> = kdcd_run::StartFault<'a, BindFault>;
 type SystemRan<'a> = Ran<
     <SystemHost<'a> as Host>::Sockets,
     <SystemHost<'a> as Host>::Journal,
-    RequestLines<Errors>,
+    Option<RequestLines<Errors>>,
     Errors,
     FaultCount,
     <SystemHost<'a> as Host>::Rows,
@@ -60,7 +60,12 @@ fn say_served(rt: &HostRuntime, errors: &mut Errors, ran: &SystemRan<'_>) -> io:
         "served {} {} {}",
         totals.events, totals.faults, totals.refused
     )?;
-    let lost = ran.server.wire.log().map_or(0, |log| log.unreported());
+    let lost = ran
+        .server
+        .wire
+        .log()
+        .as_ref()
+        .map_or(0, |log| log.unreported());
     if lost > 0 {
         // If that fails, there is nobody to be told.
         let _ = writeln!(errors, "kdcd: log: {lost} lines are lost");

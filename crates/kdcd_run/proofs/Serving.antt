@@ -13,8 +13,8 @@ use Rattle.kdc_hub.specs.declared.wires.Did.TheVariants.{Acted, Failed}
 use Rattle.kdc_hub.specs.declared.wires.WireFault.{WireFault}
 use Rattle.kdc_hub.specs.Wire.{Records, acted, is_fault, polled}
 use Rattle.kdc_hub.proofs.Rounds.{records_nothing, records_on}
-use Rattle.kdcd_run.specs.Journal.{Handed, Hands, handed_by, moment_after}
-use Rattle.kdcd_run.specs.Log.{LogEntry, LogsAll, LogsWhere, asker_of, entries_of, reported}
+use Rattle.kdcd_run.specs.Journal.{Handed, handed_by, moment_after}
+use Rattle.kdcd_run.specs.Log.{LogEntry, LogsAll, asker_of, entries_of, reported}
 use Rattle.kdcd_run.specs.Served.{HasServed, IsNew, Serves, handed_in, handed_of, in_order, last_came, record_of, said, said_of, says, succeeded}
 use Rattle.kdcd_run.specs.Withheld.{EndsOnly}
 use Rattle.kdcd_run.specs.declared.logging.Came.{Came}
@@ -130,21 +130,10 @@ shown_said at is_sent came action is = each (reported action) ∙ ap (λ t. says
 -- by entries written one after another a log's record grows by them
 module _ {L : Type 0} (logged : L → Option (List LogEntry)) (Logs : L → LogEntry → L → Type 0)
     (grows : (log : L) (entry : LogEntry) (new : L) → Logs log entry new → Records (logged log) (entry ∷ []) (logged new)) where
-  logs_all : (log new : L) (entries : List LogEntry) → LogsAll Logs log entries new → Records (logged log) entries (logged new)
+  pub logs_all : (log new : L) (entries : List LogEntry) → LogsAll Logs log entries new → Records (logged log) entries (logged new)
   logs_all log new [] is = subst (λ l. Records (logged log) [] (logged l)) (sym is) (records_nothing (logged log))
   logs_all log new (entry ∷ entries) (middle, first, rest) =
       records_on (logged log) (entry ∷ []) (logged middle) entries (logged new) (grows log entry middle first) (logs_all middle new entries rest)
-
-  pub logs_record : (came : Came) (action : Action) (is_sent : Bool) (log new : Option L) → LogsWhere Logs log came action is_sent new
-      → Records (record_of logged log) (entries_of came action is_sent) (record_of logged new)
-  logs_record came action is_sent None new is = subst (λ n. Records None (entries_of came action is_sent) (record_of logged n)) (sym is) tt
-  logs_record came action is_sent (Some log) new (later, is, all) =
-      subst (λ n. Records (logged log) (entries_of came action is_sent) (record_of logged n)) (sym is) (logs_all log later (entries_of came action is_sent) all)
-
-pub hands_record : {J : Type 0} (handed : J → Option (List Handed)) (at : Moment) (action : Action) (journal new : Option J) → Hands handed journal at action new
-    → Records (record_of handed journal) (handed_by at action) (record_of handed new)
-hands_record handed at action None new is = subst (λ j. Records None (handed_by at action) (record_of handed j)) (sym is) tt
-hands_record handed at action (Some j) new (later, is, records) = subst (λ n. Records (handed j) (handed_by at action) (record_of handed n)) (sym is) records
 
 module _ (action : Action) (came : Came) (tally tally_new sockets sockets_new : Option (List Did)) (journal journal_new : Option (List Handed)) (log log_new : Option (List LogEntry))
     (hands : Records journal (handed_by came.at action) journal_new) (s : Serves tally sockets journal log came.at) where

@@ -21,23 +21,20 @@ handed_at at all = map (λ seen. record { at = at; seen = seen }) all
 abbrev pub handed_by : Moment → Action → List Handed
 handed_by at action = handed_at at (seen_by (reply_in action))
 
--- where there is a journal
-abbrev pub Hands : {J : Type 0} → (J → Option (List Handed)) → Option J → Moment → Action → Option J → Type 0
-Hands handed None at action new = new ≡ None
-Hands {J} handed (Some journal) at action new =
-    (later : J) × (new ≡ Some later) × Records (handed journal) (handed_by at action) (handed later)
-
 abbrev pub has_reply : Action → Bool
 has_reply (SendTo peer reply) = true
 has_reply (Pass peer) = false
 has_reply (Write conn reply) = true
 has_reply (Close conn reason) = false
 
--- Whether a journal has kept all that it was handed. Where there is none, and of an action without a reply, nothing is
--- asked.
-abbrev pub is_kept : {J : Type 0} → (J → Bool) → Option J → Action → Bool
-is_kept is_whole None action = true
-is_kept is_whole (Some journal) action = not (has_reply action) || is_whole journal
+-- where there is no journal, nothing is missing
+abbrev pub is_whole_if : {J : Type 0} → (J → Bool) → Option J → Bool
+is_whole_if is_whole (Some journal) = is_whole journal
+is_whole_if is_whole None = true
+
+-- whether a journal has kept all that it was handed; of an action without a reply nothing is asked
+abbrev pub is_kept : {J : Type 0} → (J → Bool) → J → Action → Bool
+is_kept is_whole journal action = not (has_reply action) || is_whole journal
 
 -- when the last event came, after something that a Wire did
 abbrev pub moment_after : Moment → Did → Moment

@@ -11,3 +11,4 @@ pub mod Handing
 pub mod Resuming
 pub mod Processes
 pub mod Server
+pub mod LogLaws

@@ -67,11 +67,10 @@ abbrev pub LogsAll : {L : Type 0} → (L → LogEntry → L → Type 0) → L �
 LogsAll {L} Logs log [] new = new ≡ log
 LogsAll {L} Logs log (entry ∷ entries) new = (middle : L) × Logs log entry middle × LogsAll Logs middle entries new
 
--- where there is a log
-abbrev pub LogsWhere : {L : Type 0} → (L → LogEntry → L → Type 0) → Option L → Came → Action → Bool → Option L → Type 0
-LogsWhere Logs None came action is_sent new = new ≡ None
-LogsWhere {L} Logs (Some log) came action is_sent new =
-    (later : L) × (new ≡ Some later) × LogsAll Logs log (entries_of came action is_sent) later
+-- an entry, where there is a log
+abbrev pub LogsIf : {L : Type 0} → (L → LogEntry → L → Type 0) → Option L → LogEntry → Option L → Type 0
+LogsIf Logs None entry new = new ≡ None
+LogsIf {L} Logs (Some log) entry new = (later : L) × (new ≡ Some later) × Logs log entry later
 
 -- ---- the line of an entry
 

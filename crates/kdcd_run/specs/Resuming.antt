@@ -1,5 +1,5 @@
--- How a server with a journal starts.
-use Rattle.std.specs.Prelude.{◌≡◌, ◌||◌, not, ℕ, ℤ, Bool, true, false, List, [], ◌∷◌, length, Option, is_some}
+-- How a server starts, and what its journal begins with.
+use Rattle.std.specs.Prelude.{◌≡◌, ◌||◌, not, ⊤, ℕ, ℤ, Bool, true, false, List, [], ◌∷◌, ◌++◌, length, Option, Some, None, is_some}
 use Rattle.std.specs.FinMap as map
 use Rattle.std.specs.Option.{option_copied}
 use Rattle.krb_fields.specs.declared.moment.Moment.{Moment}
@@ -46,6 +46,11 @@ abbrev pub found_by : Start → JournalFound
 found_by (Resumes resumption check) = Resumed (length resumption.seen)
 found_by (Refuses doubt) = Doubted doubt
 
+-- if the options name a journal
+abbrev pub found_at : Option (List ℕ) → Start → Option JournalFound
+found_at (Some path) start = Some (found_by start)
+found_at None start = None
+
 -- a first start finds no journal
 abbrev pub may_be_first : Bool → Journals → Bool
 may_be_first is_first journals = not is_first || not (is_there journals.newer || is_there journals.older)
@@ -58,16 +63,35 @@ pub record IsDecided (rows : Principals) (journals : Journals) (at : Moment) (st
   pub moment : place.at ≡ at
   pub is : start ≡ start_of place journals.older journals.newer
 
+-- ---- what is asked of the host for a journal at a path
+
+-- the files are read; without a path there are none
+abbrev pub reading : Option (List ℕ) → Journals → List HostDid
+reading (Some path) journals = ReadJournals path journals ∷ []
+reading None journals = []
+
+abbrev pub AreAt : Option (List ℕ) → Journals → Type 0
+AreAt (Some path) journals = ⊤
+AreAt None journals = (journals.older ≡ Nothing) × (journals.newer ≡ Nothing)
+
+-- and in the end the journal begins
+abbrev pub began : Option (List ℕ) → JournalBeginning → List HostDid
+began (Some path) beginning = BeganJournal path beginning ∷ []
+began None beginning = []
+
+-- ---- a start
+
 -- What was asked of the host for these options, in this order: its sockets are held before the journals are read, and
--- these before it looks at the clock. And the hub that is made of it, and what its journal is to begin with: the floor is
--- that of what the start knows.
-pub record IsResumed (options : ServeOptions) (path : List ℕ) (before after : Option (List HostDid)) (hub : Standing)
+-- these before it looks at the clock. And the hub that is made of it, what its journal is to begin with, and how many rows
+-- it serves. The moment and the floor of the start are those of the journal's beginning.
+pub record IsReady (options : ServeOptions) (before after : Option (List HostDid)) (hub : Standing)
     (beginning : JournalBeginning) (row_count : ℕ) : Type 0 where
   pub rows : Principals
   pub octets : List ℕ
   pub did : Records before
       (ReadRows rows ∷ seeding (option_copied options.seed) octets ∷ Held options.udp.items options.tcp.items
-      ∷ ReadJournals path beginning.journals ∷ Showed beginning.at ∷ []) after
+      ∷ reading (option_copied options.journal) beginning.journals ++ Showed beginning.at ∷ []) after
+  pub found : AreAt (option_copied options.journal) beginning.journals
   pub first : may_be_first options.is_first beginning.journals ≡ true
   pub decided : IsDecided rows beginning.journals beginning.at beginning.start
   pub kdc : hub.issuing.kdc ≡ started_state rows options.limits (opened_by options.is_first beginning.at) beginning.start
@@ -77,14 +101,3 @@ pub record IsResumed (options : ServeOptions) (path : List ℕ) (before after : 
   pub accounts : hub.issuing.accounts ≡ (is_some options.log || options.is_quiet)
   pub connections : hub.connections ≡ map.empty
   pub count : row_count ≡ map.len rows.rows
-
--- the same, and then the journal began so
-pub record IsJournaled (options : ServeOptions) (path : List ℕ) (before after : Option (List HostDid)) (hub : Standing)
-    (at : Moment) (floor : ℤ) (row_count : ℕ) (found : JournalFound) : Type 0 where
-  pub beginning : JournalBeginning
-  pub middle : Option (List HostDid)
-  pub resumed : IsResumed options path before middle hub beginning row_count
-  pub began : Records middle (BeganJournal path beginning ∷ []) after
-  pub moment : at ≡ beginning.at
-  pub floor_is : floor ≡ beginning.floor
-  pub found_is : found ≡ found_by beginning.start

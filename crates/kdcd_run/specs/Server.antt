@@ -4,30 +4,29 @@ use Rattle.std.specs.Option.{option_copied}
 use Rattle.krb_fields.specs.declared.moment.Moment.{Moment}
 use Rattle.kdc_hub.specs.declared.wires.Did.{Did}
 use Rattle.kdc_hub.specs.Hub.{Standing}
+use Rattle.kdc_hub.specs.Wire.{Records}
 use Rattle.kdc_serving.specs.declared.rows.Look.{Look}
 use Rattle.kdc_serving.specs.declared.totals.Totals.{Totals}
 use Rattle.kdc_serving.specs.Life.{IsLife, periods_of}
 use Rattle.kdcd_run.specs.Clocks.{refused_at_start}
-use Rattle.kdcd_run.specs.Resuming.{IsJournaled}
+use Rattle.kdcd_run.specs.Resuming.{IsReady, began, found_at}
 use Rattle.kdcd_run.specs.Served.{IsNew}
-use Rattle.kdcd_run.specs.Starting.{HostDid, IsReady}
+use Rattle.kdcd_run.specs.Starting.{HostDid}
 use Rattle.kdcd_run.specs.declared.args.ServeOptions.{ServeOptions}
+use Rattle.kdcd_run.specs.declared.host.JournalBeginning.{JournalBeginning}
 use Rattle.kdcd_run.specs.declared.host.StartNews.{StartNews}
-use Rattle.kdcd_run.specs.declared.started.JournalFound.{JournalFound}
-
--- a start with the journal at a path, or without one, and what the journal was found to be
-abbrev pub StartsWith : Option (List ℕ) → ServeOptions → Option (List HostDid) → Option (List HostDid) → Standing
-    → Moment → ℤ → ℕ → Option JournalFound → Type 0
-StartsWith None options before after hub at floor row_count found =
-    IsReady options before after hub at floor row_count × (found ≡ None)
-StartsWith (Some path) options before after hub at floor row_count found =
-    (what : JournalFound) × IsJournaled options path before after hub at floor row_count what × (found ≡ Some what)
 
 -- a start as the options say, with the host's record before and afterwards, the hub, the moment and the floor that it
 -- began with, and its news
 pub record IsStarted (options : ServeOptions) (before after : Option (List HostDid)) (hub : Standing) (at : Moment)
     (floor : ℤ) (news : StartNews) : Type 0 where
-  pub start : StartsWith (option_copied options.journal) options before after hub at floor news.row_count news.journal
+  pub beginning : JournalBeginning
+  pub middle : Option (List HostDid)
+  pub ready : IsReady options before middle hub beginning news.row_count
+  pub begins : Records middle (began (option_copied options.journal) beginning) after
+  pub moment : at ≡ beginning.at
+  pub floor_is : floor ≡ beginning.floor
+  pub found : news.journal ≡ found_at (option_copied options.journal) beginning.start
   pub refused : news.refused ≡ refused_at_start floor at.sec
 
 -- the rounds that the options ask for, or as many as no process serves

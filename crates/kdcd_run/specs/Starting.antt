@@ -1,20 +1,14 @@
--- How a server starts: what it asks of its host, in which order, and the hub that it makes of it.
-use Rattle.std.specs.Prelude.{◌≡◌, ◌||◌, ℕ, ℤ, Bool, true, false, List, [], ◌∷◌, take, Option, Some, None, is_some}
-use Rattle.std.specs.FinMap as map
-use Rattle.std.specs.Option.{option_copied}
+-- What a server asks of its host, its seed, and how its KDC is opened.
+use Rattle.std.specs.Prelude.{◌≡◌, ℕ, Bool, true, false, List, [], ◌∷◌, take, Option, Some, None}
 use Rattle.std.specs.declared.net.socket_addr.SocketAddr.{SocketAddr}
 use Rattle.rand_core.specs.Stream.{Stream}
 use Rattle.rand_core.specs.Steps.{steps_u32, stream_of}
 use Rattle.rand_chacha.specs.ChaCha.{next_word, of_seed}
 use Rattle.krb_fields.specs.declared.moment.Moment.{Moment}
 use Rattle.principals.specs.Database.{Principals}
-use Rattle.replay.specs.Opening.{opening_floor}
 use Rattle.replay.specs.declared.opening.Opening.{Opening}
 use Rattle.replay.specs.declared.opening.Opening.TheVariants.{First, Restart}
-use Rattle.kdc_state.specs.State.{opened_state}
-use Rattle.kdc_hub.specs.Hub.{Standing}
 use Rattle.kdc_hub.specs.Wire.{Records}
-use Rattle.kdcd_run.specs.declared.args.ServeOptions.{ServeOptions}
 use Rattle.kdcd_run.specs.declared.host.JournalBeginning.{JournalBeginning}
 use Rattle.kdcd_run.specs.declared.host.Journals.{Journals}
 
@@ -55,19 +49,3 @@ opened_by false at = Restart at
 -- what ChaCha20 gives under a seed: it has ten double rounds
 abbrev pub seeded : List ℕ → Stream
 seeded seed = stream_of (steps_u32 (next_word 10)) (of_seed seed)
-
--- What was asked of the host for these options, in this order: its sockets are held before it looks at the clock. And
--- the hub that is made of it, with the moment and the floor of the start, and how many rows it serves.
-pub record IsReady (options : ServeOptions) (before after : Option (List HostDid)) (hub : Standing) (at : Moment)
-    (floor : ℤ) (row_count : ℕ) : Type 0 where
-  pub rows : Principals
-  pub octets : List ℕ
-  pub did : Records before
-      (ReadRows rows ∷ seeding (option_copied options.seed) octets ∷ Held options.udp.items options.tcp.items
-      ∷ Showed at ∷ []) after
-  pub kdc : hub.issuing.kdc ≡ opened_state rows options.limits (opened_by options.is_first at)
-  pub floor_is : floor ≡ opening_floor (opened_by options.is_first at)
-  pub random : hub.issuing.random ≡ seeded (seed_by (option_copied options.seed) octets)
-  pub accounts : hub.issuing.accounts ≡ (is_some options.log || options.is_quiet)
-  pub connections : hub.connections ≡ map.empty
-  pub count : row_count ≡ map.len rows.rows

@@ -6,7 +6,7 @@ use Rattle.kdcd_run.specs.Journal.{is_kept}
 use Rattle.kdcd_run.specs.Quiet.{is_quiet}
 
 -- An action may be done once the journal has kept all that it was handed, unless a quiet start withholds it.
-abbrev pub may_send : {J : Type 0} → (J → Bool) → Option J → Option ℤ → Moment → Action → Bool
+abbrev pub may_send : {J : Type 0} → (J → Bool) → J → Option ℤ → Moment → Action → Bool
 may_send is_whole journal quiet_until at action = is_kept is_whole journal action && not (is_quiet quiet_until at action)
 
 -- What becomes of the sockets where an action is withheld: the connection that it was for ends, and nothing else is done.

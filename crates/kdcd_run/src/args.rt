@@ -128,6 +128,12 @@ const SERVE: SubcommandRow = SubcommandRow {
             times: Times::AtMostOnce,
         },
         OptionRow {
+            name: "kept",
+            shape: "N",
+            help: "Keep the replies to TGS-REQs of up to N bytes, 0 to 65535 (default 4096): one that comes again gets the same reply",
+            times: Times::AtMostOnce,
+        },
+        OptionRow {
             name: "lock-after",
             shape: "N",
             help: "Lock a client after N failed logins in a row (default 0: never). It needs --lock-seconds",
@@ -309,6 +315,8 @@ fn rounds(args: &ArgMatches<'_>) -> Result<Option<u32>, ArgsFault> {
 
 const REMEMBERED_FAULT: &str = "--remembered takes a number from 1 to 65536";
 
+const KEPT_FAULT: &str = "--kept takes a number from 0 to 65535";
+
 fn limits(args: &ArgMatches<'_>) -> Result<Limits, ArgsFault> {
     let limits = Limits::new(
         limit(args, "remembered", 4_096, REMEMBERED_FAULT)?,
@@ -337,7 +345,11 @@ fn limits(args: &ArgMatches<'_>) -> Result<Limits, ArgsFault> {
             "--greatest-renewable takes a number from 0 to 4294967295",
         )?,
     );
-    limits.ok_or(ArgsFault::BadUsage(REMEMBERED_FAULT))
+    let limits = limits.ok_or(ArgsFault::BadUsage(REMEMBERED_FAULT))?;
+    let kept = limit(args, "kept", 4_096, KEPT_FAULT)?;
+    limits
+        .with_kept(kept)
+        .ok_or(ArgsFault::BadUsage(KEPT_FAULT))
 }
 
 /// Checks whether clients are to be locked, and no option says for how long. They would never be.

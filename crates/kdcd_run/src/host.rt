@@ -62,6 +62,7 @@ pub trait Host {
     /// Why sockets can't be opened.
     type SocketFault: Drop;
 
+    /// The journal, or what stands for one that is absent.
     type Journal: JournalWriter + Drop;
 
     /// The source of the rows after the start.
@@ -109,6 +110,11 @@ pub trait Host {
         ensures began { IfOk result (λ _.
             Records (recorded self.old) (BeganJournal path.now beginning ∷ []) (recorded self.new)) }
         ensures new { IfOk result (λ journal. IsNew (Self.Journal.handed journal)) };
+
+    /// Returns what stands for the journal of a server that has none.
+    fn no_journal(&mut self) -> Self::Journal
+        ensures records { recorded self.new ≡ recorded self.old }
+        ensures new { IsNew (Self.Journal.handed result) };
 
     /// Announces that the server serves from now on.
     fn announce(&mut self, news: StartNews)

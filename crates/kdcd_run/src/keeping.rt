@@ -1,9 +1,10 @@
 //! Keeping the authenticators of a server's requests.
-ghost use Rattle.std.specs.Prelude.{◌≡◌, ◌∷◌, [], Bool, List, Option, option_copied};
+ghost use Rattle.std.specs.Prelude.{◌≡◌, ◌∷◌, [], Bool, List, Option, is_some, option_copied};
 ghost use Rattle.std.specs.Result.{is_ok};
 ghost use Rattle.replay.specs.Run.{with_any};
 ghost use Rattle.kdc_hub.specs.Wire.{Records};
-ghost use Rattle.kdcd_run.specs.Journal.{Handed, Hands, handed_at, is_kept};
+ghost use Rattle.kdcd_run.specs.Journal.{Handed, handed_at, handed_by, is_kept, is_whole_if};
+ghost use Rattle.kdcd_run.specs.Served.{record_of};
 
 use kdc_core::Seen;
 use kdc_hub::{Action, Reply};
@@ -33,20 +34,47 @@ pub trait JournalWriter {
         ensures whole { is_whole self.new ≡ is_ok result };
 }
 
+/// Without a journal there is nothing to keep.
+impl<J: JournalWriter> JournalWriter for Option<J> {
+    ghost handed = { record_of J.handed };
+
+    ghost is_whole = { is_whole_if J.is_whole };
+
+    fn keep(&mut self, alloc: Global, at: Moment, seen: &Seen) -> Result<(), NotKept>
+        ensures handed { Records (record_of J.handed self.old) (record { at = at; seen = seen.now } ∷ [])
+            (record_of J.handed self.new) }
+        ensures whole { is_whole_if J.is_whole self.new ≡ is_ok result }
+        ensures there { is_some self.new ≡ is_some self.old }
+    {
+        match self {
+            Some(journal) => journal.keep(alloc, at, seen),
+            None => Ok(()),
+        }
+    }
+
+    fn mend(&mut self, alloc: Global, at: Moment) -> Result<(), NotKept>
+        ensures handed { Records (record_of J.handed self.old) [] (record_of J.handed self.new) }
+        ensures whole { is_whole_if J.is_whole self.new ≡ is_ok result }
+        ensures there { is_some self.new ≡ is_some self.old }
+    {
+        match self {
+            Some(journal) => journal.mend(alloc, at),
+            None => Ok(()),
+        }
+    }
+}
+
 /// Has a journal keep what an action's reply makes the KDC remember. Returns whether it has kept all, if the action has a
-/// reply. Without a journal there is nothing to keep.
+/// reply.
 pub(crate) fn keep_for<J: JournalWriter>(
     alloc: Global,
-    journal: &mut Option<J>,
+    journal: &mut J,
     at: Moment,
     action: &Action,
 ) -> bool
-    ensures handed { Hands J.handed journal.old at action.now journal.new }
+    ensures handed { Records (J.handed journal.old) (handed_by at action.now) (J.handed journal.new) }
     ensures kept { result ≡ is_kept J.is_whole journal.new action.now }
 {
-    let Some(journal) = journal else {
-        return true;
-    };
     match action {
         Action::SendTo { reply, .. } => keep_reply(alloc, journal, at, reply),
         Action::Pass { .. } => true,

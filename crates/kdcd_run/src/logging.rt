@@ -2,8 +2,10 @@
 ghost use Rattle.std.specs.Prelude.{◌≡◌, ◌∷◌, [], Bool, List, Option, option_copied};
 ghost use Rattle.kdc_hub.specs.Wire.{Records, polled};
 ghost use Rattle.kdcd_run.specs.Journal.{moment_after};
-ghost use Rattle.kdcd_run.specs.Log.{LogEntry, LogsAll, LogsWhere, asker_of, closing_reports, entries_by};
+ghost use Rattle.kdcd_run.specs.Log.{LogEntry, LogsAll, LogsIf, asker_of, closing_reports, entries_by};
 ghost use Rattle.kdcd_run.specs.Log.{entries_of, reports};
+ghost use Rattle.kdcd_run.specs.LogLaws.{log_if_records};
+ghost use Rattle.kdcd_run.specs.Served.{record_of};
 
 use kdc_hub::{Account, Action, CloseReason, Event, Peers, Reply, WireFault};
 use krb_fields::Moment;
@@ -75,23 +77,37 @@ fn source_of(peers: &impl Peers, event: &Event) -> Option<SocketAddr> {
     }
 }
 
-/// Writes the entry for the request that an action answers to a log, if there is one.
-pub(crate) fn log_where<L: LogWriter>(
+/// Without a log nothing is written.
+impl<L: LogWriter> LogWriter for Option<L> {
+    ghost logged = { record_of L.logged };
+
+    ghost Logs = { LogsIf L.Logs };
+
+    fn write_entry(
+        &mut self,
+        alloc: Global,
+        at: Moment,
+        asker: Asker,
+        account: Option<&Account>,
+        is_sent: bool,
+    ) {
+        match self {
+            Some(log) => log.write_entry(alloc, at, asker, account, is_sent),
+            None => {}
+        }
+    }
+
+    ghost records = { log_if_records L.logged L.Logs L.records };
+}
+
+/// Writes the entry for the request that an action answers, if it answers one.
+pub(crate) fn log_action<L: LogWriter>(
     alloc: Global,
-    log: &mut Option<L>,
+    log: &mut L,
     came: Came,
     action: &Action,
     is_sent: bool,
 )
-    ensures { LogsWhere L.Logs log.old came action.now is_sent log.new }
-{
-    if let Some(log) = log {
-        log_action(alloc, log, came, action, is_sent);
-    }
-}
-
-/// Writes the entry for the request that an action answers, if it answers one.
-fn log_action<L: LogWriter>(alloc: Global, log: &mut L, came: Came, action: &Action, is_sent: bool)
     ensures { LogsAll L.Logs log.old (entries_of came action.now is_sent) log.new }
 {
     let at = came.at;

@@ -1,23 +1,26 @@
 //! A server: it starts as its options say, and serves.
-ghost use Rattle.std.specs.Prelude.{◌≡◌, true, None, IfOk, is_some, option_copied};
+ghost use Rattle.std.specs.Prelude.{◌≡◌, true, None, IfOk, option_copied};
 ghost use Rattle.kdc_hub.specs.Hub.{standing};
+ghost use Rattle.kdc_hub.specs.Wire.{Records};
 ghost use Rattle.kdc_serving.specs.Recorded.{recorded_by_any};
 ghost use Rattle.rand_core.specs.Steps.{steps_u32, stream_of};
 ghost use Rattle.rand_chacha.specs.ChaCha.{next_word};
-ghost use Rattle.kdcd_run.specs.Clocks.{quiet_until, refused_at_start};
-ghost use Rattle.kdcd_run.specs.Served.{IsNew, Serves, record_of};
+ghost use Rattle.kdcd_run.specs.Clocks.{quiet_until};
+ghost use Rattle.kdcd_run.specs.Resuming.{began, found_at};
+ghost use Rattle.kdcd_run.specs.Served.{IsNew, Serves};
 ghost use Rattle.kdcd_run.specs.Server.{HasRun, IsStarted, rounds_of};
 
 use crate::args::ServeOptions;
 use crate::clock_watch::refused_at_start;
-use crate::host::{Host, StartNews};
+use crate::files::FileFault;
+use crate::host::{Host, JournalBeginning, StartNews};
 use crate::keeping::JournalWriter;
 use crate::logging::LogWriter;
-use crate::resuming::{JournaledServer, start_with_journal};
 use crate::server_wire::{Outlets, ServerWire};
 use crate::started::{JournalFound, quiet_until};
-use crate::starting::{ReadyServer, StartFault, start_server};
+use crate::starting::{ReadyServer, StartFault, ready};
 use crate::tally::Tally;
+use journal::Start;
 use kdc_hub::{Hub, Wire};
 use kdc_serving::{Totals, serve_life};
 use rand_chacha::ChaCha20Rng;
@@ -52,15 +55,15 @@ pub fn run_server<'a, H: Host, L: LogWriter + Drop, E: Write + Drop, T: Tally + 
     outlets: Outlets<L, E, T>,
 ) -> Result<Ran<H::Sockets, H::Journal, L, E, T, H::Rows>, StartFault<'a, H::SocketFault>>
     requires tally { IsNew (T.recorded outlets.tally) }
-    requires log { IsNew (record_of L.logged outlets.log) }
+    requires log { IsNew (L.logged outlets.log) }
     // It starts as the host's record says, and then lives over the hub and the wire of that start.
     ensures run { IfOk result (λ ran. HasRun options.now (H.recorded host.old) (H.recorded host.new) ran.server.news
         (T.recorded outlets.tally) (T.recorded ran.server.wire.tally) (recorded_by_any H.Rows.recorded ran.rows)
         ran.totals (standing (stream_of (steps_u32 (next_word 10))) ran.server.hub)) }
     // The sockets, the journal and the log have recorded what was polled and tried in this life.
     ensures served { IfOk result (λ ran. ∥ Serves (T.recorded ran.server.wire.tally)
-        (H.Sockets.recorded ran.server.wire.sockets) (record_of H.Journal.handed ran.server.wire.journal)
-        (record_of L.logged ran.server.wire.log) ran.server.wire.came.at ∥₁) }
+        (H.Sockets.recorded ran.server.wire.sockets) (H.Journal.handed ran.server.wire.journal)
+        (L.logged ran.server.wire.log) ran.server.wire.came.at ∥₁) }
 {
     let mut server = start(alloc, host, options, outlets)?;
     host.announce(server.news);
@@ -74,7 +77,7 @@ pub fn run_server<'a, H: Host, L: LogWriter + Drop, E: Write + Drop, T: Tally + 
     })
 }
 
-/// Starts a server as its options say, with its journal if it has one.
+/// Starts a server as its options say.
 pub fn start<'a, H: Host, L: LogWriter + Drop, E: Drop, T: Tally + Drop>(
     alloc: Global,
     host: &mut H,
@@ -82,79 +85,64 @@ pub fn start<'a, H: Host, L: LogWriter + Drop, E: Drop, T: Tally + Drop>(
     outlets: Outlets<L, E, T>,
 ) -> Result<Server<H::Sockets, H::Journal, L, E, T>, StartFault<'a, H::SocketFault>>
     requires tally { IsNew (T.recorded outlets.tally) }
-    requires log { IsNew (record_of L.logged outlets.log) }
+    requires log { IsNew (L.logged outlets.log) }
     ensures start { IfOk result (λ server. IsStarted options.now (H.recorded host.old) (H.recorded host.new)
         (standing (stream_of (steps_u32 (next_word 10))) server.hub) server.wire.came.at server.wire.clock.floor
         server.news) }
     ensures quiet { IfOk result (λ server.
         server.wire.quiet_until ≡ quiet_until server.news.refused options.now.is_quiet) }
-    ensures journal { IfOk result (λ server.
-        is_some server.wire.journal ≡ is_some (option_copied options.now.journal)) }
     ensures log { IfOk result (λ server. server.wire.log ≡ outlets.log) }
     ensures tally { IfOk result (λ server. server.wire.tally ≡ outlets.tally) }
 {
-    match options.journal {
-        Some(path) => {
-            let JournaledServer {
-                server,
-                journal,
-                found,
-            } = start_with_journal(alloc, host, options, path)?;
-            Ok(server_of(
-                server,
-                Some(journal),
-                Some(found),
-                options.is_quiet,
-                outlets,
-            ))
-        }
-        None => {
-            let server = start_server(alloc, host, options)?;
-            Ok(server_of(server, None, None, options.is_quiet, outlets))
-        }
-    }
-}
-
-/// Puts a server together that is ready to serve.
-fn server_of<S: Wire, J: JournalWriter, L: LogWriter, E, T: Tally>(
-    ready: ReadyServer<S>,
-    journal: Option<J>,
-    found: Option<JournalFound>,
-    is_quiet: bool,
-    outlets: Outlets<L, E, T>,
-) -> Server<S, J, L, E, T>
-    requires sockets { IsNew (S.recorded ready.sockets) }
-    requires journal { IsNew (record_of J.handed journal) }
-    requires log { IsNew (record_of L.logged outlets.log) }
-    requires tally { IsNew (T.recorded outlets.tally) }
-    ensures hub { result.hub ≡ ready.hub }
-    ensures sockets { result.wire.sockets ≡ ready.sockets }
-    ensures journal { result.wire.journal ≡ journal }
-    ensures log { result.wire.log ≡ outlets.log }
-    ensures tally { result.wire.tally ≡ outlets.tally }
-    ensures came { result.wire.came ≡ record { at = ready.at; source = None } }
-    ensures clock { result.wire.clock ≡ record { floor = ready.floor; latest = None; said = None } }
-    ensures quiet { result.wire.quiet_until ≡ quiet_until result.news.refused is_quiet }
-    ensures refused { result.news.refused ≡ refused_at_start ready.floor ready.at.sec }
-    ensures found { result.news.journal ≡ found }
-    ensures rows { result.news.row_count ≡ ready.row_count }
-{
-    let refused = refused_at_start(ready.floor, ready.at);
-    Server {
-        hub: ready.hub,
-        wire: ServerWire::new(
-            ready.sockets,
-            journal,
-            outlets,
-            quiet_until(refused, is_quiet),
-            ready.floor,
-            ready.at,
-        ),
+    let ReadyServer {
+        hub,
+        sockets,
+        beginning,
+        row_count,
+    } = ready(alloc, host, options)?;
+    let (at, floor) = (beginning.at, beginning.floor);
+    let found = found_at(options.journal, &beginning.start);
+    let journal = begin_journal(alloc, host, options.journal, beginning)?;
+    let refused = refused_at_start(floor, at);
+    let quiet_until = quiet_until(refused, options.is_quiet);
+    Ok(Server {
+        hub,
+        wire: ServerWire::new(sockets, journal, outlets, quiet_until, floor, at),
         news: StartNews {
-            row_count: ready.row_count,
+            row_count,
             journal: found,
             refused,
         },
+    })
+}
+
+/// Begins the journal, if the server is to have one.
+fn begin_journal<'a, H: Host>(
+    alloc: Global,
+    host: &mut H,
+    path: Option<&'a str>,
+    beginning: JournalBeginning,
+) -> Result<H::Journal, StartFault<'a, H::SocketFault>>
+    ensures began { IfOk result (λ _.
+        Records (H.recorded host.old) (began (option_copied path.entry) beginning) (H.recorded host.new)) }
+    ensures new { IfOk result (λ journal. IsNew (H.Journal.handed journal)) }
+{
+    let Some(path) = path else {
+        return Ok(host.no_journal());
+    };
+    match host.begin_journal(alloc, path, beginning) {
+        Ok(journal) => Ok(journal),
+        Err(error) => Err(StartFault::File(path, FileFault::Failed(error))),
+    }
+}
+
+/// Returns what a start made of its journal, if it has one.
+fn found_at(path: Option<&str>, start: &Start) -> Option<JournalFound>
+    ensures { result ≡ found_at (option_copied path.entry) start.now }
+{
+    match path {
+        Some(_) => Some(JournalFound::of(start)),
+        None => None,
     }
 }
 

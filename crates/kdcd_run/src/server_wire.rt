@@ -4,15 +4,15 @@ ghost use Rattle.std.specs.Result.{is_ok};
 ghost use Rattle.kdc_hub.specs.Wire.{IsCounted, Records, acted, faults_of, polled};
 ghost use Rattle.kdc_hub.specs.Rounds.{action_connection};
 ghost use Rattle.kdcd_run.specs.Clocks.{clock_after};
-ghost use Rattle.kdcd_run.specs.Journal.{Hands, moment_after};
-ghost use Rattle.kdcd_run.specs.Log.{LogsWhere};
+ghost use Rattle.kdcd_run.specs.Journal.{handed_by, moment_after};
+ghost use Rattle.kdcd_run.specs.Log.{LogsAll, entries_of};
 ghost use Rattle.kdcd_run.specs.Memory.{after_act, memory_after};
-ghost use Rattle.kdcd_run.specs.Served.{IsNew, Serves, record_of};
+ghost use Rattle.kdcd_run.specs.Served.{IsNew, Serves};
 ghost use Rattle.kdcd_run.specs.Withheld.{EndsOnly, may_send};
 
 use crate::clock_watch::{ClockWatch, watch};
 use crate::keeping::{JournalWriter, keep_for};
-use crate::logging::{Came, LogWriter, came_after, log_where};
+use crate::logging::{Came, LogWriter, came_after, log_action};
 use crate::memory_watch::{MemoryWatch, watch_memory};
 use crate::quiet::is_quiet;
 use crate::sockets::Sockets;
@@ -25,7 +25,7 @@ use std::io::Write;
 /// What a server writes to, and what counts its failed calls.
 #[derive(Drop)]
 pub struct Outlets<L, E, T> {
-    pub log: Option<L>,
+    pub log: L,
     /// Where it is said that the clock went back, and that memory ran out.
     pub errors: E,
     pub tally: T,
@@ -40,8 +40,8 @@ pub struct Outlets<L, E, T> {
 pub struct ServerWire<S: Wire, J: JournalWriter, L: LogWriter, E, T: Tally> {
     sockets: S,
     tally: T,
-    journal: Option<J>,
-    log: Option<L>,
+    journal: J,
+    log: L,
     /// The second before which it is quiet, if the start is.
     quiet_until: Option<i64>,
     clock: ClockWatch,
@@ -51,23 +51,22 @@ pub struct ServerWire<S: Wire, J: JournalWriter, L: LogWriter, E, T: Tally> {
     /// The last event, or the start.
     came: Came,
     // The sockets, the journal and the log have recorded what the tally says.
-    ghost served: { ∥ Serves (T.recorded tally) (S.recorded sockets) (record_of J.handed journal)
-        (record_of L.logged log) came.at ∥₁ },
+    ghost served: { ∥ Serves (T.recorded tally) (S.recorded sockets) (J.handed journal) (L.logged log) came.at ∥₁ },
 }
 
 impl<S: Wire, J: JournalWriter, L: LogWriter, E, T: Tally> ServerWire<S, J, L, E, T> {
     /// The wire of a server that started at this moment, with this floor.
     pub fn new(
         sockets: S,
-        journal: Option<J>,
+        journal: J,
         outlets: Outlets<L, E, T>,
         quiet_until: Option<i64>,
         floor: i64,
         at: Moment,
     ) -> ServerWire<S, J, L, E, T>
         requires sockets { IsNew (S.recorded sockets) }
-        requires journal { IsNew (record_of J.handed journal) }
-        requires log { IsNew (record_of L.logged outlets.log) }
+        requires journal { IsNew (J.handed journal) }
+        requires log { IsNew (L.logged outlets.log) }
         requires tally { IsNew (T.recorded outlets.tally) }
         ensures sockets { result.sockets ≡ sockets }
         ensures journal { result.journal ≡ journal }
@@ -91,8 +90,8 @@ impl<S: Wire, J: JournalWriter, L: LogWriter, E, T: Tally> ServerWire<S, J, L, E
         }
     }
 
-    pub fn log(&self) -> Option<&L> {
-        self.log.as_ref()
+    pub fn log(&self) -> &L {
+        &self.log
     }
 }
 
@@ -128,7 +127,7 @@ impl<S: Sockets, J: JournalWriter, L: LogWriter, E: Write, T: Tally> Wire
         ensures records { Records (T.recorded self.old.tally) (acted action.now result ∷ []) (T.recorded self.new.tally) }
         ensures counted { IsCounted (T.fault_count self.old.tally) (faults_of result) (T.fault_count self.new.tally) }
         // The authenticator that the reply makes the KDC remember is handed to the journal, and no other.
-        ensures handed { Hands J.handed self.old.journal self.old.came.at action.now self.new.journal }
+        ensures handed { Records (J.handed self.old.journal) (handed_by self.old.came.at action.now) (J.handed self.new.journal) }
         // If the journal has kept all, and the start is not quiet about it, the action is done.
         ensures sent { may_send J.is_whole self.new.journal self.old.quiet_until self.old.came.at action.now ≡ true
             → Records (S.recorded self.old.sockets) (acted action.now result ∷ []) (S.recorded self.new.sockets) }
@@ -137,7 +136,7 @@ impl<S: Sockets, J: JournalWriter, L: LogWriter, E: Write, T: Tally> Wire
         ensures withheld { may_send J.is_whole self.new.journal self.old.quiet_until self.old.came.at action.now ≡ false
             → EndsOnly S.HangsUp self.old.sockets (action_connection action.now) self.new.sockets × (is_ok result ≡ false) }
         // The log has an entry for the request that the action answers, if it answers one, and no other.
-        ensures logged { LogsWhere L.Logs self.old.log self.old.came action.now (is_ok result) self.new.log }
+        ensures logged { LogsAll L.Logs self.old.log (entries_of self.old.came action.now (is_ok result)) self.new.log }
         ensures came { self.new.came ≡ self.old.came }
         ensures clock { self.new.clock ≡ self.old.clock }
         ensures memory { self.new.memory ≡ after_act self.old.memory action.now }
@@ -148,7 +147,7 @@ impl<S: Sockets, J: JournalWriter, L: LogWriter, E: Write, T: Tally> Wire
         let outcome = send(alloc, &mut self.sockets, is_kept && !is_quiet, action);
         self.tally.add_act(alloc, action, outcome);
         self.memory.note(action);
-        log_where(alloc, &mut self.log, self.came, action, outcome.is_ok());
+        log_action(alloc, &mut self.log, self.came, action, outcome.is_ok());
         outcome
     }
 

@@ -135,8 +135,9 @@ fn separator(left: usize) -> &'static str {
 fn write_limits<W: fmt::Write>(f: &mut fmt::Formatter<W>, limits: &Limits) -> fmt::Result {
     writeln!(
         f,
-        "kdcd: limits: remembered {}, lock-after {}, lock-seconds {}, greatest-life {}, greatest-renewable {}",
+        "kdcd: limits: remembered {}, kept {}, lock-after {}, lock-seconds {}, greatest-life {}, greatest-renewable {}",
         limits.remembered,
+        limits.kept,
         limits.lock_after,
         limits.lock_seconds,
         limits.greatest_life,

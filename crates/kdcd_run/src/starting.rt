@@ -5,14 +5,17 @@ ghost use Rattle.kdc_hub.specs.Hub.{standing};
 ghost use Rattle.kdcd_run.specs.Served.{IsNew};
 ghost use Rattle.rand_core.specs.Steps.{steps_u32, stream_of};
 ghost use Rattle.rand_chacha.specs.ChaCha.{next_word};
-ghost use Rattle.kdcd_run.specs.Starting.{IsReady, IsSeed, opened_by};
+ghost use Rattle.kdcd_run.specs.Resuming.{IsReady};
+ghost use Rattle.kdcd_run.specs.Starting.{IsSeed, opened_by};
 
 use crate::args::ServeOptions;
 use crate::files::{FileFault, seed_of};
-use crate::host::Host;
+use crate::host::{Host, JournalBeginning};
 use crate::key_places::placed;
-use kdc_core::{Kdc, Opening};
+use crate::resuming::{decide, floor_by, open, read_journals};
+use kdc_core::Opening;
 use kdc_hub::Hub;
+use krb_elements::Octets;
 use krb_fields::Moment;
 use rand_chacha::ChaCha20Rng;
 use rand_core::SeedableRng;
@@ -70,28 +73,27 @@ impl<S> StartFault<'_, S> {
     }
 }
 
-/// A server that has its sockets, before its first round.
+/// A server that has its sockets, before its first round, and what its journal is to begin with, if it has one.
 #[derive(Drop)]
 pub struct ReadyServer<S> {
     pub hub: Hub<ChaCha20Rng>,
     pub sockets: S,
-    /// When it started.
-    pub at: Moment,
-    /// The second since 1970 below which every time is too old for its KDC.
-    pub floor: i64,
+    /// The moment and the floor of the start are those in it.
+    pub beginning: JournalBeginning,
     /// The number of rows that it serves.
     pub row_count: usize,
 }
 
-/// Starts a server as its options say. It reads the database and the seed, opens its sockets, and only then reads the
-/// clock. So no earlier process answers a request after the moment of a restart.
-pub fn start_server<'a, H: Host>(
+/// Makes a server ready as its options say. It reads the database and the seed, opens its sockets, then reads the journals,
+/// if it is to have one, and only then the clock. So no earlier process appends to a journal after it was read, or answers a
+/// request after the moment of this start.
+pub fn ready<'a, H: Host>(
     alloc: Global,
     host: &mut H,
     options: &ServeOptions<'a>,
 ) -> Result<ReadyServer<H::Sockets>, StartFault<'a, H::SocketFault>>
     ensures start { IfOk result (λ ready. IsReady options.now (H.recorded host.old) (H.recorded host.new)
-        (standing (stream_of (steps_u32 (next_word 10))) ready.hub) ready.at ready.floor ready.row_count) }
+        (standing (stream_of (steps_u32 (next_word 10))) ready.hub) ready.beginning ready.row_count) }
     ensures sockets { IfOk result (λ ready. IsNew (H.Sockets.recorded ready.sockets)) }
 {
     let rows = match host.read_rows(alloc) {
@@ -104,31 +106,40 @@ pub fn start_server<'a, H: Host>(
         Ok(sockets) => sockets,
         Err(fault) => return Err(StartFault::Sockets(fault)),
     };
+    let journals = read_journals(alloc, host, options.journal, options.is_first)?;
     let at = match host.now() {
         Ok(at) => at,
         Err(error) => return Err(StartFault::Clock(error)),
     };
+    let start = decide(alloc, &rows, &journals, at)?;
+    let realm = Octets::from_slice(alloc, rows.realm())?;
     let opening = opened_by(options.is_first, at);
-    let kdc = Kdc::open(alloc, rows, options.limits, opening)?;
+    let floor = floor_by(opening, &start);
+    let kdc = open(alloc, rows, options.limits, opening, &start)?;
     let rng = ChaCha20Rng::from_seed(seed);
     Ok(ReadyServer {
         hub: Hub::new(alloc, placed(kdc, seed), rng, keeps_accounts(options)),
         sockets,
-        at,
-        floor: opening.floor(),
+        beginning: JournalBeginning {
+            realm,
+            at,
+            floor,
+            start,
+            journals,
+        },
         row_count,
     })
 }
 
 /// Checks whether the log or a quiet start needs the account of each request.
-pub(crate) fn keeps_accounts(options: &ServeOptions<'_>) -> bool
+fn keeps_accounts(options: &ServeOptions<'_>) -> bool
     ensures { result ≡ (is_some options.now.log || options.now.is_quiet) }
 {
     options.log.is_some() || options.is_quiet
 }
 
 /// Takes the seed: the first 32 octets of the file at a path, or 32 octets that the system draws.
-pub(crate) fn take_seed<'a, H: Host>(
+fn take_seed<'a, H: Host>(
     alloc: Global,
     host: &mut H,
     path: Option<&'a str>,
@@ -155,7 +166,7 @@ fn read_seed<H: Host>(alloc: Global, host: &mut H, path: &str) -> Result<[u8; 32
 }
 
 /// Returns how the KDC starts where it does not resume.
-pub(crate) fn opened_by(is_first: bool, at: Moment) -> Opening
+fn opened_by(is_first: bool, at: Moment) -> Opening
     ensures { result ≡ opened_by is_first at }
 {
     if is_first {

@@ -68,31 +68,27 @@ repeated v incoming body kept =
 
 -- ---- a new authenticator
 
--- the greatest size in bytes of a request that is stored
-abbrev pub longest_kept : ℕ
-longest_kept = 4096
-
--- a request and its reply, or nothing for a longer request
-abbrev pub kept_of : List ℕ → Bears → List ℕ → Kept
-kept_of request bears octets =
-    if nat_lt longest_kept (length request) then nothing_kept
+-- a request and its reply, or nothing for a request of more bytes than this
+abbrev pub kept_of : ℕ → List ℕ → Bears → List ℕ → Kept
+kept_of longest request bears octets =
+    if nat_lt longest (length request) then nothing_kept
     else record { request = request; reply = octets; bears = bears }
 
-abbrev pub recording : List ℕ → Bears → List ℕ → TgsAnswer
-recording request bears octets = record { reply = octets; kept = Some (kept_of request bears octets) }
+abbrev pub recording : TgsView → List ℕ → Bears → List ℕ → TgsAnswer
+recording v request bears octets = record { reply = octets; kept = Some (kept_of v.limits.kept request bears octets) }
 
 -- a reply with a ticket that is longer than the room leaves no trace
 abbrev pub within_room : TgsView → Incoming → ReqBody → List ℕ → TgsAnswer
 within_room v incoming body octets =
     if nat_lt incoming.room (length octets) then refused_room v incoming.at body
-    else recording incoming.octets Ticket octets
+    else recording v incoming.octets Ticket octets
 
 -- ---- answers
 
 abbrev pub answer_by : TgsView → Incoming → ReqBody → Presented → Decision Kept → TgsAnswer
 answer_by v incoming body p (Refuses refusal) = refused v incoming.at body refusal
 answer_by v incoming body p (Records refusal) =
-    recording incoming.octets Error (written krb_error (tgs_error v.realm incoming.at body refusal))
+    recording v incoming.octets Error (written krb_error (tgs_error v.realm incoming.at body refusal))
 answer_by v incoming body p (Repeats kept) = repeated v incoming body kept
 answer_by v incoming body p (Issues admission) =
     within_room v incoming body (written (kdc_rep 13) (tgs_rep v incoming.at incoming.random body p admission))

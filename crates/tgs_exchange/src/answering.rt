@@ -34,9 +34,6 @@ use replay::{Bears, Kept};
 use std::alloc::{AllocError, Global};
 use tgs_opening::{Presented, TgsRefusal};
 
-/// The greatest size of a request that is stored with its reply, in bytes.
-const LONGEST_KEPT: usize = 4_096;
-
 /// The reply to a TGS-REQ, its outcome, and what to store for its authenticator, if it is to be recorded.
 #[derive(Drop)]
 pub struct TgsAnswer {
@@ -156,7 +153,7 @@ fn records(
         answer.reply.items ≡ written krb_error (tgs_error view.now.realm incoming.now.at body.now refusal)) }
     ensures kept { IfOk result (λ answer.
         answer.kept
-        ≡ (recording incoming.now.octets Error
+        ≡ (recording view.now incoming.now.octets Error
         (written krb_error (tgs_error view.now.realm incoming.now.at body.now refusal))).kept) }
     ensures outcome { IfOk result (λ answer. answer.outcome ≡ outcomes.Refused refusal) }
     ensures spelled { IfOk result (λ answer.
@@ -165,7 +162,7 @@ fn records(
         OutcomeSpelledBy view.now incoming.now.at random body.now p answer.outcome decided answer.reply.items) }
 {
     let reply = tgs_error(alloc, view.realm, incoming.at, body, refusal)?;
-    let kept = kept_of(alloc, incoming.octets, Bears::Error, &reply)?;
+    let kept = kept_of(alloc, view, incoming.octets, Bears::Error, &reply)?;
     Ok(TgsAnswer {
         reply,
         outcome: TgsOutcome::Refused(refusal),
@@ -296,7 +293,7 @@ fn issued(
     if reply.len() > incoming.room as usize {
         return refused_room(alloc, view, incoming.at, body);
     }
-    let kept = kept_of(alloc, incoming.octets, Bears::Ticket, &reply)?;
+    let kept = kept_of(alloc, view, incoming.octets, Bears::Ticket, &reply)?;
     Ok(TgsAnswer {
         reply,
         outcome: TgsOutcome::Issued(granted_of(body, presented, admission)),
@@ -304,12 +301,18 @@ fn issued(
     })
 }
 
-/// Returns what is stored of a request and its reply: nothing, if the request is longer than those that are sent as
-/// datagrams. Its authenticator is then refused if it comes again.
-fn kept_of(alloc: Global, request: &[u8], bears: Bears, reply: &[u8]) -> Result<Kept, AllocError>
-    ensures { IfOk result (λ kept. kept ≡ kept_of request.now bears reply.now) }
+/// Returns what is stored of a request and its reply: nothing, if the request is longer than the limits say. Its
+/// authenticator is then refused if it comes again.
+fn kept_of(
+    alloc: Global,
+    view: &TgsView<'_>,
+    request: &[u8],
+    bears: Bears,
+    reply: &[u8],
+) -> Result<Kept, AllocError>
+    ensures { IfOk result (λ kept. kept ≡ kept_of view.now.limits.kept request.now bears reply.now) }
 {
-    if request.len() > LONGEST_KEPT {
+    if request.len() > view.limits.kept as usize {
         return Ok(Kept::nothing(alloc));
     }
     Ok(Kept {

@@ -1,5 +1,4 @@
 use Rattle.std.proofs.Math.Logic.{∥∥₁_map}
-use Rattle.kdcd_run.specs.Served.{record_of}
 use Rattle.kdcd_run.proofs.Serving.{by_poll}
 use Rattle.kdcd_run.proofs.server_wire.ServerWireWire.poll.Goals as goal
 
@@ -9,6 +8,6 @@ invariant_of-self g c =
     record {
       served = ∥∥₁_map old.served
           (by_poll c.poll-polled.result (g.T.Tally.recorded old.tally) (g.T.Tally.recorded c.add_poll.new.self) (g.S.Wire.recorded old.sockets) (g.S.Wire.recorded c.poll-polled.new.self)
-          (record_of g.J.JournalWriter.handed old.journal) (record_of g.L.LogWriter.logged old.log) old.came.at c.came_after-self.result.at
+          (g.J.JournalWriter.handed old.journal) (g.L.LogWriter.logged old.log) old.came.at c.came_after-self.result.at
           c.add_poll.ensures.records c.poll-polled.ensures.records c.came_after-self.ensures);
     }

@@ -1,0 +1,5 @@
+use Rattle.kdc_sockets.specs.Table.{OpensAlike}
+use Rattle.kdc_sockets.proofs.connections.Connections.drop_idle.Given as goal
+
+abbrev pub invariant-loop : goal.invariant-loop
+invariant-loop l = OpensAlike l.fn.self.held.entries l.self.held.entries

@@ -1,0 +1,23 @@
+use Rattle.std.proofs.Common.{rules, ◌≡◌, ◌∙◌, SFits, w64, ap, subst, sym}
+use Rattle.std.proofs.lemmas.Int.{to_z-of_z}
+use Rattle.kdcd_run.specs.Clocks.{refused_at_start}
+use Rattle.kdcd_run.proofs.server.start.Goals as goal
+
+pub returns-clause-start : goal.returns-clause-start
+returns-clause-start g c =
+    let begins = c.in_ok-hub.field-0.beginning in
+    let fits : SFits w64 begins.floor = search rules in
+    let moment : c.new.result.came.at ≡ begins.at = ap (λ came. came.at) c.new.ensures.came in
+    let floor : c.new.result.clock.floor ≡ begins.floor = ap (λ clock. clock.floor) c.new.ensures.clock ∙ to_z-of_z w64 begins.floor fits in
+    let news : c.refused_at_start-refused.result ≡ refused_at_start begins.floor begins.at.sec = c.refused_at_start-refused.ensures ∙ ap (λ f. refused_at_start f begins.at.sec) (to_z-of_z w64 begins.floor fits) in
+    record {
+      beginning = begins;
+      middle = g.H.Host.recorded c.ready.new.host;
+      ready = c.in_ok-hub.ensures.start;
+      begins = c.in_ok-journal.ensures.began;
+      moment = moment;
+      floor_is = floor;
+      found = c.found_at-found.ensures;
+      refused = subst (λ f. c.refused_at_start-refused.result ≡ refused_at_start f c.new.result.came.at.sec) (sym floor)
+          (subst (λ a. c.refused_at_start-refused.result ≡ refused_at_start begins.floor a.sec) (sym moment) news);
+    }
