@@ -177,7 +177,7 @@ LOST = (
     failed("KINIT u", "FIRST: Connection refused (os error 111) (messages without a reply: 2)", "u", link=once),
 )
 
-NO_TICKET = "it has no usable ticket-granting ticket of the realm: run kinit"
+NO_TICKET = "there is no usable ticket-granting ticket of the realm: run kinit"
 REFUSED_BY_A_WORD = (
     KINIT,
     refused("kclient kinit --kdc FIRST --realm A/B --name u --password-file pass --cache cc", "BadName", "--realm A/B: it is not a valid name"),

@@ -39,8 +39,8 @@ class Trial(Notes):
         self.words, self.name, self.folder, self.kdc = words, name, folder, kdc
         self.clients = [each for each in CLIENTS if each not in UNOPENED.get(name, ())]
         self.password = self.write("pw", PASSWORD + "\n")
-        programs = programs_in(words.programs, ("kclient", "krb_login"))
-        self.kclient, self.krb_login, self.keytab = programs["kclient"], programs["krb_login"], keytab
+        programs = programs_in(words.programs, ("kclient", "example_login"))
+        self.kclient, self.example_login, self.keytab = programs["kclient"], programs["example_login"], keytab
         self.configuration = self.write("client.conf", f"""
 [libdefaults]
     default_realm = {REALM}
@@ -91,7 +91,7 @@ class Trial(Notes):
         self.expect(words, ["h kvno 1, keytab entry valid"])
         environment = {**os.environ, "KRB5_CONFIG": self.configuration}
         for name in self.clients:
-            self.expect([self.krb_login, name, "h", self.keytab], [], environment=environment, given=PASSWORD + "\n")
+            self.expect([self.example_login, name, "h", self.keytab], [], environment=environment, given=PASSWORD + "\n")
         self.kinit("nobody", wanted=("refused 6",), status=1, cache="none")
         self.write("pw", "another password\n")
         self.kinit("u", wanted=("refused 24",), status=1, cache="none")
@@ -129,7 +129,7 @@ class Trial(Notes):
 
 def main():
     words = argparse.ArgumentParser(description=__doc__, formatter_class=argparse.RawDescriptionHelpFormatter)
-    words.add_argument("--programs", default=pathlib.Path(__file__).resolve().parent.parent / "crates", help="the folder of kadm, kdcd, kclient and krb_login, or that of the crates")
+    words.add_argument("--programs", default=pathlib.Path(__file__).resolve().parent.parent / "crates", help="the folder of the programs, or that of the crates")
     words.add_argument("--mit", help="the folder of MIT's packages; left out, its programs are not tried")
     words.add_argument("--heimdal", help="the folder of Heimdal's packages; left out, its programs are not tried")
     words.add_argument("--only", nargs="+", default=["kdcd", "mit", "heimdal"], help="kdcd, mit, heimdal")

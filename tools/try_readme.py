@@ -1,7 +1,7 @@
 #!/usr/bin/env python3
 """Runs the lines of README.md that make a first realm, in an empty folder and with the built programs on the path. Then our client logs in
-and gets the ticket. If MIT's clients are on the path they do so too, and print what README.md has. Its lines of Rust must be in the programs
-that it names, which the gate builds.
+and gets the ticket. If MIT's clients are on the path they do so too, and print what README.md has. Its lines of Rust, and those of
+docs/CLIENT_LIBRARY.md, must be in the programs and libraries that they show, which the gate builds.
 
     python3 tools/try_readme.py [--programs FOLDER]
 
@@ -21,8 +21,8 @@ from trial import PATIENCE, Trial, ending, free_port, programs_in
 
 TOP = pathlib.Path(__file__).resolve().parent.parent
 PORT = "8888"
-# The programs whose code README.md shows.
-EXAMPLES = ("ap_whois", "krb_login")
+# The files whose code the pages show.
+EXAMPLES = ("ap_whois/src/main.rt", "example_login/src/main.rt", "client_sockets/src/client.rt")
 
 
 def blocks(title):
@@ -33,13 +33,18 @@ def blocks(title):
     return [lines for lines in found if any(lines)]
 
 
+def fenced(page):
+    """The blocks of Rust of a page, as lists of lines."""
+    return [block.splitlines() for block in re.findall(r"^```rust\n(.*?)^```$", (TOP / page).read_text(), re.M | re.S)]
+
+
 def check_code(trial):
-    """Checks that each block of Rust is, line by line, in one of the programs."""
+    """Checks that each block of Rust is, line by line, in one of the files."""
     stripped = lambda lines: "\n".join(map(str.strip, lines))
-    programs = [stripped((TOP / "crates" / name / "src" / "main.rt").read_text().splitlines()) for name in EXAMPLES]
-    for lines in blocks("In your own program"):
-        is_there = any(f"\n{stripped(lines)}\n" in program for program in programs)
-        trial.note(f"the code that begins with {lines[0]}", "" if is_there else f"it is in no program of {', '.join(EXAMPLES)}")
+    files = [stripped((TOP / "crates" / name).read_text().splitlines()) for name in EXAMPLES]
+    for lines in [*blocks("In your own program"), *fenced("docs/CLIENT_LIBRARY.md")]:
+        is_there = any(f"\n{stripped(lines)}\n" in file for file in files)
+        trial.note(f"the code that begins with {lines[0]}", "" if is_there else f"it is in none of {', '.join(EXAMPLES)}")
 
 
 def make_realm(trial, lines, port):
@@ -68,15 +73,15 @@ def log_in(trial, lines):
 
 
 def try_example(trial):
-    """`krb_login` prints when its ticket ends, in seconds since 1970; with another password why there is none."""
+    """`example_login` prints when its ticket ends, in seconds since 1970; with another password why there is none."""
     trial.expect("kadm keytab --db database --name host/www.example.com --out www.keytab", 0, "=ok")
-    ran = trial.run("krb_login alice host/www.example.com www.keytab", given="a password\n")
+    ran = trial.run("example_login alice host/www.example.com www.keytab", given="a password\n")
     ends = ran.out.strip()
     late = ends.isdecimal() and int(ends) > time.time()
-    trial.note("krb_login gets a ticket", ran.fault(0) or f"it prints {ran.out!r}" * (not late))
-    ran = trial.run("krb_login alice host/www.example.com www.keytab", given="another password\n")
+    trial.note("example_login gets a ticket", ran.fault(0) or f"it prints {ran.out!r}" * (not late))
+    ran = trial.run("example_login alice host/www.example.com www.keytab", given="another password\n")
     refused = re.fullmatch(r"127\.0\.0\.1:\d+: error 24: .*\n", ran.out)
-    trial.note("krb_login says why it gets none", ran.fault(1) or f"it prints {ran.out!r}" * (not refused))
+    trial.note("example_login says why it gets none", ran.fault(1) or f"it prints {ran.out!r}" * (not refused))
 
 
 def main():
@@ -85,7 +90,7 @@ def main():
     words = words.parse_args()
     realm, clients = [lines for lines in blocks("A first realm") if "kadm init" in lines[1] or lines[0].startswith("$")]
     with tempfile.TemporaryDirectory() as folder, ending():
-        trial = Trial(programs_in(words.programs, ("kadm", "kdcd", "kclient", "krb_login")), pathlib.Path(folder))
+        trial = Trial(programs_in(words.programs, ("kadm", "kdcd", "kclient", "example_login")), pathlib.Path(folder))
         trial.folder = pathlib.Path(folder, "realm")
         trial.folder.mkdir()
         places = [os.path.dirname(each) for each in trial.programs.values()]

@@ -1,1 +1,2 @@
+mod HeldCaches
 mod NewCaches

@@ -1,5 +1,5 @@
 -- Putting a credential into an empty cache.
-use Rattle.std.proofs.Common.{◌≡◌, ◌∙◌, ap, List, ℕ, [], ◌∷◌}
+use Rattle.std.proofs.Common.{◌≡◌, ◌∙◌, ap, List, ℕ, []}
 use Rattle.cred_files.specs.Cache.{CacheContents, put_first}
 use Rattle.cred_files.specs.declared.credential.Credential.{Credential}
 use Rattle.client_files.specs.Caches.{new_cache}

@@ -1,8 +1,9 @@
 //! The files of credential caches and keytabs. Each is read and written only if it is a plain file; a cache only if it is
 //! the user's own.
-ghost use Rattle.std.specs.Prelude.{◌≡◌, IfOk, OnErr, OnOk};
-ghost use Rattle.cred_files.specs.Cache.{put_first};
-ghost use Rattle.client_files.specs.Caches.{new_cache};
+ghost use Rattle.std.specs.Prelude.{◌≡◌, IfOk, OnErr, OnOk, option_map};
+ghost use Rattle.cred_files.specs.Cache.{cache_text, put_first};
+ghost use Rattle.client_files.specs.Caches.{HasCache, new_cache};
+ghost use Rattle.file_store.specs.World.{with_file};
 
 use crate::client_store::{ClientStore, Standing};
 use crate::faults::{Cause, Fault, at, at_file};
@@ -13,20 +14,19 @@ use std::io;
 use std::io::{Error, ErrorKind};
 
 /// Reads the user's own cache.
-pub fn read_cache<T: ClientStore>(
-    alloc: Global,
-    store: &mut T,
-    path: &str,
-) -> Result<Cache, Fault> {
+#[tactic(auto, using(crate::proofs::HeldCaches::held))]
+pub fn read_cache<T: ClientStore>(alloc: Global, store: &mut T, path: &str) -> Result<Cache, Fault>
+    ensures read { IfOk result (λ cache. HasCache (T.world store.old) path.now cache) }
+    ensures kept { T.world store.new ≡ T.world store.old }
+{
     at(alloc, path, check_cache(store.standing(path)))?;
-    let octets = at_file(alloc, read_file(alloc, store, path))?;
-    at(alloc, path, cache_in(alloc, &octets))
-}
-
-fn cache_in(alloc: Global, octets: &[u8]) -> Result<Cache, Cause> {
-    match Cache::read(alloc, octets) {
+    let octets = match read_file(alloc, store, path) {
+        Ok(octets) => octets,
+        Err(fault) => return Err(Fault::of_file(alloc, fault)),
+    };
+    match Cache::read(alloc, &octets) {
         Ok(cache) => Ok(cache),
-        Err(fault) => Err(Cause::from(fault)),
+        Err(fault) => Err(Fault::new(alloc, path, Cause::from(fault))),
     }
 }
 
@@ -34,17 +34,16 @@ pub fn read_keytab<T: ClientStore>(
     alloc: Global,
     store: &mut T,
     path: &str,
-) -> Result<Keytab, Fault> {
+) -> Result<Keytab, Fault>
+    ensures kept { T.world store.new ≡ T.world store.old }
+{
     at(alloc, path, check_plain(store.standing(path)))?;
     let octets = at_file(alloc, read_file(alloc, store, path))?;
-    at(alloc, path, keytab_in(alloc, &octets))
-}
-
-fn keytab_in(alloc: Global, octets: &[u8]) -> Result<Keytab, Cause> {
-    match Keytab::read(alloc, octets) {
-        Ok(keytab) => Ok(keytab),
-        Err(fault) => Err(Cause::of_keytab(fault)),
-    }
+    at(
+        alloc,
+        path,
+        Keytab::read(alloc, &octets).map_err(Cause::of_keytab),
+    )
 }
 
 /// Checks whether the path has a file, or nothing.
@@ -109,25 +108,38 @@ pub fn put_credential(
     Ok(cache.put(alloc, credential)?)
 }
 
-/// Writes a new cache for the credential's client, with the credential. It replaces the file at the path.
+/// Writes a new cache for the credential's client, with the credential. It replaces the file at the path. After an `Err`
+/// the path is unchanged.
 pub fn write_new_cache<T: ClientStore>(
     alloc: Global,
     store: &mut T,
     path: &str,
     credential: &Credential,
-) -> Result<(), Fault> {
+) -> Result<(), Fault>
+    ensures written { OnOk result (T.world store.new
+        ≡ option_map (with_file path.now (cache_text (new_cache credential.now))) (T.world store.old)) }
+    ensures kept { OnErr result (T.world store.new ≡ T.world store.old) }
+{
     let cache = at(alloc, path, make_cache(alloc, credential))?;
     write_cache(alloc, store, path, &cache)
 }
 
+/// Writes a cache. After an `Err` the path is unchanged.
 pub fn write_cache<T: ClientStore>(
     alloc: Global,
     store: &mut T,
     path: &str,
     cache: &Cache,
-) -> Result<(), Fault> {
+) -> Result<(), Fault>
+    ensures written { OnOk result (T.world store.new
+        ≡ option_map (with_file path.now (cache_text cache.now)) (T.world store.old)) }
+    ensures kept { OnErr result (T.world store.new ≡ T.world store.old) }
+{
     let octets = cache.write(alloc)?;
-    at_file(alloc, write_file(alloc, store, path, &octets))
+    match write_file(alloc, store, path, &octets) {
+        Ok(()) => Ok(()),
+        Err(fault) => Err(Fault::of_file(alloc, fault)),
+    }
 }
 
 /// Removes the user's own cache.

@@ -1,5 +1,7 @@
 //! What a client requires of its files beyond a [`Store`]: who owns them, what a folder contains, and how to remove a
 //! file.
+ghost use Rattle.std.specs.Prelude.{◌≡◌};
+
 use file_store::{FileStore, MemoryStore, Store};
 use std::alloc::{AllocError, Global};
 use std::fs::File;
@@ -25,16 +27,19 @@ pub enum Standing {
 /// A store that knows who owns its files.
 pub trait ClientStore: Store {
     /// Checks what a path has, without opening it.
-    fn standing(&mut self, path: &str) -> io::Result<Standing>;
+    fn standing(&mut self, path: &str) -> io::Result<Standing>
+        ensures kept { Self.world self.new ≡ Self.world self.old };
 
     /// Returns the number of the user whose rights the program has.
-    fn user(&mut self) -> io::Result<u32>;
+    fn user(&mut self) -> io::Result<u32>
+        ensures kept { Self.world self.new ≡ Self.world self.old };
 
     /// Removes a file.
     fn remove(&mut self, path: &str) -> io::Result<()>;
 
     /// Returns the names of the files in a folder, in rising order.
-    fn names_in(&mut self, alloc: Global, path: &str) -> io::Result<Vec<String>>;
+    fn names_in(&mut self, alloc: Global, path: &str) -> io::Result<Vec<String>>
+        ensures kept { Self.world self.new ≡ Self.world self.old };
 }
 
 /// The group's and others' permissions to write a file.

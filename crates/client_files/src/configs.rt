@@ -1,8 +1,12 @@
 //! A `krb5.conf`: its text with the files that it includes, its default realm, and the KDCs of a realm.
+ghost use Rattle.std.specs.Prelude.{◌≡◌};
+
 use crate::client_store::{ClientStore, Standing};
 use crate::environment::Defaults;
 use crate::faults::{Cause, Fault, at_file};
+use crate::principals::{name_of, principal_of};
 use client_login::KdcPlace;
+use cred_files::Principal;
 use file_store::{FileCause, LONGEST_FILE, read_file};
 use krb_elements::KerberosString;
 use krb_fields::{component_to_text, is_component};
@@ -36,7 +40,9 @@ impl Config {
         alloc: Global,
         store: &mut T,
         defaults: &Defaults<'_>,
-    ) -> Result<Config, Fault> {
+    ) -> Result<Config, Fault>
+        ensures kept { T.world store.new ≡ T.world store.old }
+    {
         let path = defaults.config_path()?;
         let mut reading = Reading {
             text: Vec::new(alloc),
@@ -60,7 +66,9 @@ impl Config {
         alloc: Global,
         store: &mut T,
         defaults: &Defaults<'_>,
-    ) -> Result<Option<Config>, Fault> {
+    ) -> Result<Option<Config>, Fault>
+        ensures kept { T.world store.new ≡ T.world store.old }
+    {
         let Ok(path) = defaults.config_path() else {
             return Ok(None);
         };
@@ -94,6 +102,17 @@ impl Config {
         }
     }
 
+    /// Returns the principal that a text names: `alice@EXAMPLE.COM`, or `alice` of the default realm.
+    pub fn principal(&self, alloc: Global, text: &str) -> Result<Principal, Fault> {
+        match text.split_once('@') {
+            Some((name, realm)) => principal_of(alloc, text, name, realm),
+            None => Ok(Principal {
+                realm: self.default_realm(alloc)?,
+                name: name_of(alloc, text)?,
+            }),
+        }
+    }
+
     /// Returns where the KDCs of a realm are, at least one. It looks up no name.
     pub fn kdcs(&self, alloc: Global, realm: &[u8]) -> Result<Vec<KdcPlace>, Fault> {
         let mut places = Vec::new(alloc);
@@ -116,16 +135,24 @@ fn with_included<T: ClientStore>(
     alloc: Global,
     store: &mut T,
     reading: Reading,
-) -> Result<Reading, Fault> {
+) -> Result<Reading, Fault>
+    ensures kept { T.world store.new ≡ T.world store.old }
+{
     let Reading { text, notes } = reading;
     let mut whole = Reading {
         text: Vec::new(alloc),
         notes,
     };
-    for line in text.split(|octet| *octet == b'\n') {
+    let lines = lines(alloc, &text)?;
+    for line in &lines {
         push_line(alloc, store, &mut whole, line)?;
     }
     Ok(whole)
+}
+
+/// Splits a text at its line feeds.
+fn lines(alloc: Global, text: &[u8]) -> Result<Vec<&[u8]>, AllocError> {
+    text.split(|octet| *octet == b'\n').collect(alloc)
 }
 
 fn push_line<T: ClientStore>(
@@ -133,7 +160,9 @@ fn push_line<T: ClientStore>(
     store: &mut T,
     whole: &mut Reading,
     line: &[u8],
-) -> Result<(), Fault> {
+) -> Result<(), Fault>
+    ensures kept { T.world store.new ≡ T.world store.old }
+{
     match included_by(line) {
         Some(Included::Folder(folder)) => push_folder(alloc, store, whole, folder),
         Some(Included::File(path)) => push_file(alloc, store, whole, path),
@@ -195,7 +224,9 @@ fn push_folder<T: ClientStore>(
     store: &mut T,
     whole: &mut Reading,
     folder: &str,
-) -> Result<(), Fault> {
+) -> Result<(), Fault>
+    ensures kept { T.world store.new ≡ T.world store.old }
+{
     match store.names_in(alloc, folder) {
         Ok(names) => push_files(alloc, store, whole, folder, &names),
         Err(error) => Err(Fault::new(alloc, folder, Cause::File(FileCause::Failed(error)))),
@@ -208,7 +239,9 @@ fn push_files<T: ClientStore>(
     whole: &mut Reading,
     folder: &str,
     names: &[String],
-) -> Result<(), Fault> {
+) -> Result<(), Fault>
+    ensures kept { T.world store.new ≡ T.world store.old }
+{
     for name in names {
         if is_config_name(name.as_str()) {
             let path = format!(in alloc; "{folder}/{name}")?;
@@ -233,7 +266,9 @@ fn push_file<T: ClientStore>(
     store: &mut T,
     whole: &mut Reading,
     path: &str,
-) -> Result<(), Fault> {
+) -> Result<(), Fault>
+    ensures kept { T.world store.new ≡ T.world store.old }
+{
     if let Ok(Standing::NoFile) = store.standing(path) {
         let notes = &mut whole.notes;
         writeln!(

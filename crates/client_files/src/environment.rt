@@ -1,4 +1,6 @@
 //! Where a client's files are, by the environment.
+ghost use Rattle.std.specs.Prelude.{◌≡◌};
+
 use crate::client_store::ClientStore;
 use crate::configs::Config;
 use crate::faults::{Cause, Fault};
@@ -39,11 +41,9 @@ const CONFIG_NOT_UTF8: &str = "KRB5_CONFIG, which names the krb5.conf to be read
 impl<'a> Defaults<'a> {
     /// Returns the path of the cache: that of `KRB5CCNAME`, or else of the `krb5.conf`, or else the user's own, which MIT's
     /// and Heimdal's clients use too.
-    pub fn cache_path<T: ClientStore>(
-        &self,
-        alloc: Global,
-        store: &mut T,
-    ) -> Result<String, Fault> {
+    pub fn cache_path<T: ClientStore>(&self, alloc: Global, store: &mut T) -> Result<String, Fault>
+        ensures kept { T.world store.new ≡ T.world store.old }
+    {
         match self.cache {
             Variable::Absent => self.own_path(alloc, store),
             Variable::NotUtf8 => Err(Fault::usage(CACHE_NOT_UTF8)),
@@ -55,7 +55,9 @@ impl<'a> Defaults<'a> {
     }
 
     /// Returns the path of the user's own cache.
-    fn own_path<T: ClientStore>(&self, alloc: Global, store: &mut T) -> Result<String, Fault> {
+    fn own_path<T: ClientStore>(&self, alloc: Global, store: &mut T) -> Result<String, Fault>
+        ensures kept { T.world store.new ≡ T.world store.old }
+    {
         let user = user_number(alloc, store.user())?;
         if let Some(config) = Config::read_if_there(alloc, store, self)?
             && let Some(path) = config.cache_path(alloc, user)?

@@ -1,7 +1,7 @@
 //! Why a client can't go on, and what that concerns.
 ghost use Rattle.std.specs.Prelude.{◌≡◌, IfOk, Ok};
 
-use client_login::{KdcPlace, Kdcs, LoginFault, Why};
+use client_login::{KdcPlace, Kdcs, LoginError, LoginFault};
 use cred_files::FileFault;
 use file_store::FileCause;
 use krb_fields::{NameFault, component_to_text};
@@ -37,6 +37,10 @@ pub enum Cause {
     /// The cache's ticket-granting ticket ended at this second since 1970.
     Ended(i64),
     NotRenewable,
+    /// The client has not logged in.
+    NoLogin,
+    /// The keytab has no key of the client's realm, or the first one is the client's own.
+    NoService,
     /// A `krb5.conf` names no default realm.
     NoRealm,
     /// The default realm of a `krb5.conf` is invalid.
@@ -48,7 +52,7 @@ pub enum Cause {
     /// None of the hosts that are named as KDCs has a known address.
     NotAnAddress,
     /// A login got no ticket.
-    Login(Why),
+    Login(LoginError),
     /// No KDC replied: the error of the last one, and how many messages got no reply.
     Silent(io::Error, u64),
     Memory,
@@ -56,7 +60,7 @@ pub enum Cause {
 
 impl Cause {
     /// Returns the cause for what is wrong with a keytab.
-    pub fn of_keytab(fault: FileFault) -> Cause {
+    pub(crate) fn of_keytab(fault: FileFault) -> Cause {
         match fault {
             FileFault::Memory => Cause::Memory,
             fault => Cause::Keytab(fault),
@@ -91,6 +95,20 @@ impl Fault {
             },
         }
     }
+
+    /// Returns the fault for a file that could not be read or written, or is refused.
+    pub fn of_file(alloc: Global, fault: file_store::FileFault<'_>) -> Fault {
+        Fault::new(alloc, fault.path, Cause::File(fault.cause))
+    }
+
+    /// Returns the fault for a login that got no ticket. It names the KDC whose reply says so, or all KDCs if none
+    /// replied, or else `source`: the keytab, the cache or the service.
+    pub fn of_login<X>(alloc: Global, kdcs: &Kdcs<X>, source: &str, fault: LoginFault) -> Fault {
+        match login_fault(alloc, kdcs, source, fault) {
+            Ok(fault) => fault,
+            Err(error) => Fault::from(error),
+        }
+    }
 }
 
 /// Returns what is found, or the fault for what a file or a word is refused for.
@@ -110,48 +128,36 @@ pub fn at_file<T: Drop>(
 ) -> Result<T, Fault> {
     match done {
         Ok(value) => Ok(value),
-        Err(fault) => Err(Fault::new(alloc, fault.path, Cause::File(fault.cause))),
+        Err(fault) => Err(Fault::of_file(alloc, fault)),
     }
 }
 
-/// Returns the fault for a login that got no ticket. `source` is the file with the keys that it uses: a keytab, or the
-/// cache.
-pub fn login_fault<X>(alloc: Global, kdcs: &Kdcs<X>, source: &str, fault: LoginFault) -> Fault {
+/// Returns the fault for a login that got no ticket.
+fn login_fault<X>(
+    alloc: Global,
+    kdcs: &Kdcs<X>,
+    source: &str,
+    fault: LoginFault,
+) -> Result<Fault, AllocError> {
     match fault.why {
-        Why::Memory => Fault::from(AllocError),
-        Why::Silence(error) => silence(alloc, kdcs, error),
-        Why::NotPresentable => Fault::new(alloc, source, Cause::Cache(FileFault::Absent)),
-        Why::NotAskable => Fault::new(alloc, source, Cause::BadName),
-        Why::NoClientKey => Fault::new(alloc, source, Cause::Login(fault.why)),
-        Why::NoKey => Fault::new(alloc, source, Cause::Login(fault.why)),
-        _ => reply_fault(alloc, fault),
+        LoginError::Memory => Err(AllocError),
+        LoginError::Silence(error) => silence(alloc, kdcs, error),
+        why => Ok(Fault::of(blamed(alloc, source, fault)?, Cause::Login(why))),
     }
 }
 
-/// Returns the fault that the reply of a KDC shows.
-fn reply_fault(alloc: Global, fault: LoginFault) -> Fault {
-    let cause = Cause::Login(fault.why);
-    let Some(kdc) = fault.kdc else {
-        return Fault {
-            subject: None,
-            cause,
-        };
-    };
-    match format!(in alloc; "{kdc}") {
-        Ok(subject) => Fault::of(subject, cause),
-        Err(error) => Fault::from(error),
-    }
-}
-
-fn silence<X>(alloc: Global, kdcs: &Kdcs<X>, error: io::Error) -> Fault {
-    match silence_of(alloc, kdcs, error) {
-        Ok(fault) => fault,
-        Err(error) => Fault::from(error),
+/// Returns what to blame: the KDC that the fault names, or else the source. A keytab without a key of a type that the
+/// KDC names is to blame itself.
+fn blamed(alloc: Global, source: &str, fault: LoginFault) -> Result<String, AllocError> {
+    match (fault.why, fault.kdc) {
+        (LoginError::NoKey, _) => String::from_str(alloc, source),
+        (_, Some(kdc)) => format!(in alloc; "{kdc}"),
+        (_, None) => String::from_str(alloc, source),
     }
 }
 
 /// Returns the fault for KDCs that don't reply, or whose addresses are unknown.
-fn silence_of<X>(alloc: Global, kdcs: &Kdcs<X>, error: io::Error) -> Result<Fault, AllocError> {
+fn silence<X>(alloc: Global, kdcs: &Kdcs<X>, error: io::Error) -> Result<Fault, AllocError> {
     let addresses = addresses_text(alloc, &kdcs.places)?;
     let unknown = unknown_hosts(alloc, &kdcs.places)?;
     if addresses.is_empty() && !unknown.is_empty() {

@@ -5,11 +5,12 @@
 //! | [`Defaults::cache_path`], [`Defaults::config_path`] | where the files are, by the environment |
 //! | [`Config::read`] | reads a `krb5.conf`, with the files that it includes |
 //! | [`Config::default_realm`], [`Config::kdcs`] | the default realm; where the KDCs of a realm are |
-//! | [`Config::settings`], [`Config::cache_path`] | what it says of first tickets, and of the cache |
+//! | [`Config::principal`] | the principal that a text such as `alice@EXAMPLE.COM` names |
+//! | [`Config::ticket_request`], [`Config::cache_path`] | what it says of first tickets, and of the cache |
 //! | [`read_cache`], [`write_cache`], [`write_new_cache`], [`remove_cache`] | the user's own credential cache |
 //! | [`granting_ticket`], [`good_credential`] | a credential of a cache, also only if it can still be used |
 //! | [`read_keytab`] | a keytab |
-//! | [`login_fault`], [`unknown_hosts`] | why a login got no ticket, and what that concerns; hosts that were not asked |
+//! | [`Fault::of_login`], [`unknown_hosts`] | why a login got no ticket, and what that concerns; hosts that were not asked |
 //!
 //! All of them fail with a [`Fault`], which names its subject and can be shown to a user.
 #![tactic(auto)]
@@ -21,6 +22,7 @@ mod environment;
 mod faults;
 mod file_names;
 mod holding;
+mod principals;
 mod settings;
 mod words;
 
@@ -30,7 +32,7 @@ pub use cache_files::{
 pub use client_store::{ClientStore, Standing};
 pub use configs::Config;
 pub use environment::{Defaults, Variable};
-pub use faults::{Cause, Fault, at, at_file, login_fault, unknown_hosts};
+pub use faults::{Cause, Fault, at, at_file, unknown_hosts};
 pub use file_names::{NameOf, path_in};
 pub use holding::{good_credential, granting_ticket};
-pub use settings::Settings;
+pub use principals::{name_of, principal_text};

@@ -2,29 +2,9 @@
 use crate::configs::Config;
 use crate::faults::{Cause, Fault};
 use crate::file_names::{NameOf, path_in};
+use client_login::TicketRequest;
 use std::alloc::{AllocError, Global};
 use text_fields::number_u32;
-
-/// What a `krb5.conf` says of first tickets.
-#[derive(Clone, Copy)]
-pub struct Settings {
-    /// `ticket_lifetime`, in seconds.
-    pub life: Option<u32>,
-    /// `renew_lifetime`, in seconds.
-    pub renew_life: Option<u32>,
-    pub forwardable: bool,
-    pub proxiable: bool,
-}
-
-impl Settings {
-    /// What a `krb5.conf` says that has none of them.
-    pub const NONE: Settings = Settings {
-        life: None,
-        renew_life: None,
-        forwardable: false,
-        proxiable: false,
-    };
-}
 
 // The text after a setting whose value is not accepted.
 
@@ -37,11 +17,14 @@ const NO_TEXT: &str = "it is not UTF-8";
 const NO_TOKEN: &str = "of what stands between %{ and } only uid, euid and TEMP are known";
 
 impl Config {
-    /// Returns what it says of first tickets.
-    pub fn settings(&self, alloc: Global) -> Result<Settings, Fault> {
-        Ok(Settings {
-            life: self.seconds(alloc, "ticket_lifetime")?,
-            renew_life: self.seconds(alloc, "renew_lifetime")?,
+    /// Returns the first ticket that it asks for.
+    pub fn ticket_request(&self, alloc: Global) -> Result<TicketRequest, Fault> {
+        let renew_lifetime = self.seconds(alloc, "renew_lifetime")?;
+        Ok(TicketRequest {
+            lifetime: self.seconds(alloc, "ticket_lifetime")?,
+            start: None,
+            renewable: renew_lifetime.is_some(),
+            renew_lifetime,
             forwardable: self.choice(alloc, "forwardable")?,
             proxiable: self.choice(alloc, "proxiable")?,
         })

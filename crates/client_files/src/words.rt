@@ -1,6 +1,6 @@
 //! The words for each cause: one for programs, and what it means, for people.
 use crate::faults::Cause;
-use client_login::{Doubt, Why};
+use client_login::{Doubt, LoginError};
 use cred_files::FileFault;
 use file_store::FileCause;
 use krb_fields::Second;
@@ -38,6 +38,14 @@ impl Cause {
             Cause::NotRenewable => (
                 "NotRenewable",
                 "the ticket is not renewable: use kinit --renewable",
+            ),
+            Cause::NoLogin => (
+                "NoLogin",
+                "the client has no ticket-granting ticket: log in first",
+            ),
+            Cause::NoService => (
+                "Absent",
+                "the keytab has no key of this realm, or the first one is the client's own",
             ),
             Cause::NoRealm => (
                 "NoRealm",
@@ -89,7 +97,7 @@ fn cache_words(fault: FileFault) -> (&'static str, &'static str) {
         ),
         FileFault::Absent => (
             "Absent",
-            "it has no usable ticket-granting ticket of the realm: run kinit",
+            "there is no usable ticket-granting ticket of the realm: run kinit",
         ),
         FileFault::Memory => ("", "out of memory"),
     }
@@ -107,17 +115,18 @@ fn keytab_words(fault: FileFault) -> (&'static str, &'static str) {
 }
 
 /// Returns the word for a login that got no ticket. `None` if the KDC refuses with a code.
-fn login_name(why: Why) -> Option<&'static str> {
+fn login_name(why: LoginError) -> Option<&'static str> {
     Some(match why {
-        Why::NotAskable => "BadName",
-        Why::NotPresentable | Why::NoClientKey | Why::NoKey => "Absent",
-        Why::NotAReply => "NotAReply",
-        Why::Mismatch(_) => "Mismatch",
-        Why::CannotOpen | Why::SessionCannotOpen | Why::NoKnownType => "CannotOpen",
-        Why::CountTooLarge => "CountTooLarge",
-        Why::WeakCount => "WeakCount",
-        Why::Unverified(doubt) => doubt_name(doubt),
-        Why::Refused(_) | Why::Silence(_) | Why::Memory => return None,
+        LoginError::NotAskable => "BadName",
+        LoginError::NotPresentable | LoginError::NoClientKey | LoginError::NoKey => "Absent",
+        LoginError::NotAReply => "NotAReply",
+        LoginError::Mismatch(_) => "Mismatch",
+        LoginError::CannotOpen | LoginError::SessionCannotOpen | LoginError::NoKnownType =>
+            "CannotOpen",
+        LoginError::CountTooLarge => "CountTooLarge",
+        LoginError::WeakCount => "WeakCount",
+        LoginError::Unverified(doubt) => doubt_name(doubt),
+        LoginError::Refused(_) | LoginError::Silence(_) | LoginError::Memory => return None,
     })
 }
 

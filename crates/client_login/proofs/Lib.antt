@@ -1,4 +1,6 @@
+mod Clients
 mod InfoCopies
+mod Moving
 mod OwnKeys
 mod Takings
 mod Verified

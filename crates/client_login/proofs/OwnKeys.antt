@@ -11,15 +11,15 @@ use Rattle.krb_sealed.specs.EtypeInfo2Entry.{EtypeInfo2Entry}
 use Rattle.client_login.specs.Keys.{IsKeytabKey, IsPasswordKey, is_weak, key_named, key_numbered, or_later}
 use Rattle.client_login.specs.Faults.{IsNoKeytabKey}
 use Rattle.client_login.specs.Infos.{default_info}
-use Rattle.client_login.specs.declared.faults.Why.{Why}
-use Rattle.client_login.specs.declared.faults.Why.TheVariants as says
+use Rattle.client_login.specs.declared.faults.LoginError.{LoginError}
+use Rattle.client_login.specs.declared.faults.LoginError.TheVariants as says
 use Rattle.client_login.specs.declared.secrets.Password.{Password}
 
 held_at : (keytab : List KeytabEntry) (who : Components) (number : ℤ) (key : Key)
     → Some key ≡ key_numbered keytab who number → IsKeytabKey keytab who key
 held_at keytab who number key e = record { number = number; held = sym e }
 
-pub numbered_held : (keytab : List KeytabEntry) (who : Components) (number : ℤ) (found : Result Key Why)
+pub numbered_held : (keytab : List KeytabEntry) (who : Components) (number : ℤ) (found : Result Key LoginError)
     → IfOk found (λ key. Some key ≡ key_numbered keytab who number)
     → IfOk found (λ key. IsKeytabKey keytab who key)
 numbered_held keytab who number (Ok key) e = held_at keytab who number key e
@@ -37,14 +37,14 @@ named keytab who (entry ∷ entries) key e =
     by_first later (Some other) is e = held_at keytab who entry.etype key (e ∙ sym is)
     by_first later None is e = later e
 
-pub named_held : (keytab : List KeytabEntry) (who : Components) (info : List EtypeInfo2Entry) (found : Result Key Why)
+pub named_held : (keytab : List KeytabEntry) (who : Components) (info : List EtypeInfo2Entry) (found : Result Key LoginError)
     → IfOk found (λ key. Some key ≡ key_named keytab who info)
     → IfOk found (λ key. IsKeytabKey keytab who key)
 named_held keytab who info (Ok key) e = named keytab who info key e
 named_held keytab who info (Err why) e = tt
 
 pub strong_key : (password : Password) (realm : List ℕ) (name : Name) (info : List EtypeInfo2Entry)
-    (found : Result Key Why) → is_weak password.least_count info ≡ false
+    (found : Result Key LoginError) → is_weak password.least_count info ≡ false
     → IfOk found (λ key. Ok key ≡ passwords.password_key password.octets realm name info)
     → IfOk found (λ key. IsPasswordKey password realm name key)
 strong_key password realm name info (Ok key) strong e = record { info = info; made = sym e; strong = strong }
@@ -52,16 +52,16 @@ strong_key password realm name info (Err why) strong e = tt
 
 -- ---- and if none is found, there is none
 
-pub unnumbered : (keytab : List KeytabEntry) (who : Components) (number : ℤ) (found : Result Key Why)
+pub unnumbered : (keytab : List KeytabEntry) (who : Components) (number : ℤ) (found : Result Key LoginError)
     → IfErr found (λ why. (key_numbered keytab who number ≡ None) × (why ≡ says.NoKey))
     → IfErr found (λ why. IsNoKeytabKey keytab who (default_info number) why)
 unnumbered keytab who number (Ok key) e = tt
 unnumbered keytab who number (Err why) e =
-    subst (λ (why : Why). IsNoKeytabKey keytab who (default_info number) why) (sym e.1)
+    subst (λ (why : LoginError). IsNoKeytabKey keytab who (default_info number) why) (sym e.1)
     (ap (λ (first : Option Key). or_later first None) e.0)
 
-pub unnamed : (keytab : List KeytabEntry) (who : Components) (info : List EtypeInfo2Entry) (found : Result Key Why)
+pub unnamed : (keytab : List KeytabEntry) (who : Components) (info : List EtypeInfo2Entry) (found : Result Key LoginError)
     → IfErr found (λ why. (key_named keytab who info ≡ None) × (why ≡ says.NoKey))
     → IfErr found (λ why. IsNoKeytabKey keytab who info why)
 unnamed keytab who info (Ok key) e = tt
-unnamed keytab who info (Err why) e = subst (λ (why : Why). IsNoKeytabKey keytab who info why) (sym e.1) e.0
+unnamed keytab who info (Err why) e = subst (λ (why : LoginError). IsNoKeytabKey keytab who info why) (sym e.1) e.0

@@ -1,10 +1,10 @@
 -- A credential that was read under a key of the client is one of a login, a fault is the one that a KDC's bytes report,
--- and each message that is sent is one that an exchange takes.
+-- and each message that is sent is one that a network takes.
 use Rattle.std.proofs.Common.{◌≡◌, ℕ, ℤ, List, Option, Some, None, Result, Ok, Err, Bool, true, false, refl, sym, subst}
 use Rattle.std.proofs.Common.{ap, ◌∙◌}
 use Rattle.std.specs.Prelude.{◌&&◌, IfErr, IfOk, IfSome, if◌then◌else◌, is_some}
 use Rattle.std.specs.declared.net.socket_addr.SocketAddr.{SocketAddr}
-use Rattle.client_core.specs.Replies.{if_reply, judged, reads, refusal_in, reply_in, ticket_reply_in}
+use Rattle.client_core.specs.Replies.{if_reply, judged, reads, refusal_in, ticket_reply_in}
 use Rattle.client_core.specs.Sessions.{IsPresentable, session, session_by, session_key, ticket_in}
 use Rattle.client_core.specs.declared.sessions.Session.{Session}
 use Rattle.client_core.specs.Taken.{IsTaken}
@@ -21,16 +21,16 @@ use Rattle.krb_fields.specs.declared.moment.Moment.{Moment}
 use Rattle.krb_replies.specs.KdcRep.{KdcRep}
 use Rattle.krb_messages.specs.Ticket.{Ticket}
 use Rattle.refusals.specs.Refusals.{unless_found}
-use Rattle.client_login.specs.Faults.{IsFirstFault, IsFurtherFault, IsNamed, IsNoKey, IsRejection, IsTgsRejection}
-use Rattle.client_login.specs.Faults.{IsUnheard, SaysFirst, SaysFurther, SaysRefused, SaysTgs, info_for, info_said, named_by}
+use Rattle.client_login.specs.Faults.{IsFirstFault, IsFurtherFault, IsNoKey, IsRejection, IsTgsRejection}
+use Rattle.client_login.specs.Faults.{IsUnheard, SaysFirst, SaysRefused, SaysTgs, info_for, info_said, named_by}
 use Rattle.client_login.specs.Keys.{IsOwnKey}
-use Rattle.client_login.specs.Logins.{IsFirst, IsFurther, TakesFirst, TakesFurther, presented_request}
+use Rattle.client_login.specs.Logins.{IsFirst, IsFurther, TakesFirst, presented_request}
 use Rattle.client_login.specs.Infos.{info_of_refusal}
-use Rattle.client_login.specs.Replies.{IsAnswer, IsError, IsReply, counted, said_of}
+use Rattle.client_login.specs.Replies.{IsAnswer, IsError, IsExchanged, IsReply, counted, said_of}
 use Rattle.client_login.specs.declared.asking.Reply.{Reply}
 use Rattle.client_login.specs.declared.faults.LoginFault.{LoginFault}
-use Rattle.client_login.specs.declared.faults.Why.{Why}
-use Rattle.client_login.specs.declared.faults.Why.TheVariants as says
+use Rattle.client_login.specs.declared.faults.LoginError.{LoginError}
+use Rattle.client_login.specs.declared.faults.LoginError.TheVariants as says
 use Rattle.client_login.specs.declared.secrets.Secret.{Secret}
 use Rattle.client_login.specs.declared.secrets.Secret.TheVariants as secrets
 
@@ -45,7 +45,7 @@ reads_judged type role asked key now octets ticket read =
 -- ---- reading a reply with a ticket
 
 pub took_first : (secret : Secret) (asked : Asked) (now : ℤ) (key : Key) (octets : List ℕ) (ticket : KdcRep 11)
-    (taken : Result Credential Why) → IsOwnKey secret asked.realm asked.client key
+    (taken : Result Credential LoginError) → IsOwnKey secret asked.realm asked.client key
     → ticket_reply_in 11 octets ≡ Some ticket
     → IfOk taken (λ credential. judged 11 roles.Client asked key now ticket ≡ Ok credential)
     → IfOk taken (λ credential. TakesFirst secret asked now credential octets)
@@ -57,7 +57,7 @@ took_first secret asked now key octets ticket (Ok credential) own read is = reco
 }
 took_first secret asked now key octets ticket (Err why) own read is = tt
 
-rejected : (secret : Secret) (asked : Asked) (now : ℤ) (key : Key) (octets : List ℕ) (ticket : KdcRep 11) (why : Why)
+rejected : (secret : Secret) (asked : Asked) (now : ℤ) (key : Key) (octets : List ℕ) (ticket : KdcRep 11) (why : LoginError)
     → IsOwnKey secret asked.realm asked.client key → ticket_reply_in 11 octets ≡ Some ticket
     → IsRejection (judged 11 roles.Client asked key now ticket) why → SaysFirst secret asked now why octets
 rejected secret asked now key octets ticket (says.Mismatch what) own read is = record {
@@ -85,7 +85,7 @@ rejected secret asked now key octets ticket says.WeakCount own read is = absurd 
 rejected secret asked now key octets ticket (says.Unverified doubt) own read is = absurd is
 
 pub rejected_first : (secret : Secret) (asked : Asked) (now : ℤ) (key : Key) (octets : List ℕ) (ticket : KdcRep 11)
-    (taken : Result Credential Why) → IsOwnKey secret asked.realm asked.client key
+    (taken : Result Credential LoginError) → IsOwnKey secret asked.realm asked.client key
     → ticket_reply_in 11 octets ≡ Some ticket
     → IfErr taken (λ why. IsRejection (judged 11 roles.Client asked key now ticket) why)
     → IfErr taken (λ why. SaysFirst secret asked now why octets)
@@ -95,7 +95,7 @@ rejected_first secret asked now key octets ticket (Err why) own read is =
 
 -- ---- no key, given the bytes
 
-keyless : (secret : Secret) (asked : Asked) (now : ℤ) (octets : List ℕ) (why : Why)
+keyless : (secret : Secret) (asked : Asked) (now : ℤ) (octets : List ℕ) (why : LoginError)
     → IsNoKey secret asked.realm asked.client (info_said secret (refusal_in octets) (ticket_reply_in 11 octets)) why
     → SaysFirst secret asked now why octets
 keyless secret asked now octets says.NoKey is = is
@@ -125,7 +125,7 @@ keyless (secrets.Keytab keytab) asked now octets says.SessionCannotOpen is = abs
 keyless (secrets.Keytab keytab) asked now octets (says.Unverified doubt) is = absurd is
 
 -- for a reply with a ticket
-pub keyless_first : (secret : Secret) (asked : Asked) (now : ℤ) (octets : List ℕ) (ticket : KdcRep 11) (why : Why)
+pub keyless_first : (secret : Secret) (asked : Asked) (now : ℤ) (octets : List ℕ) (ticket : KdcRep 11) (why : LoginError)
     → refusal_in octets ≡ found.NotAReply → ticket_reply_in 11 octets ≡ Some ticket
     → IsNoKey secret asked.realm asked.client (info_for secret ticket) why
     → SaysFirst secret asked now why octets
@@ -137,7 +137,7 @@ keyless_first secret asked now octets ticket why none read is =
     (info_said secret found.NotAReply o) why) (sym read) is))
 
 -- for a KRB-ERROR
-by_refusal : (secret : Secret) (asked : Asked) (now : ℤ) (octets : List ℕ) (refusal : Refusal) (why : Why)
+by_refusal : (secret : Secret) (asked : Asked) (now : ℤ) (octets : List ℕ) (refusal : Refusal) (why : LoginError)
     → refusal_in octets ≡ found.Refused refusal
     → IsNoKey secret asked.realm asked.client (info_of_refusal refusal.e_data) why
     → SaysFirst secret asked now why octets
@@ -146,7 +146,7 @@ by_refusal secret asked now octets refusal why read is =
     (subst (λ (fault : ClientFault). IsNoKey secret asked.realm asked.client
     (info_said secret fault (ticket_reply_in 11 octets)) why) (sym read) is)
 
-pub refused_first : (secret : Secret) (asked : Asked) (now : ℤ) (octets : List ℕ) (refusal : Refusal) (why : Why)
+pub refused_first : (secret : Secret) (asked : Asked) (now : ℤ) (octets : List ℕ) (refusal : Refusal) (why : LoginError)
     → refusal_in octets ≡ found.Refused refusal → SaysRefused secret asked refusal why
     → SaysFirst secret asked now why octets
 refused_first secret asked now octets refusal (says.Refused error) read is =
@@ -182,7 +182,7 @@ refused_first secret asked now octets refusal says.Memory read is = tt
 -- ---- a reply under a session key
 
 pub took_tgs : (asked : Asked) (now : ℤ) (key : Key) (octets : List ℕ) (ticket : KdcRep 13)
-    (taken : Result Credential Why) → ticket_reply_in 13 octets ≡ Some ticket
+    (taken : Result Credential LoginError) → ticket_reply_in 13 octets ≡ Some ticket
     → IfOk taken (λ credential. judged 13 roles.Session asked key now ticket ≡ Ok credential)
     → IfOk taken (λ credential. IsTaken 13 roles.Session asked key now octets credential)
 took_tgs asked now key octets ticket (Ok credential) read is =
@@ -190,7 +190,7 @@ took_tgs asked now key octets ticket (Ok credential) read is =
     (reads_judged 13 roles.Session asked key now octets ticket read ∙ is)
 took_tgs asked now key octets ticket (Err why) read is = tt
 
-tgs_rejected : (asked : Asked) (now : ℤ) (key : Key) (octets : List ℕ) (ticket : KdcRep 13) (why : Why)
+tgs_rejected : (asked : Asked) (now : ℤ) (key : Key) (octets : List ℕ) (ticket : KdcRep 13) (why : LoginError)
     → ticket_reply_in 13 octets ≡ Some ticket
     → IsTgsRejection (judged 13 roles.Session asked key now ticket) why → SaysTgs key asked now why octets
 tgs_rejected asked now key octets ticket (says.Mismatch what) read is =
@@ -212,7 +212,7 @@ tgs_rejected asked now key octets ticket says.WeakCount read is = absurd is
 tgs_rejected asked now key octets ticket (says.Unverified doubt) read is = absurd is
 
 pub rejected_tgs : (asked : Asked) (now : ℤ) (key : Key) (octets : List ℕ) (ticket : KdcRep 13)
-    (taken : Result Credential Why) → ticket_reply_in 13 octets ≡ Some ticket
+    (taken : Result Credential LoginError) → ticket_reply_in 13 octets ≡ Some ticket
     → IfErr taken (λ why. IsTgsRejection (judged 13 roles.Session asked key now ticket) why)
     → IfErr taken (λ why. SaysTgs key asked now why octets)
 rejected_tgs asked now key octets ticket (Ok credential) read is = tt
@@ -221,7 +221,7 @@ rejected_tgs asked now key octets ticket (Err why) read is = tgs_rejected asked 
 -- ---- a fault that a reply shows names its KDC
 
 module _ (answers : SocketAddr → List ℕ → List ℕ → Type 0) where
-  pub first_blames : (secret : Secret) (asked : Asked) (now : ℤ) (reply : Reply) (why : Why) (kdc : Option SocketAddr)
+  pub first_blames : (secret : Secret) (asked : Asked) (now : ℤ) (reply : Reply) (why : LoginError) (kdc : Option SocketAddr)
       → IsReply answers reply → SaysFirst secret asked now why reply.octets.items → kdc ≡ named_by why reply.kdc
       → IsFirstFault answers secret asked now why kdc
   first_blames secret asked now reply says.Memory kdc is said e = e
@@ -256,7 +256,7 @@ module _ (answers : SocketAddr → List ℕ → List ℕ → Type 0) where
       subst (λ (kdc : Option SocketAddr). IsFirstFault answers secret asked now says.WeakCount kdc) (sym e)
       (record { request = is.request; reply = reply.octets.items; answered = is.answered; says = said })
 
-  pub first_blamed : (secret : Secret) (asked : Asked) (now : ℤ) (reply : Reply) {A : Type 0} (found : Result A Why)
+  pub first_blamed : (secret : Secret) (asked : Asked) (now : ℤ) (reply : Reply) {A : Type 0} (found : Result A LoginError)
       (result : Result A LoginFault) → IsReply answers reply
       → IfErr found (λ why. SaysFirst secret asked now why reply.octets.items)
       → IfErr result (λ fault. (found ≡ Err fault.why) × (fault.kdc ≡ named_by fault.why reply.kdc))
@@ -264,9 +264,9 @@ module _ (answers : SocketAddr → List ℕ → List ℕ → Type 0) where
   first_blamed secret asked now reply found (Ok x) is said e = tt
   first_blamed secret asked now reply {A} found (Err fault) is said e =
       first_blames secret asked now reply fault.why fault.kdc is
-      (subst (λ (found : Result A Why). IfErr found (λ why. SaysFirst secret asked now why reply.octets.items)) e.0 said) e.1
+      (subst (λ (found : Result A LoginError). IfErr found (λ why. SaysFirst secret asked now why reply.octets.items)) e.0 said) e.1
 
-  pub first_taken : (secret : Secret) (asked : Asked) (now : ℤ) (reply : Reply) (found : Result Credential Why)
+  pub first_taken : (secret : Secret) (asked : Asked) (now : ℤ) (reply : Reply) (found : Result Credential LoginError)
       (result : Result Credential LoginFault) → IsReply answers reply
       → IfOk found (λ credential. TakesFirst secret asked now credential reply.octets.items)
       → IfOk result (λ credential. found ≡ Ok credential)
@@ -277,13 +277,13 @@ module _ (answers : SocketAddr → List ℕ → List ℕ → Type 0) where
       request = is.request;
       reply = reply.octets.items;
       answered = is.answered;
-      says = subst (λ (found : Result Credential Why). IfOk found (λ credential.
+      says = subst (λ (found : Result Credential LoginError). IfOk found (λ credential.
           TakesFirst secret asked now credential reply.octets.items)) e took;
     };
   }
   first_taken secret asked now reply found (Err fault) is took e = tt
 
-  pub first_unheard : (secret : Secret) (asked : Asked) (now : ℤ) (why : Why) (kdc : Option SocketAddr)
+  pub first_unheard : (secret : Secret) (asked : Asked) (now : ℤ) (why : LoginError) (kdc : Option SocketAddr)
       → IsUnheard answers why kdc → IsFirstFault answers secret asked now why kdc
   first_unheard secret asked now (says.Silence error) kdc is = is
   first_unheard secret asked now says.Memory kdc is = is
@@ -303,7 +303,7 @@ module _ (answers : SocketAddr → List ℕ → List ℕ → Type 0) where
 
   -- ---- the same for a further ticket
 
-  further_blames : (granting : Credential) (asked : Asked) (now : ℤ) (key : Key) (reply : Reply) (why : Why)
+  further_blames : (granting : Credential) (asked : Asked) (now : ℤ) (key : Key) (reply : Reply) (why : LoginError)
       (kdc : Option SocketAddr) → session_key granting ≡ Some key → IsReply answers reply
       → SaysTgs key asked now why reply.octets.items → kdc ≡ named_by why reply.kdc
       → IsFurtherFault answers granting asked now why kdc
@@ -348,18 +348,18 @@ module _ (answers : SocketAddr → List ℕ → List ℕ → Type 0) where
   further_blames granting asked now key reply (says.Unverified doubt) kdc shared is said e = absurd said
 
   pub further_blamed : (granting : Credential) (asked : Asked) (now : ℤ) (key : Key) (reply : Reply)
-      (found : Result Credential Why) (result : Result Credential LoginFault) → session_key granting ≡ Some key
+      (found : Result Credential LoginError) (result : Result Credential LoginFault) → session_key granting ≡ Some key
       → IsReply answers reply → IfErr found (λ why. SaysTgs key asked now why reply.octets.items)
       → IfErr result (λ fault. (found ≡ Err fault.why) × (fault.kdc ≡ named_by fault.why reply.kdc))
       → IfErr result (λ fault. IsFurtherFault answers granting asked now fault.why fault.kdc)
   further_blamed granting asked now key reply found (Ok x) shared is said e = tt
   further_blamed granting asked now key reply found (Err fault) shared is said e =
       further_blames granting asked now key reply fault.why fault.kdc shared is
-      (subst (λ (found : Result Credential Why). IfErr found (λ why. SaysTgs key asked now why reply.octets.items)) e.0 said)
+      (subst (λ (found : Result Credential LoginError). IfErr found (λ why. SaysTgs key asked now why reply.octets.items)) e.0 said)
       e.1
 
   pub further_taken : (granting : Credential) (asked : Asked) (now : ℤ) (key : Key) (reply : Reply)
-      (found : Result Credential Why) (result : Result Credential LoginFault) → session_key granting ≡ Some key
+      (found : Result Credential LoginError) (result : Result Credential LoginFault) → session_key granting ≡ Some key
       → IsReply answers reply
       → IfOk found (λ credential. IsTaken 13 roles.Session asked key now reply.octets.items credential)
       → IfOk result (λ credential. found ≡ Ok credential)
@@ -373,14 +373,14 @@ module _ (answers : SocketAddr → List ℕ → List ℕ → Type 0) where
       says = record {
         key = key;
         shared = shared;
-        taken = subst (λ (found : Result Credential Why). IfOk found (λ credential.
+        taken = subst (λ (found : Result Credential LoginError). IfOk found (λ credential.
             IsTaken 13 roles.Session asked key now reply.octets.items credential)) e took;
       };
     };
   }
   further_taken granting asked now key reply found (Err fault) shared is took e = tt
 
-  pub further_unheard : (granting : Credential) (asked : Asked) (now : ℤ) (key : Key) (why : Why)
+  pub further_unheard : (granting : Credential) (asked : Asked) (now : ℤ) (key : Key) (why : LoginError)
       (kdc : Option SocketAddr) → session_key granting ≡ Some key → IsUnheard answers why kdc
       → IsFurtherFault answers granting asked now why kdc
   further_unheard granting asked now key (says.Silence error) kdc shared is = is
@@ -405,11 +405,6 @@ module _ (answers : SocketAddr → List ℕ → List ℕ → Type 0) where
   further_unheard granting asked now key says.WeakCount kdc shared is = absurd is
   further_unheard granting asked now key (says.Unverified doubt) kdc shared is = absurd is
 
-  -- ---- what a KDC answers with
-
-  pub answered : (kdc : SocketAddr) (request octets : List ℕ) → answers kdc request octets → IsAnswer answers kdc octets
-  answered kdc request octets is = record { request = request; answered = is }
-
   -- ---- the fault of one KDC, and which of two faults counts
 
   pub refused_reply : (reply : Reply) (refusal : Refusal) → IsReply answers reply → reply.refusal ≡ Some refusal
@@ -432,6 +427,14 @@ module _ (answers : SocketAddr → List ℕ → List ℕ → Type 0) where
       → IsUnheard answers (counted before fault).why (counted before fault).kdc
   counted_unheard before fault unheard silent = counts (is_some before.kdc) before fault unheard silent
 
+-- ---- what a KDC answers with
+
+pub exchanged : (carries : List ℕ → Type 0) (answers : SocketAddr → List ℕ → List ℕ → Type 0) (kdc : SocketAddr)
+    (request octets : List ℕ) → carries request → answers kdc request octets
+    → IsAnswer (IsExchanged carries answers) kdc octets
+exchanged carries answers kdc request octets carried is =
+    record { request = request; answered = record { carried = carried; answered = is } }
+
 -- ---- a credential that can be presented has a session
 
 no_session : (t : Option Ticket) (key : Option Key) (realm name len : Bool) → session_by t key ≡ None
@@ -440,7 +443,7 @@ no_session (Some t) (Some key) realm name len none is = absurd cc
 no_session None (Some key) realm name len none is = absurd cc
 no_session t None realm name len none is = absurd cc
 
--- so an exchange that takes the request for it takes what is written
+-- so a network that takes the request for it takes what is written
 pub takes : (carries : List ℕ → Type 0) (granting : Credential) (asked : Asked) (at : Moment) (confounder octets : List ℕ)
     → IsPresentable granting
     → ((held : Session) → session granting ≡ Some held → carries (presented_request granting asked held at confounder))

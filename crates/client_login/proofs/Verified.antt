@@ -24,8 +24,8 @@ use Rattle.client_login.specs.Verifying.{IsTicketOf, IsUnverified, IsValidAt, if
 use Rattle.client_login.specs.Verifying.{is_session_key, is_valid, opened, part_by, part_in, part_under, verified}
 use Rattle.client_login.specs.declared.faults.Doubt.{Doubt}
 use Rattle.client_login.specs.declared.faults.Doubt.TheVariants.{NotOpened, NotValid, OtherTicket}
-use Rattle.client_login.specs.declared.faults.Why.{Why}
-use Rattle.client_login.specs.declared.faults.Why.TheVariants as says
+use Rattle.client_login.specs.declared.faults.LoginError.{LoginError}
+use Rattle.client_login.specs.declared.faults.LoginError.TheVariants as says
 
 -- ---- what a keytab decrypts
 
@@ -130,7 +130,7 @@ module _ (answers : SocketAddr → List ℕ → List ℕ → Type 0) where
       (refl, record { credential = credential; came = came; doubted = sym e })
 
   -- no ticket came
-  pub not_come : (keytab : List KeytabEntry) (granting : Credential) (asked : Asked) (now : ℤ) (why : Why)
+  pub not_come : (keytab : List KeytabEntry) (granting : Credential) (asked : Asked) (now : ℤ) (why : LoginError)
       (kdc : Option SocketAddr) → IsFurtherFault answers granting asked now why kdc
       → IsUnverified answers keytab granting asked now why kdc
   not_come keytab granting asked now says.NotAskable kdc is = is

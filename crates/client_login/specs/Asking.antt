@@ -12,10 +12,10 @@ use Rattle.krb_fields.specs.declared.kdc_option.KdcOption.{KdcOption}
 use Rattle.krb_fields.specs.declared.kdc_option.KdcOption.TheVariants.{AllowPostdate, Forwardable, Postdated}
 use Rattle.krb_fields.specs.declared.kdc_option.KdcOption.TheVariants.{Proxiable, Renewable}
 use Rattle.krb_fields.specs.declared.kdc_option.KdcOption.TheVariants as options
-use Rattle.client_login.specs.declared.wishes.Again.{Again}
-use Rattle.client_login.specs.declared.wishes.Again.TheVariants.{Renew, Validate}
-use Rattle.client_login.specs.declared.wishes.Login.{Login}
-use Rattle.client_login.specs.declared.wishes.Wishes.{Wishes}
+use Rattle.client_login.specs.declared.ticket_requests.Renewal.{Renewal}
+use Rattle.client_login.specs.declared.ticket_requests.Renewal.TheVariants.{Renew, Validate}
+use Rattle.client_login.specs.declared.ticket_requests.Login.{Login}
+use Rattle.client_login.specs.declared.ticket_requests.TicketRequest.{TicketRequest}
 use Rattle.client_login.specs.Keys.{offered}
 
 -- ---- the options
@@ -23,8 +23,8 @@ use Rattle.client_login.specs.Keys.{offered}
 abbrev pub with_if : Bool → KdcOption → ℕ → ℕ
 with_if wanted option bits = if wanted then with_bit bits (kdc_option_number option) else bits
 
--- for a ticket with these wishes; one that starts later is requested as postdated
-abbrev pub options_of : Wishes → ℕ
+-- for the ticket of a request; one that starts later is requested as postdated
+abbrev pub options_of : TicketRequest → ℕ
 options_of w =
     with_if (is_some w.start) Postdated
     (with_if w.proxiable Proxiable (with_if w.forwardable Forwardable (with_if w.renewable Renewable 0)))
@@ -33,17 +33,17 @@ options_of w =
 abbrev pub with_kept : ℕ → KdcOption → ℕ → ℕ
 with_kept flags option bits = with_if (has_bit flags (kdc_option_number option)) option bits
 
-abbrev pub again_option : Again → KdcOption
-again_option Renew = options.Renew
-again_option Validate = options.Validate
+abbrev pub renewal_option : Renewal → KdcOption
+renewal_option Renew = options.Renew
+renewal_option Validate = options.Validate
 
 -- for a ticket with these flags that is renewed or validated: some KDCs clear a flag whose option is not requested
 -- again
-abbrev pub again_options : Again → ℕ → ℕ
-again_options again flags =
+abbrev pub renewal_options : Renewal → ℕ → ℕ
+renewal_options renewal flags =
     with_kept flags Renewable
     (with_kept flags AllowPostdate
-    (with_kept flags Proxiable (with_kept flags Forwardable (with_if true (again_option again) 0))))
+    (with_kept flags Proxiable (with_kept flags Forwardable (with_if true (renewal_option renewal) 0))))
 
 -- ---- the times
 
@@ -55,7 +55,7 @@ abbrev pub time_after : ℤ → ℕ → ℤ
 time_after now seconds = up_to_last (now +ℤ pos seconds)
 
 -- when it starts: this many seconds from now; absent: at once
-abbrev pub from_of : ℤ → Wishes → Option ℤ
+abbrev pub from_of : ℤ → TicketRequest → Option ℤ
 from_of now w = option_map (time_after now) w.start
 
 -- this many seconds after the start; the start of 1970 requests no bound
@@ -64,12 +64,12 @@ till_by now start (Some life) = time_after now (life + start)
 till_by now start None = pos 0
 
 -- when it ends
-abbrev pub till_of : ℤ → Wishes → ℤ
-till_of now w = till_by now (unwrap_or w.start 0) w.life
+abbrev pub till_of : ℤ → TicketRequest → ℤ
+till_of now w = till_by now (unwrap_or w.start 0) w.lifetime
 
 -- until when it is to be renewable
-abbrev pub rtime_of : ℤ → Wishes → Option ℤ
-rtime_of now w = if w.renewable then Some (till_by now (unwrap_or w.start 0) w.renew_life) else None
+abbrev pub rtime_of : ℤ → TicketRequest → Option ℤ
+rtime_of now w = if w.renewable then Some (till_by now (unwrap_or w.start 0) w.renew_lifetime) else None
 
 -- ---- the whole request
 
@@ -80,13 +80,13 @@ granting_service realm = record { name_type = pos 2; components = codes "krbtgt"
 -- a first ticket for a service of the client's realm, with these types
 abbrev pub first_asked : Login → List Etype → ℤ → ℕ → Asked
 first_asked login etypes now nonce = record {
-  options = options_of login.wishes;
+  options = options_of login.request;
   client = login.client.name;
   realm = login.client.realm;
   service = login.service;
-  from = from_of now login.wishes;
-  till = till_of now login.wishes;
-  rtime = rtime_of now login.wishes;
+  from = from_of now login.request;
+  till = till_of now login.request;
+  rtime = rtime_of now login.request;
   nonce = nonce;
   etypes = etypes;
 }

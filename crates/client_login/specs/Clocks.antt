@@ -1,15 +1,20 @@
 -- The clock in a KDC's error (RFC 4120, section 7.5.9: KRB_AP_ERR_SKEW).
-use Rattle.std.specs.Prelude.{◌≡◌, ℤ, pos, unsigned_abs, nat_le, Bool}
+use Rattle.std.specs.Prelude.{◌≡◌, ℤ, pos, unsigned_abs, nat_le, Bool, true, is_some}
 use Rattle.krb_fields.specs.Skew.{skew}
 use Rattle.krb_fields.specs.declared.moment.Moment.{Moment}
-use Rattle.client_login.specs.declared.faults.Why.{Why}
-use Rattle.client_login.specs.declared.faults.Why.TheVariants as says
+use Rattle.client_login.specs.declared.faults.LoginError.{LoginError}
+use Rattle.client_login.specs.declared.faults.LoginFault.{LoginFault}
+use Rattle.client_login.specs.declared.faults.LoginError.TheVariants as says
 
 -- clocks that differ by this many seconds don't differ by more than a KDC allows
 abbrev pub is_within_skew : ℤ → Bool
 is_within_skew ahead = nat_le (unsigned_abs ahead) skew
 
 -- the moment is in the second on the clock of a KDC that refuses because the clocks differ
-abbrev pub IsByClock : Why → Moment → Type 0
-IsByClock (says.Refused error) at = (error.code ≡ pos 37) × (at.sec ≡ error.stime)
-IsByClock why at = ⊥
+abbrev pub IsByError : LoginError → Moment → Type 0
+IsByError (says.Refused error) at = (error.code ≡ pos 37) × (at.sec ≡ error.stime)
+IsByError why at = ⊥
+
+-- and the fault names that KDC
+abbrev pub IsByClock : LoginFault → Moment → Type 0
+IsByClock fault at = (is_some fault.kdc ≡ true) × IsByError fault.why at

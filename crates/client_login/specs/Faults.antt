@@ -19,15 +19,15 @@ use Rattle.krb_replies.specs.KdcRep.{KdcRep}
 use Rattle.client_login.specs.Replies.{IsAnswered, IsError}
 use Rattle.client_login.specs.Infos.{default_info, info_in_reply, info_of_refusal}
 use Rattle.client_login.specs.Keys.{IsOwnKey, is_weak, key_named}
-use Rattle.client_login.specs.declared.faults.Why.{Why}
-use Rattle.client_login.specs.declared.faults.Why.TheVariants as says
+use Rattle.client_login.specs.declared.faults.LoginError.{LoginError}
+use Rattle.client_login.specs.declared.faults.LoginError.TheVariants as says
 use Rattle.client_login.specs.declared.secrets.Password.{Password}
 use Rattle.client_login.specs.declared.secrets.Secret.{Secret}
 use Rattle.client_login.specs.declared.secrets.Secret.TheVariants as secrets
 
 -- ---- no key of the client, given a KDC's information about the client's types
 
-abbrev pub IsNoPasswordKey : Password → List ℕ → Name → List EtypeInfo2Entry → Why → Type 0
+abbrev pub IsNoPasswordKey : Password → List ℕ → Name → List EtypeInfo2Entry → LoginError → Type 0
 IsNoPasswordKey password realm name info says.WeakCount = is_weak password.least_count info ≡ true
 IsNoPasswordKey password realm name info says.NoKnownType =
     passwords.password_key password.octets realm name info ≡ Err found.CannotOpen
@@ -36,11 +36,11 @@ IsNoPasswordKey password realm name info says.CountTooLarge =
 IsNoPasswordKey password realm name info says.Memory = Unit {0}
 IsNoPasswordKey password realm name info why = ⊥
 
-abbrev pub IsNoKeytabKey : List KeytabEntry → Components → List EtypeInfo2Entry → Why → Type 0
+abbrev pub IsNoKeytabKey : List KeytabEntry → Components → List EtypeInfo2Entry → LoginError → Type 0
 IsNoKeytabKey keytab who info says.NoKey = key_named keytab who info ≡ None
 IsNoKeytabKey keytab who info why = ⊥
 
-abbrev pub IsNoKey : Secret → List ℕ → Name → List EtypeInfo2Entry → Why → Type 0
+abbrev pub IsNoKey : Secret → List ℕ → Name → List EtypeInfo2Entry → LoginError → Type 0
 IsNoKey (secrets.Password password) realm name info why = IsNoPasswordKey password realm name info why
 IsNoKey (secrets.Keytab keytab) realm name info why = IsNoKeytabKey keytab (realm ∷ name.components) info why
 
@@ -56,7 +56,7 @@ info_said secret fault (Some reply) = info_for secret reply
 info_said secret fault None = []
 
 -- the client has no key for these bytes
-abbrev pub SaysNoKey : Secret → Asked → Why → List ℕ → Type 0
+abbrev pub SaysNoKey : Secret → Asked → LoginError → List ℕ → Type 0
 SaysNoKey secret asked why octets =
     IsNoKey secret asked.realm asked.client (info_said secret (refusal_in octets) (ticket_reply_in 11 octets)) why
 
@@ -71,7 +71,7 @@ pub record IsRejected (secret : Secret) (asked : Asked) (now : ℤ) (fault : Cli
 -- ---- why a first ticket is not given
 
 -- the fault that bytes from a KDC report; nothing is known if memory ran out
-abbrev pub SaysFirst : Secret → Asked → ℤ → Why → List ℕ → Type 0
+abbrev pub SaysFirst : Secret → Asked → ℤ → LoginError → List ℕ → Type 0
 SaysFirst secret asked now (says.Refused error) octets = IsError error (refusal_in octets)
 SaysFirst secret asked now says.NotAReply octets = reply_in 11 octets ≡ Err found.NotAReply
 SaysFirst secret asked now (says.Mismatch what) octets = IsRejected secret asked now (found.Mismatch what) octets
@@ -88,7 +88,7 @@ abbrev pub IsNamed : (SocketAddr → List ℕ → List ℕ → Type 0) → (List
 IsNamed answers Says (Some kdc) = IsAnswered answers kdc Says
 IsNamed answers Says None = ⊥
 
-abbrev pub IsFirstFault : (SocketAddr → List ℕ → List ℕ → Type 0) → Secret → Asked → ℤ → Why → Option SocketAddr → Type 0
+abbrev pub IsFirstFault : (SocketAddr → List ℕ → List ℕ → Type 0) → Secret → Asked → ℤ → LoginError → Option SocketAddr → Type 0
 IsFirstFault answers secret asked now says.NotAskable kdc = (is_askable asked ≡ false) × (kdc ≡ None)
 IsFirstFault answers secret asked now says.NoClientKey kdc = (asked.etypes ≡ []) × (kdc ≡ None)
 IsFirstFault answers secret asked now (says.Silence error) kdc = kdc ≡ None
@@ -98,7 +98,7 @@ IsFirstFault answers secret asked now why kdc = IsNamed answers (SaysFirst secre
 -- ---- why a further ticket is not given
 
 -- the fault that bytes from a KDC report under a session key; nothing is known if memory ran out
-abbrev pub SaysTgs : Key → Asked → ℤ → Why → List ℕ → Type 0
+abbrev pub SaysTgs : Key → Asked → ℤ → LoginError → List ℕ → Type 0
 SaysTgs key asked now (says.Refused error) octets = IsError error (refusal_in octets)
 SaysTgs key asked now says.NotAReply octets = reply_in 13 octets ≡ Err found.NotAReply
 SaysTgs key asked now (says.Mismatch what) octets = reads_tgs asked key false now octets ≡ Err (found.Mismatch what)
@@ -107,12 +107,12 @@ SaysTgs key asked now says.Memory octets = Unit {0}
 SaysTgs key asked now why octets = ⊥
 
 -- under that of the presented ticket
-pub record SaysFurther (granting : Credential) (asked : Asked) (now : ℤ) (why : Why) (octets : List ℕ) : Type 0 where
+pub record SaysFurther (granting : Credential) (asked : Asked) (now : ℤ) (why : LoginError) (octets : List ℕ) : Type 0 where
   pub key : Key
   pub shared : session_key granting ≡ Some key
   pub says : SaysTgs key asked now why octets
 
-abbrev pub IsFurtherFault : (SocketAddr → List ℕ → List ℕ → Type 0) → Credential → Asked → ℤ → Why → Option SocketAddr
+abbrev pub IsFurtherFault : (SocketAddr → List ℕ → List ℕ → Type 0) → Credential → Asked → ℤ → LoginError → Option SocketAddr
     → Type 0
 IsFurtherFault answers granting asked now says.NotPresentable kdc = (is_presentable granting ≡ false) × (kdc ≡ None)
 IsFurtherFault answers granting asked now says.NotAskable kdc = (is_askable asked ≡ false) × (kdc ≡ None)
@@ -123,34 +123,34 @@ IsFurtherFault answers granting asked now why kdc = IsNamed answers (SaysFurther
 -- ---- why no KDC of a realm gives a useful reply
 
 -- none replied; or the one that the fault names refused in such a way that the others were tried too
-abbrev pub IsUnheard : (SocketAddr → List ℕ → List ℕ → Type 0) → Why → Option SocketAddr → Type 0
+abbrev pub IsUnheard : (SocketAddr → List ℕ → List ℕ → Type 0) → LoginError → Option SocketAddr → Type 0
 IsUnheard answers (says.Silence error) kdc = kdc ≡ None
 IsUnheard answers says.Memory kdc = kdc ≡ None
 IsUnheard answers (says.Refused error) kdc = IsNamed answers (λ octets. IsError error (refusal_in octets)) kdc
 IsUnheard answers why kdc = ⊥
 
 -- a fault that a reply shows names its KDC
-abbrev pub named_by : Why → SocketAddr → Option SocketAddr
+abbrev pub named_by : LoginError → SocketAddr → Option SocketAddr
 named_by says.Memory kdc = None
 named_by why kdc = Some kdc
 
 -- ---- the steps to these
 
 -- the fault in a KRB-ERROR
-abbrev pub SaysRefused : Secret → Asked → Refusal → Why → Type 0
+abbrev pub SaysRefused : Secret → Asked → Refusal → LoginError → Type 0
 SaysRefused secret asked refusal (says.Refused error) = refusal.error ≡ error
 SaysRefused secret asked refusal says.Memory = Unit {0}
 SaysRefused secret asked refusal why =
     IsNoKey secret asked.realm asked.client (info_of_refusal refusal.e_data) why
 
 -- a reply with a ticket that is rejected
-abbrev pub IsRejection : Result Credential ClientFault → Why → Type 0
+abbrev pub IsRejection : Result Credential ClientFault → LoginError → Type 0
 IsRejection judged (says.Mismatch what) = judged ≡ Err (found.Mismatch what)
 IsRejection judged says.CannotOpen = judged ≡ Err found.CannotOpen
 IsRejection judged says.Memory = Unit {0}
 IsRejection judged why = ⊥
 
-abbrev pub IsTgsRejection : Result Credential ClientFault → Why → Type 0
+abbrev pub IsTgsRejection : Result Credential ClientFault → LoginError → Type 0
 IsTgsRejection judged (says.Mismatch what) = judged ≡ Err (found.Mismatch what)
 IsTgsRejection judged says.SessionCannotOpen = judged ≡ Err found.CannotOpen
 IsTgsRejection judged says.Memory = Unit {0}

@@ -1,4 +1,4 @@
--- An exchange that takes any message takes those of a login.
+-- A network that takes any message takes those of a login.
 use Rattle.std.specs.Prelude.{ℕ, List}
 use Rattle.client_core.specs.declared.asked.Asked.{Asked}
 use Rattle.cred_files.specs.declared.credential.Credential.{Credential}

@@ -20,7 +20,7 @@ use Rattle.client_login.specs.Draws.{after_confounder, drawn_confounder}
 use Rattle.client_login.specs.Keys.{IsOwnKey, etypes_for}
 use Rattle.client_login.specs.Moments.{IsNext}
 use Rattle.client_login.specs.declared.secrets.Secret.{Secret}
-use Rattle.client_login.specs.declared.wishes.Login.{Login}
+use Rattle.client_login.specs.declared.ticket_requests.Login.{Login}
 
 -- ---- a first ticket
 
@@ -35,7 +35,7 @@ plain_request asked = written (message As) (asks_as None asked)
 abbrev pub stamped_request : Asked → Key → Moment → List ℕ → List ℕ
 stamped_request asked key at confounder = written (message As) (asks_with_timestamp asked key at confounder)
 
--- An exchange takes these requests: one without a timestamp, and one with the moment under a key of the client,
+-- A network takes these requests: one without a timestamp, and one with the moment under a key of the client,
 -- encrypted with the drawn bytes. After a replay error it takes one with the next microsecond, encrypted with the next
 -- bytes. No key from a password is one that a KDC weakened.
 pub record CarriesFirst (carries : List ℕ → Type 0) (secret : Secret) (asked : Asked) (at : Moment) (random : Stream)
@@ -65,7 +65,7 @@ abbrev pub presented_request : Credential → Asked → sessions.Session → Mom
 presented_request granting asked held at confounder =
     written (message Tgs) (asks_tgs asked granting.client held at None confounder)
 
--- an exchange takes these requests: at the moment, and after a replay error a microsecond later
+-- a network takes these requests: at the moment, and after a replay error a microsecond later
 pub record CarriesPresented (carries : List ℕ → Type 0) (granting : Credential) (asked : Asked) (at : Moment)
     (random : Stream) : Type 0 where
   pub presented : (held : sessions.Session) → session granting ≡ Some held

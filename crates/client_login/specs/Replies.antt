@@ -10,6 +10,12 @@ use Rattle.client_core.specs.declared.fault.ServerError.{ServerError}
 use Rattle.client_login.specs.declared.asking.Reply.{Reply}
 use Rattle.client_login.specs.declared.faults.LoginFault.{LoginFault}
 
+-- The network carried a request, and a KDC answered it with this reply.
+pub record IsExchanged (carries : List ℕ → Type 0) (answers : SocketAddr → List ℕ → List ℕ → Type 0) (kdc : SocketAddr)
+    (request reply : List ℕ) : Type 0 where
+  pub carried : carries request
+  pub answered : answers kdc request reply
+
 -- A KDC answered a request with bytes that satisfy this.
 pub record IsAnswered (answers : SocketAddr → List ℕ → List ℕ → Type 0) (kdc : SocketAddr) (Says : List ℕ → Type 0)
     : Type 0 where

@@ -28,8 +28,8 @@ use Rattle.client_login.specs.Faults.{IsFurtherFault}
 use Rattle.client_login.specs.Logins.{IsFurther}
 use Rattle.client_login.specs.declared.faults.Doubt.{Doubt}
 use Rattle.client_login.specs.declared.faults.Doubt.TheVariants.{NoTicketKey, NotOpened, NotValid, OtherTicket}
-use Rattle.client_login.specs.declared.faults.Why.{Why}
-use Rattle.client_login.specs.declared.faults.Why.TheVariants as says
+use Rattle.client_login.specs.declared.faults.LoginError.{LoginError}
+use Rattle.client_login.specs.declared.faults.LoginError.TheVariants as says
 
 -- ---- what a keytab decrypts a ticket to
 
@@ -110,7 +110,7 @@ pub record IsDoubted (answers : SocketAddr → List ℕ → List ℕ → Type 0)
   pub doubted : verified keytab now credential ≡ Err doubt
 
 -- or none came
-abbrev pub IsUnverified : (SocketAddr → List ℕ → List ℕ → Type 0) → List KeytabEntry → Credential → Asked → ℤ → Why
+abbrev pub IsUnverified : (SocketAddr → List ℕ → List ℕ → Type 0) → List KeytabEntry → Credential → Asked → ℤ → LoginError
     → Option SocketAddr → Type 0
 IsUnverified answers keytab granting asked now (says.Unverified doubt) kdc =
     (kdc ≡ None) × IsDoubted answers keytab granting asked now doubt

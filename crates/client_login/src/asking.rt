@@ -2,13 +2,13 @@
 ghost use Rattle.std.specs.Prelude.{◌≡◌, IfErr, IfOk, None};
 ghost use Rattle.client_core.specs.Replies as replies;
 ghost use Rattle.krb_fields.specs.Code.{number_of};
-ghost use Rattle.client_login.specs.Replies.{IsAnswer, IsReply, counted, is_error, is_passed_over, said_of};
+ghost use Rattle.client_login.specs.Replies.{IsAnswer, IsExchanged, IsReply, counted, is_error, is_passed_over, said_of};
 ghost use Rattle.client_login.specs.Faults.{IsUnheard};
-ghost use Rattle.client_login.specs.declared.faults.Why.TheVariants.{Memory};
+ghost use Rattle.client_login.specs.declared.faults.LoginError.TheVariants.{Memory};
 
-use crate::exchange::{Network, Transport};
-use crate::faults::{LoginFault, Why};
+use crate::faults::{LoginError, LoginFault};
 use crate::kdc_places::KdcPlace;
+use crate::network::{Network, Transport};
 use client_core::{ClientFault, Refusal, refusal_in};
 use krb_fields::Code;
 use std::alloc::{AllocError, Global};
@@ -26,7 +26,7 @@ pub enum Transports {
 /// The KDCs of a realm, and the way to them.
 #[derive(Drop)]
 pub struct Kdcs<X> {
-    pub exchange: X,
+    pub network: X,
     /// In the order in which the client tries them.
     pub places: Vec<KdcPlace>,
     pub transports: Transports,
@@ -38,9 +38,9 @@ pub struct Kdcs<X> {
 
 impl<X> Kdcs<X> {
     /// Returns KDCs that have not been tried yet.
-    pub fn new(exchange: X, places: Vec<KdcPlace>, transports: Transports) -> Kdcs<X>
+    pub fn new(network: X, places: Vec<KdcPlace>, transports: Transports) -> Kdcs<X>
         ensures { result ≡ record {
-          exchange = exchange;
+          network = network;
           places = places;
           transports = transports;
           answered = None;
@@ -48,7 +48,7 @@ impl<X> Kdcs<X> {
         } }
     {
         Kdcs {
-            exchange,
+            network,
             places,
             transports,
             answered: None,
@@ -103,12 +103,12 @@ pub(crate) fn ask<X: Network>(
     request: &[u8],
 ) -> Result<Reply, LoginFault>
     requires { X.carries request.now }
-    ensures ok { IfOk result (λ reply. IsReply X.answers reply) }
-    ensures err { IfErr result (λ fault. IsUnheard X.answers fault.why fault.kdc) }
+    ensures ok { IfOk result (λ reply. IsReply (IsExchanged X.carries X.answers) reply) }
+    ensures err { IfErr result (λ fault. IsUnheard (IsExchanged X.carries X.answers) fault.why fault.kdc) }
 {
     let first = kdcs.answered;
     let known = known_first(alloc, first)?;
-    let silence = LoginFault::new(Why::Silence(Error::from(ErrorKind::TimedOut)));
+    let silence = LoginFault::new(LoginError::Silence(Error::from(ErrorKind::TimedOut)));
     let mut end = match ask_each(alloc, kdcs, &known, None, silence, request) {
         Ok(reply) => return Ok(reply),
         Err(fault) => unless_memory(fault)?,
@@ -140,7 +140,7 @@ fn addresses_at<X: Network>(
     place: usize,
 ) -> Result<Vec<SocketAddr>, AllocError> {
     match kdcs.places.get_mut(place) {
-        Some(place) => place.look_up(alloc, &mut kdcs.exchange),
+        Some(place) => place.look_up(alloc, &mut kdcs.network),
         None => Ok(Vec::new(alloc)),
     }
 }
@@ -157,9 +157,9 @@ fn ask_each<X: Network>(
     request: &[u8],
 ) -> Result<Reply, LoginFault>
     requires carried { X.carries request.now }
-    requires before { IsUnheard X.answers before.why before.kdc }
-    ensures ok { IfOk result (λ reply. IsReply X.answers reply) }
-    ensures err { IfErr result (λ fault. IsUnheard X.answers fault.why fault.kdc) }
+    requires before { IsUnheard (IsExchanged X.carries X.answers) before.why before.kdc }
+    ensures ok { IfOk result (λ reply. IsReply (IsExchanged X.carries X.answers) reply) }
+    ensures err { IfErr result (λ fault. IsUnheard (IsExchanged X.carries X.answers) fault.why fault.kdc) }
 {
     let mut end = before;
     for kdc in addresses {
@@ -179,7 +179,7 @@ fn unless_memory(fault: LoginFault) -> Result<LoginFault, LoginFault>
     ensures err { IfErr result (λ counts. counts ≡ fault) }
 {
     match fault.why {
-        Why::Memory => Err(fault),
+        LoginError::Memory => Err(fault),
         _ => Ok(fault),
     }
 }
@@ -191,7 +191,7 @@ fn passed_over(before: LoginFault, fault: LoginFault) -> Result<LoginFault, Logi
     ensures err { IfErr result (λ counts. counts ≡ fault) }
 {
     match fault.why {
-        Why::Memory => Err(fault),
+        LoginError::Memory => Err(fault),
         _ if before.kdc.is_some() => Ok(before),
         _ => Ok(fault),
     }
@@ -199,7 +199,7 @@ fn passed_over(before: LoginFault, fault: LoginFault) -> Result<LoginFault, Logi
 
 /// Returns the reply of one KDC. The request goes by UDP, and by TCP if no reply comes or the reply is too big for a
 /// datagram.
-#[tactic(auto, using(crate::proofs::Takings::answered))]
+#[tactic(auto, using(crate::proofs::Takings::exchanged))]
 fn ask_kdc<X: Network>(
     alloc: Global,
     kdcs: &mut Kdcs<X>,
@@ -207,11 +207,11 @@ fn ask_kdc<X: Network>(
     request: &[u8],
 ) -> Result<Reply, LoginFault>
     requires { X.carries request.now }
-    ensures ok { IfOk result (λ reply. IsReply X.answers reply) }
-    ensures err { IfErr result (λ fault. IsUnheard X.answers fault.why fault.kdc) }
+    ensures ok { IfOk result (λ reply. IsReply (IsExchanged X.carries X.answers) reply) }
+    ensures err { IfErr result (λ fault. IsUnheard (IsExchanged X.carries X.answers) fault.why fault.kdc) }
 {
     if kdcs.transports == Transports::UdpFirst {
-        match kdcs.exchange.exchange(alloc, Transport::Udp, kdc, request) {
+        match kdcs.network.exchange(alloc, Transport::Udp, kdc, request) {
             Ok(octets) => {
                 let reply = read_reply::<X>(alloc, kdc, octets)?;
                 if !reply.is_error(Code::KrbErrResponseTooBig) {
@@ -221,14 +221,14 @@ fn ask_kdc<X: Network>(
             Err(error) => count_failure(kdcs, error)?,
         }
     }
-    match kdcs.exchange.exchange(alloc, Transport::Tcp, kdc, request) {
+    match kdcs.network.exchange(alloc, Transport::Tcp, kdc, request) {
         Ok(octets) => {
             let reply = read_reply::<X>(alloc, kdc, octets)?;
             useful(kdcs, reply)
         }
         Err(error) => {
             count_failure(kdcs, error)?;
-            Err(LoginFault::new(Why::Silence(error)))
+            Err(LoginFault::new(LoginError::Silence(error)))
         }
     }
 }
@@ -237,14 +237,14 @@ fn ask_kdc<X: Network>(
 /// differ.
 #[tactic(auto, using(crate::proofs::Takings::refused_reply))]
 fn useful<X: Network>(kdcs: &mut Kdcs<X>, reply: Reply) -> Result<Reply, LoginFault>
-    requires { IsReply X.answers reply }
-    ensures ok { IfOk result (λ reply. IsReply X.answers reply) }
-    ensures err { IfErr result (λ fault. IsUnheard X.answers fault.why fault.kdc) }
+    requires { IsReply (IsExchanged X.carries X.answers) reply }
+    ensures ok { IfOk result (λ reply. IsReply (IsExchanged X.carries X.answers) reply) }
+    ensures err { IfErr result (λ fault. IsUnheard (IsExchanged X.carries X.answers) fault.why fault.kdc) }
 {
     kdcs.answered = Some(reply.kdc);
     match &reply.refusal {
         Some(refusal) if is_passed_over(refusal.error.code) => {
-            Err(LoginFault::of_reply(Why::Refused(refusal.error), reply.kdc))
+            Err(LoginFault::of_reply(LoginError::Refused(refusal.error), reply.kdc))
         }
         _ => Ok(reply),
     }
@@ -263,9 +263,9 @@ fn read_reply<X: Network>(
     kdc: SocketAddr,
     octets: Vec<u8>,
 ) -> Result<Reply, LoginFault>
-    requires { IsAnswer X.answers kdc octets.items }
-    ensures ok { IfOk result (λ reply. IsReply X.answers reply) }
-    ensures err { IfErr result (λ fault. IsUnheard X.answers fault.why fault.kdc) }
+    requires { IsAnswer (IsExchanged X.carries X.answers) kdc octets.items }
+    ensures ok { IfOk result (λ reply. IsReply (IsExchanged X.carries X.answers) reply) }
+    ensures err { IfErr result (λ fault. IsUnheard (IsExchanged X.carries X.answers) fault.why fault.kdc) }
 {
     let refusal = refusal_in_octets(alloc, &octets)?;
     Ok(Reply {
@@ -280,7 +280,7 @@ fn count_failure<X>(kdcs: &mut Kdcs<X>, error: Error) -> Result<(), LoginFault>
     ensures { IfErr result (λ fault. fault ≡ record { why = Memory; kdc = None }) }
 {
     if error.kind() == ErrorKind::OutOfMemory {
-        return Err(LoginFault::new(Why::Memory));
+        return Err(LoginFault::new(LoginError::Memory));
     }
     kdcs.failures = kdcs.failures.saturating_add(1);
     Ok(())

@@ -1,5 +1,5 @@
 //! A client of the KDCs of a realm.
-ghost use Rattle.std.specs.Prelude.{◌≡◌};
+ghost use Rattle.std.specs.Prelude.{◌≡◌, false};
 ghost use Rattle.client_login.specs.Moments.{IsNext};
 
 use crate::asking::Kdcs;
@@ -13,13 +13,35 @@ pub struct KdcClient<X> {
     /// The moment of the next request. Each request that proves who the client is moves it on by a microsecond, because
     /// a KDC accepts each moment of a client once.
     pub at: Moment,
+    /// Whether that moment is by a KDC's clock, which [`KdcClient::take_clock`] took.
+    pub is_by_kdc: bool,
 }
 
 impl<X> KdcClient<X> {
+    /// Returns a client at this moment, which is by the computer's own clock.
+    pub fn new(kdcs: Kdcs<X>, at: Moment) -> KdcClient<X>
+        ensures { result ≡ record { kdcs = kdcs; at = at; is_by_kdc = false } }
+    {
+        KdcClient {
+            kdcs,
+            at,
+            is_by_kdc: false,
+        }
+    }
+
+    /// Sets the moment by the computer's own clock.
+    pub fn set_clock(&mut self, at: Moment)
+        ensures { self.new ≡ record self.old { at = at; is_by_kdc = false } }
+    {
+        self.at = at;
+        self.is_by_kdc = false;
+    }
+
     /// Returns the moment of a request, and moves on.
     pub(crate) fn take_moment(&mut self) -> Moment
         ensures taken { result ≡ self.old.at }
         ensures next { IsNext self.old.at self.new.at }
+        ensures clock { self.new.is_by_kdc ≡ self.old.is_by_kdc }
     {
         let at = self.at;
         self.at = next_moment(at);

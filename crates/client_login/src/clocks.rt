@@ -1,25 +1,30 @@
 //! The clock of a KDC that refuses because the clocks differ (RFC 4120, section 7.5.9).
-ghost use Rattle.std.specs.Prelude.{◌≡◌, ◌-ℤ◌, false, IfNone, IfSome};
-ghost use Rattle.client_login.specs.Clocks.{IsByClock, is_within_skew};
+ghost use Rattle.std.specs.Prelude.{◌≡◌, ◌-ℤ◌, true, false, IfNone, IfSome};
+ghost use Rattle.client_login.specs.Clocks.{IsByClock, IsByError, is_within_skew};
 
 use crate::client::KdcClient;
-use crate::faults::Why;
+use crate::faults::{LoginError, LoginFault};
 use krb_fields::{Code, Moment, SKEW};
 
 impl<X> KdcClient<X> {
     /// Sets the moment by the clock of a KDC that refuses because the clocks differ. Returns by how many seconds its
-    /// clock is ahead. Returns `None` if the KDC refuses for another reason, or if the clocks differ by at most 300
-    /// seconds, which happens if a KDC was just restarted.
+    /// clock is ahead; the fault names the KDC. Returns `None` if the KDC refuses for another reason, if the clocks differ
+    /// by at most 300 seconds, which happens if a KDC was just restarted, or if a KDC's clock was taken before and the
+    /// moment has not been set since.
     ///
-    /// Anyone on the path can name any time: take a clock once per login, and say so.
-    pub fn take_clock(&mut self, why: Why) -> Option<i64>
-        ensures taken { IfSome result (λ ahead. IsByClock why self.new.at) }
+    /// Anyone on the path can name any time, so a program should say that it took one.
+    pub fn take_clock(&mut self, fault: LoginFault) -> Option<i64>
+        ensures taken { IfSome result (λ ahead. IsByClock fault self.new.at) }
         ensures ahead { IfSome result (λ ahead. ahead ≡ self.new.at.sec -ℤ self.old.at.sec) }
         // It is off by more than the clock skew.
         ensures beyond { IfSome result (λ ahead. is_within_skew ahead ≡ false) }
-        ensures kept { IfNone result (self.new.at ≡ self.old.at) }
+        ensures once { IfSome result (λ ahead. (self.old.is_by_kdc ≡ false) × (self.new.is_by_kdc ≡ true)) }
+        ensures kept { IfNone result (self.new ≡ self.old) }
     {
-        let Some(at) = by_clock(why, self.at) else {
+        if self.is_by_kdc {
+            return None;
+        }
+        let Some(at) = by_clock(fault, self.at) else {
             return None;
         };
         let ahead = at.sec - self.at.sec;
@@ -27,6 +32,7 @@ impl<X> KdcClient<X> {
             return None;
         }
         self.at = at;
+        self.is_by_kdc = true;
         Some(ahead)
     }
 }
@@ -37,12 +43,22 @@ fn is_within_skew(ahead: i64) -> bool
     ahead.unsigned_abs() <= SKEW.unsigned_abs()
 }
 
+/// Returns the moment on the clock of the KDC that the fault names, if that refuses because the clocks differ.
+fn by_clock(fault: LoginFault, at: Moment) -> Option<Moment>
+    ensures { IfSome result (λ next. IsByClock fault next) }
+{
+    if fault.kdc.is_none() {
+        return None;
+    }
+    by_error(fault.why, at)
+}
+
 /// Returns the moment on the clock of a KDC that refuses because the clocks differ, if it is from 1970 on.
-fn by_clock(why: Why, at: Moment) -> Option<Moment>
-    ensures { IfSome result (λ next. IsByClock why next) }
+fn by_error(why: LoginError, at: Moment) -> Option<Moment>
+    ensures { IfSome result (λ next. IsByError why next) }
 {
     match why {
-        Why::Refused(error) if error.code == Code::KrbApErrSkew as i32 => {
+        LoginError::Refused(error) if error.code == Code::KrbApErrSkew as i32 => {
             Moment::new(error.stime, at.usec)
         }
         _ => None,

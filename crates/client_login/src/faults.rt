@@ -1,7 +1,7 @@
 //! Why a client gets no ticket.
 ghost use Rattle.std.specs.Prelude.{◌≡◌, Err, IfErr, IfOk, None, Ok};
 ghost use Rattle.client_login.specs.Faults.{named_by};
-ghost use Rattle.client_login.specs.declared.faults.Why.TheVariants.{Memory};
+ghost use Rattle.client_login.specs.declared.faults.LoginError.TheVariants.{Memory};
 
 use crate::codes::code_text;
 use client_core::{Mismatch, ServerError};
@@ -13,25 +13,25 @@ use std::{fmt, io};
 /// Why a client gets no ticket, and from which KDC.
 #[derive(Clone, Copy, Debug)]
 pub struct LoginFault {
-    pub why: Why,
+    pub why: LoginError,
     /// The KDC whose reply ended the login; `None` if no reply did.
     pub kdc: Option<SocketAddr>,
 }
 
 impl LoginFault {
     /// Returns a fault that no reply shows.
-    pub(crate) fn new(why: Why) -> LoginFault
+    pub(crate) fn new(why: LoginError) -> LoginFault
         ensures { result ≡ record { why = why; kdc = None } }
     {
         LoginFault { why, kdc: None }
     }
 
     /// Returns a fault that a KDC's reply shows.
-    pub(crate) fn of_reply(why: Why, kdc: SocketAddr) -> LoginFault
+    pub(crate) fn of_reply(why: LoginError, kdc: SocketAddr) -> LoginFault
         ensures { result ≡ record { why = why; kdc = named_by why kdc } }
     {
         match why {
-            Why::Memory => LoginFault::new(why),
+            LoginError::Memory => LoginFault::new(why),
             _ => LoginFault {
                 why,
                 kdc: Some(kdc),
@@ -41,7 +41,10 @@ impl LoginFault {
 }
 
 /// Returns what is found in a KDC's reply, or the fault.
-pub(crate) fn said_by<T: Drop>(kdc: SocketAddr, found: Result<T, Why>) -> Result<T, LoginFault>
+pub(crate) fn said_by<T: Drop>(
+    kdc: SocketAddr,
+    found: Result<T, LoginError>,
+) -> Result<T, LoginFault>
     ensures ok { IfOk result (λ value. found ≡ Ok value) }
     ensures err { IfErr result (λ fault. (found ≡ Err fault.why) × (fault.kdc ≡ named_by fault.why kdc)) }
 {
@@ -53,7 +56,7 @@ pub(crate) fn said_by<T: Drop>(kdc: SocketAddr, found: Result<T, Why>) -> Result
 
 /// Why a client gets no ticket.
 #[derive(Clone, Copy, Debug)]
-pub enum Why {
+pub enum LoginError {
     /// The realm or a name is beyond the limits of a request.
     NotAskable,
     /// The ticket to present can't be used: its session key has a type other than the four, or it is not a ticket.
@@ -98,19 +101,19 @@ pub enum Doubt {
     NotValid,
 }
 
-impl From<AllocError> for Why {
+impl From<AllocError> for LoginError {
     ghost from_gives = { λ _ why. why ≡ Memory };
 
-    fn from(_: AllocError) -> Why {
-        Why::Memory
+    fn from(_: AllocError) -> LoginError {
+        LoginError::Memory
     }
 }
 
-impl<T: Drop> From<AllocFailed<T>> for Why {
+impl<T: Drop> From<AllocFailed<T>> for LoginError {
     ghost from_gives = { λ _ why. why ≡ Memory };
 
-    fn from(_: AllocFailed<T>) -> Why {
-        Why::Memory
+    fn from(_: AllocFailed<T>) -> LoginError {
+        LoginError::Memory
     }
 }
 
@@ -118,7 +121,7 @@ impl From<AllocError> for LoginFault {
     ghost from_gives = { λ _ fault. fault ≡ record { why = Memory; kdc = None } };
 
     fn from(_: AllocError) -> LoginFault {
-        LoginFault::new(Why::Memory)
+        LoginFault::new(LoginError::Memory)
     }
 }
 
@@ -131,40 +134,43 @@ impl fmt::Display for LoginFault {
     }
 }
 
-impl fmt::Display for Why {
+impl fmt::Display for LoginError {
     fn fmt<W: fmt::Write>(&self, f: &mut fmt::Formatter<W>) -> fmt::Result {
         match self {
-            Why::Silence(error) => write!(f, "no KDC replied: {error}"),
-            Why::Refused(error) => { write!(f, "error {}: {}", error.code, code_text(error.code)) }
+            LoginError::Silence(error) => write!(f, "no KDC replied: {error}"),
+            LoginError::Refused(error) => {
+                write!(f, "error {}: {}", error.code, code_text(error.code))
+            }
             why => f.write_str(why.text()),
         }
     }
 }
 
-impl Why {
+impl LoginError {
     fn text(self) -> &'static str {
         match self {
-            Why::NotAskable => "the realm or a name is too long for a request",
-            Why::NotPresentable => "the ticket-granting ticket can't be presented",
-            Why::NoClientKey => "the keytab has no key of the client",
-            Why::NoKey =>
+            LoginError::NotAskable => "the realm or a name is too long for a request",
+            LoginError::NotPresentable =>
+                "there is no usable ticket-granting ticket of the realm: run kinit",
+            LoginError::NoClientKey => "the keytab has no key of the client",
+            LoginError::NoKey =>
                 "the keytab has no key of the client with an encryption type that the KDC names",
-            Why::Silence(_) => "no KDC replied",
-            Why::Refused(_) => "the KDC refuses",
-            Why::NotAReply => "the bytes that came back are not a reply of a KDC",
-            Why::Mismatch(what) => mismatch_text(what),
-            Why::CannotOpen =>
+            LoginError::Silence(_) => "no KDC replied",
+            LoginError::Refused(_) => "the KDC refuses",
+            LoginError::NotAReply => "the bytes that came back are not a reply of a KDC",
+            LoginError::Mismatch(what) => mismatch_text(what),
+            LoginError::CannotOpen =>
                 "the client's key does not decrypt the reply: the password or the keytab is wrong, or it is another KDC",
-            Why::SessionCannotOpen =>
+            LoginError::SessionCannotOpen =>
                 "the session key of the ticket-granting ticket does not decrypt the reply: it is another KDC",
-            Why::NoKnownType =>
+            LoginError::NoKnownType =>
                 "the KDC names no key of the client with one of the encryption types 17 to 20",
-            Why::CountTooLarge =>
+            LoginError::CountTooLarge =>
                 "the KDC asks for more iterations of string-to-key than 1048576, or for none, or its parameters are not four bytes",
-            Why::WeakCount =>
+            LoginError::WeakCount =>
                 "the KDC asks for fewer iterations of string-to-key than the least count that is accepted: somebody may have changed its reply to guess the password",
-            Why::Unverified(doubt) => doubt_text(doubt),
-            Why::Memory => "out of memory",
+            LoginError::Unverified(doubt) => doubt_text(doubt),
+            LoginError::Memory => "out of memory",
         }
     }
 }
@@ -194,4 +200,4 @@ fn mismatch_text(what: Mismatch) -> &'static str {
 
 impl Error for LoginFault {}
 
-impl Error for Why {}
+impl Error for LoginError {}

@@ -2,6 +2,7 @@
 ghost use Rattle.std.specs.Prelude.{◌≡◌, ◌<◌, ◌^◌, length, IfErr, IfOk, Ok, OnOk};
 ghost use Rattle.client_core.specs.Asked.{IsAskable};
 ghost use Rattle.client_core.specs.Replies as replies;
+ghost use Rattle.client_core.specs.Taken.{AreSame};
 ghost use Rattle.client_core.specs.declared.fault.ClientFault.TheVariants as found;
 ghost use Rattle.client_core.specs.declared.key_role.KeyRole.TheVariants as roles;
 ghost use Rattle.krb_messages.specs.Ticket as tickets;
@@ -9,17 +10,17 @@ ghost use Rattle.client_login.specs.Draws.{after_confounder, after_nonce, drawn_
 ghost use Rattle.client_login.specs.Faults.{IsFirstFault, IsRejection, IsUnheard, SaysFirst, SaysRefused};
 ghost use Rattle.client_login.specs.Keys.{IsOwnKey};
 ghost use Rattle.client_login.specs.Logins.{CarriesFirst, IsFirst, TakesFirst, logs_in, stamped_request};
-ghost use Rattle.client_login.specs.Moments.{IsNext};
-ghost use Rattle.client_login.specs.Replies.{IsReply, said_of};
+ghost use Rattle.client_login.specs.Moments.{IsMoved, IsNext};
+ghost use Rattle.client_login.specs.Replies.{IsExchanged, IsReply, said_of};
 
 use crate::asking::{Reply, ask};
 use crate::client::KdcClient;
 use crate::draws::{draw_confounder, draw_nonce};
-use crate::exchange::Network;
-use crate::faults::{LoginFault, Why, said_by};
+use crate::faults::{LoginError, LoginFault, said_by};
 use crate::infos::info_of_refusal;
+use crate::network::Network;
 use crate::secrets::{Secret, etypes_for, key_of_next_reply, key_of_reply, key_wanted};
-use crate::wishes::{Login, first_asked};
+use crate::ticket_requests::{Login, first_asked};
 use client_core::{
     Asked, ClientFault, Refusal, as_request, judge_as_reply, ticket_reply_in, with_timestamp,
 };
@@ -34,6 +35,7 @@ impl<X: Network> KdcClient<X> {
     /// Gets a first ticket. The client sends a request without a timestamp, and another with one if the KDC requires
     /// preauthentication. It derives its key as the KDC says, but with no fewer iterations of string-to-key than the
     /// password's least count. With a keytab it requests exactly the types of the client's keys in it.
+    #[tactic(auto, using(crate::proofs::Moving::moved_none, crate::proofs::Clients::first_client))]
     pub fn log_in<R: Rng>(
         &mut self,
         alloc: Global,
@@ -41,24 +43,28 @@ impl<X: Network> KdcClient<X> {
         login: &Login,
         secret: &Secret,
     ) -> Result<Credential, LoginFault>
-        // The exchange has to take only a request without a timestamp, and requests with one under a key of the client.
+        // The network has to take only a request without a timestamp, and requests with one under a key of the client.
         requires { CarriesFirst X.carries secret.now
             (logs_in login.now secret.now self.old.at.sec (drawn_nonce (R.stream rng.old)))
             self.old.at (after_nonce (R.stream rng.old)) }
         // The result is the ticket of a reply to these requests, under a key of the client.
-        ensures ok { IfOk result (λ credential. IsFirst X.answers secret.now
+        ensures ok { IfOk result (λ credential. IsFirst (IsExchanged X.carries X.answers) secret.now
             (logs_in login.now secret.now self.old.at.sec (drawn_nonce (R.stream rng.old)))
             self.old.at.sec credential) }
+        ensures client { IfOk result (λ credential. AreSame credential.client.realm credential.client.name
+            login.now.client.realm login.now.client.name) }
         // A fault is the one that the bytes of the KDC that it names report, or it names none.
-        ensures err { IfErr result (λ fault. IsFirstFault X.answers secret.now
+        ensures err { IfErr result (λ fault. IsFirstFault (IsExchanged X.carries X.answers) secret.now
             (logs_in login.now secret.now self.old.at.sec (drawn_nonce (R.stream rng.old)))
             self.old.at.sec fault.why fault.kdc) }
+        ensures moved { IsMoved self.old.at self.new.at }
+        ensures clock { self.new.is_by_kdc ≡ self.old.is_by_kdc }
     {
-        self.kdcs.exchange.begin();
+        self.kdcs.network.begin();
         let nonce = draw_nonce(rng);
         let etypes = etypes_for(alloc, secret, &login.client)?;
         if etypes.is_empty() {
-            return Err(LoginFault::new(Why::NoClientKey));
+            return Err(LoginFault::new(LoginError::NoClientKey));
         }
         let asked = first_asked(alloc, login, etypes, self.at, nonce)?;
         ask_plainly(alloc, self, rng, &asked, secret)
@@ -66,7 +72,7 @@ impl<X: Network> KdcClient<X> {
 }
 
 /// Sends the request without a timestamp.
-#[tactic(auto, using(crate::proofs::Takings::first_blamed, crate::proofs::Takings::first_taken, crate::proofs::Takings::first_unheard))]
+#[tactic(auto, using(crate::proofs::Takings::first_blamed, crate::proofs::Takings::first_taken, crate::proofs::Takings::first_unheard, crate::proofs::Moving::moved_none))]
 fn ask_plainly<X: Network, R: Rng>(
     alloc: Global,
     client: &mut KdcClient<X>,
@@ -76,12 +82,14 @@ fn ask_plainly<X: Network, R: Rng>(
 ) -> Result<Credential, LoginFault>
     requires { CarriesFirst X.carries secret.now asked.now client.old.at (R.stream rng.old) }
     ensures ok { IfOk result (λ credential.
-        IsFirst X.answers secret.now asked.now client.old.at.sec credential) }
+        IsFirst (IsExchanged X.carries X.answers) secret.now asked.now client.old.at.sec credential) }
     ensures err { IfErr result (λ fault.
-        IsFirstFault X.answers secret.now asked.now client.old.at.sec fault.why fault.kdc) }
+        IsFirstFault (IsExchanged X.carries X.answers) secret.now asked.now client.old.at.sec fault.why fault.kdc) }
+    ensures moved { IsMoved client.old.at client.new.at }
+    ensures clock { client.new.is_by_kdc ≡ client.old.is_by_kdc }
 {
     if !asked.is_askable() {
-        return Err(LoginFault::new(Why::NotAskable));
+        return Err(LoginFault::new(LoginError::NotAskable));
     }
     let request = as_request(alloc, asked)?;
     let reply = ask(alloc, &mut client.kdcs, &request)?;
@@ -101,20 +109,19 @@ fn key_for_timestamp(
     secret: &Secret,
     asked: &Asked,
     refusal: &Refusal,
-) -> Result<Key, Why>
+) -> Result<Key, LoginError>
     ensures own { IfOk result (λ key. IsOwnKey secret.now asked.now.realm asked.now.client key) }
     ensures err { IfErr result (λ why. SaysRefused secret.now asked.now refusal.now why) }
 {
     let error = refusal.error;
     if error.code != Code::KdcErrPreauthRequired as i32 {
-        return Err(Why::Refused(error));
+        return Err(LoginError::Refused(error));
     }
     let info = info_of_refusal(alloc, &refusal.e_data)?;
     key_wanted(alloc, secret, asked, &info)
 }
 
-/// Sends the request with a timestamp under the client's key. A KDC that has seen another request of the client with the
-/// same moment gets another one, with another timestamp.
+/// Sends the request with a timestamp under the client's key.
 #[tactic(auto, using(crate::proofs::Takings::first_blamed, crate::proofs::Takings::first_taken, crate::proofs::Takings::first_unheard))]
 fn ask_with_timestamp<X: Network, R: Rng>(
     alloc: Global,
@@ -128,23 +135,44 @@ fn ask_with_timestamp<X: Network, R: Rng>(
     requires own { IsOwnKey secret.now asked.now.realm asked.now.client key.now }
     requires carried { CarriesFirst X.carries secret.now asked.now client.old.at (R.stream rng.old) }
     ensures ok { IfOk result (λ credential.
-        IsFirst X.answers secret.now asked.now client.old.at.sec credential) }
-    ensures err { IfErr result (λ fault.
-        IsFirstFault X.answers secret.now asked.now client.old.at.sec fault.why fault.kdc) }
+        IsFirst (IsExchanged X.carries X.answers) secret.now asked.now client.old.at.sec credential) }
+    ensures err { IfErr result (λ fault. IsFirstFault (IsExchanged X.carries X.answers) secret.now asked.now
+        client.old.at.sec fault.why fault.kdc) }
+    ensures moved { IsMoved client.old.at client.new.at }
+    ensures clock { client.new.is_by_kdc ≡ client.old.is_by_kdc }
 {
     let at = client.at;
-    let reply = send_timestamp(alloc, client, rng, asked, key)?;
-    if reply.is_error(Code::KrbApErrRepeat) {
-        let reply = send_timestamp(alloc, client, rng, asked, key)?;
-        return said_by(
-            reply.kdc,
-            take_stamped(alloc, asked, secret, key, at, &reply),
-        );
-    }
+    let reply = send_stamped(alloc, client, rng, asked, secret, key)?;
     said_by(
         reply.kdc,
         take_stamped(alloc, asked, secret, key, at, &reply),
     )
+}
+
+/// Returns the reply to the request with a timestamp. A KDC that has seen another request of the client with the same
+/// moment gets another one, with another timestamp.
+#[tactic(auto, using(crate::proofs::Moving::moved_once, crate::proofs::Moving::moved_twice))]
+fn send_stamped<X: Network, R: Rng>(
+    alloc: Global,
+    client: &mut KdcClient<X>,
+    rng: &mut R,
+    asked: &Asked,
+    secret: &Secret,
+    key: &Key,
+) -> Result<Reply, LoginFault>
+    requires askable { IsAskable asked.now }
+    requires own { IsOwnKey secret.now asked.now.realm asked.now.client key.now }
+    requires carried { CarriesFirst X.carries secret.now asked.now client.old.at (R.stream rng.old) }
+    ensures ok { IfOk result (λ reply. IsReply (IsExchanged X.carries X.answers) reply) }
+    ensures err { IfErr result (λ fault. IsUnheard (IsExchanged X.carries X.answers) fault.why fault.kdc) }
+    ensures moved { IsMoved client.old.at client.new.at }
+    ensures clock { client.new.is_by_kdc ≡ client.old.is_by_kdc }
+{
+    let reply = send_timestamp(alloc, client, rng, asked, key)?;
+    if reply.is_error(Code::KrbApErrRepeat) {
+        return send_timestamp(alloc, client, rng, asked, key);
+    }
+    Ok(reply)
 }
 
 fn send_timestamp<X: Network, R: Rng>(
@@ -157,9 +185,10 @@ fn send_timestamp<X: Network, R: Rng>(
     requires askable { IsAskable asked.now }
     requires stamped { X.carries
         (stamped_request asked.now key.now client.old.at (drawn_confounder (R.stream rng.old))) }
-    ensures ok { IfOk result (λ reply. IsReply X.answers reply) }
-    ensures err { IfErr result (λ fault. IsUnheard X.answers fault.why fault.kdc) }
-    ensures next { OnOk result (IsNext client.old.at client.new.at) }
+    ensures ok { IfOk result (λ reply. IsReply (IsExchanged X.carries X.answers) reply) }
+    ensures err { IfErr result (λ fault. IsUnheard (IsExchanged X.carries X.answers) fault.why fault.kdc) }
+    ensures next { IsNext client.old.at client.new.at }
+    ensures clock { client.new.is_by_kdc ≡ client.old.is_by_kdc }
     ensures drawn { OnOk result (R.stream rng.new ≡ after_confounder (R.stream rng.old)) }
 {
     let at = client.take_moment();
@@ -176,14 +205,14 @@ fn take_plain(
     secret: &Secret,
     at: Moment,
     reply: &Reply,
-) -> Result<Credential, Why>
+) -> Result<Credential, LoginError>
     requires { replies.refusal_in reply.now.octets.items ≡ found.NotAReply }
     ensures ok { IfOk result (λ credential.
         TakesFirst secret.now asked.now at.sec credential reply.now.octets.items) }
     ensures err { IfErr result (λ why. SaysFirst secret.now asked.now at.sec why reply.now.octets.items) }
 {
     let Some(ticket) = ticket_reply_in(&reply.octets) else {
-        return Err(Why::NotAReply);
+        return Err(LoginError::NotAReply);
     };
     let key = key_of_reply(alloc, secret, asked, &ticket)?;
     take(alloc, asked, &key, at, &ticket)
@@ -198,7 +227,7 @@ fn take_stamped(
     key: &Key,
     at: Moment,
     reply: &Reply,
-) -> Result<Credential, Why>
+) -> Result<Credential, LoginError>
     requires own { IsOwnKey secret.now asked.now.realm asked.now.client key.now }
     requires read { replies.refusal_in reply.now.octets.items ≡ said_of reply.now.refusal }
     ensures ok { IfOk result (λ credential.
@@ -206,10 +235,10 @@ fn take_stamped(
     ensures err { IfErr result (λ why. SaysFirst secret.now asked.now at.sec why reply.now.octets.items) }
 {
     if let Some(refusal) = &reply.refusal {
-        return Err(Why::Refused(refusal.error));
+        return Err(LoginError::Refused(refusal.error));
     }
     let Some(ticket) = ticket_reply_in(&reply.octets) else {
-        return Err(Why::NotAReply);
+        return Err(LoginError::NotAReply);
     };
     let key = key_of_next_reply(secret, asked, key, &ticket)?;
     take(alloc, asked, &key, at, &ticket)
@@ -221,7 +250,7 @@ fn take(
     key: &Key,
     at: Moment,
     ticket: &KdcRepRef<'_, 11>,
-) -> Result<Credential, Why>
+) -> Result<Credential, LoginError>
     requires { length (tickets.ticket.text ticket.now.ticket) < 2 ^ 32 }
     ensures ok { IfOk result (λ credential.
         replies.judged 11 roles.Client asked.now key.now at.sec ticket.now ≡ Ok credential) }
@@ -229,9 +258,9 @@ fn take(
 {
     match judge_as_reply(alloc, asked, key, at, ticket) {
         Ok(credential) => Ok(credential),
-        Err(ClientFault::Mismatch(what)) => Err(Why::Mismatch(what)),
-        Err(ClientFault::CannotOpen) => Err(Why::CannotOpen),
+        Err(ClientFault::Mismatch(what)) => Err(LoginError::Mismatch(what)),
+        Err(ClientFault::CannotOpen) => Err(LoginError::CannotOpen),
         // a reply has no other fault
-        Err(_) => Err(Why::Memory),
+        Err(_) => Err(LoginError::Memory),
     }
 }

@@ -7,19 +7,19 @@ ghost use Rattle.client_core.specs.Taken.{IsTaken};
 ghost use Rattle.client_core.specs.declared.key_role.KeyRole.TheVariants as roles;
 ghost use Rattle.client_core.specs.declared.sessions.Session as session;
 ghost use Rattle.krb_messages.specs.Ticket as tickets;
-ghost use Rattle.client_login.specs.Asking.{again_options, further_asked};
+ghost use Rattle.client_login.specs.Asking.{renewal_options, further_asked};
 ghost use Rattle.client_login.specs.Draws.{after_confounder, after_nonce, drawn_confounder, drawn_nonce};
 ghost use Rattle.client_login.specs.Faults.{IsFurtherFault, IsTgsRejection, IsUnheard, SaysTgs};
 ghost use Rattle.client_login.specs.Logins.{CarriesPresented, IsFurther, presented_request};
-ghost use Rattle.client_login.specs.Moments.{IsNext};
-ghost use Rattle.client_login.specs.Replies.{IsReply, said_of};
+ghost use Rattle.client_login.specs.Moments.{IsMoved, IsNext};
+ghost use Rattle.client_login.specs.Replies.{IsExchanged, IsReply, said_of};
 
 use crate::asking::{Reply, ask};
 use crate::client::KdcClient;
 use crate::draws::{draw_confounder, draw_nonce};
-use crate::exchange::Network;
-use crate::faults::{LoginFault, Why, said_by};
-use crate::wishes::{Again, again_options, further_asked};
+use crate::faults::{LoginError, LoginFault, said_by};
+use crate::network::Network;
+use crate::ticket_requests::{Renewal, further_asked, renewal_options};
 use client_core::{
     Asked, ClientFault, is_presentable, judge_tgs_reply, session_key, tgs_request, ticket_reply_in,
 };
@@ -32,6 +32,7 @@ use std::alloc::Global;
 
 impl<X: Network> KdcClient<X> {
     /// Gets a ticket for a service of the client's realm, with a ticket-granting ticket. It ends as late as that one.
+    #[tactic(auto, using(crate::proofs::Moving::moved_none))]
     pub fn service_ticket<R: Rng>(
         &mut self,
         alloc: Global,
@@ -39,20 +40,22 @@ impl<X: Network> KdcClient<X> {
         granting: &Credential,
         service: &Name,
     ) -> Result<Credential, LoginFault>
-        // The exchange has to take only requests that present the ticket.
+        // The network has to take only requests that present the ticket.
         requires { CarriesPresented X.carries granting.now
             (further_asked 0 granting.now.client service.now (drawn_nonce (R.stream rng.old)))
             self.old.at (after_nonce (R.stream rng.old)) }
         // The result is the ticket of a reply to such a request, under the session key of the ticket.
-        ensures ok { IfOk result (λ credential. IsFurther X.answers granting.now
+        ensures ok { IfOk result (λ credential. IsFurther (IsExchanged X.carries X.answers) granting.now
             (further_asked 0 granting.now.client service.now (drawn_nonce (R.stream rng.old)))
             self.old.at.sec credential) }
         // A fault is the one that the bytes of the KDC that it names report, or it names none.
-        ensures err { IfErr result (λ fault. IsFurtherFault X.answers granting.now
+        ensures err { IfErr result (λ fault. IsFurtherFault (IsExchanged X.carries X.answers) granting.now
             (further_asked 0 granting.now.client service.now (drawn_nonce (R.stream rng.old)))
             self.old.at.sec fault.why fault.kdc) }
+        ensures moved { IsMoved self.old.at self.new.at }
+        ensures clock { self.new.is_by_kdc ≡ self.old.is_by_kdc }
     {
-        self.kdcs.exchange.begin();
+        self.kdcs.network.begin();
         let nonce = draw_nonce(rng);
         let options = Flags::from_bits(0);
         let asked = further_asked(alloc, options, &granting.client, service, nonce)?;
@@ -60,38 +63,40 @@ impl<X: Network> KdcClient<X> {
     }
 
     /// Gets a ticket again: renewed, with a new start; or validated, if it was postdated (RFC 4120, sections 2.3 and 2.4).
-    pub fn ticket_again<R: Rng>(
+    #[tactic(auto, using(crate::proofs::Moving::moved_none))]
+    pub fn renew<R: Rng>(
         &mut self,
         alloc: Global,
         rng: &mut R,
         granting: &Credential,
-        again: Again,
+        renewal: Renewal,
     ) -> Result<Credential, LoginFault>
         requires { CarriesPresented X.carries granting.now
-            (further_asked (again_options again granting.now.flags) granting.now.client granting.now.server.name
+            (further_asked (renewal_options renewal granting.now.flags) granting.now.client granting.now.server.name
             (drawn_nonce (R.stream rng.old)))
             self.old.at (after_nonce (R.stream rng.old)) }
-        ensures ok { IfOk result (λ credential. IsFurther X.answers granting.now
-            (further_asked (again_options again granting.now.flags) granting.now.client granting.now.server.name
+        ensures ok { IfOk result (λ credential. IsFurther (IsExchanged X.carries X.answers) granting.now
+            (further_asked (renewal_options renewal granting.now.flags) granting.now.client granting.now.server.name
             (drawn_nonce (R.stream rng.old)))
             self.old.at.sec credential) }
-        ensures err { IfErr result (λ fault. IsFurtherFault X.answers granting.now
-            (further_asked (again_options again granting.now.flags) granting.now.client granting.now.server.name
+        ensures err { IfErr result (λ fault. IsFurtherFault (IsExchanged X.carries X.answers) granting.now
+            (further_asked (renewal_options renewal granting.now.flags) granting.now.client granting.now.server.name
             (drawn_nonce (R.stream rng.old)))
             self.old.at.sec fault.why fault.kdc) }
+        ensures moved { IsMoved self.old.at self.new.at }
+        ensures clock { self.new.is_by_kdc ≡ self.old.is_by_kdc }
     {
-        self.kdcs.exchange.begin();
+        self.kdcs.network.begin();
         let nonce = draw_nonce(rng);
-        let options = again_options(again, granting.flags);
+        let options = renewal_options(renewal, granting.flags);
         let service = &granting.server.name;
         let asked = further_asked(alloc, options, &granting.client, service, nonce)?;
         ask_with_ticket(alloc, self, rng, granting, &asked)
     }
 }
 
-/// Sends the request with the ticket. A KDC that has seen another authenticator of the client with the same moment gets
-/// another request, with another authenticator.
-#[tactic(auto, using(crate::proofs::Takings::further_blamed, crate::proofs::Takings::further_taken, crate::proofs::Takings::further_unheard))]
+/// Sends the request with the ticket.
+#[tactic(auto, using(crate::proofs::Takings::further_blamed, crate::proofs::Takings::further_taken, crate::proofs::Takings::further_unheard, crate::proofs::Moving::moved_none))]
 fn ask_with_ticket<X: Network, R: Rng>(
     alloc: Global,
     client: &mut KdcClient<X>,
@@ -101,26 +106,49 @@ fn ask_with_ticket<X: Network, R: Rng>(
 ) -> Result<Credential, LoginFault>
     requires { CarriesPresented X.carries granting.now asked.now client.old.at (R.stream rng.old) }
     ensures ok { IfOk result (λ credential.
-        IsFurther X.answers granting.now asked.now client.old.at.sec credential) }
-    ensures err { IfErr result (λ fault.
-        IsFurtherFault X.answers granting.now asked.now client.old.at.sec fault.why fault.kdc) }
+        IsFurther (IsExchanged X.carries X.answers) granting.now asked.now client.old.at.sec credential) }
+    ensures err { IfErr result (λ fault. IsFurtherFault (IsExchanged X.carries X.answers) granting.now asked.now
+        client.old.at.sec fault.why fault.kdc) }
+    ensures moved { IsMoved client.old.at client.new.at }
+    ensures clock { client.new.is_by_kdc ≡ client.old.is_by_kdc }
 {
     let Some(key) = session_key(granting) else {
-        return Err(LoginFault::new(Why::NotPresentable));
+        return Err(LoginFault::new(LoginError::NotPresentable));
     };
     if !is_presentable(granting) {
-        return Err(LoginFault::new(Why::NotPresentable));
+        return Err(LoginFault::new(LoginError::NotPresentable));
     }
     if !asked.is_askable() {
-        return Err(LoginFault::new(Why::NotAskable));
+        return Err(LoginFault::new(LoginError::NotAskable));
     }
     let at = client.at;
+    let reply = send_presented(alloc, client, rng, granting, asked)?;
+    said_by(reply.kdc, take_presented(alloc, asked, &key, at, &reply))
+}
+
+/// Returns the reply to the request with the ticket. A KDC that has seen another authenticator of the client with the
+/// same moment gets another request, with another authenticator.
+#[tactic(auto, using(crate::proofs::Moving::moved_once, crate::proofs::Moving::moved_twice))]
+fn send_presented<X: Network, R: Rng>(
+    alloc: Global,
+    client: &mut KdcClient<X>,
+    rng: &mut R,
+    granting: &Credential,
+    asked: &Asked,
+) -> Result<Reply, LoginFault>
+    requires askable { IsAskable asked.now }
+    requires presentable { sessions.IsPresentable granting.now }
+    requires carried { CarriesPresented X.carries granting.now asked.now client.old.at (R.stream rng.old) }
+    ensures ok { IfOk result (λ reply. IsReply (IsExchanged X.carries X.answers) reply) }
+    ensures err { IfErr result (λ fault. IsUnheard (IsExchanged X.carries X.answers) fault.why fault.kdc) }
+    ensures moved { IsMoved client.old.at client.new.at }
+    ensures clock { client.new.is_by_kdc ≡ client.old.is_by_kdc }
+{
     let reply = send_ticket(alloc, client, rng, granting, asked)?;
     if reply.is_error(Code::KrbApErrRepeat) {
-        let reply = send_ticket(alloc, client, rng, granting, asked)?;
-        return said_by(reply.kdc, take_presented(alloc, asked, &key, at, &reply));
+        return send_ticket(alloc, client, rng, granting, asked);
     }
-    said_by(reply.kdc, take_presented(alloc, asked, &key, at, &reply))
+    Ok(reply)
 }
 
 fn send_ticket<X: Network, R: Rng>(
@@ -134,9 +162,10 @@ fn send_ticket<X: Network, R: Rng>(
     requires presentable { sessions.IsPresentable granting.now }
     requires presented { (held : session.Session) → sessions.session granting.now ≡ Some held → X.carries
         (presented_request granting.now asked.now held client.old.at (drawn_confounder (R.stream rng.old))) }
-    ensures ok { IfOk result (λ reply. IsReply X.answers reply) }
-    ensures err { IfErr result (λ fault. IsUnheard X.answers fault.why fault.kdc) }
-    ensures next { OnOk result (IsNext client.old.at client.new.at) }
+    ensures ok { IfOk result (λ reply. IsReply (IsExchanged X.carries X.answers) reply) }
+    ensures err { IfErr result (λ fault. IsUnheard (IsExchanged X.carries X.answers) fault.why fault.kdc) }
+    ensures next { IsNext client.old.at client.new.at }
+    ensures clock { client.new.is_by_kdc ≡ client.old.is_by_kdc }
     ensures drawn { OnOk result (R.stream rng.new ≡ after_confounder (R.stream rng.old)) }
 {
     let at = client.take_moment();
@@ -153,16 +182,16 @@ fn take_presented(
     key: &Key,
     at: Moment,
     reply: &Reply,
-) -> Result<Credential, Why>
+) -> Result<Credential, LoginError>
     requires { replies.refusal_in reply.now.octets.items ≡ said_of reply.now.refusal }
     ensures ok { IfOk result (λ credential. IsTaken 13 roles.Session asked.now key.now at.sec reply.now.octets.items credential) }
     ensures err { IfErr result (λ why. SaysTgs key.now asked.now at.sec why reply.now.octets.items) }
 {
     if let Some(refusal) = &reply.refusal {
-        return Err(Why::Refused(refusal.error));
+        return Err(LoginError::Refused(refusal.error));
     }
     let Some(ticket) = ticket_reply_in(&reply.octets) else {
-        return Err(Why::NotAReply);
+        return Err(LoginError::NotAReply);
     };
     take(alloc, asked, key, at, &ticket)
 }
@@ -173,7 +202,7 @@ fn take(
     key: &Key,
     at: Moment,
     ticket: &KdcRepRef<'_, 13>,
-) -> Result<Credential, Why>
+) -> Result<Credential, LoginError>
     requires { length (tickets.ticket.text ticket.now.ticket) < 2 ^ 32 }
     ensures ok { IfOk result (λ credential.
         replies.judged 13 roles.Session asked.now key.now at.sec ticket.now ≡ Ok credential) }
@@ -182,9 +211,9 @@ fn take(
 {
     match judge_tgs_reply(alloc, asked, key, false, at, ticket) {
         Ok(credential) => Ok(credential),
-        Err(ClientFault::Mismatch(what)) => Err(Why::Mismatch(what)),
-        Err(ClientFault::CannotOpen) => Err(Why::SessionCannotOpen),
+        Err(ClientFault::Mismatch(what)) => Err(LoginError::Mismatch(what)),
+        Err(ClientFault::CannotOpen) => Err(LoginError::SessionCannotOpen),
         // a reply has no other fault
-        Err(_) => Err(Why::Memory),
+        Err(_) => Err(LoginError::Memory),
     }
 }

@@ -1,5 +1,5 @@
 //! Where the KDCs of a realm are.
-use crate::exchange::Network;
+use crate::network::Network;
 use std::alloc::{AllocError, Global};
 use std::io;
 use std::net::SocketAddr;

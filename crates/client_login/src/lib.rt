@@ -1,7 +1,7 @@
 //! Logging in to a realm: gets a first ticket with a password or a keytab, and service tickets with that one (RFC 4120,
 //! sections 3.1 and 3.3).
 //!
-//! A [`KdcClient`] sends the requests of `client_core` to the KDCs of a realm over an [`Exchange`] and reads the
+//! A [`KdcClient`] sends the requests of `client_core` to the KDCs of a realm over a [`Network`] and reads the
 //! replies. It reads no file and no clock: the caller supplies the network, the moment and a source of random bytes.
 //!
 //! | call | what it returns |
@@ -9,7 +9,7 @@
 //! | [`KdcClient::log_in`] | a first ticket, usually for the ticket-granting service |
 //! | [`KdcClient::service_ticket`] | a ticket for a service, with a ticket-granting ticket |
 //! | [`KdcClient::verify`] | the same, checked with the service's keytab: no other KDC can have sealed it |
-//! | [`KdcClient::ticket_again`] | the ticket that it is given, renewed or validated |
+//! | [`KdcClient::renew`] | the ticket that it is given, renewed or validated |
 //!
 //! If a KDC refuses because the clocks differ, [`KdcClient::take_clock`] sets the client's moment by the KDC's clock.
 #![tactic(auto)]
@@ -19,23 +19,23 @@ mod client;
 mod clocks;
 mod codes;
 mod draws;
-mod exchange;
 mod faults;
 mod first_tickets;
 mod further_tickets;
 mod infos;
 mod kdc_places;
 mod moments;
+mod network;
 mod secrets;
+mod ticket_requests;
 mod verifying;
-mod wishes;
 
 pub use asking::{Kdcs, Transports};
 pub use client::KdcClient;
 pub use draws::{draw_confounder, draw_nonce};
-pub use exchange::{AnyMessage, Network, Transport};
-pub use faults::{Doubt, LoginFault, Why};
+pub use faults::{Doubt, LoginError, LoginFault};
 pub use kdc_places::KdcPlace;
+pub use network::{AnyMessage, Network, Transport};
 pub use secrets::{Password, Secret};
+pub use ticket_requests::{Login, Renewal, TicketRequest, granting_service};
 pub use verifying::{opened_ticket, verified_ticket};
-pub use wishes::{Again, Login, Wishes, granting_service};

@@ -3,14 +3,14 @@ ghost use Rattle.std.specs.Prelude.{◌≡◌, ◌∷◌, true, Err, None, Some,
 ghost use Rattle.client_core.specs.Passwords as passwords;
 ghost use Rattle.client_login.specs.Faults.{IsNoKey, IsNoKeytabKey, IsNoPasswordKey, info_for};
 ghost use Rattle.client_login.specs.Infos.{default_info};
-ghost use Rattle.client_login.specs.declared.faults.Why.TheVariants as causes;
+ghost use Rattle.client_login.specs.declared.faults.LoginError.TheVariants as causes;
 ghost use Rattle.client_login.specs.Keys.{IsKeytabKey, IsOwnKey, IsPasswordKey, etypes_for, held_types, is_below};
 ghost use Rattle.client_login.specs.Keys.{is_weak, is_weak_if, key_named, key_numbered, key_typed};
 ghost use Rattle.client_login.specs.Keys.{least_count, next_key, with_held};
 
-use crate::faults::Why;
+use crate::faults::LoginError;
 use crate::infos::info_in_reply;
-use crate::wishes::offered;
+use crate::ticket_requests::offered;
 use client_core::{Asked, ClientFault, EtypeInfo2, count_of, entry_of, password_key};
 use cred_files::{Keytab, Principal};
 use enctypes::{Etype, Key};
@@ -86,7 +86,7 @@ pub(crate) fn key_wanted(
     secret: &Secret,
     asked: &Asked,
     info: &EtypeInfo2,
-) -> Result<Key, Why>
+) -> Result<Key, LoginError>
     ensures own { IfOk result (λ key. IsOwnKey secret.now asked.now.realm asked.now.client key) }
     ensures err { IfErr result (λ why. IsNoKey secret.now asked.now.realm asked.now.client info.now why) }
 {
@@ -102,7 +102,7 @@ pub(crate) fn key_of_reply(
     secret: &Secret,
     asked: &Asked,
     reply: &KdcRepRef<'_, 11>,
-) -> Result<Key, Why>
+) -> Result<Key, LoginError>
     ensures own { IfOk result (λ key. IsOwnKey secret.now asked.now.realm asked.now.client key) }
     ensures err { IfErr result (λ why.
         IsNoKey secret.now asked.now.realm asked.now.client (info_for secret.now reply.now) why) }
@@ -122,7 +122,7 @@ pub(crate) fn key_of_next_reply(
     asked: &Asked,
     key: &Key,
     reply: &KdcRepRef<'_, 11>,
-) -> Result<Key, Why>
+) -> Result<Key, LoginError>
     requires { IsOwnKey secret.now asked.now.realm asked.now.client key.now }
     // With a keytab it is that of the type that the reply is encrypted with.
     ensures next { IfOk result (λ found. Some found
@@ -139,7 +139,7 @@ pub(crate) fn key_of_next_reply(
 
 /// Returns the client's key with a type.
 #[tactic(auto, using(crate::proofs::OwnKeys::numbered_held, crate::proofs::OwnKeys::unnumbered))]
-fn numbered_key(keytab: &Keytab, asked: &Asked, number: i32) -> Result<Key, Why>
+fn numbered_key(keytab: &Keytab, asked: &Asked, number: i32) -> Result<Key, LoginError>
     ensures value { IfOk result (λ key. Some key
         ≡ key_numbered keytab.now (asked.now.realm ∷ asked.now.client.components) number) }
     ensures own { IfOk result (λ key.
@@ -157,7 +157,7 @@ fn key_of_password(
     password: &Password,
     asked: &Asked,
     info: &EtypeInfo2,
-) -> Result<Key, Why>
+) -> Result<Key, LoginError>
     ensures value { IfOk result (λ key. Ok key
         ≡ passwords.password_key password.now.octets asked.now.realm asked.now.client info.now) }
     ensures own { IfOk result (λ key. IsPasswordKey password.now asked.now.realm asked.now.client key) }
@@ -166,7 +166,7 @@ fn key_of_password(
         IsNoPasswordKey password.now asked.now.realm asked.now.client info.now why) }
 {
     if is_weak(password.least_count, info.as_slice()) {
-        return Err(Why::WeakCount);
+        return Err(LoginError::WeakCount);
     }
     made_key(alloc, password, asked, info)
 }
@@ -176,7 +176,7 @@ fn made_key(
     password: &Password,
     asked: &Asked,
     info: &EtypeInfo2,
-) -> Result<Key, Why>
+) -> Result<Key, LoginError>
     ensures value { IfOk result (λ key. Ok key
         ≡ passwords.password_key password.now.octets asked.now.realm asked.now.client info.now) }
     ensures err { IfErr result (λ why.
@@ -185,10 +185,10 @@ fn made_key(
     let octets = password.octets.as_slice();
     match password_key(alloc, octets, asked.realm.as_slice(), &asked.client, info) {
         Ok(key) => Ok(key),
-        Err(ClientFault::CannotOpen) => Err(Why::NoKnownType),
-        Err(ClientFault::CountTooLarge) => Err(Why::CountTooLarge),
+        Err(ClientFault::CannotOpen) => Err(LoginError::NoKnownType),
+        Err(ClientFault::CountTooLarge) => Err(LoginError::CountTooLarge),
         // a password gives no other fault
-        Err(_) => Err(Why::Memory),
+        Err(_) => Err(LoginError::Memory),
     }
 }
 
@@ -230,7 +230,7 @@ fn least_count(least: Option<u32>, etype: Etype) -> u32
 }
 
 #[tactic(auto, using(crate::proofs::OwnKeys::named_held, crate::proofs::OwnKeys::unnamed))]
-fn named_key(keytab: &Keytab, asked: &Asked, info: &EtypeInfo2) -> Result<Key, Why>
+fn named_key(keytab: &Keytab, asked: &Asked, info: &EtypeInfo2) -> Result<Key, LoginError>
     ensures value { IfOk result (λ key. Some key
         ≡ key_named keytab.now (asked.now.realm ∷ asked.now.client.components) info.now) }
     ensures own { IfOk result (λ key. IsKeytabKey keytab.now (asked.now.realm ∷ asked.now.client.components) key) }
@@ -245,13 +245,13 @@ fn named_key(keytab: &Keytab, asked: &Asked, info: &EtypeInfo2) -> Result<Key, W
     ))
 }
 
-fn given(found: Option<&Key>) -> Result<Key, Why>
+fn given(found: Option<&Key>) -> Result<Key, LoginError>
     ensures ok { IfOk result (λ key. Some key ≡ option_copied found.entry) }
     ensures err { IfErr result (λ why. (option_copied found.entry ≡ None) × (why ≡ causes.NoKey)) }
 {
     match found {
         Some(key) => Ok(*key),
-        None => Err(Why::NoKey),
+        None => Err(LoginError::NoKey),
     }
 }
 

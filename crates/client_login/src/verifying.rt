@@ -6,12 +6,14 @@ ghost use Rattle.client_core.specs.Taken.{AreSame};
 ghost use Rattle.client_login.specs.Asking.{further_asked};
 ghost use Rattle.client_login.specs.Draws.{after_nonce, drawn_nonce};
 ghost use Rattle.client_login.specs.Logins.{CarriesPresented, IsFurther};
+ghost use Rattle.client_login.specs.Moments.{IsMoved};
+ghost use Rattle.client_login.specs.Replies.{IsExchanged};
 ghost use Rattle.client_login.specs.Verifying.{IsTicketOf, IsUnverified, IsValidAt, if_of, if_valid, is_of, is_session_key};
 ghost use Rattle.client_login.specs.Verifying.{is_valid, opened, part_by, part_in, part_under, verified};
 
 use crate::client::KdcClient;
-use crate::exchange::Network;
-use crate::faults::{Doubt, LoginFault, Why};
+use crate::faults::{Doubt, LoginError, LoginFault};
+use crate::network::Network;
 use ap_opening::{has_ended, has_not_started, keytab_key, ticket_terms};
 use cred_files::{Credential, Keytab, Principal, SessionKey};
 use enctypes::{Key, KeyUsage};
@@ -50,19 +52,21 @@ impl<X: Network> KdcClient<X> {
         // That client is the one that logged in.
         ensures client { IfOk result (λ credential.
             AreSame credential.client.realm credential.client.name granting.now.client.realm granting.now.client.name) }
-        ensures further { IfOk result (λ credential. IsFurther X.answers granting.now
+        ensures further { IfOk result (λ credential. IsFurther (IsExchanged X.carries X.answers) granting.now
             (further_asked 0 granting.now.client service.now (drawn_nonce (R.stream rng.old)))
             self.old.at.sec credential) }
         // A ticket that came is doubted as `verified_ticket` does; or no ticket came.
-        ensures err { IfErr result (λ fault. IsUnverified X.answers keytab.now granting.now
+        ensures err { IfErr result (λ fault. IsUnverified (IsExchanged X.carries X.answers) keytab.now granting.now
             (further_asked 0 granting.now.client service.now (drawn_nonce (R.stream rng.old)))
             self.old.at.sec fault.why fault.kdc) }
+        ensures moved { IsMoved self.old.at self.new.at }
+        ensures clock { self.new.is_by_kdc ≡ self.old.is_by_kdc }
     {
         let at = self.at;
         let credential = self.service_ticket(alloc, rng, granting, service)?;
         match verified_ticket(alloc, keytab, &credential, at)? {
             Ok(_) => Ok(credential),
-            Err(doubt) => Err(LoginFault::new(Why::Unverified(doubt))),
+            Err(doubt) => Err(LoginFault::new(LoginError::Unverified(doubt))),
         }
     }
 }

@@ -1,11 +1,15 @@
-//! A client's messages over the system's sockets, hosts looked up by the system's resolver, and the moment on the
-//! system's clock.
+//! A client over the system's sockets, clock and files.
+//!
+//! [`Client`] is a whole client: it is opened by its name, logs in and gets tickets. Below it, [`SocketNetwork`] sends a
+//! client's messages and looks up hosts, and [`now`] reads the clock.
 #![tactic(auto)]
 
+mod client;
 mod deadline;
-mod exchange;
 mod moment;
+mod socket_network;
 mod stream;
 
-pub use exchange::{LONGEST_REPLY, SocketNetwork};
+pub use client::Client;
 pub use moment::now;
+pub use socket_network::{LONGEST_REPLY, SocketNetwork};

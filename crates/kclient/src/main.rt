@@ -75,9 +75,9 @@ fn main(rt: HostRuntime) -> ExitCode {
         Ok(defaults) => defaults,
         Err(fault) => return ended(&rt, fault),
     };
-    let exchange = SocketNetwork::for_command(&rt);
-    let kdcs = Kdcs::new(exchange, Vec::new(rt.alloc()), Transports::UdpFirst);
-    let client = KdcClient { kdcs, at: given.at };
+    let network = SocketNetwork::for_command(&rt);
+    let kdcs = Kdcs::new(network, Vec::new(rt.alloc()), Transports::UdpFirst);
+    let client = KdcClient::new(kdcs, given.at);
     let mut context = Context::new(rt.alloc(), FileStore::new(&rt), client);
     let args = given.args.as_slice();
     ExitCode::from(kclient_run(&mut context, args, &defaults, rt.stdout(), rt.stderr()))

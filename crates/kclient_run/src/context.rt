@@ -1,5 +1,5 @@
 //! The context of a command.
-use client_files::{Fault, login_fault, unknown_hosts};
+use client_files::{Fault, unknown_hosts};
 use client_login::{KdcClient, LoginFault};
 use std::alloc::{AllocError, Global};
 
@@ -11,8 +11,6 @@ pub struct Context<T, X> {
     pub client: KdcClient<X>,
     /// Lines for standard error, besides that of the fault that ends the command.
     notes: String,
-    /// Whether the command uses the KDC's time instead of its own.
-    has_kdc_time: bool,
 }
 
 impl<T, X> Context<T, X> {
@@ -22,14 +20,12 @@ impl<T, X> Context<T, X> {
             store,
             client,
             notes: String::new(alloc),
-            has_kdc_time: false,
         }
     }
 
     /// Begins a command: forgets what the one before noted.
     pub(crate) fn begin(&mut self) {
         self.notes.clear();
-        self.has_kdc_time = false;
     }
 
     pub(crate) fn notes(&self) -> &str {
@@ -64,13 +60,10 @@ impl<T, X> Context<T, X> {
         writeln!(self.notes, "kclient: {word}: this name ended the command")
     }
 
-    /// Takes the time of a KDC that refuses because the clocks differ, once per command. Otherwise the fault ends the
-    /// command; `source` is the file with the keys of the request.
+    /// Takes the time of a KDC that refuses because the clocks differ, once. Otherwise the fault ends the command;
+    /// `source` is the file with the keys of the request.
     pub(crate) fn take_clock(&mut self, source: &str, fault: LoginFault) -> Result<(), Fault> {
-        if !self.has_kdc_time
-            && let Some(ahead) = self.client.take_clock(fault.why)
-        {
-            self.has_kdc_time = true;
+        if let Some(ahead) = self.client.take_clock(fault) {
             return Ok(note_clock(&mut self.notes, ahead)?);
         }
         Err(self.fault(source, fault))
@@ -78,7 +71,7 @@ impl<T, X> Context<T, X> {
 
     /// Returns the fault for a login that got no ticket. `source` is the file with the keys of the request.
     pub(crate) fn fault(&self, source: &str, fault: LoginFault) -> Fault {
-        login_fault(self.alloc, &self.client.kdcs, source, fault)
+        Fault::of_login(self.alloc, &self.client.kdcs, source, fault)
     }
 }
 

@@ -1,16 +1,16 @@
 //! `kinit`: gets a first ticket, and makes a cache from it.
 use crate::context::Context;
-use crate::places::{cache_path, find_realm, read_settings, use_given_kdcs, use_kdcs_of};
+use crate::places::{cache_path, configured_request, find_realm, use_given_kdcs, use_kdcs_of};
 use crate::run::Printed;
 use crate::words::{
     ClientWords, FirstWords, NO_NAME, SecretWords, first_words, read_name, read_realm,
-    with_settings,
+    with_configured,
 };
 use clap::ArgMatches;
 use client_files::{
     Cause, ClientStore, Defaults, Fault, at_file, read_cache, read_keytab, write_new_cache,
 };
-use client_login::{AnyMessage, Login, Password, Secret, Wishes, granting_service};
+use client_login::{AnyMessage, Login, Password, Secret, TicketRequest, granting_service};
 use cred_files::{Credential, Principal};
 use file_store::{ask_password, read_or_draw_seed, read_password};
 use krb_elements::{KerberosString, Octets};
@@ -28,27 +28,33 @@ struct First {
     rng: ChaCha20Rng,
 }
 
-/// Gets a first ticket, and writes a cache with it. The ticket is requested once more if the KDC's time is taken.
+/// Gets a first ticket, and writes a cache with it.
 pub(crate) fn get_first<T: ClientStore, X: AnyMessage>(
     context: &mut Context<T, X>,
     options: &ArgMatches<'_>,
     defaults: &Defaults<'_>,
 ) -> Result<Printed, Fault> {
     let words = first_words(options)?;
-    let source = words.secret.source();
     let mut first = prepare(context, options, defaults, &words)?;
-    match context
-        .client
-        .log_in(context.alloc, &mut first.rng, &first.login, &first.secret)
-    {
-        Ok(credential) => return write_new(context, first.path.as_str(), &credential),
+    let credential = log_in(context, words.secret.source(), &mut first)?;
+    write_new(context, first.path.as_str(), &credential)
+}
+
+/// Logs in, once more if the KDC's time is taken.
+fn log_in<T, X: AnyMessage>(
+    context: &mut Context<T, X>,
+    source: &str,
+    first: &mut First,
+) -> Result<Credential, Fault> {
+    let alloc = context.alloc;
+    let client = &mut context.client;
+    match client.log_in(alloc, &mut first.rng, &first.login, &first.secret) {
+        Ok(credential) => return Ok(credential),
         Err(fault) => context.take_clock(source, fault)?,
     }
-    match context
-        .client
-        .log_in(context.alloc, &mut first.rng, &first.login, &first.secret)
-    {
-        Ok(credential) => write_new(context, first.path.as_str(), &credential),
+    let client = &mut context.client;
+    match client.log_in(alloc, &mut first.rng, &first.login, &first.secret) {
+        Ok(credential) => Ok(credential),
         Err(fault) => Err(context.fault(source, fault)),
     }
 }
@@ -72,14 +78,15 @@ fn prepare<T: ClientStore, X>(
     })
 }
 
-/// Writes a cache with the credential alone.
+/// Writes a cache with the credential alone. After an `Err` the cache is unchanged.
 pub(crate) fn write_new<T: ClientStore, X>(
     context: &mut Context<T, X>,
     path: &str,
     credential: &Credential,
 ) -> Result<Printed, Fault> {
+    let printed = Printed::ok(context.alloc)?;
     write_new_cache(context.alloc, &mut context.store, path, credential)?;
-    Ok(Printed::ok(context.alloc)?)
+    Ok(printed)
 }
 
 /// Returns the generator for a command's random draws: ChaCha20 with a file's seed, or with one from the system.
@@ -109,8 +116,8 @@ fn read_login<T: ClientStore, X>(
         }
         None => cached_client(context, defaults, path)?,
     };
-    let wishes = with_settings(words.wishes, read_settings(context, defaults)?);
-    login_of(alloc, client, service, wishes)
+    let request = with_configured(words.request, configured_request(context, defaults)?);
+    login_of(alloc, client, service, request)
 }
 
 /// Returns the client of the cache, and sets the KDCs to those of its realm.
@@ -152,7 +159,7 @@ fn login_of(
     alloc: Global,
     client: Principal,
     service: Option<Name>,
-    wishes: Wishes,
+    request: TicketRequest,
 ) -> Result<Login, Fault> {
     let service = match service {
         Some(service) => service,
@@ -161,7 +168,7 @@ fn login_of(
     Ok(Login {
         client,
         service,
-        wishes,
+        request,
     })
 }
 

@@ -12,7 +12,7 @@ use client_files::{
     Cause, ClientStore, Defaults, Fault, at, good_credential, granting_ticket, put_credential,
     read_cache, read_keytab, write_cache,
 };
-use client_login::{AnyMessage, Why, opened_ticket};
+use client_login::{AnyMessage, LoginError, opened_ticket};
 use cred_files::{Cache, Credential, Keytab};
 use krb_elements::{KerberosString, read};
 use krb_fields::{Moment, Name};
@@ -41,7 +41,7 @@ struct Wallet {
 }
 
 /// Gets a ticket for each service, unless the cache has one that can be used, and puts it into the cache. It prints the
-/// key versions of the tickets, in the order of the names.
+/// key versions of the tickets, in the order of the names. A name that ends the command keeps the tickets before it.
 pub(crate) fn get_tickets<T: ClientStore, X: AnyMessage>(
     context: &mut Context<T, X>,
     options: &ArgMatches<'_>,
@@ -53,20 +53,35 @@ pub(crate) fn get_tickets<T: ClientStore, X: AnyMessage>(
     use_given_kdcs(context.alloc, &mut context.client.kdcs, options)?;
     let services = read_services(context, &names)?;
     let mut wallet = read_wallet(context, options, path, keytab)?;
-    check_realms(context, &names, &services, &wallet.cache)?;
+    check_realms(context, &services, &wallet.cache)?;
+    let lines = get_each(context, defaults, &mut wallet, &services);
+    let written = write_changed(context.alloc, &mut context.store, &wallet);
+    // Why the command ends is what counts, not whether the tickets before can be written.
+    let lines = lines?;
+    written?;
+    Ok(Printed::done(lines))
+}
+
+/// Gets a ticket for each service, until one fails. Returns a line for each.
+fn get_each<T: ClientStore, X: AnyMessage>(
+    context: &mut Context<T, X>,
+    defaults: &Defaults<'_>,
+    wallet: &mut Wallet,
+    services: &[Service],
+) -> Result<String, Fault> {
     let mut lines = String::new(context.alloc);
-    for (name, service) in names.iter().zip(&services) {
-        match get_ticket(context, defaults, &mut wallet, &service.name) {
-            Ok(version) => push_line(&mut lines, name, version, wallet.checks.is_some())?,
-            Err(fault) => {
-                // The tickets that came before are kept. Why the command ends is what counts, not whether that fails.
-                let _ = write_changed(context.alloc, &mut context.store, &wallet);
-                return Err(at_name(context, &names, name, fault));
-            }
+    for service in services {
+        match get_ticket(context, defaults, wallet, &service.name) {
+            Ok(version) => push_line(&mut lines, service, version, wallet.checks.is_some())?,
+            Err(fault) => return Err(at_name(
+                context,
+                services.len(),
+                service.word.as_str(),
+                fault,
+            )),
         }
     }
-    write_changed(context.alloc, &mut context.store, &wallet)?;
-    Ok(Printed::done(lines))
+    Ok(lines)
 }
 
 fn read_wallet<T: ClientStore, X>(
@@ -99,9 +114,10 @@ fn write_changed<T: ClientStore>(
     write_cache(alloc, store, wallet.path.as_str(), &wallet.cache)
 }
 
-/// A service, and the realm behind its name.
+/// A service, the word that names it, and the realm behind its name.
 #[derive(Drop)]
 struct Service {
+    word: String,
     name: Name,
     realm: Option<KerberosString>,
 }
@@ -122,36 +138,37 @@ fn read_services<T, X>(context: &mut Context<T, X>, names: &[&str]) -> Result<Ve
     for name in names {
         match read_service(context.alloc, name) {
             Ok(service) => services.push(service)?,
-            Err(fault) => return Err(at_name(context, names, name, fault)),
+            Err(fault) => return Err(at_name(context, names.len(), name, fault)),
         }
     }
     Ok(services)
 }
 
 fn read_service(alloc: Global, word: &str) -> Result<Service, Fault> {
-    match word.split_once('@') {
-        Some((name, realm)) => Ok(Service {
-            name: read_name(alloc, "", word, name)?,
-            realm: Some(read_realm(alloc, "", word, realm)?),
-        }),
-        None => Ok(Service {
+    let Some((name, realm)) = word.split_once('@') else {
+        return Ok(Service {
+            word: String::from_str(alloc, word)?,
             name: read_name(alloc, "", word, word)?,
             realm: None,
-        }),
-    }
+        });
+    };
+    Ok(Service {
+        word: String::from_str(alloc, word)?,
+        name: read_name(alloc, "", word, name)?,
+        realm: Some(read_realm(alloc, "", word, realm)?),
+    })
 }
 
 /// Checks that each realm behind a service's name is the cache's: tickets come from its KDCs alone.
 fn check_realms<T, X>(
     context: &mut Context<T, X>,
-    names: &[&str],
     services: &[Service],
     cache: &Cache,
 ) -> Result<(), Fault> {
-    for (name, service) in names.iter().zip(services) {
-        let checked = check_realm(service, cache);
-        if let Err(fault) = at(context.alloc, name, checked) {
-            return Err(at_name(context, names, name, fault));
+    for service in services {
+        let word = service.word.as_str();
+        if let Err(fault) = at(context.alloc, word, check_realm(service, cache)) {
+            return Err(at_name(context, services.len(), word, fault));
         }
     }
     Ok(())
@@ -167,8 +184,8 @@ fn check_realm(service: &Service, cache: &Cache) -> Result<(), Cause> {
 }
 
 /// Notes the name that ends the command, if there are several.
-fn at_name<T, X>(context: &mut Context<T, X>, names: &[&str], name: &str, fault: Fault) -> Fault {
-    if names.len() > 1
+fn at_name<T, X>(context: &mut Context<T, X>, count: usize, name: &str, fault: Fault) -> Fault {
+    if count > 1
         && let Err(error) = context.note_name(name)
     {
         return Fault::from(error);
@@ -191,16 +208,22 @@ fn read_checks<T: ClientStore>(
 }
 
 /// Appends the line of a service. If the keytab has decrypted its ticket, the line says so.
-fn push_line(lines: &mut String, name: &str, version: i64, opened: bool) -> Result<(), Fault> {
+fn push_line(
+    lines: &mut String,
+    service: &Service,
+    version: i64,
+    opened: bool,
+) -> Result<(), Fault> {
     let more = if opened { OPENED } else { "" };
-    Ok(writeln!(lines, "{name} kvno {version}{more}")?)
+    let word = service.word.as_str();
+    Ok(writeln!(lines, "{word} kvno {version}{more}")?)
 }
 
 /// The text after a version if the keytab has decrypted the ticket.
 const OPENED: &str = ", keytab entry valid";
 
 /// Returns the key version of the service's ticket: of the cache's own, if it need not be requested again, or of a new
-/// one. That is requested once more if the KDC's time is taken. Only a request needs KDCs.
+/// one. Only a request needs KDCs.
 fn get_ticket<T: ClientStore, X: AnyMessage>(
     context: &mut Context<T, X>,
     defaults: &Defaults<'_>,
@@ -214,18 +237,25 @@ fn get_ticket<T: ClientStore, X: AnyMessage>(
     let path = wallet.path.as_str();
     let granting = unended(alloc, path, &wallet.cache, context.client.at)?;
     use_kdcs_of(context, defaults, wallet.cache.principal().realm.as_slice())?;
-    match context
-        .client
-        .service_ticket(alloc, &mut wallet.rng, granting, service)
-    {
-        Ok(credential) => return keep(alloc, wallet, &credential),
+    let credential = requested(context, path, &mut wallet.rng, granting, service)?;
+    keep(alloc, wallet, &credential)
+}
+
+/// Returns a new ticket for a service. It is requested once more if the KDC's time is taken.
+fn requested<T, X: AnyMessage>(
+    context: &mut Context<T, X>,
+    path: &str,
+    rng: &mut ChaCha20Rng,
+    granting: &Credential,
+    service: &Name,
+) -> Result<Credential, Fault> {
+    let alloc = context.alloc;
+    match context.client.service_ticket(alloc, rng, granting, service) {
+        Ok(credential) => return Ok(credential),
         Err(fault) => context.take_clock(path, fault)?,
     }
-    match context
-        .client
-        .service_ticket(alloc, &mut wallet.rng, granting, service)
-    {
-        Ok(credential) => keep(alloc, wallet, &credential),
+    match context.client.service_ticket(alloc, rng, granting, service) {
+        Ok(credential) => Ok(credential),
         Err(fault) => Err(context.fault(path, fault)),
     }
 }
@@ -294,7 +324,7 @@ fn check_ticket(alloc: Global, keytab: &Keytab, credential: &Credential) -> Resu
 {
     match opened_ticket(alloc, keytab, credential)? {
         Ok(_) => Ok(()),
-        Err(doubt) => Err(Cause::Login(Why::Unverified(doubt))),
+        Err(doubt) => Err(Cause::Login(LoginError::Unverified(doubt))),
     }
 }
 

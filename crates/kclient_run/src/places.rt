@@ -2,8 +2,8 @@
 use crate::context::Context;
 use crate::words::word_fault;
 use clap::ArgMatches;
-use client_files::{Cause, ClientStore, Config, Defaults, Fault, NameOf, Settings, path_in};
-use client_login::{KdcPlace, Kdcs, Transports};
+use client_files::{Cause, ClientStore, Config, Defaults, Fault, NameOf, path_in};
+use client_login::{KdcPlace, Kdcs, TicketRequest, Transports};
 use krb_elements::KerberosString;
 use std::alloc::Global;
 
@@ -87,17 +87,17 @@ fn read_config<T: ClientStore, X>(
     Ok(config)
 }
 
-/// Returns what the `krb5.conf` says of first tickets, if there is one.
-pub(crate) fn read_settings<T: ClientStore, X>(
+/// Returns the first ticket that the `krb5.conf` asks for, if there is one.
+pub(crate) fn configured_request<T: ClientStore, X>(
     context: &mut Context<T, X>,
     defaults: &Defaults<'_>,
-) -> Result<Settings, Fault> {
+) -> Result<TicketRequest, Fault> {
     let alloc = context.alloc;
     let Some(config) = Config::read_if_there(alloc, &mut context.store, defaults)? else {
-        return Ok(Settings::NONE);
+        return Ok(TicketRequest::PLAIN);
     };
     context.note_lines(config.notes())?;
-    config.settings(alloc)
+    config.ticket_request(alloc)
 }
 
 /// Sets the KDCs to those of a realm in the `krb5.conf`, if no word names one and that was not done before.

@@ -5,39 +5,46 @@ use crate::places::{cache_path, use_given_kdcs, use_kdcs_of};
 use crate::run::Printed;
 use clap::ArgMatches;
 use client_files::{Cause, ClientStore, Defaults, Fault, at, granting_ticket, read_cache};
-use client_login::{Again, AnyMessage};
+use client_login::{AnyMessage, Renewal};
 use cred_files::{Cache, Credential};
 use krb_fields::TicketFlag;
+use rand_chacha::ChaCha20Rng;
 use std::alloc::Global;
 
-/// Gets the cache's ticket-granting ticket again, and writes a new cache with it. It is requested once more if the KDC's
-/// time is taken.
-pub(crate) fn get_again<T: ClientStore, X: AnyMessage>(
+/// Gets the cache's ticket-granting ticket again, and writes a new cache with it.
+pub(crate) fn renew_ticket<T: ClientStore, X: AnyMessage>(
     context: &mut Context<T, X>,
     options: &ArgMatches<'_>,
     defaults: &Defaults<'_>,
-    again: Again,
+    renewal: Renewal,
 ) -> Result<Printed, Fault> {
     let alloc = context.alloc;
     let path = cache_path(alloc, &mut context.store, options, defaults)?;
     use_given_kdcs(alloc, &mut context.client.kdcs, options)?;
     let cache = read_cache(alloc, &mut context.store, path.as_str())?;
     let mut rng = generator(alloc, &mut context.store, options)?;
-    let granting = renewable(alloc, path.as_str(), &cache, again)?;
+    let granting = renewable(alloc, path.as_str(), &cache, renewal)?;
     use_kdcs_of(context, defaults, cache.principal().realm.as_slice())?;
-    match context
-        .client
-        .ticket_again(alloc, &mut rng, granting, again)
-    {
-        Ok(credential) => return write_new(context, path.as_str(), &credential),
-        Err(fault) => context.take_clock(path.as_str(), fault)?,
+    let credential = renewed(context, path.as_str(), &mut rng, granting, renewal)?;
+    write_new(context, path.as_str(), &credential)
+}
+
+/// Returns the ticket renewed or validated. It is requested once more if the KDC's time is taken.
+fn renewed<T, X: AnyMessage>(
+    context: &mut Context<T, X>,
+    path: &str,
+    rng: &mut ChaCha20Rng,
+    granting: &Credential,
+    renewal: Renewal,
+) -> Result<Credential, Fault> {
+    let alloc = context.alloc;
+    match context.client.renew(alloc, rng, granting, renewal) {
+        Ok(credential) => return Ok(credential),
+        Err(fault) => context.take_clock(path, fault)?,
     }
-    match context
-        .client
-        .ticket_again(alloc, &mut rng, granting, again)
-    {
-        Ok(credential) => write_new(context, path.as_str(), &credential),
-        Err(fault) => Err(context.fault(path.as_str(), fault)),
+    match context.client.renew(alloc, rng, granting, renewal) {
+        Ok(credential) => Ok(credential),
+        Err(fault) => Err(context.fault(path, fault)),
     }
 }
 
@@ -46,11 +53,11 @@ fn renewable<'c>(
     alloc: Global,
     path: &str,
     cache: &'c Cache,
-    again: Again,
+    renewal: Renewal,
 ) -> Result<&'c Credential, Fault> {
     let granting = at(alloc, path, granting_ticket(alloc, cache))?;
-    match again {
-        Again::Renew if !granting.flags.has(TicketFlag::Renewable) => {
+    match renewal {
+        Renewal::Renew if !granting.flags.has(TicketFlag::Renewable) => {
             Err(Fault::new(alloc, path, Cause::NotRenewable))
         }
         _ => Ok(granting),

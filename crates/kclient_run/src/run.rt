@@ -6,11 +6,11 @@ use crate::kinit::get_first;
 use crate::klist::{destroy, list};
 use crate::kvno::get_tickets;
 use crate::options::read_args;
-use crate::renewing::get_again;
-use crate::words::again;
+use crate::renewing::renew_ticket;
+use crate::words::renewal;
 use clap::error::{Error, ErrorKind};
 use client_files::{Cause, ClientStore, Defaults, Fault};
-use client_login::{AnyMessage, Why};
+use client_login::{AnyMessage, LoginError};
 use std::alloc::{AllocError, Global};
 use std::convert::AsStr;
 use std::io;
@@ -132,8 +132,8 @@ fn run_command<S: AsStr, T: ClientStore, X: AnyMessage>(
     let Some((command, options)) = matches.subcommand() else {
         return Err(Fault::usage("a command is missing"));
     };
-    match (command, again(options)?) {
-        ("kinit", Some(again)) => get_again(context, options, defaults, again),
+    match (command, renewal(options)?) {
+        ("kinit", Some(renewal)) => renew_ticket(context, options, defaults, renewal),
         ("kinit", None) => get_first(context, options, defaults),
         ("kvno", _) => get_tickets(context, options, defaults),
         ("kdestroy", _) => destroy(context, options, defaults),
@@ -199,7 +199,7 @@ fn print_fault<W: Write, E: Write>(
 
 fn print_word<W: Write>(out: &mut W, cause: Cause) -> io::Result<Status> {
     match (cause, cause.name()) {
-        (Cause::Login(Why::Refused(error)), _) => writeln!(out, "refused {}", error.code)?,
+        (Cause::Login(LoginError::Refused(error)), _) => writeln!(out, "refused {}", error.code)?,
         (_, Some(name)) => writeln!(out, "refused {name}")?,
         (_, None) => {
             writeln!(out, "failed")?;

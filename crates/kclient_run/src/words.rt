@@ -2,8 +2,8 @@
 use crate::context::NO_WORD;
 use crate::options::asks_for_first;
 use clap::ArgMatches;
-use client_files::{Cause, Fault, NameOf, Settings, path_in};
-use client_login::{Again, Wishes};
+use client_files::{Cause, Fault, NameOf, path_in};
+use client_login::{Renewal, TicketRequest};
 use krb_elements::KerberosString;
 use krb_fields::{Name, component_from_text};
 use std::alloc::{AllocError, Global};
@@ -19,7 +19,7 @@ pub(crate) struct FirstWords<'a> {
     pub service: Option<&'a str>,
     /// The fewest iterations of string-to-key; absent: each type's default.
     pub least_count: Option<u32>,
-    pub wishes: Wishes,
+    pub request: TicketRequest,
 }
 
 /// The words for a client.
@@ -83,7 +83,7 @@ const TWO_SECRETS: &str = "--password-file and --keytab don't go together";
 
 const TWO_WAYS: &str = "--renew and --validate don't go together";
 
-const AGAIN: &str = "\
+const NO_FIRST: &str = "\
 --renew and --validate take the ticket of the cache: no option of a first ticket goes with them";
 
 /// Returns the path of a keytab, if one is named.
@@ -95,17 +95,17 @@ pub(crate) fn keytab_path<'a>(options: &ArgMatches<'a>) -> Result<Option<&'a str
 }
 
 /// Returns what to do with a ticket that the client has; `None` if a first ticket is requested.
-pub(crate) fn again(options: &ArgMatches<'_>) -> Result<Option<Again>, Fault> {
-    let again = match (options.get_flag("renew"), options.get_flag("validate")) {
+pub(crate) fn renewal(options: &ArgMatches<'_>) -> Result<Option<Renewal>, Fault> {
+    let renewal = match (options.get_flag("renew"), options.get_flag("validate")) {
         (true, true) => return Err(Fault::usage(TWO_WAYS)),
-        (true, false) => Again::Renew,
-        (false, true) => Again::Validate,
+        (true, false) => Renewal::Renew,
+        (false, true) => Renewal::Validate,
         (false, false) => return Ok(None),
     };
     if asks_for_first(options) {
-        return Err(Fault::usage(AGAIN));
+        return Err(Fault::usage(NO_FIRST));
     }
-    Ok(Some(again))
+    Ok(Some(renewal))
 }
 
 /// Returns the words for a first ticket.
@@ -115,7 +115,7 @@ pub(crate) fn first_words<'a>(options: &ArgMatches<'a>) -> Result<FirstWords<'a>
         secret: secret_words(options)?,
         service: options.get_str("service"),
         least_count: number_in(options, "least-count").ok_or(Fault::usage(NO_COUNT))?,
-        wishes: wishes(options)?,
+        request: ticket_request(options)?,
     })
 }
 
@@ -161,30 +161,30 @@ fn secret_words<'a>(options: &ArgMatches<'a>) -> Result<SecretWords<'a>, Fault> 
     }
 }
 
-fn wishes(options: &ArgMatches<'_>) -> Result<Wishes, Fault> {
-    Ok(Wishes {
-        life: seconds_in(options, "life").ok_or(Fault::usage(NO_LIFE))?,
+fn ticket_request(options: &ArgMatches<'_>) -> Result<TicketRequest, Fault> {
+    Ok(TicketRequest {
+        lifetime: seconds_in(options, "life").ok_or(Fault::usage(NO_LIFE))?,
         start: seconds_in(options, "start").ok_or(Fault::usage(NO_START))?,
         renewable: options.get_flag("renewable"),
-        renew_life: None,
+        renew_lifetime: None,
         forwardable: options.get_flag("forwardable"),
         proxiable: options.get_flag("proxiable"),
     })
 }
 
-/// Returns the wishes with what a `krb5.conf` says where no word says it.
-pub(crate) fn with_settings(wishes: Wishes, settings: Settings) -> Wishes {
-    Wishes {
-        life: wishes.life.or(settings.life),
-        start: wishes.start,
-        renewable: wishes.renewable || settings.renew_life.is_some(),
-        renew_life: if wishes.renewable {
+/// Returns the request with what a `krb5.conf` asks for where no word says it.
+pub(crate) fn with_configured(words: TicketRequest, configured: TicketRequest) -> TicketRequest {
+    TicketRequest {
+        lifetime: words.lifetime.or(configured.lifetime),
+        start: words.start,
+        renewable: words.renewable || configured.renewable,
+        renew_lifetime: if words.renewable {
             None
         } else {
-            settings.renew_life
+            configured.renew_lifetime
         },
-        forwardable: wishes.forwardable || settings.forwardable,
-        proxiable: wishes.proxiable || settings.proxiable,
+        forwardable: words.forwardable || configured.forwardable,
+        proxiable: words.proxiable || configured.proxiable,
     }
 }
 

@@ -151,6 +151,15 @@ const CASES: &[Case] = &[
     EACH,
     NO_CALL_FAILS,
     Case {
+        what: "a wire that was not called has recorded nothing",
+        comes: &[],
+        rounds: 0,
+        events: 0,
+        all_calls: 0,
+        ways: &[&[]],
+        ..EACH
+    },
+    Case {
         what: "a full table closes new connections",
         comes: FULL,
         rounds: 260,

@@ -12,3 +12,4 @@ pub mod Resuming
 pub mod Processes
 pub mod Server
 pub mod LogLaws
+pub mod InMemory

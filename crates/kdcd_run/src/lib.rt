@@ -13,9 +13,12 @@ mod keeping;
 mod key_places;
 mod laws;
 mod logging;
+mod memory_host;
+mod memory_parts;
 mod memory_watch;
 mod plain_files;
 mod quiet;
+mod record;
 mod request_lines;
 mod resuming;
 mod rows_file;
@@ -36,6 +39,10 @@ pub use crate::journal_parts::JournalPart;
 pub use crate::keeping::{JournalWriter, NotKept};
 pub use crate::laws::{every_life, every_restart};
 pub use crate::logging::{Came, LogWriter};
+pub use crate::memory_host::{AlreadyHeld, Given, HostCall, MemoryHost};
+pub use crate::memory_parts::{
+    HandedOver, MemoryEntry, MemoryJournal, MemoryLog, MemorySockets, MemoryTally,
+};
 pub use crate::memory_watch::MemoryWatch;
 pub use crate::plain_files::{open_plain, say_rights};
 pub use crate::request_lines::{LogFormat, RequestLines};

@@ -90,8 +90,28 @@ impl<S: Wire, J: JournalWriter, L: LogWriter, E, T: Tally> ServerWire<S, J, L, E
         }
     }
 
-    pub fn log(&self) -> &L {
+    pub fn log(&self) -> &L
+        ensures { result.now ≡ self.now.log }
+    {
         &self.log
+    }
+
+    pub fn sockets(&self) -> &S
+        ensures { result.now ≡ self.now.sockets }
+    {
+        &self.sockets
+    }
+
+    pub fn tally(&self) -> &T
+        ensures { result.now ≡ self.now.tally }
+    {
+        &self.tally
+    }
+
+    pub fn journal(&self) -> &J
+        ensures { result.now ≡ self.now.journal }
+    {
+        &self.journal
     }
 }
 

@@ -1,7 +1,7 @@
 //! Logins of one client, one after another.
 use crate::network::{HOST, SECOND_PORT, Said, SaidNetwork};
 use client_login::{
-    KdcClient, KdcPlace, Kdcs, Login, Password, Secret, Transports, Wishes, granting_service,
+    KdcClient, KdcPlace, Kdcs, Login, Password, Secret, TicketRequest, Transports, granting_service,
 };
 use cred_files::Principal;
 use krb_elements::{KerberosString, Octets};
@@ -22,14 +22,12 @@ fn client(alloc: Global) -> Result<Client, Fail> {
     let mut places = Vec::new(alloc);
     places.push(KdcPlace::of_address(alloc, first)?)?;
     places.push(KdcPlace::of_host(alloc, HOST, SECOND_PORT)?)?;
-    let exchange = SaidNetwork {
+    let network = SaidNetwork {
         said: Said::Nothing,
         ways: String::new(alloc),
     };
-    Ok(KdcClient {
-        kdcs: Kdcs::new(exchange, places, Transports::UdpFirst),
-        at,
-    })
+    let kdcs = Kdcs::new(network, places, Transports::UdpFirst);
+    Ok(KdcClient::new(kdcs, at))
 }
 
 fn login(alloc: Global) -> Result<Login, Fail> {
@@ -39,7 +37,7 @@ fn login(alloc: Global) -> Result<Login, Fail> {
     Ok(Login {
         client: Principal { realm, name },
         service,
-        wishes: Wishes::PLAIN,
+        request: TicketRequest::PLAIN,
     })
 }
 
@@ -89,11 +87,11 @@ fn expect_fault(
     text: &str,
     ways: &str,
 ) -> Result<(), Fail> {
-    client.kdcs.exchange.said = said;
-    client.kdcs.exchange.ways.clear();
+    client.kdcs.network.said = said;
+    client.kdcs.network.ways.clear();
     let found = fault(alloc, client)?;
     assert_eq!(rt; found.as_str(), text);
-    assert_eq!(rt; client.kdcs.exchange.ways.as_str(), ways, "{text}");
+    assert_eq!(rt; client.kdcs.network.ways.as_str(), ways, "{text}");
     Ok(())
 }
 

@@ -33,7 +33,7 @@ pub const HOST: &str = "kdc.example.com";
 
 const SECOND_ADDRESS: [u8; 4] = [192, 0, 2, 2];
 
-/// An exchange in which each message gets the same.
+/// A network in which each message gets the same.
 #[derive(Drop)]
 pub struct SaidNetwork {
     pub said: Said,

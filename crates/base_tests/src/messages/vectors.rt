@@ -17,12 +17,12 @@ pub const AS_REQ: &str = "\
     a8053003020112";
 
 pub const AS_REQ_VALUE: &str = "\
-    Ok((As, KdcReq { pvno: 5, msg_type: 10, padata: None, body: ReqBody { kdc_options: Flags { bits: 0 }, cname: \
-    Some(Name { name_type: 1, components: Seq { items: [KerberosString { bytes: [117] }] } }), realm: KerberosString \
-    { bytes: [65, 46, 66] }, sname: Some(Name { name_type: 2, components: Seq { items: [KerberosString { bytes: [107, \
-    114, 98, 116, 103, 116] }, KerberosString { bytes: [65, 46, 66] }] } }), from: None, till: KTime { seconds: 0 }, \
-    rtime: None, nonce: UInt32 { value: 1 }, etype: Seq { items: [18] }, addresses: None, enc_authorization_data: \
-    None, additional_tickets: None } }))";
+    Ok(Under { value: KdcReq { pvno: 5, msg_type: 10, padata: None, body: ReqBody { kdc_options: Flags { bits: 0 }, \
+    cname: Some(Name { name_type: 1, components: Seq { items: [KerberosString { bytes: [117] }] } }), realm: \
+    KerberosString { bytes: [65, 46, 66] }, sname: Some(Name { name_type: 2, components: Seq { items: \
+    [KerberosString { bytes: [107, 114, 98, 116, 103, 116] }, KerberosString { bytes: [65, 46, 66] }] } }), from: \
+    None, till: KTime { seconds: 0 }, rtime: None, nonce: UInt32 { value: 1 }, etype: Seq { items: [18] }, \
+    addresses: None, enc_authorization_data: None, additional_tickets: None } } })";
 
 /// A TGS-REQ with each field but the client's name.
 pub const TGS_REQ: &str = "\
@@ -46,17 +46,81 @@ pub const TGS_REQ: &str = "\
     a311300fa003020111a103020107a203040105";
 
 pub const TGS_REQ_VALUE: &str = "\
-    Ok((Tgs, KdcReq { pvno: 5, msg_type: 12, padata: Some(Seq { items: [PaData { padata_type: 1, padata_value: Octets \
-    { bytes: [1, 2] } }] }), body: ReqBody { kdc_options: Flags { bits: 1082195984 }, cname: None, realm: \
-    KerberosString { bytes: [65, 46, 66] }, sname: Some(Name { name_type: 3, components: Seq { items: [KerberosString \
-    { bytes: [104, 111, 115, 116] }, KerberosString { bytes: [98] }] } }), from: Some(KTime { seconds: 1704067200 }), \
-    till: KTime { seconds: 1704153600 }, rtime: Some(KTime { seconds: 1704240000 }), nonce: UInt32 { value: \
-    2147483648 }, etype: Seq { items: [18, 17] }, addresses: Some(Seq { items: [Typed { number: 2, octets: Octets { \
-    bytes: [10, 0, 0, 1] } }] }), enc_authorization_data: Some(EncryptedData { etype: 18, kvno: None, cipher: Octets \
-    { bytes: [3, 4] } }), additional_tickets: Some(Seq { items: [Ticket { tkt_vno: 5, realm: KerberosString { bytes: \
-    [65, 46, 66] }, sname: Name { name_type: 2, components: Seq { items: [KerberosString { bytes: [107, 114, 98, 116, \
-    103, 116] }, KerberosString { bytes: [65, 46, 66] }] } }, enc_part: EncryptedData { etype: 17, kvno: Some(UInt32 \
-    { value: 7 }), cipher: Octets { bytes: [5] } } }] }) } }))";
+    Ok(Under { value: KdcReq { pvno: 5, msg_type: 12, padata: Some(Seq { items: [PaData { padata_type: 1, \
+    padata_value: Octets { bytes: [1, 2] } }] }), body: ReqBody { kdc_options: Flags { bits: 1082195984 }, cname: \
+    None, realm: KerberosString { bytes: [65, 46, 66] }, sname: Some(Name { name_type: 3, components: Seq { items: \
+    [KerberosString { bytes: [104, 111, 115, 116] }, KerberosString { bytes: [98] }] } }), from: Some(KTime { \
+    seconds: 1704067200 }), till: KTime { seconds: 1704153600 }, rtime: Some(KTime { seconds: 1704240000 }), nonce: \
+    UInt32 { value: 2147483648 }, etype: Seq { items: [18, 17] }, addresses: Some(Seq { items: [Typed { number: 2, \
+    octets: Octets { bytes: [10, 0, 0, 1] } }] }), enc_authorization_data: Some(EncryptedData { etype: 18, kvno: \
+    None, cipher: Octets { bytes: [3, 4] } }), additional_tickets: Some(Seq { items: [Ticket { tkt_vno: 5, realm: \
+    KerberosString { bytes: [65, 46, 66] }, sname: Name { name_type: 2, components: Seq { items: [KerberosString { \
+    bytes: [107, 114, 98, 116, 103, 116] }, KerberosString { bytes: [65, 46, 66] }] } }, enc_part: EncryptedData { \
+    etype: 17, kvno: Some(UInt32 { value: 7 }), cipher: Octets { bytes: [5] } } }] }) } } })";
+
+/// An EncryptedData with a cipher of the bytes 0 to 7.
+pub const ENCRYPTED_DATA: &str = "\
+    301aa003020114a107020500ffffffffa20a04080001020304050607";
+
+pub const ENCRYPTED_DATA_VALUE: &str = "\
+    Ok(EncryptedData { etype: 20, kvno: Some(UInt32 { value: 4294967295 }), cipher: Octets { bytes: [0, 1, 2, 3, 4, \
+    5, 6, 7] } })";
+
+/// A ticket without a kvno.
+pub const HOST_TICKET: &str = "\
+    61323030\
+    a003020105\
+    a1051b03412e42\
+    a2143012a003020103a10b30091b04686f73741b0162\
+    a30c300aa003020111a203040105";
+
+pub const HOST_TICKET_VALUE: &str = "\
+    Ok(Ticket { tkt_vno: 5, realm: KerberosString { bytes: [65, 46, 66] }, sname: Name { name_type: 3, components: \
+    Seq { items: [KerberosString { bytes: [104, 111, 115, 116] }, KerberosString { bytes: [98] }] } }, enc_part: \
+    EncryptedData { etype: 17, kvno: None, cipher: Octets { bytes: [5] } } })";
+
+/// An AS-REP with two padata.
+pub const TWO_PADATA: &str = "\
+    6b8195308192\
+    a003020105\
+    a10302010b\
+    a21a3018300ba103020113a20404023000\
+    3009a103020103a2020400\
+    a3051b03412e42\
+    a40e300ca003020101a10530031b0175\
+    a53f613d303ba003020105a1051b03412e42\
+    a2183016a003020102a10f300d1b066b72627467741b03412e42\
+    a3133011a003020112a103020107a2050403010203\
+    a6123010a003020112a103020102a20404020405";
+
+pub const TWO_PADATA_VALUE: &str = "\
+    Ok(KdcRep { padata: Some(Seq { items: [PaData { padata_type: 19, padata_value: Octets { bytes: [48, 0] } }, \
+    PaData { padata_type: 3, padata_value: Octets { bytes: [] } }] }), crealm: KerberosString { bytes: [65, 46, 66] \
+    }, cname: Name { name_type: 1, components: Seq { items: [KerberosString { bytes: [117] }] } }, ticket: Ticket { \
+    tkt_vno: 5, realm: KerberosString { bytes: [65, 46, 66] }, sname: Name { name_type: 2, components: Seq { items: \
+    [KerberosString { bytes: [107, 114, 98, 116, 103, 116] }, KerberosString { bytes: [65, 46, 66] }] } }, enc_part: \
+    EncryptedData { etype: 18, kvno: Some(UInt32 { value: 7 }), cipher: Octets { bytes: [1, 2, 3] } } }, enc_part: \
+    EncryptedData { etype: 18, kvno: Some(UInt32 { value: 2 }), cipher: Octets { bytes: [4, 5] } } })";
+
+/// A TGS-REP without padata, with an empty cipher.
+pub const TGS_REP: &str = "\
+    6d743072\
+    a003020105\
+    a10302010d\
+    a3051b03412e42\
+    a4153013a003020101a10c300a1b01751b0561646d696e\
+    a53b61393037a003020105a1051b03412e42\
+    a2143012a003020103a10b30091b04686f73741b0162\
+    a3133011a003020112a103020107a2050403010203\
+    a60b3009a003020111a2020400";
+
+pub const TGS_REP_VALUE: &str = "\
+    Ok(KdcRep { padata: None, crealm: KerberosString { bytes: [65, 46, 66] }, cname: Name { name_type: 1, \
+    components: Seq { items: [KerberosString { bytes: [117] }, KerberosString { bytes: [97, 100, 109, 105, 110] }] } \
+    }, ticket: Ticket { tkt_vno: 5, realm: KerberosString { bytes: [65, 46, 66] }, sname: Name { name_type: 3, \
+    components: Seq { items: [KerberosString { bytes: [104, 111, 115, 116] }, KerberosString { bytes: [98] }] } }, \
+    enc_part: EncryptedData { etype: 18, kvno: Some(UInt32 { value: 7 }), cipher: Octets { bytes: [1, 2, 3] } } }, \
+    enc_part: EncryptedData { etype: 17, kvno: None, cipher: Octets { bytes: [] } } })";
 
 /// An error without optional fields.
 pub const SHORT_ERROR: &str = "\
@@ -232,23 +296,44 @@ pub const VERSION_4: &str = "\
     62363034a003020104a1051b03412e42a20e300ca003020101a10530031b0175a403020107a511180f323032343031303130\
     30303030305a";
 
-/// An EncKDCRepPart with each field, without its tag.
+/// An EncASRepPart with each field.
 pub const REPLY: &str = "\
-    3081eca02b3029a003020112a1220420000102030405060708090a0b0c0d0e0f101112131415161718191a1b1c1d1e1fa11c\
-    301a3018a003020100a111180f32303234303130313030303030305aa2030201ffa311180f32303235303130313030303030\
-    305aa40703050000400000a511180f32303234303130313030303030305aa611180f32303234303130313030303130305aa7\
-    11180f32303234303130313130303030305aa811180f32303234303130383030303030305aa9051b03412e42aa183016a003\
-    020102a10f300d1b066b72627467741b03412e42ab11300f300da003020102a10604040a000001";
+    7981ef3081eca02b3029a003020112a1220420000102030405060708090a0b0c0d0e0f101112131415161718191a1b1c1d1e\
+    1fa11c301a3018a003020100a111180f32303234303130313030303030305aa2030201ffa311180f32303235303130313030\
+    303030305aa40703050000400000a511180f32303234303130313030303030305aa611180f32303234303130313030303130\
+    305aa711180f32303234303130313130303030305aa811180f32303234303130383030303030305aa9051b03412e42aa1830\
+    16a003020102a10f300d1b066b72627467741b03412e42ab11300f300da003020102a10604040a000001";
 
 pub const REPLY_VALUE: &str = "\
-    Ok(EncKdcRepPart { key: Typed { number: 18, octets: Octets { bytes: [0, 1, 2, 3, 4, 5, 6, 7, 8, 9, 10, 11, 12, \
-    13, 14, 15, 16, 17, 18, 19, 20, 21, 22, 23, 24, 25, 26, 27, 28, 29, 30, 31] } }, last_req: Seq { items: [LastReq \
-    { lr_type: 0, lr_value: KTime { seconds: 1704067200 } }] }, nonce: UInt32 { value: -1 }, key_expiration: \
-    Some(KTime { seconds: 1735689600 }), flags: Flags { bits: 4194304 }, authtime: KTime { seconds: 1704067200 }, \
-    starttime: Some(KTime { seconds: 1704067260 }), endtime: KTime { seconds: 1704103200 }, renew_till: Some(KTime { \
-    seconds: 1704672000 }), srealm: KerberosString { bytes: [65, 46, 66] }, sname: Name { name_type: 2, components: \
-    Seq { items: [KerberosString { bytes: [107, 114, 98, 116, 103, 116] }, KerberosString { bytes: [65, 46, 66] }] } \
-    }, caddr: Some(Seq { items: [Typed { number: 2, octets: Octets { bytes: [10, 0, 0, 1] } }] }) })";
+    Ok(Under { value: EncKdcRepPart { key: Typed { number: 18, octets: Octets { bytes: [0, 1, 2, 3, 4, 5, 6, 7, 8, \
+    9, 10, 11, 12, 13, 14, 15, 16, 17, 18, 19, 20, 21, 22, 23, 24, 25, 26, 27, 28, 29, 30, 31] } }, last_req: Seq { \
+    items: [LastReq { lr_type: 0, lr_value: KTime { seconds: 1704067200 } }] }, nonce: UInt32 { value: -1 }, \
+    key_expiration: Some(KTime { seconds: 1735689600 }), flags: Flags { bits: 4194304 }, authtime: KTime { seconds: \
+    1704067200 }, starttime: Some(KTime { seconds: 1704067260 }), endtime: KTime { seconds: 1704103200 }, \
+    renew_till: Some(KTime { seconds: 1704672000 }), srealm: KerberosString { bytes: [65, 46, 66] }, sname: Name { \
+    name_type: 2, components: Seq { items: [KerberosString { bytes: [107, 114, 98, 116, 103, 116] }, KerberosString \
+    { bytes: [65, 46, 66] }] } }, caddr: Some(Seq { items: [Typed { number: 2, octets: Octets { bytes: [10, 0, 0, 1] \
+    } }] }) } })";
+
+/// An EncTGSRepPart without optional fields and without a LastReq, with flags that have no name, and with the first and the last time.
+pub const LEAST_REPLY: &str = "\
+    7a773075\
+    a01b3019a003020111a1120410000102030405060708090a0b0c0d0e0f\
+    a1023000\
+    a20602047fffffff\
+    a40703050040c00001\
+    a511180f31393730303130313030303030305a\
+    a711180f39393939313233313233353935395a\
+    a9051b03412e42\
+    aa143012a003020103a10b30091b04686f73741b0162";
+
+pub const LEAST_REPLY_VALUE: &str = "\
+    Ok(Under { value: EncKdcRepPart { key: Typed { number: 17, octets: Octets { bytes: [0, 1, 2, 3, 4, 5, 6, 7, 8, \
+    9, 10, 11, 12, 13, 14, 15] } }, last_req: Seq { items: [] }, nonce: UInt32 { value: 2147483647 }, \
+    key_expiration: None, flags: Flags { bits: 1086324737 }, authtime: KTime { seconds: 0 }, starttime: None, \
+    endtime: KTime { seconds: 253402300799 }, renew_till: None, srealm: KerberosString { bytes: [65, 46, 66] }, \
+    sname: Name { name_type: 3, components: Seq { items: [KerberosString { bytes: [104, 111, 115, 116] }, \
+    KerberosString { bytes: [98] }] } }, caddr: None } })";
 
 /// An EncAPRepPart with each field.
 pub const AP_REPLY: &str = "\
@@ -266,6 +351,28 @@ pub const TIMESTAMP: &str = "301aa011180f32303234303130313030303030305aa10502030
 pub const TIMESTAMP_VALUE: &str = "\
     Ok(PaEncTsEnc { patimestamp: KTime { seconds: 1704067200 }, pausec: Some(Microseconds { value: 999999 }) })";
 
+/// An ETYPE-INFO2 with an entry of each field and one without optional fields.
+pub const ETYPE_INFO2: &str = "\
+    301e\
+    3015a003020112a1061b04412e4275a206040400001000\
+    3005a003020111";
+
+pub const ETYPE_INFO2_VALUE: &str = "\
+    Ok(Seq { items: [EtypeInfo2Entry { etype: 18, salt: Some(KerberosString { bytes: [65, 46, 66, 117] }), \
+    s2kparams: Some(Octets { bytes: [0, 0, 16, 0] }) }, EtypeInfo2Entry { etype: 17, salt: None, s2kparams: None }] \
+    })";
+
+/// A METHOD-DATA that asks for a timestamp of types 20 and 18.
+pub const METHOD_DATA: &str = "\
+    3036\
+    3029a103020113a2220420301e300da003020114a1061b04412e4275300da003020112a1061b04412e4275\
+    3009a103020102a2020400";
+
+pub const METHOD_DATA_VALUE: &str = "\
+    Ok(Seq { items: [PaData { padata_type: 19, padata_value: Octets { bytes: [48, 30, 48, 13, 160, 3, 2, 1, 20, 161, \
+    6, 27, 4, 65, 46, 66, 117, 48, 13, 160, 3, 2, 1, 18, 161, 6, 27, 4, 65, 46, 66, 117] } }, PaData { padata_type: \
+    2, padata_value: Octets { bytes: [] } }] })";
+
 /// An ETYPE-INFO2-ENTRY with each field.
 pub const ETYPE_INFO2_ENTRY: &str = "3015a003020112a1061b04412e4275a206040400001000";
 
@@ -275,12 +382,12 @@ pub const ETYPE_INFO2_ENTRY_VALUE: &str = "\
 
 /// The value of the AS-REQ as a TGS-REQ.
 pub const AS_REQ_AS_TGS_REQ_VALUE: &str = "\
-    Ok((Tgs, KdcReq { pvno: 5, msg_type: 12, padata: None, body: ReqBody { kdc_options: Flags { bits: 0 }, cname: \
-    Some(Name { name_type: 1, components: Seq { items: [KerberosString { bytes: [117] }] } }), realm: KerberosString \
-    { bytes: [65, 46, 66] }, sname: Some(Name { name_type: 2, components: Seq { items: [KerberosString { bytes: [107, \
-    114, 98, 116, 103, 116] }, KerberosString { bytes: [65, 46, 66] }] } }), from: None, till: KTime { seconds: 0 }, \
-    rtime: None, nonce: UInt32 { value: 1 }, etype: Seq { items: [18] }, addresses: None, enc_authorization_data: \
-    None, additional_tickets: None } }))";
+    Ok(Under { value: KdcReq { pvno: 5, msg_type: 12, padata: None, body: ReqBody { kdc_options: Flags { bits: 0 }, \
+    cname: Some(Name { name_type: 1, components: Seq { items: [KerberosString { bytes: [117] }] } }), realm: \
+    KerberosString { bytes: [65, 46, 66] }, sname: Some(Name { name_type: 2, components: Seq { items: \
+    [KerberosString { bytes: [107, 114, 98, 116, 103, 116] }, KerberosString { bytes: [65, 46, 66] }] } }), from: \
+    None, till: KTime { seconds: 0 }, rtime: None, nonce: UInt32 { value: 1 }, etype: Seq { items: [18] }, \
+    addresses: None, enc_authorization_data: None, additional_tickets: None } } })";
 
 /// An AS-REP from a Python program, with the types of RFC 4120, section 5.4.2.
 pub const AS_REP: &str = "\

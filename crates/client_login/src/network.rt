@@ -1,4 +1,4 @@
-//! The transport of a client's messages.
+//! The network that carries a client's messages.
 ghost use Rattle.std.specs.Prelude.{ℕ, List, IfOk};
 ghost use Rattle.std.specs.declared.net.socket_addr.SocketAddr as addresses;
 
@@ -15,17 +15,17 @@ pub enum Transport {
 
 /// Sends messages to KDCs, and waits for their replies.
 pub trait Network {
-    // The messages that it takes. An exchange over a real network says `λ message. ⊤`: any.
+    // The messages that it takes. A network over a real network says `λ message. ⊤`: any.
     ghost carries: { List ℕ → Type 0 };
 
-    // The bytes with which an address answers a message. An exchange over a real network says `λ to message reply. ⊤`:
+    // The bytes with which an address answers a message. A network over a real network says `λ to message reply. ⊤`:
     // any.
     ghost answers: { addresses.SocketAddr → List ℕ → List ℕ → Type 0 };
 
-    /// Begins a login, or a request for a further ticket. The exchange's waiting time counts from here.
+    /// Begins a login, or a request for a further ticket. The network's waiting time counts from here.
     fn begin(&mut self);
 
-    /// Sends a message to an address and returns the reply. Fails if no reply comes in the exchange's waiting time.
+    /// Sends a message to an address and returns the reply. Fails if no reply comes in the network's waiting time.
     fn exchange(
         &mut self,
         alloc: Global,
@@ -36,11 +36,11 @@ pub trait Network {
         requires { carries message.now }
         ensures { IfOk result (λ reply. answers to message.now reply.items) };
 
-    /// Looks up a host by its name, and returns its addresses, each with this port. The exchange's waiting time goes on.
+    /// Looks up a host by its name, and returns its addresses, each with this port. The network's waiting time goes on.
     fn look_up(&mut self, alloc: Global, host: &str, port: u16) -> io::Result<Vec<SocketAddr>>;
 }
 
-/// An exchange that takes any message.
+/// A network that takes any message.
 pub trait AnyMessage: Network {
     ghost takes_any: { (message : List ℕ) → Self.carries message };
 }

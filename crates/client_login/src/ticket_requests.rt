@@ -1,6 +1,6 @@
 //! What a client requests from a KDC (RFC 4120, section 5.4.1).
 ghost use Rattle.std.specs.Prelude.{◌≡◌, ◌<◌, ◌^◌, IfOk};
-ghost use Rattle.client_login.specs.Asking.{again_option, again_options, first_asked, from_of, further_asked};
+ghost use Rattle.client_login.specs.Asking.{renewal_option, renewal_options, first_asked, from_of, further_asked};
 ghost use Rattle.client_login.specs.Asking.{granting_service};
 ghost use Rattle.client_login.specs.Asking.{options_of, rtime_of, till_by, till_of, time_after, up_to_last, with_if, with_kept};
 ghost use Rattle.client_login.specs.Keys.{offered};
@@ -19,30 +19,30 @@ pub struct Login {
     pub client: Principal,
     /// A service of the client's realm, usually [`granting_service`].
     pub service: Name,
-    pub wishes: Wishes,
+    pub request: TicketRequest,
 }
 
 /// The properties that a client requests of its first ticket.
 #[derive(Clone, Copy)]
-pub struct Wishes {
+pub struct TicketRequest {
     /// The lifetime in seconds; absent: the longest that the KDC gives.
-    pub life: Option<u32>,
+    pub lifetime: Option<u32>,
     /// The seconds until it starts; absent: it starts at once. A ticket that starts later has to be validated then.
     pub start: Option<u32>,
     pub renewable: bool,
     /// How long a renewable ticket can be renewed, in seconds from its start; absent: the longest that the KDC gives.
-    pub renew_life: Option<u32>,
+    pub renew_lifetime: Option<u32>,
     pub forwardable: bool,
     pub proxiable: bool,
 }
 
-impl Wishes {
+impl TicketRequest {
     /// A ticket that starts at once, with the longest lifetime that the KDC gives and without options.
-    pub const PLAIN: Wishes = Wishes {
-        life: None,
+    pub const PLAIN: TicketRequest = TicketRequest {
+        lifetime: None,
         start: None,
         renewable: false,
-        renew_life: None,
+        renew_lifetime: None,
         forwardable: false,
         proxiable: false,
     };
@@ -50,7 +50,7 @@ impl Wishes {
 
 /// What to do with a ticket that the client has.
 #[derive(Clone, Copy)]
-pub enum Again {
+pub enum Renewal {
     Renew,
     Validate,
 }
@@ -75,15 +75,15 @@ pub(crate) fn first_asked(
 ) -> Result<Asked, AllocError>
     ensures { IfOk result (λ asked. asked ≡ first_asked login.now etypes at.sec nonce) }
 {
-    let wishes = &login.wishes;
+    let request = &login.request;
     Ok(Asked {
-        options: options(wishes),
+        options: options(request),
         client: login.client.name.copy(alloc)?,
         realm: login.client.realm.copy(alloc)?,
         service: login.service.copy(alloc)?,
-        from: from(wishes, at),
-        till: till(wishes, at),
-        rtime: rtime(wishes, at),
+        from: from(request, at),
+        till: till(request, at),
+        rtime: rtime(request, at),
         nonce,
         etypes,
     })
@@ -124,13 +124,13 @@ pub(crate) fn offered(alloc: Global) -> Result<Seq<Etype>, AllocError>
     Ok(etypes)
 }
 
-fn options(wishes: &Wishes) -> Flags
-    ensures { result ≡ options_of wishes.now }
+fn options(request: &TicketRequest) -> Flags
+    ensures { result ≡ options_of request.now }
 {
-    let options = with_if(Flags::from_bits(0), wishes.renewable, KdcOption::Renewable);
-    let options = with_if(options, wishes.forwardable, KdcOption::Forwardable);
-    let options = with_if(options, wishes.proxiable, KdcOption::Proxiable);
-    with_if(options, wishes.start.is_some(), KdcOption::Postdated)
+    let options = with_if(Flags::from_bits(0), request.renewable, KdcOption::Renewable);
+    let options = with_if(options, request.forwardable, KdcOption::Forwardable);
+    let options = with_if(options, request.proxiable, KdcOption::Proxiable);
+    with_if(options, request.start.is_some(), KdcOption::Postdated)
 }
 
 fn with_if(options: Flags, wanted: bool, option: KdcOption) -> Flags
@@ -145,22 +145,22 @@ fn with_if(options: Flags, wanted: bool, option: KdcOption) -> Flags
 
 /// Returns the options that renew or validate a ticket with these flags. If the ticket has the flag of an option, the
 /// option is requested again, because some KDCs clear the flag otherwise.
-pub(crate) fn again_options(again: Again, flags: Flags) -> Flags
-    ensures { result ≡ again_options again flags }
+pub(crate) fn renewal_options(renewal: Renewal, flags: Flags) -> Flags
+    ensures { result ≡ renewal_options renewal flags }
 {
-    let options = with_if(Flags::from_bits(0), true, again_option(again));
+    let options = with_if(Flags::from_bits(0), true, renewal_option(renewal));
     let options = with_kept(options, flags, KdcOption::Forwardable);
     let options = with_kept(options, flags, KdcOption::Proxiable);
     let options = with_kept(options, flags, KdcOption::AllowPostdate);
     with_kept(options, flags, KdcOption::Renewable)
 }
 
-fn again_option(again: Again) -> KdcOption
-    ensures { result ≡ again_option again }
+fn renewal_option(renewal: Renewal) -> KdcOption
+    ensures { result ≡ renewal_option renewal }
 {
-    match again {
-        Again::Renew => KdcOption::Renew,
-        Again::Validate => KdcOption::Validate,
+    match renewal {
+        Renewal::Renew => KdcOption::Renew,
+        Renewal::Validate => KdcOption::Validate,
     }
 }
 
@@ -189,28 +189,28 @@ fn up_to_last(second: i64) -> i64
     }
 }
 
-fn from(wishes: &Wishes, at: Moment) -> Option<KTime>
-    ensures { result ≡ from_of at.sec wishes.now }
+fn from(request: &TicketRequest, at: Moment) -> Option<KTime>
+    ensures { result ≡ from_of at.sec request.now }
 {
-    match wishes.start {
+    match request.start {
         Some(start) => Some(time_after(at, u64::from(start))),
         None => None,
     }
 }
 
 /// Returns the end to request.
-fn till(wishes: &Wishes, at: Moment) -> KTime
-    ensures { result ≡ till_of at.sec wishes.now }
+fn till(request: &TicketRequest, at: Moment) -> KTime
+    ensures { result ≡ till_of at.sec request.now }
 {
-    till_by(at, wishes.start.unwrap_or(0), wishes.life)
+    till_by(at, request.start.unwrap_or(0), request.lifetime)
 }
 
 /// Returns until when the ticket is to be renewable.
-fn rtime(wishes: &Wishes, at: Moment) -> Option<KTime>
-    ensures { result ≡ rtime_of at.sec wishes.now }
+fn rtime(request: &TicketRequest, at: Moment) -> Option<KTime>
+    ensures { result ≡ rtime_of at.sec request.now }
 {
-    if wishes.renewable {
-        Some(till_by(at, wishes.start.unwrap_or(0), wishes.renew_life))
+    if request.renewable {
+        Some(till_by(at, request.start.unwrap_or(0), request.renew_lifetime))
     } else {
         None
     }

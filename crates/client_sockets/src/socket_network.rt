@@ -29,7 +29,7 @@ const WHOLE_WAIT: u64 = 30;
 /// The greatest size of a datagram, in bytes.
 const LONGEST_DATAGRAM: usize = 65_535;
 
-/// An exchange over the sockets of a runtime. Each message has a socket of its own, which receives only from its peer. So
+/// A network over the sockets of a runtime. Each message has a socket of its own, which receives only from its peer. So
 /// a reply from elsewhere, or a late reply to an earlier message, is ignored.
 #[derive(Drop)]
 pub struct SocketNetwork<'a, R> {

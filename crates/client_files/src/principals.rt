@@ -1,0 +1,41 @@
+//! Principals that texts name.
+use crate::faults::{Cause, Fault, at};
+use cred_files::Principal;
+use krb_fields::{Name, component_from_text, component_to_text};
+use std::alloc::{AllocError, Global};
+
+/// Returns the name that a text spells, such as `host/www.example.com`.
+pub fn name_of(alloc: Global, text: &str) -> Result<Name, Fault> {
+    at(
+        alloc,
+        text,
+        Name::from_text(alloc, text).map_err(Cause::from),
+    )
+}
+
+/// Returns the principal with a name and a realm. A fault has the whole text.
+pub(crate) fn principal_of(
+    alloc: Global,
+    text: &str,
+    name: &str,
+    realm: &str,
+) -> Result<Principal, Fault> {
+    let realm = at(
+        alloc,
+        text,
+        component_from_text(alloc, realm).map_err(Cause::from),
+    )?;
+    let name = at(
+        alloc,
+        text,
+        Name::from_text(alloc, name).map_err(Cause::from),
+    )?;
+    Ok(Principal { realm, name })
+}
+
+/// Returns the text of a principal: `alice@EXAMPLE.COM`.
+pub fn principal_text(alloc: Global, principal: &Principal) -> Result<String, AllocError> {
+    let name = principal.name.to_text(alloc)?;
+    let realm = component_to_text(alloc, principal.realm.as_slice())?;
+    format!(in alloc; "{name}@{realm}")
+}

@@ -1,0 +1,50 @@
+//! `example_login NAME SERVICE KEYTAB`: an example of a program that lets somebody in by a password. It logs in with the
+//! password on the first line of standard input, checks with a keytab of this computer that the KDC is the realm's, and
+//! prints when the ticket of a service ends.
+#![tactic(auto)]
+
+use client_files::Fault;
+use client_sockets::Client;
+use cred_files::Credential;
+use std::process::ExitCode;
+use std::{env, io};
+
+/// The status if a login is refused, gets no reply, or is not verified.
+const REFUSED: u8 = 1;
+
+/// The status of a usage error.
+const USAGE: u8 = 2;
+
+fn main(rt: HostRuntime) -> io::Result<ExitCode> {
+    let args: Vec<String> = env::args(&rt)?.collect(rt.alloc())?;
+    let [_, name, service, keytab] = args.as_slice() else {
+        println!(rt; "usage: example_login NAME SERVICE KEYTAB")?;
+        return Ok(ExitCode::from(USAGE));
+    };
+    match get_ticket(&rt, name.as_str(), service.as_str(), keytab.as_str()) {
+        Ok(ticket) => {
+            println!(rt; "{}", ticket.times.end_time.seconds())?;
+            Ok(ExitCode::SUCCESS)
+        }
+        Err(fault) => {
+            println!(rt; "{fault}")?;
+            Ok(ExitCode::from(REFUSED))
+        }
+    }
+}
+
+/// Logs in and gets the ticket of a service. It verifies the login before that: the person who typed the password may also
+/// have answered in the KDC's place.
+fn get_ticket(
+    rt: &HostRuntime,
+    name: &str,
+    service: &str,
+    keytab: &str,
+) -> Result<Credential, Fault> {
+    let mut client = Client::open(rt, name)?;
+    let keytab = client.read_keytab(keytab)?;
+    let password = client.ask_password()?;
+    client.log_in(&password)?;
+    client.verify(&keytab)?;
+    client.ticket(service)
+}

@@ -1,0 +1,259 @@
+//! A host in memory.
+ghost use Rattle.std.specs.Prelude.{◌≡◌, ◌∷◌, [], IfOk, Some};
+ghost use Rattle.std.specs.Option.{option_copied};
+ghost use Rattle.kdc_hub.specs.Wire.{Records};
+ghost use Rattle.kdcd_run.specs.InMemory.{did_by, no_journals, seen_as};
+ghost use Rattle.kdcd_run.specs.Starting.{BeganJournal, Held, HostDid, ReadJournals, ReadRows, ReadSeed};
+
+use crate::files::FileFault;
+use crate::host::{Host, JournalBeginning, Journals, StartNews};
+use crate::memory_parts::{MemoryJournal, MemorySockets};
+use crate::record::Record;
+use journal::Found;
+use kdc_hub::Event;
+use kdc_serving::{Look, MemoryRows};
+use krb_elements::Octets;
+use krb_fields::Moment;
+use principals::Database;
+use std::alloc::{AllocError, Global};
+use std::collections::VecDeque;
+use std::io;
+use std::io::{Error, ErrorKind};
+use std::net::SocketAddr;
+
+/// A call of a host in memory that succeeded.
+#[derive(Drop)]
+pub enum HostCall {
+    ReadRows(Database),
+    ReadSeed {
+        path: Octets,
+        octets: Octets,
+    },
+    Drew([u8; 32]),
+    Held {
+        udp: Vec<SocketAddr>,
+        tcp: Vec<SocketAddr>,
+    },
+    ReadJournals {
+        path: Octets,
+        journals: Journals,
+    },
+    Showed(Moment),
+    BeganJournal {
+        path: Octets,
+        beginning: JournalBeginning,
+    },
+}
+
+/// The sockets of a host in memory can be held once.
+#[derive(Clone, Copy)]
+pub struct AlreadyHeld;
+
+/// What a host in memory gives.
+#[derive(Drop)]
+pub struct Given {
+    pub rows: Database,
+    pub seed: [u8; 32],
+    /// The moment that its clock shows.
+    pub at: Moment,
+    /// The events at its sockets.
+    pub coming: VecDeque<(Moment, Event)>,
+    /// The looks at its rows after the start.
+    pub looks: VecDeque<Look>,
+    /// After how many calls a call of its journal fails, if one is to fail.
+    pub keeps_before_fault: Option<u64>,
+}
+
+/// A host that gives what it was given, records its calls, and has no journal before its start. For tests.
+#[derive(Drop)]
+pub struct MemoryHost {
+    alloc: Global,
+    rows: Option<Database>,
+    seed: [u8; 32],
+    at: Moment,
+    coming: Option<VecDeque<(Moment, Event)>>,
+    looks: Option<VecDeque<Look>>,
+    keeps_before_fault: Option<u64>,
+    calls: Record<HostCall>,
+    /// What it announced last.
+    announced: Option<StartNews>,
+}
+
+/// The name of its boot.
+const BOOT: &[u8] = b"boot";
+
+impl MemoryHost {
+    pub fn new(alloc: Global, given: Given) -> MemoryHost
+        ensures { ⟦<MemoryHost as Host>⟧.recorded result ≡ Some [] }
+    {
+        let seed = given.seed;
+        MemoryHost {
+            alloc,
+            rows: Some(given.rows),
+            seed,
+            at: given.at,
+            coming: Some(given.coming),
+            looks: Some(given.looks),
+            keeps_before_fault: given.keeps_before_fault,
+            calls: Record::new(alloc),
+            announced: None,
+        }
+    }
+
+    /// Returns its calls that succeeded, in order, unless memory ran out for one.
+    pub fn calls(&self) -> Option<&[HostCall]>
+        ensures { seen_as did_by (option_copied result) ≡ ⟦<MemoryHost as Host>⟧.recorded self.now }
+    {
+        self.calls.entries()
+    }
+
+    /// Returns what it announced last.
+    pub fn announced(&self) -> Option<StartNews> {
+        self.announced
+    }
+
+    /// Records a call.
+    fn note(&mut self, call: Result<HostCall, AllocError>)
+        ensures { (did : HostDid) → IfOk call (λ call. did_by call ≡ did)
+            → Records (seen_as did_by self.old.calls) (did ∷ []) (seen_as did_by self.new.calls) }
+    {
+        self.calls.keep(call);
+    }
+}
+
+impl Host for MemoryHost {
+    type Sockets = MemorySockets;
+
+    type SocketFault = AlreadyHeld;
+
+    type Journal = MemoryJournal;
+
+    type Rows = MemoryRows;
+
+    ghost recorded = { λ h. seen_as did_by h.calls };
+
+    fn read_rows(&mut self, alloc: Global) -> Result<Database, FileFault> {
+        let Some(rows) = self.rows.take() else {
+            return Err(FileFault::Failed(Error::from(ErrorKind::NotFound)));
+        };
+        self.note(rows_read(alloc, &rows));
+        Ok(rows)
+    }
+
+    fn read_seed(&mut self, alloc: Global, path: &str) -> Result<Vec<u8>, FileFault> {
+        let octets = Vec::from_slice(alloc, self.seed.as_slice())?;
+        self.note(seed_read(alloc, path, &octets));
+        Ok(octets)
+    }
+
+    fn draw(&mut self) -> io::Result<[u8; 32]> {
+        let seed = self.seed;
+        self.note(Ok(HostCall::Drew(seed)));
+        Ok(seed)
+    }
+
+    fn hold(
+        &mut self,
+        alloc: Global,
+        udp: &[SocketAddr],
+        tcp: &[SocketAddr],
+    ) -> Result<MemorySockets, AlreadyHeld> {
+        let Some(coming) = self.coming.take() else {
+            return Err(AlreadyHeld);
+        };
+        self.note(held(alloc, udp, tcp));
+        Ok(MemorySockets::new(alloc, coming))
+    }
+
+    fn read_journals(&mut self, alloc: Global, path: &str) -> Result<Journals, FileFault> {
+        let journals = no_journals(alloc)?;
+        self.note(journals_read(alloc, path));
+        Ok(journals)
+    }
+
+    fn begin_journal(
+        &mut self,
+        alloc: Global,
+        path: &str,
+        beginning: JournalBeginning,
+    ) -> io::Result<MemoryJournal> {
+        let keeps_before_fault = self.keeps_before_fault;
+        self.note(journal_begun(alloc, path, beginning));
+        Ok(MemoryJournal::new(alloc, keeps_before_fault))
+    }
+
+    fn no_journal(&mut self) -> MemoryJournal {
+        MemoryJournal::new(self.alloc, self.keeps_before_fault)
+    }
+
+    fn announce(&mut self, news: StartNews) {
+        self.announced = Some(news);
+    }
+
+    fn take_rows(&mut self) -> Option<MemoryRows> {
+        let looks = self.looks.take()?;
+        Some(MemoryRows::new(self.alloc, looks))
+    }
+
+    fn now(&mut self) -> io::Result<Moment> {
+        let at = self.at;
+        self.note(Ok(HostCall::Showed(at)));
+        Ok(at)
+    }
+}
+
+fn rows_read(alloc: Global, rows: &Database) -> Result<HostCall, AllocError>
+    ensures { IfOk result (λ call. did_by call ≡ ReadRows rows.now) }
+{
+    Ok(HostCall::ReadRows(rows.copy(alloc)?))
+}
+
+fn seed_read(alloc: Global, path: &str, octets: &[u8]) -> Result<HostCall, AllocError>
+    ensures { IfOk result (λ call. did_by call ≡ ReadSeed path.now octets.now) }
+{
+    Ok(HostCall::ReadSeed {
+        path: Octets::from_slice(alloc, path.as_bytes())?,
+        octets: Octets::from_slice(alloc, octets)?,
+    })
+}
+
+fn held(alloc: Global, udp: &[SocketAddr], tcp: &[SocketAddr]) -> Result<HostCall, AllocError>
+    ensures { IfOk result (λ call. did_by call ≡ Held udp.now tcp.now) }
+{
+    Ok(HostCall::Held {
+        udp: Vec::from_slice(alloc, udp)?,
+        tcp: Vec::from_slice(alloc, tcp)?,
+    })
+}
+
+fn no_journals(alloc: Global) -> Result<Journals, AllocError>
+    ensures { IfOk result (λ journals. journals ≡ no_journals BOOT.now) }
+{
+    Ok(Journals {
+        boot: Octets::from_slice(alloc, BOOT)?,
+        older: Found::Nothing,
+        newer: Found::Nothing,
+    })
+}
+
+fn journals_read(alloc: Global, path: &str) -> Result<HostCall, AllocError>
+    ensures { IfOk result (λ call. did_by call ≡ ReadJournals path.now (no_journals BOOT.now)) }
+{
+    Ok(HostCall::ReadJournals {
+        path: Octets::from_slice(alloc, path.as_bytes())?,
+        journals: no_journals(alloc)?,
+    })
+}
+
+fn journal_begun(
+    alloc: Global,
+    path: &str,
+    beginning: JournalBeginning,
+) -> Result<HostCall, AllocError>
+    ensures { IfOk result (λ call. did_by call ≡ BeganJournal path.now beginning) }
+{
+    Ok(HostCall::BeganJournal {
+        path: Octets::from_slice(alloc, path.as_bytes())?,
+        beginning,
+    })
+}

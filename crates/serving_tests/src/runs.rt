@@ -1,0 +1,324 @@
+//! A server over a host in memory: what it asks of its host, and what its sockets, its tally, its journal and its log
+//! record. Its journal fails once.
+use journal::{Doubt, Start};
+use kdc_core::{Account, Bears, TgsOutcome};
+use kdc_hub::{Action, Did, Event, Peer};
+use kdc_serving::{Look, MemoryRows, Totals};
+use kdcd_run::{
+    Given, HandedOver, HostCall, JournalBeginning, LogFormat, MemoryEntry, MemoryHost,
+    MemoryJournal, MemoryLog, MemorySockets, MemoryTally, Outlets, Ran, ServeOptions, database_of,
+    run_server,
+};
+use krb_elements::Octets;
+use krb_fields::Moment;
+use principal_rows::Limits;
+use principals::Database;
+use request_log::Transport;
+use std::alloc::Global;
+use std::collections::VecDeque;
+use std::net::{Ipv4Addr, SocketAddr};
+use std::process::Abort;
+use std::test::Fail;
+
+/// The first second of 2024.
+const MIDNIGHT: Moment = Moment {
+    sec: 1_704_067_200,
+    usec: 0,
+};
+
+/// A database with `h`, `krbtgt/A.B` and `u`. `ROW` is for `ROW`.
+const ROWS: &str =
+    "{\"principals\":{\"h\":ROW,\"krbtgt/A.B\":ROW,\"u\":ROW},\"realm\":\"A.B\",\"version\":1}";
+
+/// A row whose key repeats the byte 1.
+const ROW: &str = "{\"disabled\":false,\"expires\":null,\"forwardable\":true,\
+    \"greatest_life\":4294967295,\"greatest_renewable\":4294967295,\
+    \"keys\":[{\"keys\":[{\"etype\":18,\
+    \"key\":\"0101010101010101010101010101010101010101010101010101010101010101\"}],\"version\":1}],\
+    \"ok_as_delegate\":false,\"password_expires\":null,\"postdate\":false,\"preauth\":true,\
+    \"proxiable\":true}";
+
+/// An AS-REQ of `x` for `krbtgt/A.B`.
+const BASIC_OF_X: &str = "\
+    6a693067a103020105a20302010aa45b3059a00703050000000000a10e300ca003020101a10530031b0178a2051b03412e42\
+    a3183016a003020102a10f300d1b066b72627467741b03412e42a511180f31393730303130313030303030305aa703020101\
+    a8053003020112";
+
+/// The KRB-ERROR with code 6 to it.
+const CLIENT_UNKNOWN: &str = "\
+    7e4a3048a003020105a10302011ea411180f32303234303130313030303030305aa503020100a603020106a9051b03412e42\
+    aa183016a003020102a10f300d1b066b72627467741b03412e42";
+
+/// A TGS-REQ of `u` for `h`, whose authenticator is of that moment, by `tools/kerberos.py`.
+const BUYS: &str = "\
+    6c820202308201fea103020105a20302010ca38201a4308201a03082019ca103020101a28201930482018f6e82018b308201\
+    87a003020105a10302010ea20703050000000000a381f76181f43081f1a003020105a1051b03412e42a2183016a003020102\
+    a10f300d1b066b72627467741b03412e42a381c83081c5a003020112a103020101a281b80481b5db6461cdc1e7d7bda0689a\
+    6c14c37a08daf7e42a3bbf9cd6117862082689cd21e6438d8dd4e9d62b25ac3bdbf63fc911218badaf06a23a630379527b92\
+    f49ee4adb158068f95dca13f0cb70f5d4850784f61488da2cf0251bb5d8aaa9ab07448d4f715acf1ba47f1a5b6ec45b4e048\
+    4082c9055f327075fea99477349dcee243e111807daf42be2e77d1ca11f9c9e5dd7d1eca3890b07e58e8a67b34d6724fbce8\
+    20c024b30307c7c5d9cfe4b6073331db832636a9a4783076a003020112a26f046dc4df3067a1c3a05bd27020a7327f86b196\
+    1b5a250b34ebfbf90c1b473eb9c0e5fb9a85af9558b2d0dc8068cf5d9b5d2ff6fad15880d57c9a9b4c7d60070434eed89a0a\
+    1d663917037ae71ef2ad8c8ced3f975fb4313bef74a82047ebb303ac929a7152f2e6b8c3855945f9bc8ba44a3048a0070305\
+    0000000000a2051b03412e42a30e300ca003020102a10530031b0168a511180f31393730303130313030303030305aa70302\
+    0101a80e300c020112020111020114020113";
+
+/// A login of an unknown client in a datagram. Then a TGS-REQ on a connection, whose reply the journal can't keep; and the
+/// same in a datagram. Then nothing comes.
+fn coming(alloc: Global) -> Result<VecDeque<(Moment, Event)>, Fail> {
+    let mut coming = VecDeque::new(alloc);
+    push(&mut coming, datagram(octets(alloc, BASIC_OF_X)?, 1001))?;
+    push(&mut coming, Event::Opened { conn: 1 })?;
+    push(&mut coming, piece(alloc, &octets(alloc, BUYS)?)?)?;
+    push(&mut coming, datagram(octets(alloc, BUYS)?, 1002))?;
+    Ok(coming)
+}
+
+/// What was polled and tried: `p` for an event, `w` if none came, `a` for an act, `f` for one that failed.
+const TRIED: &[u8] = b"pappfpawwww";
+
+/// The same without what failed.
+const SUCCEEDED: &[u8] = b"papppawwww";
+
+fn octets(alloc: Global, digits: &str) -> Result<Octets, Fail> {
+    Ok(Octets::new(hex::decode(alloc, digits)?))
+}
+
+fn push(coming: &mut VecDeque<(Moment, Event)>, event: Event) -> Result<(), Fail> {
+    Ok(coming.push_back((MIDNIGHT, event))?)
+}
+
+fn datagram(request: Octets, port: u16) -> Event {
+    let peer = Peer {
+        address: SocketAddr::from((Ipv4Addr::LOCALHOST, port)),
+        socket: 0,
+    };
+    Event::Datagram { peer, request }
+}
+
+/// Returns a request after its length, on a connection.
+fn piece(alloc: Global, request: &Octets) -> Result<Event, Fail> {
+    let mut piece = Vec::new(alloc);
+    piece.extend_from_slice(&(request.as_slice().len() as u32).to_be_bytes())?;
+    piece.extend_from_slice(request.as_slice())?;
+    Ok(Event::Bytes {
+        conn: 1,
+        piece: Octets::new(piece),
+    })
+}
+
+fn rows(alloc: Global) -> Result<Database, Fail> {
+    let text = ROWS.replace(alloc, "ROW", ROW)?;
+    match database_of(alloc, text.as_bytes()) {
+        Ok(rows) => Ok(rows),
+        Err(_) => Err(Fail::from("a database")),
+    }
+}
+
+fn host(alloc: Global) -> Result<MemoryHost, Fail> {
+    let coming = coming(alloc)?;
+    Ok(MemoryHost::new(
+        alloc,
+        Given {
+            rows: rows(alloc)?,
+            seed: [7; 32],
+            at: MIDNIGHT,
+            coming,
+            looks: VecDeque::new(alloc),
+            keeps_before_fault: Some(1),
+        },
+    ))
+}
+
+fn address() -> SocketAddr {
+    SocketAddr::from((Ipv4Addr::LOCALHOST, 88))
+}
+
+fn options(alloc: Global) -> Result<ServeOptions<'static>, Fail> {
+    Ok(ServeOptions {
+        db: "database",
+        udp: Vec::from_slice(alloc, &[address()])?,
+        tcp: Vec::from_slice(alloc, &[address()])?,
+        rounds: Some(8),
+        seed: None,
+        limits: Limits::new(64, 0, 0, 36_000, 0).ok_or("limits")?,
+        is_first: true,
+        is_quiet: false,
+        journal: Some("journal"),
+        is_fixed: false,
+        log: Some(LogFormat::Text),
+    })
+}
+
+/// A server that has run.
+type Finished = Ran<MemorySockets, MemoryJournal, MemoryLog, Vec<u8>, MemoryTally, MemoryRows>;
+
+fn run(alloc: Global, host: &mut MemoryHost) -> Result<Finished, Fail> {
+    let outlets = Outlets {
+        log: MemoryLog::new(alloc),
+        errors: Vec::new(alloc),
+        tally: MemoryTally::new(alloc),
+    };
+    match run_server(alloc, host, &options(alloc)?, outlets) {
+        Ok(ran) => Ok(ran),
+        Err(_) => Err(Fail::from("a start")),
+    }
+}
+
+fn letter(did: &Did) -> u8 {
+    match did {
+        Did::Polled { .. } => b'p',
+        Did::Waited { .. } => b'w',
+        Did::Missed => b'm',
+        Did::Acted { .. } => b'a',
+        Did::Failed { .. } => b'f',
+    }
+}
+
+/// Checks whether a record is whole, and its entries have these letters.
+fn are(record: Option<&[Did]>, letters: &[u8]) -> bool {
+    match record {
+        Some(did) => did.iter().map(letter).eq(letters.iter().copied()),
+        None => false,
+    }
+}
+
+/// Returns the message of the act at a place of a record.
+fn message(record: Option<&[Did]>, place: usize) -> &[u8] {
+    match record.and_then(|did| did.get(place)) {
+        Some(
+            Did::Acted {
+                action: Action::SendTo { reply, .. },
+            }
+            | Did::Failed {
+                action: Action::Write { reply, .. },
+            },
+        ) => reply.message.as_slice(),
+        _ => &[],
+    }
+}
+
+/// Checks whether the login is refused, and the ticket that was withheld is sent at last.
+fn are_replies(alloc: Global, tried: Option<&[Did]>) -> Result<bool, Fail> {
+    let refused = octets(alloc, CLIENT_UNKNOWN)?;
+    let (withheld, sent) = (message(tried, 4), message(tried, 6));
+    Ok(message(tried, 1) == refused.as_slice() && sent.first() == Some(&0x6d) && withheld == sent)
+}
+
+/// Checks whether the journal was handed the authenticator of the TGS-REQ, once.
+fn is_handed(record: Option<&[HandedOver]>) -> bool {
+    match record {
+        Some([only]) => {
+            only.at == MIDNIGHT && only.seen.ctime == MIDNIGHT.sec && only.seen.cusec == 0
+        }
+        _ => false,
+    }
+}
+
+fn is_logged(entry: &MemoryEntry, transport: Transport, is_sent: bool) -> bool {
+    entry.at == MIDNIGHT && entry.asker.transport == transport && entry.is_sent == is_sent
+}
+
+fn are_logged(record: Option<&[MemoryEntry]>) -> bool {
+    match record {
+        Some([login, withheld, sent]) => {
+            is_logged(login, Transport::Udp, true)
+                && is_logged(withheld, Transport::Tcp, false)
+                && is_logged(sent, Transport::Udp, true)
+                && is_resent(&sent.account)
+        }
+        _ => false,
+    }
+}
+
+/// Checks whether a ticket was sent again.
+fn is_resent(account: &Option<Account>) -> bool {
+    match account {
+        Some(account) => outcome_of(account) == Some(TgsOutcome::Resent(Bears::Ticket)),
+        None => false,
+    }
+}
+
+fn outcome_of(account: &Account) -> Option<TgsOutcome> {
+    match account {
+        Account::Tgs { outcome, .. } => Some(*outcome),
+        Account::NoRequest | Account::As { .. } => None,
+    }
+}
+
+fn is_beginning(beginning: &JournalBeginning) -> bool {
+    beginning.realm.as_slice() == b"A.B".as_slice()
+        && beginning.at == MIDNIGHT
+        && matches!(
+            &beginning.start,
+            Start::Refuses {
+                doubt: Doubt::Absent,
+            }
+        )
+}
+
+/// Checks whether the host was asked this, in this order.
+fn are_calls(record: Option<&[HostCall]>) -> bool {
+    match record {
+        Some(
+            [
+                HostCall::ReadRows(rows),
+                HostCall::Drew(seed),
+                HostCall::Held { udp, tcp },
+                HostCall::ReadJournals { path, .. },
+                HostCall::Showed(at),
+                HostCall::BeganJournal { beginning, .. },
+            ],
+        ) => {
+            rows.len() == 3
+                && *seed == [7; 32]
+                && udp.as_slice() == [address()].as_slice()
+                && tcp.as_slice() == [address()].as_slice()
+                && path.as_slice() == b"journal".as_slice()
+                && *at == MIDNIGHT
+                && is_beginning(beginning)
+        }
+        _ => false,
+    }
+}
+
+fn is_looked(rows: &Option<MemoryRows>) -> bool {
+    match rows {
+        Some(rows) => matches!(rows.looks(), Some([Look::Unchanged])),
+        None => false,
+    }
+}
+
+fn is_right(alloc: Global, ran: &Finished) -> Result<bool, Fail> {
+    let wire = &ran.server.wire;
+    let (sockets, tried) = (wire.sockets(), wire.tally().did());
+    let wanted = Totals {
+        events: 4,
+        faults: 1,
+        refused: 0,
+    };
+    Ok(
+        ran.totals == wanted
+            && are(tried, TRIED)
+            && are(sockets.did(), SUCCEEDED)
+            && sockets.ended() == Some([1].as_slice())
+            && is_handed(wire.journal().handed())
+            && are_logged(wire.log().entries())
+            && is_looked(&ran.rows)
+            && are_replies(alloc, tried)?,
+    )
+}
+
+fn is_run(alloc: Global) -> Result<(bool, bool), Fail> {
+    let mut host = host(alloc)?;
+    let ran = run(alloc, &mut host)?;
+    Ok((is_right(alloc, &ran)?, are_calls(host.calls())))
+}
+
+#[test]
+fn what_a_server_did_is_in_its_records(rt: HostRuntime) -> Result<(), Fail> {
+    let (is_right, are_calls) = is_run(rt.alloc())?;
+    assert!(rt; is_right, "the records of the server");
+    assert!(rt; are_calls, "the record of its host");
+    Ok(())
+}
