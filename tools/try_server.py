@@ -575,6 +575,17 @@ def try_floor(trial, buyer, second, floor):
     server.end()
 
 
+def try_behind(trial, buyer):
+    """A start whose clock is two hours behind its journal, and one after the clock was put right: what was used stays used."""
+    copied(trial, T - 7_000)
+    trial.server("--journal copy/journal").end()
+    trial.show(T + 310)
+    server = trial.server("--journal copy/journal")
+    found = [buyer.buy(server, T + each) for each in (302, 303)]
+    trial.same("a journal outlives a clock that was two hours behind", found, ["37", "ticket"])
+    server.end()
+
+
 def sells(trial, buyer, begins, seconds):
     """Starts a server in this second, and buys a ticket in each of these. Returns the buyer, the answers, and what is said of the journal."""
     trial.show(T + begins)
@@ -601,7 +612,8 @@ def try_journals(trial):
     buyer, found, said = sells(trial, None, 0, (300, 301, 302))
     trial.same("a server sells tickets from its floor on", (found, said), (["37", "ticket", "ticket"], [ABSENT]))
     trial.same("a start in the last second of the journal", resumed(trial, T + 302), "resumed with 2 authenticators")
-    trial.same("a start a second before that", resumed(trial, T + 301), "not resumed: the clock is behind it")
+    trial.same("a start a second before that", resumed(trial, T + 301), "resumed with 2 authenticators, with a clock that is behind it")
+    try_behind(trial, buyer)
     try_floor(trial, buyer, T + 302, T + 301)
     for mode, wanted in ((0o640, "resumed with 2 authenticators"), (0o660, DAMAGED), (0o602, DAMAGED), (0o600, "resumed with 2 authenticators")):
         (run / "journal").chmod(mode)

@@ -11,7 +11,7 @@ use Rattle.journal.specs.Texts.{HasElement, HaveElements, UnlessMemory, chained,
 use Rattle.journal.specs.declared.fault.JournalFault.{JournalFault}
 use Rattle.journal.specs.declared.fault.JournalFault.TheVariants.{Broken, Memory}
 
-abbrev w : Entry → List ℕ
+abbrev pub w : Entry → List ℕ
 w e = written entry e
 
 pub chained-one : (check : List ℕ) (es : List Entry) (e : Entry) → chained check (es ++ e ∷ []) ≡ chained check es ++ checked (last_check check es) (w e)
@@ -26,20 +26,20 @@ unfolding last_check
 last-one check [] e = refl
 last-one check (x ∷ es) e = last-one (check_of check (w x)) es e
 
-one_first : (check : List ℕ) (e : Entry) (es : List Entry) → chained check (e ∷ es) ≡ checked check (w e) ++ chained (check_of check (w e)) es
+pub one_first : (check : List ℕ) (e : Entry) (es : List Entry) → chained check (e ∷ es) ≡ checked check (w e) ++ chained (check_of check (w e)) es
 unfolding chained
 one_first check e es = refl
 
-none_chained : (check : List ℕ) → chained check [] ≡ []
+pub none_chained : (check : List ℕ) → chained check [] ≡ []
 unfolding chained
 none_chained check = refl
 
-have_first : (e : Entry) (es : List Entry) → HaveElements (e ∷ es) → HasElement e × HaveElements es
+pub have_first : (e : Entry) (es : List Entry) → HaveElements (e ∷ es) → HasElement e × HaveElements es
 unfolding HaveElements
 have_first e es has = has
 
 -- an element with its check is some octets
-checked_some : (check element rest : List ℕ) → checked check element ++ rest ≢ []
+pub checked_some : (check element rest : List ℕ) → checked check element ++ rest ≢ []
 checked_some check element rest none =
     let some = tlv_some 4 element in
     let first = length-append (tlv 4 element) (tlv 4 (check_of check element)) in
@@ -47,19 +47,29 @@ checked_some check element rest none =
     let zero : length (checked check element ++ rest) ≡ 0 = ap length none in
     omega (arith, some, first, all, zero)
 
+pub have_none : HaveElements []
+unfolding HaveElements
+have_none = tt
+
+pub have_one_more : (es : List Entry) (e : Entry) → HaveElements es → HasElement e → HaveElements (es ++ e ∷ [])
+unfolding HaveElements
+have_one_more [] e all one = (one, tt)
+have_one_more (x ∷ es) e all one = (all.0, have_one_more es e all.1 one)
+
 pub record IsRead (start before : List ℕ) (es : List Entry) (rest check : List ℕ) : Type 0 where
   pub found : start ≡ chained before es ++ rest
   pub last : check ≡ last_check before es
+  pub have : HaveElements es
   -- entries that the text is begin with these
   pub only : (all : List Entry) → HaveElements all → start ≡ chained before all
       → (others : List Entry) × (all ≡ es ++ others) × HaveElements others × (rest ≡ chained check others)
 
 pub begins : (start before : List ℕ) → IsRead start before [] start before
 unfolding chained last_check
-begins start before = record { found = refl; last = refl; only = λ all has is. (all, refl, has, is) }
+begins start before = record { found = refl; last = refl; have = have_none; only = λ all has is. (all, refl, has, is) }
 
 module _ (start before : List ℕ) (es : List Entry) (rest check : List ℕ) (a : IsRead start before es rest check) where
-  module _ (e : Entry) (left next : List ℕ) (found : rest ≡ checked check (w e) ++ left) (next_is : next ≡ check_of check (w e))
+  module _ (e : Entry) (left next : List ℕ) (has_e : HasElement e) (found : rest ≡ checked check (w e) ++ left) (next_is : next ≡ check_of check (w e))
       (one : (x : Entry) (r : List ℕ) → HasElement x → rest ≡ checked check (w x) ++ r → (e ≡ x) × (left ≡ r)) where
     goes_only : (all others : List Entry) → all ≡ es ++ others → HaveElements others → rest ≡ chained check others
         → (more : List Entry) × (all ≡ (es ++ e ∷ []) ++ more) × HaveElements more × (left ≡ chained next more)
@@ -79,6 +89,7 @@ module _ (start before : List ℕ) (es : List Entry) (rest check : List ℕ) (a 
           ∙ sym (append_assoc (chained before es) (checked (last_check before es) (w e)) left)
           ∙ ap (λ l. l ++ left) (sym (chained-one before es e));
       last = next_is ∙ ap (λ c. check_of c (w e)) a.last ∙ sym (last-one before es e);
+      have = have_one_more es e a.have has_e;
       only = λ all has is. let (others, all_is, has_others, rest_is) = a.only all has is in goes_only all others all_is has_others rest_is;
     }
 
@@ -129,3 +140,7 @@ pub unless_fault : {X Y : Type 0} (fault : JournalFault) (P : X → Type 0) (Q :
     → UnlessMemory {X = Y} (Err fault) Q
 unless_fault Broken P Q none = none
 unless_fault Memory P Q none = tt
+
+pub not_broken : {X : Type 0} (fault : JournalFault) (P : X → Type 0) → fault ≡ Broken → UnlessMemory {X = X} (Err fault) P → ⊥
+not_broken Broken P is none = none
+not_broken Memory P is none = absurd cc

@@ -1,5 +1,10 @@
 mod Chains
+mod Fronts
 mod Spellings
 mod Lengths
 pub mod Held
+mod Worlds
+mod Keeps
+mod Recent
+mod Starts
 mod Heads

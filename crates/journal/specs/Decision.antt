@@ -1,16 +1,18 @@
 -- What a start makes of the journals that it finds.
-use Rattle.std.specs.Prelude.{ℤ, pos, ◌+ℤ◌, ◌-ℤ◌, Bool, false, not, ◌&&◌, ◌||◌, nat_eq, int_lt, if◌then◌else◌}
+use Rattle.std.specs.Prelude.{ℕ, ℤ, pos, neg_ℤ, ◌+ℤ◌, ◌-ℤ◌, Bool, false, not, ◌&&◌, ◌||◌, nat_eq, int_lt, int_le, if◌then◌else◌}
 use Rattle.std.specs.Prelude.{List, [], ◌∷◌, ◌++◌, map, Option, Some, None}
 use Rattle.std.specs.Int.{int_max}
-use Rattle.std.specs.List.{list_any}
+use Rattle.std.specs.List.{filter}
 use Rattle.std.specs.Cmp.Lexicographic.{pointwise}
 use Rattle.krb_fields.specs.Skew.{skew}
 use Rattle.refusals.specs.Refusals.{first_holding}
+use Rattle.replay.specs.Opening.{opening_floor}
+use Rattle.replay.specs.declared.opening.Opening.TheVariants.{Restart}
 use Rattle.replay.specs.declared.seen.Resumption.{Resumption}
 use Rattle.replay.specs.declared.seen.Seen.{Seen}
 use Rattle.journal.specs.Forms.{Entry}
 use Rattle.journal.specs.declared.decision.Doubt.{Doubt}
-use Rattle.journal.specs.declared.decision.Doubt.TheVariants.{Absent, Damaged, OtherRealm, OtherBoot, Later, Unlinked}
+use Rattle.journal.specs.declared.decision.Doubt.TheVariants.{Absent, Damaged, OtherRealm, OtherBoot, Unlinked}
 use Rattle.journal.specs.declared.decision.Found.{Found}
 use Rattle.journal.specs.declared.decision.Found.TheVariants.{Nothing, Broken, Whole}
 use Rattle.journal.specs.declared.decision.Place as places
@@ -25,9 +27,18 @@ Place = places.Place
 abbrev pub came : Entry → ℤ
 came e = e.ctime +ℤ e.age
 
--- whether one of these requests came after this second
-abbrev pub any_later : ℤ → List Entry → Bool
-any_later second es = list_any (λ e. int_lt second (came e)) es
+-- the first second that a time can have
+abbrev pub first_second : ℤ
+first_second = neg_ℤ (pos 62_167_219_200)
+
+-- the latest of a second and of those in which these requests came
+abbrev pub latest_of : ℤ → List Entry → ℤ
+latest_of at [] = at
+latest_of at (e ∷ es) = latest_of (int_max at (came e)) es
+
+-- those whose times are not more than the skew before this second
+abbrev pub recent : ℤ → List Entry → List Entry
+recent latest es = filter (λ e. int_le (latest -ℤ pos skew) e.ctime) es
 
 -- a second above a time and not below another second
 abbrev pub above : ℤ → ℤ → ℤ
@@ -46,24 +57,36 @@ is_other_realm place j = not (pointwise nat_eq j.header.realm place.realm.now)
 abbrev pub is_other_boot : Place → Journal → Bool
 is_other_boot place j = not (pointwise nat_eq j.header.boot place.boot.now)
 
--- it was begun, or has a request, after the start
+-- it was begun, or a request of it came, after the start
 abbrev pub is_later : Place → Journal → Bool
-is_later place j = int_lt place.at.sec j.header.at || any_later place.at.sec j.entries
+is_later place j = int_lt place.at.sec j.latest
 
 -- nothing goes before it
 abbrev pub is_first : Journal → Bool
 is_first j = pointwise nat_eq j.header.link []
 
--- what goes before it is there, whole, of the same realm and boot, and no later
-abbrev pub links_to : Place → Journal → Found → Bool
-links_to place j Nothing = false
-links_to place j Broken = false
-links_to place j (Whole before) =
-    pointwise nat_eq before.check j.header.link
-    && not (is_other_realm place before || is_other_boot place before || is_later place before)
+-- its floor is above all that another one holds
+abbrev pub is_above : Journal → Journal → Bool
+is_above j before = int_le before.high j.header.floor
+
+-- it goes on behind another one
+abbrev pub is_behind : Journal → Journal → Bool
+is_behind j before = pointwise nat_eq before.check j.header.link && is_above j before
+
+-- nothing goes before it, or what it goes on behind is there, whole
+abbrev pub is_linked : Journal → Found → Bool
+is_linked j Nothing = is_first j
+is_linked j Broken = is_first j
+is_linked j (Whole before) = is_first j || is_behind j before
+
+-- of what it goes on behind, the realm or the boot is another one
+abbrev pub is_foreign : Place → Journal → Found → Bool
+is_foreign place j Nothing = false
+is_foreign place j Broken = false
+is_foreign place j (Whole before) = not (is_first j) && (is_other_realm place before || is_other_boot place before)
 
 abbrev pub is_unlinked : Place → Found → Journal → Bool
-is_unlinked place older j = not (is_first j || links_to place j older)
+is_unlinked place older j = not (is_linked j older) || is_foreign place j older
 
 -- the first that holds is why the start can't resume
 abbrev pub doubt_of : Place → Found → Journal → Option Doubt
@@ -71,9 +94,14 @@ doubt_of place older j =
     first_holding
     ((is_other_realm place j, OtherRealm)
     ∷ (is_other_boot place j, OtherBoot)
-    ∷ (is_later place j, Later)
     ∷ (is_unlinked place older j, Unlinked)
     ∷ [])
+
+-- the clock is behind the journal, or behind what that one goes on behind
+abbrev pub is_early : Place → Journal → Found → Bool
+is_early place j Nothing = is_later place j
+is_early place j Broken = is_later place j
+is_early place j (Whole before) = is_later place j || (not (is_first j) && is_later place before)
 
 -- ---- what it resumes with
 
@@ -91,16 +119,32 @@ entries_behind j Nothing = j.entries
 entries_behind j Broken = j.entries
 entries_behind j (Whole before) = if is_first j then j.entries else before.entries ++ j.entries
 
--- What is older than the skew before the start is refused by its time. Nothing else is.
+-- the least floor that is not below another one and above all that a journal holds, and the one before it
+abbrev pub floor_on : ℤ → Journal → ℤ
+floor_on floor j = int_max floor j.high
+
+-- What is older than the skew before the start is refused by its time, and nothing else is. If the clock is behind the
+-- journal, everything is refused that may have come before by either: the floor is above all that the journal holds, and
+-- not below that of a start without one.
+abbrev pub resumed_floor : Place → Journal → Found → ℤ
+resumed_floor place j older =
+    if is_early place j older
+    then floor_on (opening_floor (Restart place.at)) j
+    else int_max (floor_behind j older) (place.at.sec -ℤ pos skew)
+
 abbrev pub resumption_of : Place → Found → Journal → Resumption
 resumption_of place older j = record {
-  floor = int_max (floor_behind j older) (place.at.sec -ℤ pos skew);
+  floor = resumed_floor place j older;
   seen = map seen_of (entries_behind j older);
 }
 
+-- the check behind which the journal goes on; if the clock is behind it, another file is begun
+abbrev pub goes_on_behind : Place → Found → Journal → Option (List ℕ)
+goes_on_behind place older j = if is_early place j older then None else Some j.check
+
 abbrev pub start_by : Place → Found → Journal → Option Doubt → Start
 start_by place older j (Some doubt) = Refuses doubt
-start_by place older j None = Resumes (resumption_of place older j) j.check
+start_by place older j None = Resumes (resumption_of place older j) (goes_on_behind place older j)
 
 abbrev pub start_of : Place → Found → Found → Start
 start_of place older Nothing = Refuses Absent

@@ -1,32 +1,34 @@
 -- What the files of a journal hold of the authenticators that a server has seen, and why a later start may resume with
 -- what it finds in them.
-use Rattle.std.specs.Prelude.{◌≡◌, ◌⊎◌, ℕ, ℤ, pos, ◌-ℤ◌, ◌≤ℤ◌, ◌<ℤ◌, ⊤, false, List, [], ◌∷◌, ◌++◌, map}
-use Rattle.std.specs.Prelude.{All, Contains}
+use Rattle.std.specs.Prelude.{◌≡◌, ◌⊎◌, ℕ, ℤ, ◌≤ℤ◌, ◌<ℤ◌, ⊤, true, List, [], ◌∷◌, ◌++◌, map, Option, Some, None}
+use Rattle.std.specs.Prelude.{All, Bool, Contains, IfSome, is_some}
 use Rattle.std.specs.Int.{int_max}
 use Rattle.krb_fields.specs.Name.{Components}
-use Rattle.krb_fields.specs.Skew.{skew}
 use Rattle.krb_fields.specs.declared.moment.Moment.{Moment}
 use Rattle.replay.specs.Resumed.{Holds, resumed_cache}
 use Rattle.replay.specs.declared.keep.Kept.{Kept}
 use Rattle.replay.specs.declared.seen.Resumption.{Resumption}
 use Rattle.replay.specs.declared.seen.Seen.{Seen}
-use Rattle.journal.specs.Decision.{Place, above, above_all, entries_behind, floor_behind, is_first, seen_of, start_of}
+use Rattle.journal.specs.Decision.{Place, above, above_all, entries_behind, floor_behind, is_linked, latest_of, recent, seen_of, start_of}
 use Rattle.journal.specs.Forms.{Entry}
-use Rattle.journal.specs.Keeping.{Begins, Keeps, begun}
-use Rattle.journal.specs.Texts.{HasHeader, HaveElements, header_check, journal_text, last_check}
+use Rattle.journal.specs.Texts.{HasHeader, HaveElements, chained, header_check, journal_text, last_check}
+use Rattle.journal.specs.World.{IsTorn, World}
 use Rattle.journal.specs.declared.decision.Found.{Found}
 use Rattle.journal.specs.declared.decision.Found.TheVariants.{Nothing, Broken, Whole}
-use Rattle.journal.specs.declared.decision.Start.TheVariants.{Resumes}
+use Rattle.journal.specs.declared.decision.Start.{Start}
+use Rattle.journal.specs.declared.decision.Start.TheVariants.{Resumes, Refuses}
+use Rattle.journal.specs.declared.journal_file.JournalFile.{JournalFile}
+use Rattle.journal.specs.declared.journal_file.Tail.{Tail}
 use Rattle.journal.specs.declared.reading.Journal.{Journal}
 
--- ---- what files hold
+-- ---- what two journals hold
 
 -- an authenticator is that of one of these entries, or its time is below the floor
 abbrev pub IsHeld : ℤ → List Entry → Seen → Type 0
 IsHeld floor es seen = (seen.ctime <ℤ floor) ⊎ Contains (map seen_of es) seen
 
--- The two files hold all of this: a start that reads both refuses its authenticators and its times. Times below `low`
--- are too old at any later start.
+-- The two hold all of this: a start that reads both refuses its authenticators and its times. Times below `low` are too
+-- old at any later start.
 pub record HoldAll (older : Found) (newer : Journal) (low : ℤ) (r : Resumption) : Type 0 where
   pub floor : r.floor ≤ℤ int_max (floor_behind newer older) low
   pub seen : All (IsHeld (floor_behind newer older) (entries_behind newer older)) r.seen
@@ -36,118 +38,154 @@ pub record IsAbove (floor : ℤ) (r : Resumption) : Type 0 where
   pub floor_above : r.floor ≤ℤ floor
   pub times_above : All (λ (s : Seen). s.ctime <ℤ floor) r.seen
 
--- what a file holds
+-- what one journal holds
 abbrev pub held_in : Journal → Resumption
 held_in j = record { floor = j.header.floor; seen = map seen_of j.entries }
-
--- the floor of a file that goes on behind another is above all that this one holds
-abbrev pub Rises : Found → Journal → Type 0
-Rises Nothing j = ⊤
-Rises Broken j = ⊤
-Rises (Whole before) j = is_first j ≡ false → IsAbove j.header.floor (held_in before)
-
--- The files of a server, and the floor that its next file begins with: they hold all, and that floor is above all.
-pub record AreFiles (older : Found) (newer : Journal) (low floor : ℤ) (r : Resumption) : Type 0 where
-  pub hold : HoldAll older newer low r
-  pub rises : Rises older newer
-  pub above_newer : IsAbove floor (held_in newer)
-  pub above_all_seen : IsAbove floor r
-
--- ---- how files are written
 
 -- one more authenticator
 abbrev pub with_one : Resumption → Seen → Resumption
 with_one r seen = record { floor = r.floor; seen = r.seen ++ seen ∷ [] }
 
--- a file that was begun, before its first entry
-abbrev pub fresh : Place → ℤ → List ℕ → Journal
-fresh place floor link = record {
-  header = begun place floor link;
-  entries = [];
-  check = header_check (begun place floor link);
+-- ---- what is found in files
+
+-- the sums of a journal are those of all of its entries
+pub record HasSums (j : Journal) : Type 0 where
+  pub latest_is : j.latest ≡ latest_of j.header.at j.entries
+  pub high_is : j.high ≡ above_all j.header.floor j.entries
+
+-- a journal without the entries that are too old to matter
+abbrev pub cut : Journal → Journal
+cut j = record {
+  header = j.header;
+  entries = recent j.latest j.entries;
+  check = j.check;
+  latest = j.latest;
+  high = j.high;
 }
 
--- a file with an entry and its check behind it
-abbrev pub with_entry : Journal → Entry → List ℕ → Journal
-with_entry j e check = record { header = j.header; entries = j.entries ++ e ∷ []; check = check }
+abbrev pub cut_found : Found → Found
+cut_found Nothing = Nothing
+cut_found Broken = Broken
+cut_found (Whole j) = Whole (cut j)
 
--- a text that spells a journal, and is read as that journal
+-- a text that spells a journal with all of its entries
 pub record Spells (text : List ℕ) (j : Journal) : Type 0 where
   pub text_is : text ≡ journal_text j.header j.entries
   pub check_is : j.check ≡ last_check (header_check j.header) j.entries
   pub has_header : HasHeader j.header
   pub have_elements : HaveElements j.entries
+  pub sums : HasSums j
+
+-- from this second on the same entries may matter
+abbrev pub AgreeFrom : ℤ → List Entry → List Entry → Type 0
+AgreeFrom from es others = (later : ℤ) → from ≤ℤ later → recent later es ≡ recent later others
+
+-- All entries of a text behind a check, those that may matter, the last check, and the sums.
+pub record HaveEntries (text before : List ℕ) (at floor : ℤ) (all kept : List Entry) (check : List ℕ) (latest high : ℤ) : Type 0 where
+  pub text_is : text ≡ chained before all
+  pub check_is : check ≡ last_check before all
+  pub have : HaveElements all
+  pub kept_are : kept ≡ recent latest all
+  pub latest_is : latest ≡ latest_of at all
+  pub high_is : high ≡ above_all floor all
+
+-- What the two files hold, if this is what they are. A file that is there may count as broken, and never as absent.
+abbrev pub IsSpelled : Option (List ℕ) → Found → Type 0
+IsSpelled None Nothing = ⊤
+IsSpelled None Broken = ⊥
+IsSpelled None (Whole j) = ⊥
+IsSpelled (Some text) Nothing = ⊥
+IsSpelled (Some text) Broken = ⊤
+IsSpelled (Some text) (Whole j) = Spells text j
+
+-- what may be found in a file: of a journal, the entries that may matter
+abbrev pub IsFound : Option (List ℕ) → Found → Type 0
+IsFound file found = (all : Found) × IsSpelled file all × (found ≡ cut_found all)
+
+-- ---- what a start makes of files
+
+-- A start that resumes with `found` refuses all that the other resumption refuses, and what is below this second too.
+abbrev pub Knows : ℤ → Resumption → Resumption → Type 0
+Knows below r found =
+    (c : Components)
+    → Holds {T = Kept} (resumed_cache (record { floor = int_max r.floor below; seen = r.seen }) c) (resumed_cache found c)
+
+-- No start resumes with these files without knowing all of this.
+pub record IsSafe (low : ℤ) (r : Resumption) (w : World) : Type 0 where
+  pub knows : (place : Place) (older newer : Found) (found : Resumption) (check : Option (List ℕ))
+      → IsFound w.older older → IsFound w.newer newer → start_of place older newer ≡ Resumes found check
+      → low ≤ℤ found.floor → (below : ℤ) → below ≤ℤ found.floor → Knows below r found
+
+-- ---- the files of a running server
+
+-- The newer file is a whole journal with this last check. The two hold all of this, however the older one is found, and
+-- one may resume with them. The floor that the next file begins with, if there can be one, is above all.
+pub record IsWhole (low : ℤ) (all : Resumption) (w : World) (check : List ℕ) (floor : Option ℤ) : Type 0 where
+  pub newer : Journal
+  pub text : List ℕ
+  pub newer_is : w.newer ≡ Some text
+  pub spells : Spells text newer
+  pub check_is : check ≡ newer.check
+  pub hold : (older : Found) → IsSpelled w.older older → is_linked newer older ≡ true → HoldAll older newer low all
+  pub linked : (older : Found) × IsSpelled w.older older × (is_linked newer older ≡ true)
+  pub above_newer : IfSome floor (λ f. IsAbove f (held_in newer))
+  pub above_all_seen : IfSome floor (λ f. IsAbove f all)
+
+-- Something could not be kept. What was kept before is safe, and the floor is above all.
+pub record IsLacking (low : ℤ) (kept all : Resumption) (w : World) (floor : Option ℤ) : Type 0 where
+  pub safe : IsSafe low kept w
+  pub above_all_seen : IfSome floor (λ f. IsAbove f all)
+
+-- the files of a server that was handed all of this, and kept so much of it
+abbrev pub IsKept : ℤ → Resumption → Resumption → World → Option Tail → Option ℤ → Type 0
+IsKept low kept all w (Some tail) floor = (kept ≡ all) × IsWhole low all w tail.check floor
+IsKept low kept all w None floor = IsLacking low kept all w floor
+
+-- where the world is recorded
+abbrev pub HasKept : {F : Type 0} → (F → Option World) → ℤ → Resumption → Resumption → F → Option Tail → Option ℤ → Type 0
+HasKept world low kept all files tail floor = IfSome (world files) (λ w. IsKept low kept all w tail floor)
+
+-- whether a server has kept all that it was handed
+abbrev pub is_whole : {F : Type 0} → JournalFile F → Bool
+is_whole journal = is_some journal.tail
+
+-- what was kept after a call: all, if it succeeded
+abbrev pub kept_after : {T : Type 0} → Option T → Resumption → Resumption → Resumption
+kept_after (Some done) kept all = all
+kept_after None kept all = kept
+
+-- a floor above one more time, if there is one
+abbrev pub IsRaised : Option ℤ → ℤ → Option ℤ → Type 0
+IsRaised floor ctime raised = IfSome raised (λ f. (g : ℤ) × (floor ≡ Some g) × (f ≡ above g ctime))
+
+-- ---- a start
+
+-- what a start knows: what it resumes with, or only its floor
+abbrev pub known_by : ℤ → Start → Resumption
+known_by floor (Resumes r check) = r
+known_by floor (Refuses doubt) = record { floor = floor; seen = [] }
+
+-- a start at this moment, which made this of the files that it found
+pub record IsStart (at : Moment) (at_floor : ℤ) (newer : Found) (start : Start) (w : World) : Type 0 where
+  pub place : Place
+  pub moment : place.at ≡ at
+  pub older : Found
+  pub older_found : IsFound w.older older
+  pub newer_found : IsFound w.newer newer
+  pub decided : start ≡ start_of place older newer
+  pub floor : at_floor ≡ (known_by at_floor start).floor
 
 -- ---- the laws
 
--- A text that begins as `write_beginning` writes it spells a journal before its first entry.
-abbrev pub SpellsFresh : Type 0
-SpellsFresh = (place : Place) (floor : ℤ) (link text check : List ℕ) → Begins (begun place floor link) text check
-    → Spells text (fresh place floor link)
+-- Whatever a server has kept, no start resumes without it.
+abbrev pub KeptIsSafe : Type 0
+KeptIsSafe = (low : ℤ) (kept all : Resumption) (w : World) (tail : Option Tail) (floor : Option ℤ)
+    → IsKept low kept all w tail floor → IsSafe low kept w
 
--- A text to which what `write_seen` writes is appended spells the journal with that authenticator's entry.
-pub record SpellsOneMore (text more : List ℕ) (j : Journal) (seen : Seen) (check : List ℕ) : Type 0 where
-  pub one : Entry
-  pub is_seen : seen_of one ≡ seen
-  pub spells : Spells (text ++ more) (with_entry j one check)
+-- Nor does one after a file could not be begun, by whomever.
+abbrev pub TornIsSafe : Type 0
+TornIsSafe = (low : ℤ) (r : Resumption) (old new : World) → IsSafe low r old → IsTorn old new → IsSafe low r new
 
-abbrev pub SpellsOne : Type 0
-SpellsOne = (text more : List ℕ) (j : Journal) (at : Moment) (seen : Seen) (check : List ℕ) → Spells text j
-    → Keeps j.check at seen more check → SpellsOneMore text more j seen check
-
--- An authenticator is kept: its entry is appended, and the next floor is above its time.
-abbrev pub KeepsOne : Type 0
-KeepsOne = (older : Found) (newer : Journal) (low floor : ℤ) (r : Resumption) (e : Entry) (check : List ℕ)
-    → AreFiles older newer low floor r
-    → AreFiles older (with_entry newer e check) low (above floor e.ctime) (with_one r (seen_of e))
-
--- The files take turns: what was the newer one is the older one, and the floor of the new one is above all.
-abbrev pub KeepsByTurns : Type 0
-KeepsByTurns = (older : Found) (newer : Journal) (low floor : ℤ) (r : Resumption) (place : Place) (link : List ℕ)
-    → AreFiles older newer low floor r → AreFiles (Whole newer) (fresh place floor link) low floor r
-
--- A file that goes on behind none is begun with a floor above all that was seen, whatever was kept of it.
-abbrev pub KeepsAnew : Type 0
-KeepsAnew = (older : Found) (low floor : ℤ) (r : Resumption) (place : Place) → IsAbove floor r
-    → AreFiles older (fresh place floor []) low floor r
-
--- The next floor rises above an authenticator that could not be kept.
-abbrev pub RisesAbove : Type 0
-RisesAbove = (floor : ℤ) (r : Resumption) (seen : Seen) → IsAbove floor r
-    → IsAbove (above floor seen.ctime) (with_one r seen)
-
--- the floor of a server that resumes with files: above all that they hold
-abbrev pub above_older : ℤ → Found → ℤ
-above_older floor Nothing = floor
-above_older floor Broken = floor
-above_older floor (Whole before) = above_all floor before.entries
-
-abbrev pub floor_on : ℤ → Journal → Found → ℤ
-floor_on floor j older = above_all (int_max (above_older floor older) j.header.floor) j.entries
-
--- A server that resumes goes on with the files that it found.
-abbrev pub GoesOn : Type 0
-GoesOn = (place : Place) (older : Found) (newer : Journal) (r : Resumption) (check : List ℕ) → Rises older newer
-    → start_of place older (Whole newer) ≡ Resumes r check
-    → AreFiles older newer (place.at.sec -ℤ pos skew) (floor_on r.floor newer older) r
-
--- A start that resumes with files refuses whatever they hold, and all that is older than the skew.
-abbrev pub ResumesWithHeld : Type 0
-ResumesWithHeld = (place : Place) (older : Found) (newer : Journal) (low : ℤ) (r found : Resumption) (check : List ℕ)
-    → HoldAll older newer low r → low ≤ℤ (place.at.sec -ℤ pos skew)
-    → start_of place older (Whole newer) ≡ Resumes found check
-    → (c : Components)
-    → Holds {T = Kept} (resumed_cache (record { floor = int_max r.floor (place.at.sec -ℤ pos skew); seen = r.seen }) c)
-    (resumed_cache found c)
-
--- Whatever the files of a journal go through, they hold all that was seen, and a start that resumes with them refuses
--- it.
 pub record HoldsOn : Type 0 where
-  pub fresh_text : SpellsFresh
-  pub one_text : SpellsOne
-  pub one : KeepsOne
-  pub turns : KeepsByTurns
-  pub anew : KeepsAnew
-  pub above_lost : RisesAbove
-  pub goes_on : GoesOn
-  pub resumes : ResumesWithHeld
+  pub kept : KeptIsSafe
+  pub torn : TornIsSafe

@@ -2,5 +2,8 @@ pub mod Forms
 pub mod Texts
 pub mod Decision
 pub mod Keeping
+pub mod World
 pub mod Holding
+pub mod Appending
+pub mod MemoryWorld
 pub mod Head

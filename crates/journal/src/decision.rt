@@ -1,15 +1,19 @@
 //! Deciding how to start from the journals that are found.
-ghost use Rattle.std.specs.Prelude.{◌≡◌, ◌++◌, map, IfOk, OnOk};
-ghost use Rattle.journal.specs.Decision.{any_later, came, doubt_of, entries_behind, floor_behind, is_first, is_later};
-ghost use Rattle.journal.specs.Decision.{is_other_boot, is_other_realm, is_unlinked, links_to, resumption_of};
+ghost use Rattle.std.specs.Prelude.{◌≡◌, ◌-ℤ◌, ◌++◌, map, pos, IfOk, OnOk};
+ghost use Rattle.std.specs.Int.{int_max};
+ghost use Rattle.krb_fields.specs.Skew.{skew};
+ghost use Rattle.journal.specs.Decision.{doubt_of, entries_behind, floor_behind, goes_on_behind};
+ghost use Rattle.journal.specs.Decision.{is_above, is_behind, is_early, is_first, is_foreign, is_later, is_linked};
+ghost use Rattle.journal.specs.Decision.{is_other_boot, is_other_realm, is_unlinked, resumed_floor, resumption_of};
 ghost use Rattle.journal.specs.Decision.{seen_of, start_by, start_of};
 
 use crate::entry::Entry;
+use crate::keeping::floor_on;
 use crate::reading::Journal;
 use krb_elements::Seq;
 use krb_fields::{Moment, SKEW};
 use refusals::first_holding;
-use replay::{Resumption, Seen};
+use replay::{Opening, Resumption, Seen};
 use std::alloc::{AllocError, Global};
 use std::fmt;
 
@@ -37,13 +41,12 @@ pub struct Place<'a> {
 pub enum Doubt {
     /// There is no journal.
     Absent,
-    /// An entry was cut or changed, or one was left out or added before others; or others may write the journal.
+    /// It was cut within an entry, an entry was changed, or one was left out or added before others; or others may write
+    /// the journal. An older journal that was put back looks like the right one, as one does that lacks its last entries.
     Damaged,
     OtherRealm,
     /// The system was booted since then, so the end of the journal may be lost.
     OtherBoot,
-    /// The clock shows a time before a moment of the journal.
-    Later,
     /// The journal that went before this one is missing.
     Unlinked,
 }
@@ -55,7 +58,6 @@ impl fmt::Display for Doubt {
             Doubt::Damaged => "it is damaged, or others may write it",
             Doubt::OtherRealm => "it is of another realm",
             Doubt::OtherBoot => "the system was booted since",
-            Doubt::Later => "the clock is behind it",
             Doubt::Unlinked => "the journal that goes before it is missing",
         })
     }
@@ -64,10 +66,12 @@ impl fmt::Display for Doubt {
 /// How a server starts.
 #[derive(Drop)]
 pub enum Start {
-    /// It resumes with these authenticators, and its journal goes on behind this check.
+    /// It resumes with these authenticators.
     Resumes {
         resumption: Resumption,
-        check: [u8; 16],
+        /// The check behind which its journal goes on. `None` if the clock is behind the journal: then another file is
+        /// begun.
+        check: Option<[u8; 16]>,
     },
     /// It refuses all authenticators that may have come before it.
     Refuses {
@@ -111,7 +115,7 @@ fn start_by(
         Some(doubt) => Ok(Start::Refuses { doubt }),
         None => Ok(Start::Resumes {
             resumption: resumption_of(alloc, place, older, journal)?,
-            check: journal.check,
+            check: goes_on_behind(place, older, journal),
         }),
     }
 }
@@ -123,7 +127,6 @@ fn doubt_of(place: &Place<'_>, older: &Found, journal: &Journal) -> Option<Doubt
     first_holding(&[
         (is_other_realm(place, journal), Doubt::OtherRealm),
         (is_other_boot(place, journal), Doubt::OtherBoot),
-        (is_later(place, journal), Doubt::Later),
         (is_unlinked(place, older, journal), Doubt::Unlinked),
     ])
 }
@@ -143,22 +146,7 @@ fn is_other_boot(place: &Place<'_>, journal: &Journal) -> bool
 fn is_later(place: &Place<'_>, journal: &Journal) -> bool
     ensures { result ≡ is_later place.now journal.now }
 {
-    place.at.sec < journal.header.at.seconds()
-        || any_later(place.at.sec, journal.entries.as_slice())
-}
-
-/// Checks whether a request came after this second.
-fn any_later(second: i64, entries: &[Entry]) -> bool
-    ensures { result ≡ any_later second entries.now }
-{
-    entries.iter().any(|entry| second < came(entry))
-}
-
-/// Returns the second in which the request of an entry came.
-fn came(entry: &Entry) -> i64
-    ensures { result ≡ came entry.now }
-{
-    entry.ctime.seconds() + i64::from(entry.age)
+    place.at.sec < journal.latest
 }
 
 /// Checks whether no journal went before this one.
@@ -169,24 +157,68 @@ fn is_first(journal: &Journal) -> bool
     journal.header.link.as_slice() == none
 }
 
-fn is_unlinked(place: &Place<'_>, older: &Found, journal: &Journal) -> bool
-    ensures { result ≡ is_unlinked place.now older.now journal.now }
+/// Checks whether a journal's floor is above all that another one holds.
+fn is_above(journal: &Journal, before: &Journal) -> bool
+    ensures { result ≡ is_above journal.now before.now }
 {
-    !(is_first(journal) || links_to(place, journal, older))
+    before.high <= journal.header.floor.seconds()
 }
 
-/// Checks whether the journal before this one is there, whole, of this realm and boot, and not later than the start.
-fn links_to(place: &Place<'_>, journal: &Journal, older: &Found) -> bool
-    ensures { result ≡ links_to place.now journal.now older.now }
+/// Checks whether a journal goes on behind another one.
+fn is_behind(journal: &Journal, before: &Journal) -> bool
+    ensures { result ≡ is_behind journal.now before.now }
+{
+    before.check.as_slice() == journal.header.link.as_slice() && is_above(journal, before)
+}
+
+/// Checks whether nothing goes before a journal, or what does is there, and whole.
+fn is_linked(journal: &Journal, older: &Found) -> bool
+    ensures { result ≡ is_linked journal.now older.now }
+{
+    match older {
+        Found::Nothing | Found::Broken => is_first(journal),
+        Found::Whole(before) => is_first(journal) || is_behind(journal, before),
+    }
+}
+
+/// Checks whether what goes before a journal is of another realm or another boot.
+fn is_foreign(place: &Place<'_>, journal: &Journal, older: &Found) -> bool
+    ensures { result ≡ is_foreign place.now journal.now older.now }
 {
     match older {
         Found::Nothing | Found::Broken => false,
         Found::Whole(before) => {
-            before.check.as_slice() == journal.header.link.as_slice()
-                && !(is_other_realm(place, before)
-                    || is_other_boot(place, before)
-                    || is_later(place, before))
+            !is_first(journal) && (is_other_realm(place, before) || is_other_boot(place, before))
         }
+    }
+}
+
+fn is_unlinked(place: &Place<'_>, older: &Found, journal: &Journal) -> bool
+    ensures { result ≡ is_unlinked place.now older.now journal.now }
+{
+    !is_linked(journal, older) || is_foreign(place, journal, older)
+}
+
+/// Checks whether the clock of a start is behind its journal.
+fn is_early(place: &Place<'_>, journal: &Journal, older: &Found) -> bool
+    ensures { result ≡ is_early place.now journal.now older.now }
+{
+    match older {
+        Found::Nothing | Found::Broken => is_later(place, journal),
+        Found::Whole(before) => {
+            is_later(place, journal) || (!is_first(journal) && is_later(place, before))
+        }
+    }
+}
+
+/// Returns the check behind which the journal goes on, unless the clock is behind it.
+fn goes_on_behind(place: &Place<'_>, older: &Found, journal: &Journal) -> Option<[u8; 16]>
+    ensures { result ≡ goes_on_behind place.now older.now journal.now }
+{
+    if is_early(place, journal, older) {
+        None
+    } else {
+        Some(journal.check)
     }
 }
 
@@ -201,11 +233,28 @@ fn resumption_of(
 {
     let mut seen = Vec::new(alloc);
     see_behind(alloc, journal, older, &mut seen)?;
-    let floor = floor_behind(journal, older).max(place.at.sec - SKEW);
     Ok(Resumption {
-        floor,
+        floor: resumed_floor(place, journal, older),
         seen: Seq::from_vec(seen),
     })
+}
+
+/// Returns the floor of a server that resumes.
+fn resumed_floor(place: &Place<'_>, journal: &Journal, older: &Found) -> i64
+    ensures { result ≡ resumed_floor place.now journal.now older.now }
+{
+    if is_early(place, journal, older) {
+        floor_on(Opening::Restart(place.at).floor(), journal)
+    } else {
+        skewed_floor(place, journal, older)
+    }
+}
+
+/// Returns the floor of the journals, or the second before which times are too old, whichever is greater.
+fn skewed_floor(place: &Place<'_>, journal: &Journal, older: &Found) -> i64
+    ensures { result ≡ int_max (floor_behind journal.now older.now) (place.now.at.sec -ℤ pos skew) }
+{
+    floor_behind(journal, older).max(place.at.sec - SKEW)
 }
 
 fn floor_behind(journal: &Journal, older: &Found) -> i64

@@ -74,3 +74,32 @@ impl From<AllocError> for WriteFault {
         WriteFault::Memory
     }
 }
+
+/// Why an authenticator could not be kept, a file could not be begun, or one could not be read.
+#[derive(Debug, Drop)]
+pub enum FilesFault<E> {
+    /// A name or a number is too large.
+    Unfit,
+    Memory,
+    /// A call on the files failed.
+    Files(E),
+}
+
+impl<E: fmt::Display> fmt::Display for FilesFault<E> {
+    fn fmt<W: fmt::Write>(&self, f: &mut fmt::Formatter<W>) -> fmt::Result {
+        match self {
+            FilesFault::Unfit => f.write_str("a name or a number is too large"),
+            FilesFault::Memory => f.write_str("out of memory"),
+            FilesFault::Files(fault) => write!(f, "{fault}"),
+        }
+    }
+}
+
+impl<E> From<WriteFault> for FilesFault<E> {
+    fn from(fault: WriteFault) -> FilesFault<E> {
+        match fault {
+            WriteFault::Unfit => FilesFault::Unfit,
+            WriteFault::Memory => FilesFault::Memory,
+        }
+    }
+}

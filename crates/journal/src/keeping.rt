@@ -1,12 +1,11 @@
 //! Writing entries and beginnings, and the floor that the next journal begins with.
 ghost use Rattle.std.specs.Prelude.{◌≡◌, ◌<◌, ◌+ℤ◌, ◌^◌, length, IfOk};
 ghost use Rattle.krb_elements.specs.Codec.{written};
-ghost use Rattle.journal.specs.Decision.{above, above_all, came, seen_of};
+ghost use Rattle.journal.specs.Decision.{above, came, floor_on, seen_of};
 ghost use Rattle.journal.specs.Forms as forms;
-ghost use Rattle.journal.specs.Holding.{above_older, floor_on};
 ghost use Rattle.journal.specs.Keeping.{Begins, Keeps, begun};
 
-use crate::decision::{Found, Place};
+use crate::decision::Place;
 use crate::entry::Entry;
 use crate::fault::WriteFault;
 use crate::header::Header;
@@ -104,31 +103,10 @@ pub fn above(floor: i64, ctime: KTime) -> i64
     floor.max(ctime.seconds() + 1)
 }
 
-/// Returns a second above the times of these authenticators and not below another second.
-pub fn above_all(floor: i64, entries: &[Entry]) -> i64
-    ensures { result ≡ above_all floor entries.now }
+/// Returns the floor of a server that goes on with a journal: it is not below this floor, and above all that the journal
+/// holds, and the one before it.
+pub fn floor_on(floor: i64, journal: &Journal) -> i64
+    ensures { result ≡ floor_on floor journal.now }
 {
-    let mut floor = floor;
-    for entry in entries {
-        floor = above(floor, entry.ctime);
-    }
-    floor
-}
-
-/// Returns the floor of a server that starts with a floor and goes on with these journals: it is above all that they
-/// hold.
-pub fn floor_on(floor: i64, newer: &Journal, older: &Found) -> i64
-    ensures { result ≡ floor_on floor newer.now older.now }
-{
-    let floor = above_older(floor, older).max(newer.header.floor.seconds());
-    above_all(floor, newer.entries.as_slice())
-}
-
-fn above_older(floor: i64, older: &Found) -> i64
-    ensures { result ≡ above_older floor older.now }
-{
-    match older {
-        Found::Nothing | Found::Broken => floor,
-        Found::Whole(before) => above_all(floor, before.entries.as_slice()),
-    }
+    floor.max(journal.high)
 }

@@ -2,8 +2,8 @@
 ghost use Rattle.journal.specs.Head.{FrontsMayBe};
 ghost use Rattle.journal.specs.Holding.{HoldsOn};
 
-/// Whatever the files of a journal go through, they hold every authenticator that was seen, and a start that resumes
-/// with them refuses it. The floor of a file is above all that the one before it holds.
+/// Whatever the files of a journal go through, no start resumes with them without what was kept: after each call of a
+/// [`JournalFile`](crate::JournalFile), whether it succeeded or failed, and after a start that could not begin a file.
 pub fn every_journal()
     ensures { HoldsOn }
 {}

@@ -1,43 +1,64 @@
 //! Reading a journal.
-ghost use Rattle.std.specs.Prelude.{◌≡◌, ◌<◌, ◌++◌, ℕ, List, length, IfOk, IsOkAnd};
+ghost use Rattle.std.specs.Prelude.{◌≡◌, ◌<◌, ◌≤ℤ◌, ◌+ℤ◌, ◌++◌, ℕ, int_le, List, length, IfOk, IsOkAnd};
+ghost use Rattle.std.specs.List.{filter};
 ghost use Rattle.krb_elements.specs.Codec.{written};
+ghost use Rattle.journal.specs.Decision.{came, first_second, latest_of, recent};
 ghost use Rattle.journal.specs.Forms.{Entry as Listed, Header as Headers, entry, header};
+ghost use Rattle.journal.specs.Holding.{AgreeFrom, HaveEntries, Spells, cut};
 ghost use Rattle.journal.specs.Texts.{HasElement, HasHeader, HaveElements, UnlessMemory};
-ghost use Rattle.journal.specs.Texts.{check_of, checked, chained, header_check, journal_text, last_check};
+ghost use Rattle.journal.specs.Texts.{check_of, checked, chained, header_check, journal_text};
+ghost use Rattle.journal.specs.declared.reading.Journal.{Journal as Journals};
 
 use crate::checks::{check_of, take_check, take_element};
 use crate::entry::{Entry, EntryRef};
 use crate::fault::JournalFault;
 use crate::header::{Header, HeaderRef};
-use krb_der::{DerFault, Reader};
+use crate::keeping::above;
+use krb_der::{DerFault, KTime, Reader};
 use krb_elements::{Octets, Seq, read};
+use krb_fields::SKEW;
 use std::alloc::{AllocError, Global};
 
-/// A whole journal.
+/// Entries that are too old are dropped once there are this many, and twice as many as were left the last time.
+const FEW: usize = 1_024;
+
+/// A whole journal, without the entries that are too old to matter. What is said of all entries is so of those too.
 #[derive(Drop)]
 pub struct Journal {
     pub header: Header,
+    /// The entries whose times are not more than the skew before the latest second. A start refuses all others by their
+    /// times.
     pub entries: Seq<Entry>,
     /// The last check.
     pub check: [u8; 16],
+    /// The latest second in which the file was begun or the request of an entry came.
+    pub latest: i64,
+    /// The least second that is above the times of all entries, and not below the floor.
+    pub high: i64,
 }
 
 /// Reads a journal.
 pub fn read_journal(alloc: Global, text: &[u8]) -> Result<Journal, JournalFault>
     // What is read spells the text.
-    ensures found { IfOk result (λ j. text.now ≡ journal_text j.header j.entries) }
-    ensures check { IfOk result (λ j. j.check ≡ last_check (header_check j.header) j.entries) }
+    ensures spells { IfOk result (λ j. (all : Journals) × Spells text.now all × (j ≡ cut all)) }
     // A text that was written is read as what it was written from.
     ensures only { (h : Headers) (es : List Listed) → HasHeader h → HaveElements es → text.now ≡ journal_text h es
-        → UnlessMemory result (λ j. (j.header ≡ h) × (j.entries ≡ es)) }
+        → UnlessMemory result (λ j. (j.header ≡ h) × (j.entries ≡ recent (latest_of h.at es) es)) }
 {
     let mut reader = Reader::new(text);
     let Headed { header, check } = take_header(alloc, &mut reader)?;
-    let Entries { entries, check } = take_entries(alloc, &mut reader, check)?;
+    let Entries {
+        entries,
+        check,
+        latest,
+        high,
+    } = take_entries(alloc, &mut reader, check, header.at, header.floor)?;
     Ok(Journal {
         header,
         entries: Seq::from_vec(entries),
         check,
+        latest,
+        high,
     })
 }
 
@@ -52,6 +73,7 @@ struct Headed {
 fn take_header(alloc: Global, reader: &mut Reader<'_>) -> Result<Headed, JournalFault>
     ensures found { IfOk result (λ t. reader.old ≡ checked t.header.link (written header t.header) ++ reader.new) }
     ensures check { IfOk result (λ t. t.check ≡ header_check t.header) }
+    ensures has { IfOk result (λ t. HasHeader t.header) }
     ensures only { (h : Headers) (rest : List ℕ) → HasHeader h → reader.old ≡ checked h.link (written header h) ++ rest
         → UnlessMemory result (λ t. (t.header ≡ h) × (reader.new ≡ rest)) }
 {
@@ -68,6 +90,7 @@ fn take_header(alloc: Global, reader: &mut Reader<'_>) -> Result<Headed, Journal
 /// Reads octets as a header.
 fn header_in(octets: &[u8]) -> Result<HeaderRef<'_>, DerFault>
     ensures found { IfOk result (λ h. octets.now ≡ written header h) }
+    ensures spells { IfOk result (λ h. header.Spells h octets.now) }
     ensures only { (h : Headers) → header.Spells h octets.now → IsOkAnd result (λ x. x ≡ h) }
 {
     read(octets)
@@ -85,38 +108,82 @@ fn owned_header(alloc: Global, found: &HeaderRef<'_>) -> Result<Header, AllocErr
     })
 }
 
-/// Entries, and the last check.
+/// Entries that may matter, and what is said of all.
 #[derive(Drop)]
 struct Entries {
     entries: Vec<Entry>,
     check: [u8; 16],
+    latest: i64,
+    high: i64,
 }
 
-/// Takes all entries to the end, which follow this check.
+/// Takes all entries to the end, which follow this check, in a file that was begun at this time with this floor.
 fn take_entries(
     alloc: Global,
     reader: &mut Reader<'_>,
     before: [u8; 16],
+    at: KTime,
+    floor: KTime,
 ) -> Result<Entries, JournalFault>
-    ensures found { IfOk result (λ t. reader.old ≡ chained before t.entries.items) }
-    ensures check { IfOk result (λ t. t.check ≡ last_check before t.entries.items) }
+    ensures found { IfOk result (λ t. (all : List Listed) × HaveEntries reader.old before at floor all t.entries.items t.check t.latest t.high) }
     ensures only { (es : List Listed) → HaveElements es → reader.old ≡ chained before es
-        → UnlessMemory result (λ t. t.entries.items ≡ es) }
+        → UnlessMemory result (λ t. t.entries.items ≡ recent (latest_of at es) es) }
 {
     let mut entries = Vec::new(alloc);
     let mut check = before;
+    let mut latest = at.seconds();
+    let mut high = floor.seconds();
+    let mut most = FEW;
     while !reader.is_empty() {
+        most = make_room(&mut entries, most, latest);
         let taken = take_entry(alloc, reader, &check)?;
-        entries.push(taken.entry)?;
         check = taken.check;
+        latest = latest.max(taken.came);
+        high = above(high, taken.ctime);
+        entries.push(taken.entry)?;
     }
-    Ok(Entries { entries, check })
+    drop_old(&mut entries, latest);
+    Ok(Entries {
+        entries,
+        check,
+        latest,
+        high,
+    })
 }
 
-/// An entry, and its check.
+/// Drops the entries that are too old to matter, once there are `most`. Returns how many there may be until the next time.
+fn make_room(entries: &mut Vec<Entry>, most: usize, latest: i64) -> usize
+    requires { first_second ≤ℤ latest }
+    ensures { AgreeFrom latest entries.new.items entries.old.items }
+{
+    if entries.len() < most {
+        return most;
+    }
+    drop_old(entries, latest);
+    entries.len().saturating_mul(2).max(FEW)
+}
+
+/// Drops the entries that are too old to matter.
+fn drop_old(entries: &mut Vec<Entry>, latest: i64)
+    requires { first_second ≤ℤ latest }
+    ensures { entries.new.items ≡ recent latest entries.old.items }
+{
+    drop_before(entries, latest - SKEW);
+}
+
+/// Drops the entries whose times are before this second.
+fn drop_before(entries: &mut Vec<Entry>, second: i64)
+    ensures { entries.new.items ≡ filter (λ e. int_le second e.ctime) entries.old.items }
+{
+    entries.retain(|entry| second <= entry.ctime.seconds());
+}
+
+/// An entry, its time, the second in which its request came, and its check.
 #[derive(Drop)]
 struct Taken {
     entry: Entry,
+    ctime: KTime,
+    came: i64,
     check: [u8; 16],
 }
 
@@ -128,6 +195,9 @@ fn take_entry(
 ) -> Result<Taken, JournalFault>
     ensures found { IfOk result (λ t. reader.old ≡ checked before.now (written entry t.entry) ++ reader.new) }
     ensures check { IfOk result (λ t. t.check ≡ check_of before.now (written entry t.entry)) }
+    ensures has { IfOk result (λ t. HasElement t.entry) }
+    ensures ctime { IfOk result (λ t. t.ctime ≡ t.entry.ctime) }
+    ensures came { IfOk result (λ t. t.came ≡ came t.entry) }
     ensures only { (e : Listed) (rest : List ℕ) → HasElement e
         → reader.old ≡ checked before.now (written entry e) ++ rest
         → UnlessMemory result (λ t. (t.entry ≡ e) × (reader.new ≡ rest)) }
@@ -137,13 +207,23 @@ fn take_entry(
     let found = entry_in(element.octets)?;
     Ok(Taken {
         entry: owned_entry(alloc, &found)?,
+        ctime: found.ctime,
+        came: came(found.ctime, found.age),
         check: element.check,
     })
+}
+
+/// Returns the second in which a request came, this long after this time.
+fn came(ctime: KTime, age: i32) -> i64
+    ensures { result ≡ ctime +ℤ age }
+{
+    ctime.seconds() + i64::from(age)
 }
 
 /// Reads octets as an entry.
 fn entry_in(octets: &[u8]) -> Result<EntryRef<'_>, DerFault>
     ensures found { IfOk result (λ e. octets.now ≡ written entry e) }
+    ensures spells { IfOk result (λ e. entry.Spells e octets.now) }
     ensures only { (e : Listed) → entry.Spells e octets.now → IsOkAnd result (λ x. x ≡ e) }
 {
     read(octets)

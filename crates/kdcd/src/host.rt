@@ -3,8 +3,8 @@ ghost use Rattle.std.specs.Prelude.{None};
 
 use kdc_sockets::{BindFault, SocketWire, now};
 use kdcd_run::{
-    FileFault, HeldFiles, Host, JournalBeginning, JournalFile, JournalNews, Journals,
-    OpenedJournals, RowsFile, ServeOptions, StartNews, Started, open_journals, open_plain,
+    FileFault, FileJournal, Host, JournalBeginning, JournalNews, Journals, OpenedJournals, RowsFile,
+    ServeOptions, StartNews, Started, SystemJournal, begin_journal, open_journals, open_plain,
     read_at_most, say_rights,
 };
 use krb_fields::Moment;
@@ -16,10 +16,13 @@ use std::io::{Error, ErrorKind, Stderr, Write};
 use std::net::SocketAddr;
 use std::random::RandomSource;
 use std::time::Duration;
-use std::{io, mem};
+use std::io;
 
 /// Standard error, whose reader may stop reading while the server goes on. All that write to it hold the same one.
 pub type Errors = SharedWriter<Stderr>;
+
+/// The files of the server's journal.
+type SystemFiles<'a> = SystemJournal<'a, HostRuntime, Errors>;
 
 /// How many milliseconds a round waits if nothing arrives.
 const WAIT: u64 = 100;
@@ -34,7 +37,7 @@ pub struct SystemHost<'a> {
     /// The file of the database, until it is handed over.
     rows: Option<RowsFile<'a, HostRuntime, Errors>>,
     /// The files of the journal, once it was read and until it begins.
-    held: HeldFiles,
+    held: Option<SystemFiles<'a>>,
     errors: Errors,
     /// The addresses of the sockets, once they are open.
     udp: Vec<SocketAddr>,
@@ -55,7 +58,7 @@ impl<'a> SystemHost<'a> {
         Ok(SystemHost {
             rt,
             rows: Some(RowsFile::new(rt, options.db, errors.share()?)),
-            held: HeldFiles::none(),
+            held: None,
             errors: errors.share()?,
             udp: Vec::new(rt.alloc()),
             tcp: Vec::new(rt.alloc()),
@@ -72,7 +75,7 @@ impl<'a> Host for SystemHost<'a> {
 
     type SocketFault = BindFault;
 
-    type Journal = Option<JournalFile<'a, HostRuntime, Errors>>;
+    type Journal = Option<FileJournal<'a, HostRuntime, Errors>>;
 
     type Rows = RowsFile<'a, HostRuntime, Errors>;
 
@@ -115,8 +118,9 @@ impl<'a> Host for SystemHost<'a> {
     }
 
     fn read_journals(&mut self, alloc: Global, path: &str) -> Result<Journals, FileFault> {
-        let OpenedJournals { journals, files } = open_journals(alloc, self.rt, path)?;
-        self.held = files;
+        let errors = self.errors.share()?;
+        let OpenedJournals { journals, files } = open_journals(alloc, self.rt, path, errors)?;
+        self.held = Some(files);
         Ok(journals)
     }
 
@@ -125,14 +129,15 @@ impl<'a> Host for SystemHost<'a> {
         alloc: Global,
         path: &str,
         beginning: JournalBeginning,
-    ) -> io::Result<Option<JournalFile<'a, HostRuntime, Errors>>> {
-        let held = mem::replace(&mut self.held, HeldFiles::none());
-        let errors = self.errors.share()?;
-        let journal = JournalFile::start(alloc, self.rt, path, errors, beginning, held)?;
-        Ok(Some(journal))
+    ) -> io::Result<Option<FileJournal<'a, HostRuntime, Errors>>> {
+        let _ = path;
+        let Some(files) = self.held.take() else {
+            return Err(Error::from(ErrorKind::NotFound));
+        };
+        Ok(Some(begin_journal(alloc, files, beginning)?))
     }
 
-    fn no_journal(&mut self) -> Option<JournalFile<'a, HostRuntime, Errors>> {
+    fn no_journal(&mut self) -> Option<FileJournal<'a, HostRuntime, Errors>> {
         None
     }
 

@@ -3,4 +3,3 @@ pub mod Serving
 mod Handings
 mod Decided
 mod Restarts
-mod Floors

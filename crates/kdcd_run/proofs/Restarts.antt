@@ -1,12 +1,11 @@
 -- No authenticator gets two tickets from the processes of a server with a journal.
 use Rattle.std.proofs.Common.{◌≡◌, ℕ, ℤ, pos, ◌-ℤ◌, List, [], ◌∷◌, ◌++◌, map, Option, Some, None, refl, sym, ap, subst, ◌∙◌, append_assoc}
-use Rattle.std.specs.Prelude.{IsTrue, ◌≤ℤ◌, ⊤}
+use Rattle.std.specs.Prelude.{⊤}
 use Rattle.std.specs.Int.{int_max}
 use Rattle.std.specs.List.{AllByRecursion, flat_map}
 use Rattle.std.proofs.lemmas.List.{append-nil}
 use Rattle.krb_fields.specs.Skew.{skew}
 use Rattle.krb_fields.specs.declared.moment.Moment.{Moment}
-use Rattle.replay.specs.Resumed.{is_spent, resumed_cache}
 use Rattle.replay.specs.declared.opening.Opening.TheVariants.{Restart as RestartAt}
 use Rattle.replay.specs.declared.seen.Resumption.{Resumption}
 use Rattle.kdc_state.specs.declared.state.State.{State}
@@ -24,11 +23,10 @@ use Rattle.kdc_hub.proofs.Histories.{AreAsked, IsAsked, entry_asks}
 use Rattle.kdc_serving.specs.Life.{ArePeriods, Period, replacement, tidying, turns_of}
 use Rattle.kdc_serving.specs.declared.rows.Look.{Look}
 use Rattle.kdc_serving.specs.declared.rows.Look.TheVariants.{Unchanged, Changed, Failed}
-use Rattle.journal.specs.Holding.{ResumesWithHeld}
 use Rattle.journal.specs.declared.decision.Start.{Start}
 use Rattle.journal.specs.declared.decision.Start.TheVariants.{Resumes, Refuses}
 use Rattle.kdcd_run.specs.Handing.{HandsAllInLife}
-use Rattle.kdcd_run.specs.Processes.{AreProcesses, FindsAll, MayStart, OneTicketThroughRestarts, Process, beginning, beginning_by, history, known_after, known_at}
+use Rattle.kdcd_run.specs.Processes.{AreProcesses, FindsAll, IsLate, MayStart, OneTicketThroughRestarts, Process, beginning, beginning_by, history, known_after, known_at}
 use Rattle.kdcd_run.specs.Resuming.{known_by}
 
 -- ---- within one process nothing resumes
@@ -123,7 +121,7 @@ follows_both state (event ∷ events) others a b = (a.0, follows_both (after_eve
 -- ---- processes
 
 module _ (one_run : (start : Standing) (turns : List Turn) → IsOneRun start turns) (resumable : CanBeResumed) (begins : core.CanBeResumed)
-    (hands : HandsAllInLife) (held : ResumesWithHeld) where
+    (hands : HandsAllInLife) where
   -- what a process knows at its end covers its state
   covers_at_end : (at : Moment) (hub : Standing) (r : Resumption) (periods : List Period) (now : ℤ) → Covers hub.issuing.kdc r → ArePeriods None hub periods
       → core.AreUpTo now (events_in hub (flat_map turns_of periods))
@@ -134,24 +132,21 @@ module _ (one_run : (start : Standing) (turns : List Turn) → IsOneRun start tu
       (sym (hands None hub periods at lived))
       (resumable hub (flat_map turns_of periods) r now covers up_to)
 
-  module _ (began : Moment) (hub : Standing) (r : Resumption) (periods : List Period) (p : Process) (covers : Covers hub.issuing.kdc r) (lived : ArePeriods None hub periods)
-      (up_to : core.AreUpTo p.at.sec (events_in hub (flat_map turns_of periods))) where
+  module _ (began : Moment) (hub : Standing) (r : Resumption) (periods : List Period) (p : Process) (covers : Covers hub.issuing.kdc r) (lived : ArePeriods None hub periods) where
     abbrev ended : Standing
     ended = after_turns hub (flat_map turns_of periods)
 
-    -- and so do the journals that the next one finds
-    covers_next : (found : Resumption) (check : List ℕ) → FindsAll (known_after began r periods) p.at (Resumes found check) → Covers ended.issuing.kdc found
-    covers_next found check finds c stamp spent =
-        held finds.place finds.older finds.newer finds.low (known_after began r periods) found check finds.holds
-        (subst (λ (at : Moment). finds.low ≤ℤ (at.sec -ℤ pos skew)) (sym finds.moment) finds.late) (sym finds.decided) c stamp
-        (subst (λ (at : Moment). IsTrue (is_spent (resumed_cache (record { floor = int_max r.floor (at.sec -ℤ pos skew); seen = (known_after began r periods).seen }) c) stamp))
-        (sym finds.moment)
-        (covers_at_end began hub r periods p.at.sec covers lived up_to c stamp spent))
+    -- and so do the files that the next one finds
+    covers_next : (found : Resumption) (check : Option (List ℕ)) → FindsAll (known_after began r periods) p.at (Resumes found check)
+        → IsLate (Resumes found check) (events_in hub (flat_map turns_of periods)) → Covers ended.issuing.kdc found
+    covers_next found check finds (latest, up_to, under) c stamp spent =
+        finds.safe.knows finds.place finds.older finds.newer found check finds.older_found finds.newer_found (sym finds.decided) finds.late (latest -ℤ pos skew) under c stamp
+        (covers_at_end began hub r periods latest covers lived up_to c stamp spent)
 
-    next_with_all : (start : Start) → p.start ≡ start → MayStart (known_after began r periods) p.at start
+    next_with_all : (start : Start) → MayStart (known_after began r periods) p.at start → IsLate start (events_in hub (flat_map turns_of periods))
         → ResumesFollow ended.issuing.kdc (turn_events ended (beginning_by p start))
-    next_with_all (Refuses doubt) is may = (tt, tt)
-    next_with_all (Resumes found check) is may = (covers_next found check may, tt)
+    next_with_all (Refuses doubt) may late = (tt, tt)
+    next_with_all (Resumes found check) may late = (covers_next found check may late, tt)
 
   -- what the next process begins with covers its state
   next_covers : (hub : Standing) (p : Process) (start : Start) → Covers (after_turn hub (beginning_by p start)).issuing.kdc (known_by (RestartAt p.at) start)
@@ -161,7 +156,7 @@ module _ (one_run : (start : Standing) (turns : List Turn) → IsOneRun start tu
   all_follow : (at : Moment) (hub : Standing) (r : Resumption) (periods : List Period) (processes : List Process) → Covers hub.issuing.kdc r
       → AreProcesses at hub r periods processes → ResumesFollow hub.issuing.kdc (events_in hub (history periods processes))
   all_follow at hub r periods [] covers lived = follows_none hub.issuing.kdc _ (life_none hub periods)
-  all_follow at hub r periods (p ∷ ps) covers (lived, up_to, may, rest) =
+  all_follow at hub r periods (p ∷ ps) covers (lived, late, may, rest) =
       let turns = flat_map turns_of periods in
       let ended = after_turns hub turns in
       let next = after_turn ended (beginning p) in
@@ -171,7 +166,7 @@ module _ (one_run : (start : Standing) (turns : List Turn) → IsOneRun start tu
       (follows_none hub.issuing.kdc (events_in hub turns) (life_none hub periods))
       (subst (λ (s : State). ResumesFollow s (turn_events ended (beginning p) ++ events_in next others)) (one_run hub turns).kdc_is
       (follows_both ended.issuing.kdc (turn_events ended (beginning p)) (events_in next others)
-      (next_with_all at hub r periods p covers lived up_to p.start refl may)
+      (next_with_all at hub r periods p covers lived p.start may late)
       (subst (λ (s : State). ResumesFollow s (events_in next others)) (turn_run ended (beginning p))
       (all_follow p.at next (known_at p) p.periods ps (next_covers ended p p.start) rest)))))
     where

@@ -13,3 +13,4 @@ pub mod Processes
 pub mod Server
 pub mod LogLaws
 pub mod InMemory
+pub mod Unrecorded

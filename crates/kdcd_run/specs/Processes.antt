@@ -14,17 +14,17 @@ use Rattle.replay.specs.declared.seen.Resumption.{Resumption}
 use Rattle.kdc_state.specs.State.{opened_state}
 use Rattle.kdc_core.specs.NewlySeen.{AreUpTo, opening_resumption}
 use Rattle.kdc_core.specs.Tickets.{RestartsFollow}
+use Rattle.kdc_core.specs.declared.run.Event.{Event as KdcEvent}
 use Rattle.kdc_hub.specs.History.{Reopened, Resumed, Turn, after_turn, after_turns, events_in, tickets_sent}
 use Rattle.kdc_hub.specs.Hub.{Standing}
 use Rattle.kdc_hub.specs.Rounds.{did_in}
 use Rattle.kdc_serving.specs.Life.{ArePeriods, Period, rounds_in, turns_of}
 use Rattle.journal.specs.Decision.{Place, start_of}
-use Rattle.journal.specs.Holding.{HoldAll}
+use Rattle.journal.specs.Holding.{IsFound, IsSafe}
+use Rattle.journal.specs.World.{World}
 use Rattle.journal.specs.declared.decision.Found.{Found}
-use Rattle.journal.specs.declared.decision.Found.TheVariants.{Whole}
 use Rattle.journal.specs.declared.decision.Start.{Start}
 use Rattle.journal.specs.declared.decision.Start.TheVariants.{Resumes, Refuses}
-use Rattle.journal.specs.declared.reading.Journal.{Journal}
 use Rattle.kdcd_run.specs.Handing.{all_seen}
 use Rattle.kdcd_run.specs.Resuming.{known_by}
 use Rattle.kdcd_run.specs.Served.{handed_in}
@@ -59,17 +59,26 @@ known_after at r periods = record {
   seen = r.seen ++ all_seen (handed_in at (flat_map did_in (rounds_in periods)));
 }
 
--- A start finds journals whose files hold all that the process before it knew, and its clock is behind nothing of them.
--- It makes of them what `start_of` says.
+-- A start reads the files that the process before it left: no start resumes with them without what that one knew. Times
+-- below `low` are too old for this one too. It makes of them what `start_of` says.
 pub record FindsAll (r : Resumption) (at : Moment) (start : Start) : Type 0 where
-  pub older : Found
-  pub newer : Journal
+  pub world : World
   pub low : ℤ
-  pub holds : HoldAll older newer low r
-  pub late : low ≤ℤ (at.sec -ℤ pos skew)
+  pub safe : IsSafe low r world
+  pub late : low ≤ℤ (known_by (Restart at) start).floor
   pub place : Place
   pub moment : place.at ≡ at
-  pub decided : start ≡ start_of place older (Whole newer)
+  pub older : Found
+  pub newer : Found
+  pub older_found : IsFound world.older older
+  pub newer_found : IsFound world.newer newer
+  pub decided : start ≡ start_of place older newer
+
+-- A start that resumes has a floor that is at most the skew before each event of the process before it. So its clock may be
+-- behind that one's, where its floor makes up for it.
+abbrev pub IsLate : Start → List KdcEvent → Type 0
+IsLate (Refuses doubt) events = ⊤
+IsLate (Resumes found check) events = (latest : ℤ) × AreUpTo latest events × ((latest -ℤ pos skew) ≤ℤ found.floor)
 
 -- A start may refuse for any reason, and it is no matter then what the journals hold. It resumes only with journals that
 -- hold all.
@@ -77,13 +86,12 @@ abbrev pub MayStart : Resumption → Moment → Start → Type 0
 MayStart r at (Refuses doubt) = ⊤
 MayStart r at (Resumes found check) = FindsAll r at (Resumes found check)
 
--- A process that started at this moment with this hub, knew this and lived so, and those that follow it. No start is
--- before an event of the process before it.
+-- A process that started at this moment with this hub, knew this and lived so, and those that follow it.
 abbrev pub AreProcesses : Moment → Standing → Resumption → List Period → List Process → Type 0
 AreProcesses at hub r periods [] = ArePeriods None hub periods
 AreProcesses at hub r periods (p ∷ ps) =
     ArePeriods None hub periods
-    × AreUpTo p.at.sec (events_in hub (flat_map turns_of periods))
+    × IsLate p.start (events_in hub (flat_map turns_of periods))
     × MayStart (known_after at r periods) p.at p.start
     × AreProcesses p.at (after_turn (after_turns hub (flat_map turns_of periods)) (beginning p)) (known_at p) p.periods ps
 

@@ -1,5 +1,5 @@
 -- How a server starts, and what its journal begins with.
-use Rattle.std.specs.Prelude.{◌≡◌, ◌||◌, not, ⊤, ℕ, ℤ, Bool, true, false, List, [], ◌∷◌, ◌++◌, length, Option, Some, None, is_some}
+use Rattle.std.specs.Prelude.{◌≡◌, ◌||◌, not, ⊤, ℕ, Bool, true, false, List, [], ◌∷◌, ◌++◌, length, Option, Some, None, is_some}
 use Rattle.std.specs.FinMap as map
 use Rattle.std.specs.Option.{option_copied}
 use Rattle.krb_fields.specs.declared.moment.Moment.{Moment}
@@ -24,7 +24,7 @@ use Rattle.kdcd_run.specs.declared.args.ServeOptions.{ServeOptions}
 use Rattle.kdcd_run.specs.declared.host.JournalBeginning.{JournalBeginning}
 use Rattle.kdcd_run.specs.declared.host.Journals.{Journals}
 use Rattle.kdcd_run.specs.declared.started.JournalFound.{JournalFound}
-use Rattle.kdcd_run.specs.declared.started.JournalFound.TheVariants.{Resumed, Doubted}
+use Rattle.kdcd_run.specs.declared.started.JournalFound.TheVariants.{Resumed, Early, Doubted}
 
 abbrev pub is_there : Found → Bool
 is_there Nothing = false
@@ -43,7 +43,8 @@ started_state rows limits opening (Refuses doubt) = opened_state rows limits ope
 
 -- what is said of it
 abbrev pub found_by : Start → JournalFound
-found_by (Resumes resumption check) = Resumed (length resumption.seen)
+found_by (Resumes resumption (Some check)) = Resumed (length resumption.seen)
+found_by (Resumes resumption None) = Early (length resumption.seen)
 found_by (Refuses doubt) = Doubted doubt
 
 -- if the options name a journal

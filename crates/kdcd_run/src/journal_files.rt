@@ -1,14 +1,14 @@
 //! The files of a journal: which process holds them, and what is found in them.
 use crate::files::{FileFault, read_at_most, read_whole};
 use crate::host::Journals;
-use crate::journal_parts::Paths;
+use crate::journal_store::SystemJournal;
 use crate::plain_files::{open_plain, open_plain_with, own_user};
-use journal::{Found, JournalFault, read_journal};
+use journal::{FileText, FilesFault, Found, Part, read_part};
 use krb_elements::Octets;
 use std::alloc::{AllocError, Global};
 use std::fs::{File, OpenOptions, TryLockError};
 use std::io;
-use std::io::{Error, ErrorKind};
+use std::io::{Error, ErrorKind, Write};
 use std::os::unix::fs::{MetadataExt, OpenOptionsExt};
 use std::rt::Files;
 
@@ -24,60 +24,47 @@ const BOOT_ID: &str = "/proc/sys/kernel/random/boot_id";
 /// The greatest length of a boot's name, in octets.
 const LONGEST_BOOT_ID: usize = 255;
 
-/// The open files of a journal. No other server uses them until these are closed.
+/// The journals at a path, and their files, which this process holds.
 #[derive(Drop)]
-pub struct HeldFiles {
-    /// The file whose lock is held.
-    pub(crate) lock: Option<File>,
-    /// The newer file, if it exists.
-    pub(crate) newer: Option<File>,
-}
-
-impl HeldFiles {
-    /// Holds no file.
-    pub fn none() -> HeldFiles {
-        HeldFiles {
-            lock: None,
-            newer: None,
-        }
-    }
-}
-
-/// The journals at a path, which this process holds.
-#[derive(Drop)]
-pub struct OpenedJournals {
+pub struct OpenedJournals<'a, F, W> {
     pub journals: Journals,
-    pub files: HeldFiles,
+    pub files: SystemJournal<'a, F, W>,
 }
 
-/// Locks the journal at a path, opens it, and reads it with the one that went before it. If something else than a journal
-/// has one of its names, it is refused, and nothing is changed.
-pub fn open_journals<F: Files<File = File>>(
+/// Opens the journal at a path, and reads it with the one that went before it. What becomes of its files is said in these
+/// lines.
+pub fn open_journals<'a, F: Files<File = File>, W: Write + Drop>(
     alloc: Global,
-    files: &F,
+    files: &'a F,
     path: &str,
-) -> Result<OpenedJournals, FileFault> {
-    let paths = Paths::new(alloc, path)?;
-    paths.check(alloc, files)?;
-    let lock = open_locked(files, paths.lock.as_str())?;
-    let newer = open_newer(files, path)?;
+    lines: W,
+) -> Result<OpenedJournals<'a, F, W>, FileFault> {
+    let mut held = SystemJournal::open(alloc, files, path, lines)?;
     let boot = boot_id(alloc, files)?;
+    let older = found(alloc, &mut held, Part::Older)?;
+    let newer = found(alloc, &mut held, Part::Newer)?;
     Ok(OpenedJournals {
-        journals: Journals {
-            boot,
-            older: found_older(alloc, files, paths.older.as_str())?,
-            newer: found_in_file(alloc, files, newer.as_ref())?,
-        },
-        files: HeldFiles {
-            lock: Some(lock),
-            newer,
-        },
+        journals: Journals { boot, older, newer },
+        files: held,
     })
+}
+
+/// Reads a file of a journal.
+fn found<F: Files<File = File>, W: Write + Drop>(
+    alloc: Global,
+    held: &mut SystemJournal<'_, F, W>,
+    part: Part,
+) -> Result<Found, FileFault> {
+    match read_part(alloc, held, part) {
+        Ok(found) => Ok(found),
+        Err(FilesFault::Files(error)) => Err(FileFault::Failed(error)),
+        Err(FilesFault::Memory | FilesFault::Unfit) => Err(FileFault::from(AllocError)),
+    }
 }
 
 /// Locks `PATH.lock`, which stays there. The system releases the lock when the process ends, however it ends. The
 /// journal's own files are renamed and replaced, so a lock of theirs would leave a gap between two of them.
-fn open_locked<F: Files<File = File>>(files: &F, path: &str) -> io::Result<File> {
+pub(crate) fn open_locked<F: Files<File = File>>(files: &F, path: &str) -> io::Result<File> {
     let mut how = OpenOptions::new();
     how.write(true).create(true).mode(OWNER_ONLY);
     let file = how.open(files, path)?;
@@ -92,7 +79,7 @@ fn open_locked<F: Files<File = File>>(files: &F, path: &str) -> io::Result<File>
 }
 
 /// Opens the file that is read and then appended to, if it exists.
-fn open_newer<F: Files<File = File>>(files: &F, path: &str) -> io::Result<Option<File>> {
+pub(crate) fn open_newer<F: Files<File = File>>(files: &F, path: &str) -> io::Result<Option<File>> {
     let mut how = OpenOptions::new();
     how.read(true).append(true);
     if_there(open_plain_with(files, &how, path))
@@ -113,40 +100,32 @@ fn boot_id<F: Files<File = File>>(alloc: Global, files: &F) -> Result<Octets, Fi
     Ok(Octets::from_slice(alloc, octets.trim_ascii())?)
 }
 
-fn found_older<F: Files<File = File>>(
+/// Reads the file at a path.
+pub(crate) fn text_at<F: Files<File = File>>(
     alloc: Global,
     files: &F,
     path: &str,
-) -> Result<Found, FileFault> {
+) -> io::Result<FileText> {
     let file = if_there(open_plain(files, path))?;
-    found_in_file(alloc, files, file.as_ref())
+    text_in(alloc, files, file.as_ref())
 }
 
-/// Reads what is in an open file. One of another user, or one that others may write, is no journal.
-fn found_in_file<F: Files<File = File>>(
+/// Reads an open file. One of another user, or one that others may write, is no journal, nor is one that is too long.
+pub(crate) fn text_in<F: Files<File = File>>(
     alloc: Global,
     files: &F,
     file: Option<&File>,
-) -> Result<Found, FileFault> {
+) -> io::Result<FileText> {
     let Some(file) = file else {
-        return Ok(Found::Nothing);
+        return Ok(FileText::Nothing);
     };
     if !is_ours(files, file)? {
-        return Ok(Found::Broken);
+        return Ok(FileText::Unusable);
     }
     match read_whole(alloc, file) {
-        Ok(text) => found_in(alloc, &text),
-        Err(FileFault::LongFile) => Ok(Found::Broken),
-        Err(fault) => Err(fault),
-    }
-}
-
-/// Reads a text as a journal.
-fn found_in(alloc: Global, text: &[u8]) -> Result<Found, FileFault> {
-    match read_journal(alloc, text) {
-        Ok(journal) => Ok(Found::Whole(journal)),
-        Err(JournalFault::Broken) => Ok(Found::Broken),
-        Err(JournalFault::Memory) => Err(FileFault::from(AllocError)),
+        Ok(text) => Ok(FileText::Octets(text)),
+        Err(FileFault::Failed(error)) => Err(error),
+        Err(_) => Ok(FileText::Unusable),
     }
 }
 

@@ -6,14 +6,11 @@ ghost use Rattle.kdc_hub.specs.Wire.{Records};
 ghost use Rattle.kdcd_run.specs.Journal.{Handed, handed_at, handed_by, is_kept, is_whole_if};
 ghost use Rattle.kdcd_run.specs.Served.{record_of};
 
+use journal::NotKept;
 use kdc_core::Seen;
 use kdc_hub::{Action, Reply};
 use krb_fields::Moment;
 use std::alloc::Global;
-
-/// An authenticator could not be kept.
-#[derive(Clone, Copy, Debug, PartialEq, Eq)]
-pub struct NotKept;
 
 /// Keeps the authenticators that enter a KDC's replay caches. It may keep a record, for contracts alone.
 pub trait JournalWriter {

@@ -9,11 +9,12 @@ ghost use Rattle.kdcd_run.specs.Journal.{Handed};
 ghost use Rattle.kdcd_run.specs.Log.{LogEntry};
 ghost use Rattle.kdcd_run.specs.Served.{IsNew};
 
-use crate::keeping::{JournalWriter, NotKept};
+use crate::keeping::JournalWriter;
 use crate::logging::LogWriter;
 use crate::record::Record;
 use crate::sockets::Sockets;
 use crate::tally::{FaultCount, Tally};
+use journal::NotKept;
 use kdc_core::{Account, Seen};
 use kdc_hub::{Action, Did, Event, MemoryWire, Peers, Wire, WireFault};
 use krb_fields::Moment;

@@ -20,6 +20,9 @@ pub struct JournalNews<'a> {
 pub enum JournalFound {
     /// It resumed with this many authenticators.
     Resumed(usize),
+    /// It resumed with this many authenticators, though its clock is behind the journal: it refuses all times up to the
+    /// latest of them.
+    Early(usize),
     /// It could not resume.
     Doubted(Doubt),
 }
@@ -30,7 +33,13 @@ impl JournalFound {
         ensures { result ≡ found_by start.now }
     {
         match start {
-            Start::Resumes { resumption, .. } => JournalFound::Resumed(resumption.seen.len()),
+            Start::Resumes { resumption, check } => {
+                let count = resumption.seen.len();
+                match check {
+                    Some(_) => JournalFound::Resumed(count),
+                    None => JournalFound::Early(count),
+                }
+            }
             Start::Refuses { doubt } => JournalFound::Doubted(*doubt),
         }
     }
@@ -76,6 +85,12 @@ fn write_news<W: fmt::Write>(f: &mut fmt::Formatter<W>, news: &JournalNews<'_>) 
             writeln!(
                 f,
                 "kdcd: journal {path}: resumed with {count} authenticators"
+            )
+        }
+        JournalFound::Early(count) => {
+            writeln!(
+                f,
+                "kdcd: journal {path}: resumed with {count} authenticators, with a clock that is behind it"
             )
         }
         JournalFound::Doubted(doubt) => writeln!(f, "kdcd: journal {path}: not resumed: {doubt}"),

@@ -63,13 +63,16 @@ const BUYS: &str = "\
     0000000000a2051b03412e42a30e300ca003020102a10530031b0168a511180f31393730303130313030303030305aa70302\
     0101a80e300c020112020111020114020113";
 
+/// Its length.
+const LENGTH: &str = "00000206";
+
 /// A login of an unknown client in a datagram. Then a TGS-REQ on a connection, whose reply the journal can't keep; and the
 /// same in a datagram. Then nothing comes.
 fn coming(alloc: Global) -> Result<VecDeque<(Moment, Event)>, Fail> {
     let mut coming = VecDeque::new(alloc);
     push(&mut coming, datagram(octets(alloc, BASIC_OF_X)?, 1001))?;
     push(&mut coming, Event::Opened { conn: 1 })?;
-    push(&mut coming, piece(alloc, &octets(alloc, BUYS)?)?)?;
+    push(&mut coming, piece(alloc)?)?;
     push(&mut coming, datagram(octets(alloc, BUYS)?, 1002))?;
     Ok(coming)
 }
@@ -96,11 +99,10 @@ fn datagram(request: Octets, port: u16) -> Event {
     Event::Datagram { peer, request }
 }
 
-/// Returns a request after its length, on a connection.
-fn piece(alloc: Global, request: &Octets) -> Result<Event, Fail> {
-    let mut piece = Vec::new(alloc);
-    piece.extend_from_slice(&(request.as_slice().len() as u32).to_be_bytes())?;
-    piece.extend_from_slice(request.as_slice())?;
+/// Returns the TGS-REQ after its length, on a connection.
+fn piece(alloc: Global) -> Result<Event, Fail> {
+    let mut piece = hex::decode(alloc, LENGTH)?;
+    piece.extend_from_slice(octets(alloc, BUYS)?.as_slice())?;
     Ok(Event::Bytes {
         conn: 1,
         piece: Octets::new(piece),

@@ -4,9 +4,10 @@ use crate::cryptography::fixtures::sized;
 use crate::expect::{are, bytes, holds, same};
 use crate::realm::fixtures::{T, at};
 use journal::{
-    Doubt, Found, JournalFault, Place, Start, WriteFault, Written, read_journal, start_of,
-    write_beginning, write_seen,
+    Doubt, Found, JournalFault, JournalFile, MemoryFiles, Part, Place, Start, WriteFault, Written,
+    read_journal, read_part, start_of, write_beginning, write_seen,
 };
+use krb_elements::Octets;
 use krb_fields::{Moment, Name};
 use replay::Seen;
 use std::alloc::{AllocError, Global};
@@ -204,13 +205,14 @@ const STARTS: &[(Where, Made)] = &[
     ((b"A.B", b"boot", T + 602), Ok((T + 302, 2))),
     ((b"A.C", b"boot", T + 2), Err(Doubt::OtherRealm)),
     ((b"A.B", b"bott", T + 2), Err(Doubt::OtherBoot)),
-    ((b"A.B", b"boot", T + 1), Err(Doubt::Later)),
-    ((b"A.B", b"boot", T - 1), Err(Doubt::Later)),
+    // The clock is behind the journal.
+    ((b"A.B", b"boot", T + 1), Ok((T + 302, 2))),
+    ((b"A.B", b"boot", T - 1), Ok((T + 301, 2))),
 ];
 
-/// Returns a journal that links to the check of the second entry.
-fn linked(alloc: Global) -> Found {
-    match begun(alloc, 650, &sized::<16>(CHECKS[2])) {
+/// Returns a journal with this floor that links to the check of the second entry.
+fn linked(alloc: Global, floor: i64) -> Found {
+    match write_beginning(alloc, &here(650), floor, &sized::<16>(CHECKS[2])) {
         Ok(written) => found(alloc, &written.text),
         Err(_) => Found::Nothing,
     }
@@ -230,7 +232,8 @@ fn a_start_resumes_or_says_why_not(rt: HostRuntime) {
         );
     }
     let shorter = found_of(alloc, &[BEGINNING, FIRST]);
-    let newer = linked(alloc);
+    let newer = linked(alloc, T + 301);
+    let lower = linked(alloc, T + 300);
     for (number, older, newer, wanted) in [
         (1, &whole, &Found::Nothing, Err(Doubt::Absent)),
         (2, &whole, &Found::Broken, Err(Doubt::Damaged)),
@@ -238,6 +241,7 @@ fn a_start_resumes_or_says_why_not(rt: HostRuntime) {
         (4, &shorter, &newer, Err(Doubt::Unlinked)),
         (5, &Found::Nothing, &newer, Err(Doubt::Unlinked)),
         (6, &Found::Broken, &newer, Err(Doubt::Unlinked)),
+        (7, &whole, &lower, Err(Doubt::Unlinked)),
     ] {
         same(&rt, &number, &made(alloc, &HERE, older, newer), &Ok(wanted));
     }
@@ -252,4 +256,117 @@ fn has_last_check(found: &Found) -> bool {
         }
         _ => false,
     }
+}
+
+/// The times of entries whose requests came 1, 2, 3 seconds after T, and how many of them may matter.
+const AGES: &[(&[i64], usize)] = &[
+    (&[T], 1),
+    (&[T - 300, T], 1),
+    (&[T - 298, T], 2),
+    (&[T - 298, T, T], 2),
+    (&[T + 300, T - 400, T - 297], 2),
+];
+
+#[test]
+fn entries_that_are_too_old_are_not_kept(rt: HostRuntime) {
+    let alloc = rt.alloc();
+    for (times, wanted) in AGES {
+        same(&rt, times, &count_of(alloc, *times), &Ok(Some(*wanted)));
+    }
+}
+
+/// Counts the entries that are kept of a journal with entries of these times.
+fn count_of(alloc: Global, times: &[i64]) -> Result<Option<usize>, AllocError> {
+    let Ok(mut journal) = begun(alloc, 0, &[]) else {
+        return Err(AllocError);
+    };
+    let mut later = 0;
+    for ctime in times {
+        later += 1;
+        let seen = Seen {
+            client: Name::new(alloc, 1, &[b"u"])?,
+            ctime: *ctime,
+            cusec: later,
+        };
+        let Ok(entry) = write_seen(alloc, &journal.check, at(later), &seen) else {
+            return Err(AllocError);
+        };
+        journal.text.extend_from_slice(&entry.text)?;
+        journal.check = entry.check;
+    }
+    count(&found(alloc, &journal.text))
+}
+
+/// How many calls on a server's files succeed, how many then fail, how many octets of an entry are there after those, and
+/// whether they leave a file half begun.
+type Failure = (u32, u32, usize, bool);
+
+/// Whether each of three authenticators was kept, and with how many the next start resumes, if it does.
+type Kept = ([bool; 3], Option<usize>);
+
+const FAILURES: &[(Failure, Kept)] = &[
+    // None fails.
+    ((0, 0, 0, false), ([true, true, true], Some(3))),
+    // The second entry is cut, and a file is begun in place of both.
+    ((2, 1, 5, false), ([true, true, true], Some(1))),
+    // It is not there, and that file is begun with the next entry only.
+    ((2, 2, 0, false), ([true, false, true], Some(0))),
+    ((2, 2, 0, true), ([true, false, true], Some(0))),
+    // The last entry is not there, and no file can be begun: the start finds what was kept before.
+    ((3, 2, 0, false), ([true, true, false], Some(2))),
+    // It is cut, and no file can be begun.
+    ((3, 2, 9, false), ([true, true, false], None)),
+];
+
+#[test]
+fn files_hold_what_was_kept(rt: HostRuntime) {
+    let alloc = rt.alloc();
+    for (failure, wanted) in FAILURES {
+        same(&rt, failure, &after(alloc, failure), &Ok(*wanted));
+    }
+}
+
+/// Keeps three authenticators while files fail, and starts again.
+fn after(alloc: Global, failure: &Failure) -> Result<Kept, AllocError> {
+    let (good, bad, cut, tears) = *failure;
+    let mut files = MemoryFiles::new();
+    files.fail(good, bad, cut, tears);
+    let realm = Octets::from_slice(alloc, b"A.B")?;
+    let boot = Octets::from_slice(alloc, b"boot")?;
+    let mut journal = JournalFile::new(files, realm, boot, T + 301, 1_000_000);
+    let absent = Start::Refuses {
+        doubt: Doubt::Absent,
+    };
+    if journal
+        .start(alloc, at(0), &absent, &Found::Nothing, 0)
+        .is_err()
+    {
+        return Err(AllocError);
+    }
+    let mut kept = [false; 3];
+    for later in 0..3 {
+        let seen = Seen {
+            client: Name::new(alloc, 1, &[b"u"])?,
+            ctime: T + 301,
+            cusec: later,
+        };
+        kept[later as usize] = journal.keep(alloc, at(301), &seen).is_ok();
+    }
+    let mut files = journal.into_files();
+    let resumed = resumed_with(alloc, &mut files)?;
+    Ok((kept, resumed))
+}
+
+/// Returns with how many authenticators a start resumes, if it does.
+fn resumed_with(alloc: Global, files: &mut MemoryFiles) -> Result<Option<usize>, AllocError> {
+    let (Ok(older), Ok(newer)) = (
+        read_part(alloc, files, Part::Older),
+        read_part(alloc, files, Part::Newer),
+    ) else {
+        return Err(AllocError);
+    };
+    Ok(match start_of(alloc, &here(302), &older, &newer)? {
+        Start::Resumes { resumption, .. } => Some(resumption.seen.len()),
+        Start::Refuses { .. } => None,
+    })
 }

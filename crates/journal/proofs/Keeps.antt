@@ -1,0 +1,190 @@
+-- What each call of a running server keeps, where the world is recorded.
+use Rattle.std.proofs.Common.{◌≡◌, inl, inr, ℕ, ℤ, true, false, List, [], ◌++◌, Option, Some, None, Result, Ok, Err, option_map, refl, sym, ap, subst}
+use Rattle.std.proofs.lemmas.List.{append-nil}
+use Rattle.std.specs.Prelude.{IfSome, is_some, is_ok}
+use Rattle.krb_fields.specs.declared.moment.Moment.{Moment}
+use Rattle.replay.specs.declared.seen.Resumption.{Resumption}
+use Rattle.replay.specs.declared.seen.Seen.{Seen}
+use Rattle.journal.specs.Appending.{AppendsPart, BeginsFile, FoundBy, FoundIn, HasKeptOne, HasMended, HasTurned, MayKeep, MayTurn, kept_by}
+use Rattle.journal.specs.Decision.{Place}
+use Rattle.journal.specs.Holding.{IsAbove, IsFound, IsKept, IsLacking, IsRaised, IsSafe, IsWhole, kept_after, with_one}
+use Rattle.journal.specs.declared.files.Part.{Part}
+use Rattle.journal.specs.World.{file_in, HasPart, IsRead, IsTorn, Leaves, World, with_file}
+use Rattle.journal.specs.declared.decision.Found.{Found}
+use Rattle.journal.specs.declared.decision.Found.TheVariants.{Nothing, Broken, Whole}
+use Rattle.journal.specs.declared.files.Begun.TheVariants.{Linked, Anew}
+use Rattle.journal.specs.declared.files.FileText.{FileText}
+use Rattle.journal.specs.declared.files.FileText.TheVariants as texts
+use Rattle.journal.specs.declared.journal_file.Tail.{Tail}
+use Rattle.journal.proofs.Held.{rises_above}
+use Rattle.journal.proofs.Worlds.{longer_safe, torn_is_safe, whole_anew, whole_one, whole_safe, whole_turned}
+
+-- no world stays none
+pub unrecorded : (new : Option World) (P : World → Type 0) → new ≡ None → IfSome new P
+unrecorded new P is = subst (λ x. IfSome x P) (sym is) tt
+
+-- ---- nothing was done
+
+pub same_part : (w : Option World) → AppendsPart w w
+same_part None = ([], refl)
+same_part (Some w) = ([], ([], [], refl, same w.newer))
+  where
+    with_newer : Option (List ℕ) → World
+    with_newer newer = record { newer = newer; older = w.older }
+
+    same : (newer : Option (List ℕ)) → with_newer newer ≡ with_newer (option_map (λ front. front ++ []) newer)
+    same None = refl
+    same (Some text) = ap (λ t. with_newer (Some t)) (sym (append-nil text))
+
+pub same_torn : (w : Option World) → Leaves IsTorn w w
+same_torn None = refl
+same_torn (Some w) = inl refl
+
+pub part_left : (text : List ℕ) (old new : Option World) → Leaves (HasPart text) old new → AppendsPart old new
+part_left text old new left = (text, left)
+
+-- ---- files take turns
+
+turned : (low : ℤ) (all : Resumption) (place : Place) (floor : Option ℤ) (tail : Tail) (old : Option World) (next : Option Tail) (new : Option World)
+    → HasTurned place floor tail old next new → IfSome old (λ w. IsWhole low all w tail.check floor) → IfSome new (λ w. IsKept low all all w next floor)
+turned low all place floor tail None (Some next) new (inl (check, same)) whole = unrecorded new _ same
+turned low all place floor tail None (Some next) new (inr file) whole = unrecorded new _ file.leaves
+turned low all place floor tail None None new torn whole = unrecorded new _ torn
+turned low all place floor tail (Some w) (Some next) new (inl (check, same)) whole =
+    subst (λ x. IfSome x (λ w. IsKept low all all w (Some next) floor)) (sym same) (refl, subst (λ c. IsWhole low all w c floor) (sym check) whole)
+turned low all place floor tail (Some w) (Some next) None (inr file) whole = absurd file.leaves
+turned low all place floor tail (Some w) (Some next) (Some n) (inr file) whole = (
+  refl,
+  subst (λ x. IsWhole low all x next.check floor) (sym file.leaves)
+      (subst (λ o. IsWhole low all (with_file Linked file.text w) next.check o) (sym file.floor_is)
+      (whole_turned low all w tail.check floor whole place file.at_floor file.floor_is file.text next.check file.begins)),
+)
+turned low all place floor tail (Some w) None None torn whole = absurd torn
+turned low all place floor tail (Some w) None (Some n) torn whole = record {
+  safe = torn_is_safe low all w n (whole_safe low all w tail.check floor whole) torn;
+  above_all_seen = whole.above_all_seen;
+}
+
+pub turned_kept : (low : ℤ) (kept all : Resumption) (place : Place) (floor : Option ℤ) (tail : Option Tail) (old : Option World) (next : Option Tail) (new : Option World)
+    → MayTurn place floor tail old next new → IfSome old (λ w. IsKept low kept all w tail floor) → IfSome new (λ w. IsKept low kept all w next floor)
+turned_kept low kept all place floor None old next new (none, same) is =
+    subst (λ x. IfSome x (λ w. IsKept low kept all w next floor)) (sym same) (subst (λ t. IfSome old (λ w. IsKept low kept all w t floor)) (sym none) is)
+turned_kept low kept all place floor (Some tail) None next new step is = subst (λ k. IfSome new (λ w. IsKept low k all w next floor)) refl (none_kept next step)
+  where
+    none_kept : (next : Option Tail) → HasTurned place floor tail None next new → IfSome new (λ w. IsKept low kept all w next floor)
+    none_kept (Some next) (inl (check, same)) = unrecorded new _ same
+    none_kept (Some next) (inr file) = unrecorded new _ file.leaves
+    none_kept None torn = unrecorded new _ torn
+turned_kept low kept all place floor (Some tail) (Some w) next new step (same, whole) =
+    subst (λ k. IfSome new (λ w. IsKept low k all w next floor)) (sym same) (turned low all place floor tail (Some w) next new step whole)
+
+-- ---- one more authenticator
+
+raised_above : (floor raised : Option ℤ) (r : Resumption) (seen : Seen) → IsRaised floor seen.ctime raised → IfSome floor (λ f. IsAbove f r)
+    → IfSome raised (λ f. IsAbove f (with_one r seen))
+raised_above floor None r seen rises is = tt
+raised_above floor (Some f) r seen (g, at, same) is = subst (λ x. IsAbove x (with_one r seen)) (sym same) (rises_above g r seen (subst (λ o. IfSome o (λ f. IsAbove f r)) at is))
+
+appended : (low : ℤ) (all : Resumption) (at : Moment) (seen : Seen) (floor raised : Option ℤ) (rises : IsRaised floor seen.ctime raised) (tail : Tail)
+    (w : World) (next : Option Tail) (new : Option World) → HasKeptOne at seen tail (Some w) next new → IsWhole low all w tail.check floor
+    → IfSome new (λ n. IsKept low (kept_after next all (with_one all seen)) (with_one all seen) n next raised)
+appended low all at seen floor raised rises tail w (Some next) None one whole = absurd one.leaves
+appended low all at seen floor raised rises tail w (Some next) (Some n) one whole = (
+  refl,
+  subst (λ x. IsWhole low (with_one all seen) x next.check raised) (sym one.leaves)
+      (whole_one low all w tail.check floor whole at seen one.more next.check one.keeps raised rises),
+)
+appended low all at seen floor raised rises tail w None None (text, left) whole = absurd left
+appended low all at seen floor raised rises tail w None (Some n) (text, (part, rest, is, left)) whole = record {
+  safe = subst (IsSafe low all) (sym left) (longer_safe low all w tail.check floor whole part);
+  above_all_seen = raised_above floor raised all seen rises whole.above_all_seen;
+}
+
+pub appended_kept : (low : ℤ) (kept all : Resumption) (at : Moment) (seen : Seen) (floor raised : Option ℤ) → IsRaised floor seen.ctime raised → (tail : Option Tail)
+    (old : Option World) (next : Option Tail) (new : Option World) → MayKeep at seen tail old next new → IfSome old (λ w. IsKept low kept all w tail floor)
+    → IfSome new (λ w. IsKept low (kept_after next kept (with_one all seen)) (with_one all seen) w next raised)
+appended_kept low kept all at seen floor raised rises None old next new (none, same) is =
+    subst (λ x. IfSome x (λ w. IsKept low (kept_after next kept (with_one all seen)) (with_one all seen) w next raised)) (sym same)
+    (subst (λ t. IfSome old (λ w. IsKept low (kept_after t kept (with_one all seen)) (with_one all seen) w t raised)) (sym none) (still old is))
+  where
+    still : (old : Option World) → IfSome old (λ w. IsKept low kept all w None floor) → IfSome old (λ w. IsKept low kept (with_one all seen) w None raised)
+    still None is = tt
+    still (Some w) is = record { safe = is.safe; above_all_seen = raised_above floor raised all seen rises is.above_all_seen }
+appended_kept low kept all at seen floor raised rises (Some tail) None next new step is = none_kept next step
+  where
+    none_kept : (next : Option Tail) → HasKeptOne at seen tail None next new → IfSome new (λ w. IsKept low (kept_after next kept (with_one all seen)) (with_one all seen) w next raised)
+    none_kept (Some next) one = unrecorded new _ one.leaves
+    none_kept None (text, left) = unrecorded new _ left
+appended_kept low kept all at seen floor raised rises (Some tail) (Some w) next new step (same, whole) =
+    subst (λ k. IfSome new (λ w. IsKept low (kept_after next k (with_one all seen)) (with_one all seen) w next raised)) (sym same)
+    (appended low all at seen floor raised rises tail w next new step whole)
+
+-- ---- another file in place of both
+
+pub begun_anew : (low : ℤ) (all : Resumption) (place : Place) (floor : Option ℤ) (next : Tail) (old new : Option World) → BeginsFile place floor [] Anew next.check old new
+    → IfSome old (λ w. IfSome floor (λ f. IsAbove f all)) → IfSome new (λ w. IsKept low all all w (Some next) floor)
+begun_anew low all place floor next None new file is = unrecorded new _ file.leaves
+begun_anew low all place floor next (Some w) None file is = absurd file.leaves
+begun_anew low all place floor next (Some w) (Some n) file is = (
+  refl,
+  subst (λ x. IsWhole low all x next.check floor) (sym file.leaves)
+      (subst (λ o. IsWhole low all (with_file Anew file.text w) next.check o) (sym file.floor_is)
+      (whole_anew low all w place file.at_floor file.text next.check (subst (λ o. IfSome o (λ f. IsAbove f all)) file.floor_is is) file.begins)),
+)
+
+lacking_above : (low : ℤ) (kept all : Resumption) (floor : Option ℤ) (old : Option World) → IfSome old (λ w. IsLacking low kept all w floor)
+    → IfSome old (λ w. IfSome floor (λ f. IsAbove f all))
+lacking_above low kept all floor None is = tt
+lacking_above low kept all floor (Some w) is = is.above_all_seen
+
+pub mended_kept : (low : ℤ) (kept all : Resumption) (place : Place) (floor : Option ℤ) (old : Option World) (next : Option Tail) (new : Option World)
+    → HasMended place floor old next new → IfSome old (λ w. IsLacking low kept all w floor) → IfSome new (λ w. IsKept low (kept_after next kept all) all w next floor)
+mended_kept low kept all place floor old (Some next) new file is = begun_anew low all place floor next old new file (lacking_above low kept all floor old is)
+mended_kept low kept all place floor None None new torn is = unrecorded new _ torn
+mended_kept low kept all place floor (Some w) None None torn is = absurd torn
+mended_kept low kept all place floor (Some w) None (Some n) torn is = record {
+  safe = torn_is_safe low kept w n is.safe torn;
+  above_all_seen = is.above_all_seen;
+}
+
+-- a journal that has kept all stays as it is
+pub whole_stays : (low : ℤ) (kept all : Resumption) (tail : Option Tail) (floor : Option ℤ) (w : Option World) → is_some tail ≡ true
+    → IfSome w (λ w. IsKept low kept all w tail floor) → IfSome w (λ w. IsKept low all all w tail floor)
+whole_stays low kept all None floor w there is = absurd cc
+whole_stays low kept all (Some tail) floor None there is = tt
+whole_stays low kept all (Some tail) floor (Some w) there (same, whole) = (refl, whole)
+
+pub none_lacks : (low : ℤ) (kept all : Resumption) (tail : Option Tail) (floor : Option ℤ) (w : Option World) → is_some tail ≡ false
+    → IfSome w (λ w. IsKept low kept all w tail floor) → IfSome w (λ w. IsLacking low kept all w floor)
+none_lacks low kept all (Some tail) floor w there is = absurd cc
+none_lacks low kept all None floor w there is = is
+
+-- what is kept after two calls, if the second succeeds where the first did
+pub kept_twice : {T E : Type 0} (first : Option Tail) (r : Result T E) (kept all : Resumption) → (is_some first ≡ true → is_ok r ≡ true)
+    → kept_by r (kept_after first kept all) all ≡ kept_by r kept all
+kept_twice first (Ok done) kept all so = refl
+kept_twice None (Err fault) kept all so = refl
+kept_twice (Some tail) (Err fault) kept all so = absurd (false_true (so refl))
+  where
+    false_true : false ≡ true → ⊥
+    false_true e = absurd cc
+
+-- ---- what is found
+
+pub is_found : (file : Option (List ℕ)) (text : FileText) (found : Found) → IsRead file text → FoundBy text found → IsFound file found
+is_found None texts.Nothing found read by = (Nothing, tt, by)
+is_found None texts.Unusable found read by = absurd read
+is_found None (texts.Octets octets) found read by = absurd read
+is_found (Some text) texts.Nothing found read by = absurd read
+is_found (Some text) texts.Unusable found read by = (Broken, tt, by)
+is_found (Some text) (texts.Octets octets) found read by = subst (λ t. IsFound (Some t) found) read (in_text found by)
+  where
+    in_text : (found : Found) → FoundIn octets.items found → IsFound (Some octets.items) found
+    in_text Nothing by = absurd by
+    in_text Broken by = (Broken, tt, refl)
+    in_text (Whole j) (all, s, is) = (Whole all, s, ap (λ k. Whole k) is)
+
+pub found_where : (w : Option World) (part : Part) (text : FileText) (found : Found) → IfSome w (λ w. IsRead (file_in part w) text) → FoundBy text found
+    → IfSome w (λ w. IsFound (file_in part w) found)
+found_where None part text found read by = tt
+found_where (Some w) part text found read by = is_found (file_in part w) text found read by

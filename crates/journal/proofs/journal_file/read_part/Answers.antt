@@ -1,0 +1,6 @@
+use Rattle.journal.proofs.Keeps.{found_where}
+use Rattle.journal.proofs.journal_file.read_part.Goals as goal
+
+pub returns-in-Ok-found_of-clause-found : goal.returns-in-Ok-found_of-clause-found
+returns-in-Ok-found_of-clause-found g c =
+    found_where (g.F.JournalFiles.world c.args.files.now) c.args.part c.in-Ok.text c.in-Ok-found_of.found c.in-Ok.ensures.read c.in-Ok-found_of.ensures

@@ -1,0 +1,107 @@
+-- What a running server does to its files.
+use Rattle.std.specs.Prelude.{◌≡◌, ◌⊎◌, ℕ, ℤ, List, [], Option, Some, None, Result, Ok, Err}
+use Rattle.krb_fields.specs.declared.moment.Moment.{Moment}
+use Rattle.replay.specs.declared.seen.Resumption.{Resumption}
+use Rattle.replay.specs.declared.seen.Seen.{Seen}
+use Rattle.journal.specs.Decision.{Place, floor_on}
+use Rattle.journal.specs.Holding.{Spells, cut}
+use Rattle.journal.specs.Keeping.{Begins, Keeps, begun}
+use Rattle.journal.specs.World.{HasPart, IsTorn, Leaves, World, with_file, with_more}
+use Rattle.journal.specs.declared.decision.Found.{Found}
+use Rattle.journal.specs.declared.decision.Found.TheVariants.{Nothing, Broken, Whole}
+use Rattle.journal.specs.declared.decision.Start.{Start}
+use Rattle.journal.specs.declared.decision.Start.TheVariants.{Resumes}
+use Rattle.journal.specs.declared.files.Begun.{Begun}
+use Rattle.journal.specs.declared.files.Begun.TheVariants.{Linked, Anew}
+use Rattle.journal.specs.declared.files.FileText.{FileText}
+use Rattle.journal.specs.declared.files.FileText.TheVariants as texts
+use Rattle.journal.specs.declared.files.NotBegun.{NotBegun}
+use Rattle.journal.specs.declared.files.NotBegun.TheVariants.{Unchanged, Torn}
+use Rattle.journal.specs.declared.journal_file.Appended.{Appended}
+use Rattle.journal.specs.declared.journal_file.Tail.{Tail}
+use Rattle.journal.specs.declared.reading.Journal.{Journal}
+
+-- ---- one call on the files
+
+-- a file was begun, with this floor and this link, and this is its check
+pub record BeginsFile (place : Place) (floor : Option ℤ) (link : List ℕ) (how : Begun) (check : List ℕ) (old new : Option World)
+    : Type 0 where
+  pub at_floor : ℤ
+  pub text : List ℕ
+  pub floor_is : floor ≡ Some at_floor
+  pub begins : Begins (begun place at_floor link) text check
+  pub leaves : Leaves (λ o n. n ≡ with_file how text o) old new
+
+-- or it was not
+abbrev pub IsLeft : {E : Type 0} → NotBegun E → Option World → Option World → Type 0
+IsLeft (Unchanged fault) old new = new ≡ old
+IsLeft (Torn fault) old new = Leaves IsTorn old new
+
+abbrev pub HasBegun : {E : Type 0} → Place → Option ℤ → List ℕ → Begun → Option World → Result Tail (NotBegun E) → Option World
+    → Type 0
+HasBegun place floor link how old (Ok tail) new = BeginsFile place floor link how tail.check old new
+HasBegun place floor link how old (Err fault) new = IsLeft fault old new
+
+-- an authenticator's entry was appended behind a check, and the next check is this
+pub record AppendsOne (check : List ℕ) (at : Moment) (seen : Seen) (next : List ℕ) (old new : Option World) : Type 0 where
+  pub more : List ℕ
+  pub keeps : Keeps check at seen more next
+  pub leaves : Leaves (λ o n. n ≡ with_more o more) old new
+
+-- or a part of some text
+abbrev pub AppendsPart : Option World → Option World → Type 0
+AppendsPart old new = (text : List ℕ) × Leaves (HasPart text) old new
+
+abbrev pub HasAppended : {E : Type 0} → List ℕ → Moment → Seen → Option World → Result Appended E → Option World → Type 0
+HasAppended check at seen old (Ok appended) new = AppendsOne check at seen appended.check old new
+HasAppended check at seen old (Err fault) new = AppendsPart old new
+
+-- ---- with the end of the file
+
+-- The server goes on in this file, or in another one, which links to it. If neither is known to be there, it has none.
+abbrev pub HasTurned : Place → Option ℤ → Tail → Option World → Option Tail → Option World → Type 0
+HasTurned place floor tail old (Some next) new =
+    ((next.check ≡ tail.check) × (new ≡ old)) ⊎ BeginsFile place floor tail.check Linked next.check old new
+HasTurned place floor tail old None new = Leaves IsTorn old new
+
+abbrev pub MayTurn : Place → Option ℤ → Option Tail → Option World → Option Tail → Option World → Type 0
+MayTurn place floor (Some tail) old next new = HasTurned place floor tail old next new
+MayTurn place floor None old next new = (next ≡ None) × (new ≡ old)
+
+abbrev pub HasKeptOne : Moment → Seen → Tail → Option World → Option Tail → Option World → Type 0
+HasKeptOne at seen tail old (Some next) new = AppendsOne tail.check at seen next.check old new
+HasKeptOne at seen tail old None new = AppendsPart old new
+
+abbrev pub MayKeep : Moment → Seen → Option Tail → Option World → Option Tail → Option World → Type 0
+MayKeep at seen (Some tail) old next new = HasKeptOne at seen tail old next new
+MayKeep at seen None old next new = (next ≡ None) × (new ≡ old)
+
+-- a file was begun in place of both
+abbrev pub HasMended : Place → Option ℤ → Option World → Option Tail → Option World → Type 0
+HasMended place floor old (Some next) new = BeginsFile place floor [] Anew next.check old new
+HasMended place floor old None new = Leaves IsTorn old new
+
+-- what was kept after a call: all, if it succeeded
+abbrev pub kept_by : {T E : Type 0} → Result T E → Resumption → Resumption → Resumption
+kept_by (Ok done) kept all = all
+kept_by (Err fault) kept all = kept
+
+-- ---- what is found
+
+-- a text is found broken only if it spells no journal
+abbrev pub FoundIn : List ℕ → Found → Type 0
+FoundIn text Nothing = ⊥
+FoundIn text Broken = (j : Journal) → Spells text j → ⊥
+FoundIn text (Whole j) = (all : Journal) × Spells text all × (j ≡ cut all)
+
+abbrev pub FoundBy : FileText → Found → Type 0
+FoundBy texts.Nothing found = found ≡ Nothing
+FoundBy texts.Unusable found = found ≡ Broken
+FoundBy (texts.Octets octets) found = FoundIn octets.items found
+
+-- The end of the newer file and the floor of a server that goes on behind what it found. Otherwise it doesn't go on.
+abbrev pub HasTail : Start → Found → Option (Tail × ℤ) → Type 0
+HasTail start newer (Some behind) =
+    (r : Resumption) × (j : Journal) × (start ≡ Resumes r (Some behind.0.check)) × (newer ≡ Whole j)
+    × (behind.1 ≡ floor_on r.floor j)
+HasTail start newer None = (r : Resumption) (check : List ℕ) (j : Journal) → start ≡ Resumes r (Some check) → newer ≡ Whole j → ⊥

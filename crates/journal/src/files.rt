@@ -1,0 +1,91 @@
+//! What a journal asks of its files.
+ghost use Rattle.std.specs.Prelude.{◌≡◌, Option, IfOk, IfSome};
+ghost use Rattle.std.specs.Result.{is_ok};
+ghost use Rattle.journal.specs.World.{Appends, BeginsAs, IsRead, Leaves, World, file_in};
+
+use crate::fault::FilesFault;
+use std::alloc::Global;
+
+/// One of the two files of a journal.
+#[derive(Clone, Copy, Debug, PartialEq, Eq)]
+pub enum Part {
+    /// The file that went before the newer one.
+    Older,
+    /// The file that is appended to.
+    Newer,
+}
+
+/// How a file is begun.
+#[derive(Clone, Copy, Debug, PartialEq, Eq)]
+pub enum Begun {
+    /// The newer file becomes the older one.
+    Linked,
+    /// There is no older one afterwards.
+    Anew,
+}
+
+/// Why a file was not begun.
+#[derive(Drop)]
+pub enum NotBegun<E> {
+    /// Both files are as they were.
+    Unchanged(E),
+    /// One of them may be gone: the newer file may be the older one now, or the older one may be removed.
+    Torn(E),
+}
+
+impl<E> NotBegun<E> {
+    /// Returns why the call failed.
+    pub fn into_fault(self) -> E {
+        match self {
+            NotBegun::Unchanged(fault) => fault,
+            NotBegun::Torn(fault) => fault,
+        }
+    }
+}
+
+/// What is read of a file.
+#[derive(Drop)]
+pub enum FileText {
+    /// There is no file.
+    Nothing,
+    /// There is one that no journal may be read from, since it is too long, or since others may write it.
+    Unusable,
+    Octets(Vec<u8>),
+}
+
+/// What is said of a journal.
+#[derive(Drop)]
+pub enum News<E> {
+    /// The files could not take turns. The journal goes on in the same file.
+    NotTurned(FilesFault<E>),
+    /// An authenticator could not be kept.
+    Lost(FilesFault<E>),
+    /// What could not be kept is made good.
+    Mended,
+}
+
+/// The two files of a journal. They may keep a record of what the files hold, for contracts alone.
+pub trait JournalFiles {
+    /// Why a call failed.
+    type Fault: Drop;
+
+    // What the files hold, if that is recorded.
+    ghost world: { Self → Option World };
+
+    /// Appends a text to the newer file.
+    fn append(&mut self, text: &[u8]) -> Result<(), Self::Fault>
+        ensures { Leaves (Appends text.now (is_ok result)) (world self.old) (world self.new) };
+
+    /// Begins a file with a text. It becomes the newer one once all of it is written.
+    fn begin(&mut self, alloc: Global, text: &[u8], how: Begun) -> Result<(), NotBegun<Self::Fault>>
+        ensures { BeginsAs how text.now result (world self.old) (world self.new) };
+
+    /// Reads a file.
+    fn read(&mut self, alloc: Global, part: Part) -> Result<FileText, Self::Fault>
+        ensures world { world self.new ≡ world self.old }
+        ensures read { IfOk result (λ text. IfSome (world self.old) (λ w. IsRead (file_in part w) text)) };
+
+    /// Says what became of the journal.
+    fn say(&mut self, news: News<Self::Fault>)
+        ensures { world self.new ≡ world self.old };
+}

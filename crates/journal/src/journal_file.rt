@@ -1,0 +1,482 @@
+//! The journal of a running server: what it appends, and when its files take turns.
+ghost use Rattle.std.specs.Prelude.{◌≡◌, ◌-ℤ◌, ℤ, pos, true, false, Option, Some, None, IfOk, IfSome, is_some};
+ghost use Rattle.std.specs.Result.{is_ok};
+ghost use Rattle.krb_fields.specs.Skew.{skew};
+ghost use Rattle.replay.specs.declared.seen.Resumption.{Resumption};
+ghost use Rattle.journal.specs.Appending.{FoundBy, HasAppended, HasBegun, HasMended, HasTail, MayKeep, MayTurn};
+ghost use Rattle.journal.specs.Appending.{FoundIn, HasKeptOne, HasTurned, kept_by};
+ghost use Rattle.journal.specs.Holding.{HasKept, IsFound, IsRaised, IsSafe, IsStart, is_whole, known_by, with_one};
+ghost use Rattle.journal.specs.Keeping.{Begins, begun};
+ghost use Rattle.journal.specs.World.{IsRead, file_in};
+
+use crate::decision::{Found, Place, Start};
+use crate::fault::{FilesFault, JournalFault, WriteFault};
+use crate::files::{Begun, FileText, JournalFiles, News, NotBegun, Part};
+use crate::keeping::{floor_on, write_beginning, write_seen};
+use crate::reading::read_journal;
+use crate::writing::Written;
+use krb_elements::Octets;
+use krb_fields::Moment;
+use replay::Seen;
+use std::alloc::{AllocError, Global};
+
+/// The journal goes on in another file more than this many seconds after the current one was begun. A server needs
+/// nothing any longer of what the first authenticators of that file were.
+const TURN: i64 = 600;
+
+/// How many seconds after a failed turn the next one is tried.
+const BETWEEN_TURNS: i64 = 60;
+
+/// An authenticator could not be kept.
+#[derive(Clone, Copy, Debug, PartialEq, Eq)]
+pub struct NotKept;
+
+/// The end of the file that is appended to.
+#[derive(Clone, Copy)]
+struct Tail {
+    /// The last check.
+    check: [u8; 16],
+    /// The last second in which this file is appended to.
+    last: i64,
+    /// How many octets may still be appended to it.
+    left: u64,
+}
+
+/// What was appended: how many octets, and the check that they end with.
+#[derive(Clone, Copy)]
+struct Appended {
+    check: [u8; 16],
+    len: u64,
+}
+
+/// The journal of a running server.
+#[derive(Drop)]
+pub struct JournalFile<F> {
+    files: F,
+    realm: Octets,
+    boot: Octets,
+    /// How many octets are appended to a file at most before the next one is begun, but for the last entry.
+    most: u64,
+    /// `None` while an authenticator could not be kept.
+    tail: Option<Tail>,
+    /// The least second that is above the time of every authenticator that was handed over, and not below the floor of the
+    /// start, if an `i64` is.
+    floor: Option<i64>,
+    /// Whether it was said that an authenticator could not be kept.
+    is_said: bool,
+}
+
+impl<F: JournalFiles> JournalFile<F> {
+    /// The journal of a server of this realm, before its start. The boot is the system's name for it, and the floor that of
+    /// the start. Its files take turns once one has this many octets.
+    pub fn new(
+        files: F,
+        realm: Octets,
+        boot: Octets,
+        floor: i64,
+        most: u64,
+    ) -> JournalFile<F>
+        ensures files { result.files ≡ files }
+        ensures realm { result.realm ≡ realm }
+        ensures boot { result.boot ≡ boot }
+        ensures tail { result.tail ≡ None }
+        ensures floor { result.floor ≡ Some floor }
+    {
+        JournalFile {
+            files,
+            realm,
+            boot,
+            most,
+            tail: None,
+            floor: Some(floor),
+            is_said: false,
+        }
+    }
+
+    /// Lets its files go.
+    pub fn into_files(self) -> F
+        ensures { result ≡ self.files }
+    {
+        self.files
+    }
+
+    /// Goes on behind the newer of the files that a start found, if it resumes so. Otherwise it begins a file, with the
+    /// floor of the start. The newer file has this many octets.
+    pub fn start(
+        &mut self,
+        alloc: Global,
+        at: Moment,
+        start: &Start,
+        newer: &Found,
+        len: u64,
+    ) -> Result<(), FilesFault<F::Fault>>
+        // The files hold all that the start knows.
+        ensures kept { IfOk result (λ _. (floor : ℤ) → self.old.floor ≡ Some floor
+            → IfSome (F.world self.old.files) (IsStart at floor newer.now start.now)
+            → HasKept F.world (at.sec -ℤ pos skew) (known_by floor start.now) (known_by floor start.now)
+            self.new.files self.new.tail self.new.floor) }
+        // And if it fails, no other start resumes without what the files held.
+        ensures safe { (low : ℤ) (r : Resumption) → IfSome (F.world self.old.files) (IsSafe low r)
+            → is_ok result ≡ false → IfSome (F.world self.new.files) (IsSafe low r) }
+    {
+        if let Some((tail, floor)) = tail_behind(start, newer, self.most.saturating_sub(len)) {
+            self.tail = Some(tail);
+            self.floor = Some(floor);
+            return Ok(());
+        }
+        let place = Place {
+            realm: self.realm.as_slice(),
+            boot: self.boot.as_slice(),
+            at,
+        };
+        match begin(
+            alloc,
+            &mut self.files,
+            &place,
+            self.floor,
+            self.most,
+            &[],
+            Begun::Anew,
+        ) {
+            Ok(tail) => {
+                self.tail = Some(tail);
+                Ok(())
+            }
+            Err(fault) => Err(fault.into_fault()),
+        }
+    }
+
+    /// Keeps an authenticator, whose request came at this moment, and whatever could not be kept before.
+    pub fn keep(&mut self, alloc: Global, at: Moment, seen: &Seen) -> Result<(), NotKept>
+        ensures kept { (low : ℤ) (kept all : Resumption)
+            → HasKept F.world low kept all self.old.files self.old.tail self.old.floor
+            → HasKept F.world low (kept_by result kept (with_one all seen.now)) (with_one all seen.now)
+            self.new.files self.new.tail self.new.floor }
+        ensures whole { is_whole self.new ≡ is_ok result }
+    {
+        let place = Place {
+            realm: self.realm.as_slice(),
+            boot: self.boot.as_slice(),
+            at,
+        };
+        let tail = turn_if_due(
+            alloc,
+            &mut self.files,
+            &place,
+            self.floor,
+            self.most,
+            self.tail,
+        );
+        let floor = raised(self.floor, seen.ctime);
+        let tail = append(alloc, &mut self.files, &mut self.is_said, at, seen, tail);
+        self.floor = floor;
+        self.tail = tail;
+        self.mend(alloc, at)
+    }
+
+    /// Keeps whatever could not be kept before.
+    pub fn mend(&mut self, alloc: Global, at: Moment) -> Result<(), NotKept>
+        ensures kept { (low : ℤ) (kept all : Resumption)
+            → HasKept F.world low kept all self.old.files self.old.tail self.old.floor
+            → HasKept F.world low (kept_by result kept all) all self.new.files self.new.tail self.new.floor }
+        ensures whole { is_whole self.new ≡ is_ok result }
+        // If there is nothing to make good, it does nothing.
+        ensures still { is_whole self.old ≡ true → is_ok result ≡ true }
+    {
+        if self.tail.is_some() {
+            return Ok(());
+        }
+        let place = Place {
+            realm: self.realm.as_slice(),
+            boot: self.boot.as_slice(),
+            at,
+        };
+        let tail = begin_anew(
+            alloc,
+            &mut self.files,
+            &mut self.is_said,
+            &place,
+            self.floor,
+            self.most,
+        );
+        self.tail = tail;
+        match tail {
+            Some(_) => Ok(()),
+            None => Err(NotKept),
+        }
+    }
+}
+
+/// Returns the end of the newer file and the floor of a server that goes on behind what its start found. `None` if it
+/// doesn't.
+fn tail_behind(start: &Start, newer: &Found, left: u64) -> Option<(Tail, i64)>
+    ensures { HasTail start.now newer.now result }
+{
+    let Start::Resumes { resumption, check } = start else {
+        return None;
+    };
+    let Some(check) = check else {
+        return None;
+    };
+    let Found::Whole(journal) = newer else {
+        return None;
+    };
+    let tail = Tail {
+        check: *check,
+        last: journal.header.at.seconds().saturating_add(TURN),
+        left,
+    };
+    Some((tail, floor_on(resumption.floor, journal)))
+}
+
+/// Begins a file with this floor and this link.
+fn begin<F: JournalFiles>(
+    alloc: Global,
+    files: &mut F,
+    place: &Place<'_>,
+    floor: Option<i64>,
+    most: u64,
+    link: &[u8],
+    how: Begun,
+) -> Result<Tail, NotBegun<FilesFault<F::Fault>>>
+    ensures { HasBegun place.now floor link.now how (F.world files.old) result (F.world files.new) }
+{
+    let written = match beginning(alloc, place, floor, link) {
+        Ok(written) => written,
+        Err(fault) => return Err(NotBegun::Unchanged(FilesFault::from(fault))),
+    };
+    match files.begin(alloc, &written.text, how) {
+        Ok(()) => Ok(Tail {
+            check: written.check,
+            last: place.at.sec.saturating_add(TURN),
+            left: most.saturating_sub(written.text.len() as u64),
+        }),
+        Err(NotBegun::Unchanged(fault)) => Err(NotBegun::Unchanged(FilesFault::Files(fault))),
+        Err(NotBegun::Torn(fault)) => Err(NotBegun::Torn(FilesFault::Files(fault))),
+    }
+}
+
+/// Writes the beginning of a file.
+fn beginning(
+    alloc: Global,
+    place: &Place<'_>,
+    floor: Option<i64>,
+    link: &[u8],
+) -> Result<Written, WriteFault>
+    ensures { IfOk result (λ w. (f : ℤ) × (floor ≡ Some f) × Begins (begun place.now f link.now) w.text.items w.check) }
+{
+    match floor {
+        Some(floor) => write_beginning(alloc, place, floor, link),
+        None => Err(WriteFault::Unfit),
+    }
+}
+
+/// Goes on in another file if that is due, and in the same one if that fails.
+fn turn_if_due<F: JournalFiles>(
+    alloc: Global,
+    files: &mut F,
+    place: &Place<'_>,
+    floor: Option<i64>,
+    most: u64,
+    tail: Option<Tail>,
+) -> Option<Tail>
+    ensures { MayTurn place.now floor tail (F.world files.old) result (F.world files.new) }
+{
+    match tail {
+        Some(tail) => {
+            if place.at.sec <= tail.last && tail.left > 0 {
+                Some(tail)
+            } else {
+                turn(alloc, files, place, floor, most, tail)
+            }
+        }
+        None => None,
+    }
+}
+
+/// Begins a file that links to the newer one, which becomes the older one.
+fn turn<F: JournalFiles>(
+    alloc: Global,
+    files: &mut F,
+    place: &Place<'_>,
+    floor: Option<i64>,
+    most: u64,
+    tail: Tail,
+) -> Option<Tail>
+    ensures { HasTurned place.now floor tail (F.world files.old) result (F.world files.new) }
+{
+    match begin(alloc, files, place, floor, most, &tail.check, Begun::Linked) {
+        Ok(next) => Some(next),
+        Err(NotBegun::Unchanged(fault)) => {
+            files.say(News::NotTurned(fault));
+            Some(Tail {
+                check: tail.check,
+                last: place.at.sec.saturating_add(BETWEEN_TURNS),
+                left: most,
+            })
+        }
+        Err(NotBegun::Torn(fault)) => {
+            files.say(News::NotTurned(fault));
+            None
+        }
+    }
+}
+
+/// Returns the least second that is not below a floor, and above a time.
+fn raised(floor: Option<i64>, ctime: i64) -> Option<i64>
+    ensures { IsRaised floor ctime result }
+{
+    let floor = floor?;
+    let above = ctime.checked_add(1)?;
+    Some(floor.max(above))
+}
+
+/// Appends the entry of an authenticator behind the end of the newer file. Returns the end then, `None` if it failed.
+fn append<F: JournalFiles>(
+    alloc: Global,
+    files: &mut F,
+    is_said: &mut bool,
+    at: Moment,
+    seen: &Seen,
+    tail: Option<Tail>,
+) -> Option<Tail>
+    ensures { MayKeep at seen.now tail (F.world files.old) result (F.world files.new) }
+{
+    match tail {
+        Some(tail) => append_behind(alloc, files, is_said, at, seen, tail),
+        None => None,
+    }
+}
+
+fn append_behind<F: JournalFiles>(
+    alloc: Global,
+    files: &mut F,
+    is_said: &mut bool,
+    at: Moment,
+    seen: &Seen,
+    tail: Tail,
+) -> Option<Tail>
+    ensures { HasKeptOne at seen.now tail (F.world files.old) result (F.world files.new) }
+{
+    match append_seen(alloc, files, at, seen, &tail.check) {
+        Ok(appended) => {
+            let check = appended.check;
+            Some(Tail {
+                check,
+                last: tail.last,
+                left: tail.left.saturating_sub(appended.len),
+            })
+        }
+        Err(fault) => {
+            say_lost(files, is_said, fault);
+            None
+        }
+    }
+}
+
+/// Appends the entry of an authenticator behind a check.
+fn append_seen<F: JournalFiles>(
+    alloc: Global,
+    files: &mut F,
+    at: Moment,
+    seen: &Seen,
+    check: &[u8; 16],
+) -> Result<Appended, FilesFault<F::Fault>>
+    ensures { HasAppended check.now at seen.now (F.world files.old) result (F.world files.new) }
+{
+    let written = match write_seen(alloc, check, at, seen) {
+        Ok(written) => written,
+        Err(fault) => return Err(FilesFault::from(fault)),
+    };
+    match files.append(&written.text) {
+        Ok(()) => Ok(Appended {
+            check: written.check,
+            len: written.text.len() as u64,
+        }),
+        Err(fault) => Err(FilesFault::Files(fault)),
+    }
+}
+
+/// Begins a file in place of both, with no link. Its floor is above all that could not be kept.
+fn begin_anew<F: JournalFiles>(
+    alloc: Global,
+    files: &mut F,
+    is_said: &mut bool,
+    place: &Place<'_>,
+    floor: Option<i64>,
+    most: u64,
+) -> Option<Tail>
+    ensures { HasMended place.now floor (F.world files.old) result (F.world files.new) }
+{
+    match begin(alloc, files, place, floor, most, &[], Begun::Anew) {
+        Ok(tail) => {
+            say_mended(files, is_said);
+            Some(tail)
+        }
+        Err(fault) => {
+            say_lost(files, is_said, fault.into_fault());
+            None
+        }
+    }
+}
+
+/// Says that an authenticator could not be kept, unless that was said.
+fn say_lost<F: JournalFiles>(files: &mut F, is_said: &mut bool, fault: FilesFault<F::Fault>)
+    ensures { F.world files.new ≡ F.world files.old }
+{
+    if !*is_said {
+        *is_said = true;
+        files.say(News::Lost(fault));
+    }
+}
+
+/// Says that the journal can be written again, if it was said that it could not.
+fn say_mended<F: JournalFiles>(files: &mut F, is_said: &mut bool)
+    ensures { F.world files.new ≡ F.world files.old }
+{
+    if *is_said {
+        *is_said = false;
+        files.say(News::Mended);
+    }
+}
+
+/// Reads a file of a journal.
+pub fn read_part<F: JournalFiles>(
+    alloc: Global,
+    files: &mut F,
+    part: Part,
+) -> Result<Found, FilesFault<F::Fault>>
+    ensures world { F.world files.new ≡ F.world files.old }
+    ensures found { IfOk result (λ found. IfSome (F.world files.old) (λ w. IsFound (file_in part w) found)) }
+{
+    let text = match files.read(alloc, part) {
+        Ok(text) => text,
+        Err(fault) => return Err(FilesFault::Files(fault)),
+    };
+    match found_of(alloc, &text) {
+        Ok(found) => Ok(found),
+        Err(AllocError) => Err(FilesFault::Memory),
+    }
+}
+
+/// Reads what was read of a file as a journal.
+pub fn found_of(alloc: Global, text: &FileText) -> Result<Found, AllocError>
+    ensures { IfOk result (FoundBy text.now) }
+{
+    match text {
+        FileText::Nothing => Ok(Found::Nothing),
+        FileText::Unusable => Ok(Found::Broken),
+        FileText::Octets(octets) => found_in(alloc, octets),
+    }
+}
+
+/// Reads a text as a journal.
+fn found_in(alloc: Global, text: &[u8]) -> Result<Found, AllocError>
+    ensures { IfOk result (FoundIn text.now) }
+{
+    match read_journal(alloc, text) {
+        Ok(journal) => Ok(Found::Whole(journal)),
+        Err(JournalFault::Broken) => Ok(Found::Broken),
+        Err(JournalFault::Memory) => Err(AllocError),
+    }
+}

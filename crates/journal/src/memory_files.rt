@@ -1,0 +1,174 @@
+//! The files of a journal in memory.
+ghost use Rattle.std.specs.Prelude.{◌≡◌, ◌++◌, List, Some, None, IfOk, OnErr, OnOk, option_map, vec_items};
+ghost use Rattle.std.specs.Result.{is_ok};
+ghost use Rattle.journal.specs.World.{Appends, BeginsAs, IsRead, IsTorn, Leaves, file_in, with_file, with_more};
+ghost use Rattle.journal.specs.MemoryWorld.{memory_world};
+
+use crate::files::{Begun, FileText, JournalFiles, News, NotBegun, Part};
+use std::alloc::{AllocError, Global};
+
+/// Why a call on files in memory failed.
+#[derive(Clone, Copy, Debug, PartialEq, Eq)]
+pub enum MemoryFault {
+    /// There was no memory, or no file to append to.
+    Memory,
+    /// It was made to fail.
+    Failed,
+}
+
+/// The files of a journal in memory, for tests: what they hold is known to contracts. Calls can be made to fail.
+#[derive(Drop)]
+pub struct MemoryFiles {
+    newer: Option<Vec<u8>>,
+    older: Option<Vec<u8>>,
+    /// How many calls that change a file succeed before some fail.
+    good: u32,
+    /// How many fail then.
+    bad: u32,
+    /// How many octets of a text a failed call appends.
+    cut: usize,
+    /// Whether a failed call leaves a file half begun.
+    tears: bool,
+}
+
+impl MemoryFiles {
+    /// Returns files that aren't there.
+    pub fn new() -> MemoryFiles
+        ensures { memory_world result ≡ record { newer = None; older = None } }
+    {
+        MemoryFiles {
+            newer: None,
+            older: None,
+            good: 0,
+            bad: 0,
+            cut: 0,
+            tears: false,
+        }
+    }
+
+    /// Makes `bad` calls fail after `good` others, of those that change a file. A text that is appended is cut after this many
+    /// octets then, and another file is left undone, or half begun.
+    pub fn fail(&mut self, good: u32, bad: u32, cut: usize, tears: bool)
+        ensures { memory_world self.new ≡ memory_world self.old }
+    {
+        self.good = good;
+        self.bad = bad;
+        self.cut = cut;
+        self.tears = tears;
+    }
+
+    /// Checks whether the next call that changes a file fails.
+    fn fails(&mut self) -> bool
+        ensures { memory_world self.new ≡ memory_world self.old }
+    {
+        if self.good > 0 {
+            self.good -= 1;
+            return false;
+        }
+        if self.bad > 0 {
+            self.bad -= 1;
+            return true;
+        }
+        false
+    }
+}
+
+impl JournalFiles for MemoryFiles {
+    type Fault = MemoryFault;
+
+    ghost world = { λ m. Some (memory_world m) };
+
+    fn append(&mut self, text: &[u8]) -> Result<(), MemoryFault> {
+        if self.fails() {
+            let (part, _) = text.split_at(self.cut.min(text.len()));
+            let _ = append_to(&mut self.newer, part);
+            return Err(MemoryFault::Failed);
+        }
+        append_to(&mut self.newer, text)
+    }
+
+    fn begin(
+        &mut self,
+        alloc: Global,
+        text: &[u8],
+        how: Begun,
+    ) -> Result<(), NotBegun<MemoryFault>> {
+        if self.fails() {
+            if self.tears {
+                tear(&mut self.newer, &mut self.older, how);
+                return Err(NotBegun::Torn(MemoryFault::Failed));
+            }
+            return Err(NotBegun::Unchanged(MemoryFault::Failed));
+        }
+        match Vec::from_slice(alloc, text) {
+            Ok(octets) => {
+                replace(&mut self.newer, &mut self.older, octets, how);
+                Ok(())
+            }
+            Err(_) => Err(NotBegun::Unchanged(MemoryFault::Memory)),
+        }
+    }
+
+    fn read(&mut self, alloc: Global, part: Part) -> Result<FileText, MemoryFault> {
+        match part {
+            Part::Older => text_of(alloc, &self.older),
+            Part::Newer => text_of(alloc, &self.newer),
+        }
+    }
+
+    fn say(&mut self, news: News<MemoryFault>)
+        ensures { memory_world self.new ≡ memory_world self.old }
+    {
+        let _ = news;
+    }
+}
+
+/// Appends a text to a file. If it fails, nothing is changed.
+fn append_to(file: &mut Option<Vec<u8>>, text: &[u8]) -> Result<(), MemoryFault>
+    ensures ok { OnOk result (option_map vec_items file.new ≡ option_map (λ front. front ++ text.now) (option_map vec_items file.old)) }
+    ensures err { OnErr result (option_map vec_items file.new ≡ option_map vec_items file.old) }
+{
+    match file {
+        Some(octets) => match octets.extend_from_slice(text) {
+            Ok(()) => Ok(()),
+            Err(AllocError) => Err(MemoryFault::Memory),
+        },
+        None => Err(MemoryFault::Memory),
+    }
+}
+
+/// Leaves a file half begun.
+fn tear(newer: &mut Option<Vec<u8>>, older: &mut Option<Vec<u8>>, how: Begun)
+    ensures { IsTorn
+        (record { newer = option_map vec_items newer.old; older = option_map vec_items older.old })
+        (record { newer = option_map vec_items newer.new; older = option_map vec_items older.new }) }
+{
+    match how {
+        Begun::Linked => *older = newer.take(),
+        Begun::Anew => *older = None,
+    }
+}
+
+/// Makes these octets the newer file.
+fn replace(newer: &mut Option<Vec<u8>>, older: &mut Option<Vec<u8>>, octets: Vec<u8>, how: Begun)
+    ensures { record { newer = option_map vec_items newer.new; older = option_map vec_items older.new }
+        ≡ with_file how octets.items (record { newer = option_map vec_items newer.old; older = option_map vec_items older.old }) }
+{
+    match how {
+        Begun::Linked => *older = newer.take(),
+        Begun::Anew => *older = None,
+    }
+    *newer = Some(octets);
+}
+
+fn text_of(alloc: Global, file: &Option<Vec<u8>>) -> Result<FileText, MemoryFault>
+    ensures { IfOk result (IsRead (option_map vec_items file.now)) }
+{
+    match file {
+        None => Ok(FileText::Nothing),
+        Some(octets) => match Vec::from_slice(alloc, octets) {
+            Ok(copy) => Ok(FileText::Octets(copy)),
+            Err(_) => Err(MemoryFault::Memory),
+        },
+    }
+}
