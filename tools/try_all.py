@@ -256,7 +256,7 @@ def parts(stock, programs):
         Part("the unit", over("try_unit.py")),
         Part("the whole way", script("whole_way.py", *way)),
         Part("the whole way by MIT's library", script("whole_way.py", *way, "--mk-req", made["mk_req"]), lambda: stock.with_krb5("mk_req")),
-        Part("README.md", over("try_readme.py")),
+        Part("README.md", over("try_readme.py")), Part("install", over("try_install.py")),
         Part("words of pages and comments", script("try_words.py")),
         Part("texts of edits", script("try_edits.py", "--stale")),
     ]

@@ -1,7 +1,8 @@
 #!/usr/bin/env python3
-"""Runs the lines of README.md that make a first realm, in an empty folder and with the built programs on the path. Then our client logs in
-and gets the ticket. If MIT's clients are on the path they do so too, and print what README.md has. Its lines of Rust, and those of
-docs/CLIENT_LIBRARY.md, must be in the programs and libraries that they show, which the gate builds.
+"""Runs the lines of README.md that serve the realm of crates/kdcd/data, by the built `kdcd` in place of `rt try`; and those that make a first
+realm, in an empty folder and with the built programs on the path. Then our client logs in to both and gets the ticket. If MIT's clients are on
+the path they do so too, and print what README.md has. Its lines of Rust, and those of docs/CLIENT_LIBRARY.md, must be in the programs and
+libraries that they show, which the gate builds.
 
     python3 tools/try_readme.py [--programs FOLDER]
 
@@ -21,6 +22,7 @@ from trial import PATIENCE, Trial, ending, free_port, programs_in
 
 TOP = pathlib.Path(__file__).resolve().parent.parent
 PORT = "8888"
+SERVICE = "host/www.example.com"
 # The files whose code the pages show.
 EXAMPLES = ("ap_whois/src/main.rt", "example_login/src/main.rt", "client_sockets/src/client.rt")
 
@@ -47,10 +49,31 @@ def check_code(trial):
         trial.note(f"the code that begins with {lines[0]}", "" if is_there else f"it is in none of {', '.join(EXAMPLES)}")
 
 
+def serve_data(trial, first, clients):
+    """Serves the realm of the first command, in a copy of its folder and at another port, for as long as the client takes."""
+    port = str(free_port())
+    folder, command = " ".join(first).replace("\\ ", "").partition(" rt try ")[::2]
+    shutil.copytree(TOP / folder.removeprefix("cd ") / "data", trial.folder / "data")
+    config = trial.folder / "data" / "krb5.conf"
+    config.write_text(config.read_text().replace(PORT, port))
+    start(trial, f"kdcd {command.partition(' -- ')[2].replace(PORT, port)}")
+    usual, trial.environment["KRB5_CONFIG"] = trial.environment["KRB5_CONFIG"], str(config)
+    trial.expect("kclient kinit alice --cache cc", 0, "=ok", given="a password\n")
+    trial.expect(f"kclient kvno {SERVICE} --cache cc --keytab data/www.keytab", 0, f"={SERVICE} kvno 1, keytab entry valid")
+    if shutil.which("kvno"):
+        log_in(trial, [f"$ {line}" for line in clients] + [f"{SERVICE}@EXAMPLE.COM: kvno = 1, keytab entry valid"])
+    trial.environment["KRB5_CONFIG"] = usual
+
+
 def make_realm(trial, lines, port):
     """Runs all lines but the last one, which starts the server."""
     *lines, serve = [line.replace(PORT, port) for line in lines]
     trial.expect(["sh", "-e"], 0, "ok", given="\n".join(lines) + "\n", what="the lines that make the realm")
+    start(trial, serve)
+
+
+def start(trial, serve):
+    """Starts the server, and waits until it listens."""
     log = open(trial.folder / "log", "wb")
     trial.start(["sh", "-c", f"exec {serve}"], stdin=subprocess.DEVNULL, stdout=log, stderr=log)
     end = time.monotonic() + PATIENCE
@@ -74,7 +97,6 @@ def log_in(trial, lines):
 
 def try_example(trial):
     """`example_login` prints when its ticket ends, in seconds since 1970; with another password why there is none."""
-    trial.expect("kadm keytab --db database --name host/www.example.com --out www.keytab", 0, "=ok")
     ran = trial.run("example_login alice host/www.example.com www.keytab", given="a password\n")
     ends = ran.out.strip()
     late = ends.isdecimal() and int(ends) > time.time()
@@ -84,6 +106,12 @@ def try_example(trial):
     trial.note("example_login says why it gets none", ran.fault(1) or f"it prints {ran.out!r}" * (not refused))
 
 
+def made(*path):
+    folder = pathlib.Path(*path)
+    folder.mkdir()
+    return folder
+
+
 def main():
     words = argparse.ArgumentParser(description=__doc__, formatter_class=argparse.RawDescriptionHelpFormatter)
     words.add_argument("--programs", default=TOP / "crates")
@@ -91,11 +119,12 @@ def main():
     realm, clients = [lines for lines in blocks("A first realm") if "kadm init" in lines[1] or lines[0].startswith("$")]
     with tempfile.TemporaryDirectory() as folder, ending():
         trial = Trial(programs_in(words.programs, ("kadm", "kdcd", "kclient", "example_login")), pathlib.Path(folder))
-        trial.folder = pathlib.Path(folder, "realm")
-        trial.folder.mkdir()
         places = [os.path.dirname(each) for each in trial.programs.values()]
         trial.environment["PATH"] = ":".join([*places, trial.environment["PATH"]])
         check_code(trial)
+        trial.folder = made(folder, "data_realm")
+        serve_data(trial, *blocks("Try it"))
+        trial.folder = made(folder, "realm")
         make_realm(trial, realm, str(free_port()))
         trial.expect("kclient kinit --name alice --cache cc", 0, "=ok", given="a password\n")
         trial.expect("kclient kvno --name host/www.example.com --cache cc", 0, "=host/www.example.com kvno 1")

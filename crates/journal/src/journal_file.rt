@@ -69,13 +69,7 @@ pub struct JournalFile<F> {
 impl<F: JournalFiles> JournalFile<F> {
     /// The journal of a server of this realm, before its start. The boot is the system's name for it, and the floor that of
     /// the start. Its files take turns once one has this many octets.
-    pub fn new(
-        files: F,
-        realm: Octets,
-        boot: Octets,
-        floor: i64,
-        most: u64,
-    ) -> JournalFile<F>
+    pub fn new(files: F, realm: Octets, boot: Octets, floor: i64, most: u64) -> JournalFile<F>
         ensures files { result.files ≡ files }
         ensures realm { result.realm ≡ realm }
         ensures boot { result.boot ≡ boot }

@@ -3,20 +3,20 @@ ghost use Rattle.std.specs.Prelude.{None};
 
 use kdc_sockets::{BindFault, SocketWire, now};
 use kdcd_run::{
-    FileFault, FileJournal, Host, JournalBeginning, JournalNews, Journals, OpenedJournals, RowsFile,
-    ServeOptions, StartNews, Started, SystemJournal, begin_journal, open_journals, open_plain,
-    read_at_most, say_rights,
+    FileFault, FileJournal, Host, JournalBeginning, JournalNews, Journals, OpenedJournals,
+    RowsFile, ServeOptions, StartNews, Started, SystemJournal, begin_journal, open_journals,
+    open_plain, read_at_most, say_rights,
 };
 use krb_fields::Moment;
 use principal_rows::Limits;
 use principals::Database;
 use ready_writer::SharedWriter;
 use std::alloc::{AllocError, Global};
+use std::io;
 use std::io::{Error, ErrorKind, Stderr, Write};
 use std::net::SocketAddr;
 use std::random::RandomSource;
 use std::time::Duration;
-use std::io;
 
 /// Standard error, whose reader may stop reading while the server goes on. All that write to it hold the same one.
 pub type Errors = SharedWriter<Stderr>;

@@ -280,9 +280,9 @@ fn count_of(alloc: Global, times: &[i64]) -> Result<Option<usize>, AllocError> {
     let Ok(mut journal) = begun(alloc, 0, &[]) else {
         return Err(AllocError);
     };
-    let mut later = 0;
+    let mut later = 0u32;
     for ctime in times {
-        later += 1;
+        later = later.wrapping_add(1);
         let seen = Seen {
             client: Name::new(alloc, 1, &[b"u"])?,
             ctime: *ctime,
