@@ -73,6 +73,7 @@ COMMANDS = {
     "kadm random": "db! name! seed types replace- existing- keep-mode-",
     "kadm drop": "db! name! version older- keep-mode-",
     "kadm policy": "db! name! field! value! keep-mode-",
+    "kadm batch": "db! keep-going- keep-mode-",
     "kadm remove": "db! name! keep-mode-",
     "kadm import": "db! name! keytab! types keep-mode-",
     "kadm list": "db! like long-",
@@ -188,6 +189,9 @@ def try_kadm(trial):
         kadm keytab --db database --name a --out a.keytab -> 0 =ok
         kadm keytab --db database --name b --out a.keytab --append -> 0 =ok
         kadm remove --db database --name b -> 0 =ok
+        kadm batch --db database <<< random --name s -> 0 =ok; line 1: random: s: added, with keys of version 1
+        kadm batch --db database --keep-going <<< remove --name s -> 0 =ok
+        kadm batch --db database <<< remove --name s -> 1 =refused Absent; line 1: remove: s: the database has no such principal; line 1: nothing was written
         kadm migrate --db database -> 0 =ok
         kadm list --db database --like c --long -> 0 =c 2 18,17,20,19 never never false 2 false
         kadm add --db database --name d --password-file pw --service --types 18 -> 0 =ok

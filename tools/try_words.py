@@ -47,7 +47,7 @@ WIDEST, WIDEST_OF_README = 120, 100
 MOST_LINES = {
     "README.md": 100, "CONTRIBUTING.md": 305, "docs/DECISIONS.md": 380, "docs/FORMATS.md": 455, "docs/MAP.md": 150, "docs/PERFORMANCE.md": 175,
     "docs/SERVICES.md": 220, "docs/PROTOCOL.md": 330, "docs/OPERATIONS.md": 435, "docs/HOSTS.md": 95,
-    "docs/ADMINISTRATION.md": 290, "docs/CLIENT.md": 230, "docs/PROMISES.md": 540,
+    "docs/ADMINISTRATION.md": 290, "docs/CLIENT.md": 230, "docs/PROMISES.md": 545,
 }
 # A link of a page, and a path of this repository that a page or a comment names.
 LINK, PATH = re.compile(r"\]\(([^)#\s]*)(?:#([^)\s]*))?\)"), re.compile(r"(?<![\w/.$-])((?:crates|docs|tools)/[\w./*-]*[\w*])")

@@ -3,6 +3,7 @@
 
 use file_store::FileStore;
 use kadm_run::{Status, kadm_run};
+use std::io::IsTerminal;
 use std::process::ExitCode;
 use std::{env, io};
 
@@ -27,5 +28,14 @@ fn run(rt: &HostRuntime) -> io::Result<Status> {
     let alloc = rt.alloc();
     let args: Vec<String> = env::args(rt)?.collect(alloc)?;
     let mut store = FileStore::new(rt);
-    Ok(kadm_run(alloc, args.as_slice(), &mut store, rt.stdout(), rt.stderr()))
+    let errors = rt.stderr();
+    let watched = errors.is_terminal();
+    Ok(kadm_run(
+        alloc,
+        args.as_slice(),
+        watched,
+        &mut store,
+        rt.stdout(),
+        errors,
+    ))
 }

@@ -1,4 +1,6 @@
+mod Batching
 mod Doing
+mod Ending
 mod Imports
 mod Older
 mod Paths

@@ -1,12 +1,13 @@
-//! The commands that make a database, or change one without new keys.
+//! A new database, and changes of one without new keys.
 ghost use Rattle.std.specs.Prelude.{◌≡◌, IfOk, IsFalse, OnOk, OnErr, false, true};
 ghost use Rattle.principals.specs.Database.{tgs_principal};
 ghost use Rattle.principals.specs.declared.change.RowChange.TheVariants as row_changes;
 ghost use Rattle.kadm_run.specs.Denying.{migrated_rows};
 ghost use Rattle.kadm_run.specs.Granting.{IsChanged, IsPolicySet, IsValueOf, Makes, denies_tickets};
-ghost use Rattle.kadm_run.specs.Worlds.{Changed, MadeNew, MadeRealm, Migrated, path_of};
+ghost use Rattle.kadm_run.specs.Words.{path_of};
+ghost use Rattle.kadm_run.specs.Worlds.{MadeNew, MadeRealm};
 
-use crate::databases::{apply, lock_database, open_database, write_database};
+use crate::databases::{apply, lock_database, write_database};
 use crate::denying::deny_users;
 use crate::granting::drop_older;
 use crate::order::{ChangeArgs, Order};
@@ -53,34 +54,17 @@ fn make_new_realm<'p, T: Store, E: Write>(
         (path_of seed.entry) (T.world store.new)) }
     ensures kept { OnErr result (T.world store.new ≡ T.world store.old) }
 {
-    lock_database(alloc, order, store, errors)?;
+    let locked = lock_database(alloc, order.db, store, errors)?;
     if has_file(store, order.db)? {
         return Err(Stop::Refused(Reason::FileExists));
     }
     let keys = random_keys(alloc, &order.etypes, read_or_draw_seed(alloc, store, seed)?)?;
     let database = Database::first(alloc, realm.as_slice(), keys)?;
-    write_database(alloc, store, order, &database)
+    write_database(alloc, store, &locked, &database, order.keep_mode)
 }
 
-/// Changes a principal, and writes the database. A refused change writes nothing.
-pub(crate) fn change<'p, T: Store, E: Write>(
-    alloc: Global,
-    order: &Order<'p>,
-    store: &mut T,
-    errors: &mut E,
-    name: &str,
-    how: ChangeArgs<'_>,
-) -> Result<(), Stop<'p>>
-    ensures done { OnOk result (Changed (T.world store.old) order.now.db.now name.now how.entry (T.world store.new)) }
-    ensures kept { OnErr result (T.world store.new ≡ T.world store.old) }
-{
-    let who = Name::from_text(alloc, name)?;
-    let mut database = open_database(alloc, order, store, errors)?;
-    change_row(alloc, store, &mut database, &who, how)?;
-    write_database(alloc, store, order, &database)
-}
-
-fn change_row<T: Store>(
+/// Changes the row of a principal, without new keys.
+pub(crate) fn change<T: Store>(
     alloc: Global,
     store: &mut T,
     database: &mut Database,
@@ -185,25 +169,8 @@ fn setting<T: Store>(store: &mut T, field: &str, value: &str) -> Result<Setting,
     }
 }
 
-/// Writes the database in the current version of the format.
-pub(crate) fn migrate<'p, T: Store, E: Write>(
-    alloc: Global,
-    order: &Order<'p>,
-    store: &mut T,
-    errors: &mut E,
-    users_are_no_services: bool,
-) -> Result<(), Stop<'p>>
-    ensures done { OnOk result
-        (Migrated (T.world store.old) order.now.db.now users_are_no_services (T.world store.new)) }
-    ensures kept { OnErr result (T.world store.new ≡ T.world store.old) }
-{
-    let mut database = open_database(alloc, order, store, errors)?;
-    migrate_rows(alloc, &mut database, users_are_no_services)?;
-    write_database(alloc, store, order, &database)
-}
-
 /// Sets what older versions of the format lack: whether tickets for users are allowed.
-fn migrate_rows(
+pub(crate) fn migrate_rows(
     alloc: Global,
     database: &mut Database,
     users_are_no_services: bool,

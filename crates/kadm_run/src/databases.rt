@@ -4,7 +4,6 @@ ghost use Rattle.file_store.specs.World.{with_file};
 ghost use Rattle.kadm_run.specs.Granting.{Makes};
 ghost use Rattle.kadm_run.specs.Worlds.{HoldsDatabase, with_database};
 
-use crate::order::Order;
 use crate::reason::Reason;
 use crate::stop::Stop;
 use file_store::{Store, lock_file, read_at_most, update_file, update_private_file};
@@ -21,26 +20,33 @@ const LOOKS: u32 = 100;
 /// How many checks a command makes before it reports that it waits.
 const QUIET_LOOKS: u32 = 10;
 
+/// A database that this command has locked. Only `lock_database` makes one, and who writes a database needs it.
+#[derive(Clone, Copy)]
+pub(crate) struct Locked<'p> {
+    path: &'p str,
+}
+
 /// Keeps other commands from the database until this one is done. Waits at most ten seconds for another one.
 pub(crate) fn lock_database<'p, T: Store, E: Write>(
     alloc: Global,
-    order: &Order<'p>,
+    db: &'p str,
     store: &mut T,
     errors: &mut E,
-) -> Result<(), Stop<'p>>
+) -> Result<Locked<'p>, Stop<'p>>
+    ensures locked { IfOk result (λ locked. locked.path.now ≡ db.now) }
     ensures kept { T.world store.new ≡ T.world store.old }
 {
     for looks in 0..LOOKS {
-        if lock_file(alloc, store, order.db)? {
-            return Ok(());
+        if lock_file(alloc, store, db)? {
+            return Ok(Locked { path: db });
         }
         if looks == QUIET_LOOKS {
             report_waiting(errors);
         }
         store.pause();
     }
-    if lock_file(alloc, store, order.db)? {
-        Ok(())
+    if lock_file(alloc, store, db)? {
+        Ok(Locked { path: db })
     } else {
         Err(Stop::Refused(Reason::Locked))
     }
@@ -50,20 +56,6 @@ pub(crate) fn lock_database<'p, T: Store, E: Write>(
 fn report_waiting<E: Write>(errors: &mut E) {
     let _ = writeln!(errors, "kadm: waiting for another kadm to finish");
     let _ = errors.flush();
-}
-
-/// Locks the database, and reads it.
-pub(crate) fn open_database<'p, T: Store, E: Write>(
-    alloc: Global,
-    order: &Order<'p>,
-    store: &mut T,
-    errors: &mut E,
-) -> Result<Database, Stop<'p>>
-    ensures read { IfOk result (λ database. HoldsDatabase (T.world store.old) order.now.db.now database) }
-    ensures kept { T.world store.new ≡ T.world store.old }
-{
-    lock_database(alloc, order, store, errors)?;
-    read_database(alloc, store, errors, order.db)
 }
 
 /// Reads the current database. If its text is refused, reports where it is wrong.
@@ -102,18 +94,19 @@ fn report_place<E: Write>(alloc: Global, errors: &mut E, db: &str, text: &str, f
     }
 }
 
-/// Writes the database.
+/// Writes a database that is locked.
 pub(crate) fn write_database<'p, T: Store>(
     alloc: Global,
     store: &mut T,
-    order: &Order<'p>,
+    locked: &Locked<'p>,
     database: &Database,
+    keep_mode: bool,
 ) -> Result<(), Stop<'p>>
-    ensures written { OnOk result (T.world store.new ≡ with_database order.now.db.now database.now (T.world store.old)) }
+    ensures written { OnOk result (T.world store.new ≡ with_database locked.now.path.now database.now (T.world store.old)) }
     ensures kept { OnErr result (T.world store.new ≡ T.world store.old) }
 {
     let text = principals_text::write(alloc, database)?;
-    change_file(alloc, store, order.db, text.as_bytes(), order.keep_mode)
+    change_file(alloc, store, locked.path, text.as_bytes(), keep_mode)
 }
 
 /// Writes a file in place of the one there, whose owner and group it keeps, and its mode if `keep_mode` says so.

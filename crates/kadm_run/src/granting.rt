@@ -1,4 +1,4 @@
-//! The commands that give a principal new keys.
+//! New keys for a principal.
 ghost use Rattle.std.specs.Prelude.{◌≡◌, IfNone, IfOk, IfSome, None, OnOk, OnErr, Some, is_some, map};
 ghost use Rattle.std.specs.FinMap as finite;
 ghost use Rattle.krb_fields.specs.Salt.{default_salt};
@@ -7,12 +7,12 @@ ghost use Rattle.principal_rows.specs.declared.row.Row as rows;
 ghost use Rattle.principals.specs.declared.change.RowChange.TheVariants as row_changes;
 ghost use Rattle.kadm_run.specs.Granting.{IsCleared, IsGiven, IsGranted, IsOlderDropped, IsReplaced, IsUserAdded};
 ghost use Rattle.kadm_run.specs.Granting.{Makes, older_numbers, password_expiry};
-ghost use Rattle.kadm_run.specs.Worlds.{GavePassword, GaveRandom};
+ghost use Rattle.kadm_run.specs.Updates.{GivesPassword, GivesRandom};
+ghost use Rattle.kadm_run.specs.Words.{path_of};
 
-use crate::databases::{apply, open_database, write_database};
-use crate::denying::{deny_service, is_user};
-use crate::order::{Grant, KeyChange, Order, PasswordGrant, RandomGrant};
-use crate::passwords::new_password;
+use crate::databases::apply;
+use crate::denying::deny_service;
+use crate::order::{Grant, KeyChange, RandomGrant};
 use crate::stop::Stop;
 use crate::values::is_past;
 use enctypes::Etype;
@@ -22,51 +22,41 @@ use principal_keys::{password_keys, random_keys};
 use principal_rows::{KeyList, KeyVersion, Policy};
 use principals::{ChangeFault, Database, RowChange};
 use std::alloc::{AllocError, Global};
-use std::io::Write;
 
-/// Gives a principal the keys of a password. It reads the password before it locks the database.
-pub(crate) fn grant_password<'p, T: Store, E: Write>(
+/// Gives a principal the keys of a password.
+pub(crate) fn give_password<'p, T: Store>(
     alloc: Global,
-    order: &Order<'p>,
     store: &mut T,
-    errors: &mut E,
-    to: PasswordGrant<'p>,
+    database: &mut Database,
+    etypes: &[Etype],
+    who: &Name,
+    grant: Grant,
+    pass: &[u8],
 ) -> Result<(), Stop<'p>>
-    ensures done { OnOk result (GavePassword (T.world store.old) order.now.db.now order.now.etypes.items to.entry (T.world store.new)) }
-    ensures kept { OnErr result (T.world store.new ≡ T.world store.old) }
+    ensures given { OnOk result (GivesPassword (T.world store.old) etypes.now pass.now grant who.now.components database.old database.new) }
+    ensures kept { T.world store.new ≡ T.world store.old }
 {
-    let who = Name::from_text(alloc, to.name)?;
-    let pass = new_password(alloc, order, store, errors, to.name, to.password)?;
-    let mut database = open_database(alloc, order, store, errors)?;
-    let keys = keys_of(alloc, &order.etypes, &pass, &who, &database)?;
-    give(alloc, &mut database, &who, keys, to.grant)?;
-    let cleared = clear_expiry(alloc, store, &mut database, &who)?;
-    write_database(alloc, store, order, &database)?;
-    if cleared {
-        report_cleared(errors, to.name);
-    }
-    Ok(())
+    let keys = keys_of(alloc, etypes, pass, who, database)?;
+    give(alloc, database, who, keys, grant)?;
+    clear_expiry(alloc, store, database, who)
 }
 
 /// Gives a principal random keys.
-pub(crate) fn grant_random<'p, T: Store, E: Write>(
+pub(crate) fn give_random<'p, T: Store>(
     alloc: Global,
-    order: &Order<'p>,
     store: &mut T,
-    errors: &mut E,
+    database: &mut Database,
+    etypes: &[Etype],
+    who: &Name,
     to: RandomGrant<'p>,
 ) -> Result<(), Stop<'p>>
-    ensures done { OnOk result (GaveRandom (T.world store.old) order.now.db.now order.now.etypes.items to.entry (T.world store.new)) }
-    ensures kept { OnErr result (T.world store.new ≡ T.world store.old) }
+    ensures given { OnOk result (GivesRandom (T.world store.old) etypes.now (path_of to.entry.seed) to.entry.grant who.now.components
+        database.old database.new) }
+    ensures kept { T.world store.new ≡ T.world store.old }
 {
-    let who = Name::from_text(alloc, to.name)?;
-    let mut database = open_database(alloc, order, store, errors)?;
     let seed = read_or_draw_seed(alloc, store, to.seed)?;
-    let keys = random_keys(alloc, &order.etypes, seed)?;
-    give(alloc, &mut database, &who, keys, to.grant)?;
-    write_database(alloc, store, order, &database)?;
-    report_version(errors, to, &database, &who);
-    Ok(())
+    let keys = random_keys(alloc, etypes, seed)?;
+    Ok(give(alloc, database, who, keys, to.grant)?)
 }
 
 /// Derives the keys of a password, with the principal's default salt.
@@ -201,28 +191,27 @@ fn numbers_of(alloc: Global, versions: &[KeyVersion]) -> Result<Vec<u32>, AllocE
     Ok(numbers)
 }
 
-/// Clears a `password_expires` that is past, and returns whether it was.
+/// Clears a `password_expires` that is past.
 fn clear_expiry<'p, T: Store>(
     alloc: Global,
     store: &mut T,
     database: &mut Database,
     who: &Name,
-) -> Result<bool, Stop<'p>>
+) -> Result<(), Stop<'p>>
     ensures cleared { OnOk result (IsCleared (T.world store.old) who.now.components database.old database.new) }
     ensures kept { T.world store.new ≡ T.world store.old }
 {
     let Some((policy, expires)) = expiring(database, who) else {
-        return Ok(false);
+        return Ok(());
     };
     if !is_past(expires, read_clock(store)?) {
-        return Ok(false);
+        return Ok(());
     }
     let policy = Policy {
         password_expires: None,
         ..policy
     };
-    apply(alloc, database, who, RowChange::SetPolicy(policy))?;
-    Ok(true)
+    Ok(apply(alloc, database, who, RowChange::SetPolicy(policy))?)
 }
 
 /// Returns the policy of a principal whose password expires, and when it does.
@@ -237,53 +226,5 @@ fn expiring(database: &Database, who: &Name) -> Option<(Policy, Second)>
     match row.policy.password_expires {
         Some(expires) => Some((row.policy, expires)),
         None => None,
-    }
-}
-
-/// Reports that `password_expires` was cleared, if that can be written.
-fn report_cleared<E: Write>(errors: &mut E, name: &str) {
-    let _ = writeln!(
-        errors,
-        "kadm: {name}: password_expires was past; it is now never"
-    );
-}
-
-/// Reports the key version of a principal that got random keys.
-fn report_version<E: Write>(errors: &mut E, to: RandomGrant<'_>, database: &Database, who: &Name) {
-    let Some(row) = database.get(who) else {
-        return;
-    };
-    let number = row.versions.current().number;
-    let name = to.name;
-    let _ = match to.grant {
-        Grant::New | Grant::NewUser => Ok(()),
-        _ if number == 1 => {
-            writeln!(
-                errors,
-                "kadm: {name}: added, with keys of version 1{}",
-                warning(who)
-            )
-        }
-        Grant::Replace => {
-            writeln!(
-                errors,
-                "kadm: {name}: has new keys, version {number}; older versions are dropped"
-            )
-        }
-        Grant::Next | Grant::Either => {
-            writeln!(
-                errors,
-                "kadm: {name}: has new keys, version {number}; older versions stay"
-            )
-        }
-    };
-}
-
-/// Returns what to say of a new service of a host, whose name may have a typing error.
-fn warning(who: &Name) -> &'static str {
-    if is_user(who) {
-        ""
-    } else {
-        "; `--existing` refuses a name that the database doesn't have"
     }
 }

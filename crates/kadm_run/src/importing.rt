@@ -1,12 +1,10 @@
 //! The command that adds a principal with its keys from a keytab, in all their versions.
-ghost use Rattle.std.specs.Prelude.{◌≡◌, ◌∷◌, ◌&&◌, IfOk, OnErr, OnOk};
+ghost use Rattle.std.specs.Prelude.{◌≡◌, ◌∷◌, ◌&&◌, IfOk, OnOk};
 ghost use Rattle.cred_files.specs.Keytab.{is_of};
 ghost use Rattle.kadm_run.specs.Importing.{AreTaken, AreVersionsOf, HasVersions, Imports, greater, is_below, key_at};
 ghost use Rattle.kadm_run.specs.Importing.{keys_at, next_number, with_version};
-ghost use Rattle.kadm_run.specs.Worlds.{Imported};
+ghost use Rattle.kadm_run.specs.Updates.{IsImported};
 
-use crate::databases::{open_database, write_database};
-use crate::order::{ImportOrder, Order};
 use crate::reason::Reason;
 use crate::stop::Stop;
 use cred_files::{Keytab, KeytabEntry};
@@ -16,24 +14,21 @@ use krb_fields::Name;
 use principal_rows::{KeyList, KeyVersion, Versions};
 use principals::{ChangeFault, Database};
 use std::alloc::{AllocError, Global};
-use std::io::Write;
 
 /// Adds a principal with its keys from a keytab.
-pub(crate) fn import<'p, T: Store, E: Write>(
+pub(crate) fn import<'p, T: Store>(
     alloc: Global,
-    order: &Order<'p>,
     store: &mut T,
-    errors: &mut E,
-    to: ImportOrder<'p>,
+    database: &mut Database,
+    etypes: &[Etype],
+    who: &Name,
+    keytab: &'p str,
 ) -> Result<(), Stop<'p>>
-    ensures done { OnOk result (Imported (T.world store.old) order.now.db.now order.now.etypes.items to.entry (T.world store.new)) }
-    ensures kept { OnErr result (T.world store.new ≡ T.world store.old) }
+    ensures imported { OnOk result (IsImported (T.world store.old) etypes.now keytab.now who.now.components database.old database.new) }
+    ensures kept { T.world store.new ≡ T.world store.old }
 {
-    let who = Name::from_text(alloc, to.name)?;
-    let mut database = open_database(alloc, order, store, errors)?;
-    let versions = read_versions(alloc, store, to.keytab, &database, &who, &order.etypes)?;
-    add_imported(alloc, &mut database, &who, versions)?;
-    write_database(alloc, store, order, &database)
+    let versions = read_versions(alloc, store, keytab, database, who, etypes)?;
+    Ok(add_imported(alloc, database, who, versions)?)
 }
 
 /// Adds a principal with these versions of its keys.

@@ -4,7 +4,7 @@ ghost use Rattle.file_store.specs.World.{IsRead, IsThere, with_file};
 ghost use Rattle.kadm_run.specs.Keytabs.{IsBehind, IsFreePath, IsKeytabFor, IsKeytabStart, IsNewKeytab, IsOldKeytab, entry_of, lock_of};
 ghost use Rattle.kadm_run.specs.Worlds.{WroteKeytab};
 
-use crate::databases::{change_file, open_database};
+use crate::databases::{change_file, lock_database, read_database};
 use crate::joining::joined;
 use crate::order::{KeytabOrder, Order};
 use crate::reason::Reason;
@@ -37,7 +37,8 @@ pub(crate) fn write_keytab<'p, T: Store, E: Write>(
     ensures kept { OnErr result (T.world store.new ≡ T.world store.old) }
 {
     let name = Name::from_text(alloc, to.name)?;
-    let database = open_database(alloc, order, store, errors)?;
+    lock_database(alloc, order.db, store, errors)?;
+    let database = read_database(alloc, store, errors, order.db)?;
     check_path(alloc, store, to.out)?;
     let octets = new_octets(alloc, store, &database, &name, to)?;
     put_octets(alloc, store, order, to, &octets)

@@ -3,6 +3,7 @@
 //! `kadm_run` takes the words of one command line and does what they say with the files of a `Store`.
 #![tactic(auto)]
 
+mod batch;
 mod changes;
 mod databases;
 mod denying;
@@ -10,6 +11,7 @@ mod granting;
 mod importing;
 mod joining;
 mod keytabs;
+mod line_words;
 mod linting;
 mod listing;
 mod order;
@@ -20,7 +22,10 @@ mod reason;
 mod run;
 mod status;
 mod stop;
+mod updates;
+mod usage;
 mod values;
+mod words;
 
 pub use run::kadm_run;
 pub use status::Status;

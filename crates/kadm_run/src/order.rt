@@ -1,8 +1,12 @@
 //! Parses a command line into an order.
-ghost use Rattle.std.specs.Prelude.{◌≡◌};
+ghost use Rattle.std.specs.Prelude.{◌≡◌, IfOk, IfSome, Some, codes};
 ghost use Rattle.kadm_run.specs.Granting.{key_change};
+ghost use Rattle.kadm_run.specs.Words.{IsChangeSpelled, IsPasswordGrant, IsPrintSpelled, IsRandomGrant, IsRowSpelled};
+ghost use Rattle.kadm_run.specs.Words.{IsTaskSpelled, IsUpdateSpelled, IsWorkSpelled, Spells, command_of, path_of};
+ghost use Rattle.kadm_run.specs.Words.{texts, value_of};
 
 use crate::values::{accepted_by, is_setting};
+use crate::words::{DB, command_of, has_flag, value_of};
 use clap::error::Error;
 use clap::{ArgMatches, Command};
 use command_options::{FlagRow, OptionRow, SubcommandRow, Times, with_subcommands};
@@ -60,35 +64,47 @@ pub(crate) enum Work<'a> {
         realm: &'a str,
         seed: Option<&'a str>,
     },
-    /// Gives a principal the keys of a password.
-    Password(PasswordGrant<'a>),
-    /// Gives a principal random keys.
-    Random(RandomGrant<'a>),
-    /// Changes a principal, without new keys.
-    Change {
-        name: &'a str,
-        how: ChangeArgs<'a>,
+    /// Changes a database.
+    Update(Update<'a>),
+    /// Changes a database by the lines of standard input, in one write. If it keeps going, a line that is not done
+    /// leaves the others.
+    Batch {
+        keep_going: bool,
     },
     Keytab(KeytabOrder<'a>),
-    /// Adds a principal with keys from a keytab.
-    Import(ImportOrder<'a>),
-    Migrate {
-        users_are_no_services: bool,
-    },
 }
 
-/// The principal that gets the keys of a password.
+/// How a database is changed.
+#[derive(Clone, Copy)]
+pub(crate) enum Update<'a> {
+    /// Changes the row of one principal, or adds it.
+    Row { name: &'a str, how: RowUpdate<'a> },
+    Migrate { users_are_no_services: bool },
+}
+
+/// How the row of a principal is changed.
+#[derive(Clone, Copy)]
+pub(crate) enum RowUpdate<'a> {
+    /// Gives the principal the keys of a password.
+    Password(PasswordGrant<'a>),
+    /// Gives the principal random keys.
+    Random(RandomGrant<'a>),
+    /// Adds the principal with keys from a keytab.
+    Import { keytab: &'a str },
+    /// Changes the row without new keys.
+    Change(ChangeArgs<'a>),
+}
+
+/// The keys of a password, and who gets them.
 #[derive(Clone, Copy)]
 pub(crate) struct PasswordGrant<'a> {
-    pub name: &'a str,
     pub password: PasswordArgs<'a>,
     pub grant: Grant,
 }
 
-/// The principal that gets random keys.
+/// Random keys, and who gets them.
 #[derive(Clone, Copy)]
 pub(crate) struct RandomGrant<'a> {
-    pub name: &'a str,
     pub seed: Option<&'a str>,
     pub grant: Grant,
 }
@@ -99,13 +115,6 @@ pub(crate) struct KeytabOrder<'a> {
     pub name: &'a str,
     pub out: &'a str,
     pub append: bool,
-}
-
-/// The principal to add, and the keytab with its keys.
-#[derive(Clone, Copy)]
-pub(crate) struct ImportOrder<'a> {
-    pub name: &'a str,
-    pub keytab: &'a str,
 }
 
 /// Where a password comes from.
@@ -200,56 +209,56 @@ const NO_SOURCE: &str = "--random makes random keys: leave out --password-file a
 const NO_TYPES: &str = "\
 --types takes the numbers 18, 17, 20 and 19, each at most once, separated by commas";
 
+/// What a line of a batch must not have.
+pub(crate) const NO_MODE: &str = "--keep-mode is an option of batch itself, and not of its lines";
+
 const NO_COMMAND: &str = "give a command; 'kadm --help' lists them";
 
-/// Parses the command line, whose first word is the program's name.
-pub(crate) fn read_args<'a, S: AsStr>(
-    alloc: Global,
-    args: &'a [S],
-) -> Result<ArgMatches<'a>, Error> {
+/// Parses the command line, whose first word is the program's name. Its values are then where `value_of` finds them: the
+/// parser takes no word that begins with `--` as a value, and no option twice.
+pub(crate) fn read_args<'a>(alloc: Global, words: &'a [&'a str]) -> Result<ArgMatches<'a>, Error> {
     let kadm = Command::new(alloc, "kadm")
         .about("Makes, changes and lists the database of a Kerberos realm")
         .after_help(EXAMPLE);
-    with_subcommands(alloc, kadm, SUBCOMMANDS)?.try_get_matches_from(args)
+    with_subcommands(alloc, kadm, SUBCOMMANDS)?.try_get_matches_from(words)
 }
 
-/// Returns the order that the command line gives.
-pub(crate) fn read_order<'a>(
-    alloc: Global,
-    matches: &ArgMatches<'a>,
-) -> Result<Order<'a>, OrderFault<'a>> {
-    let Some((sub, args)) = matches.subcommand() else {
+/// Returns the order that the words give.
+pub(crate) fn read_order<'a>(alloc: Global, words: &[&'a str]) -> Result<Order<'a>, OrderFault<'a>>
+    ensures { IfOk result (λ order. Spells (texts words.now) order) }
+{
+    let (Some(command), Some(db)) = (command_of(words), value_of(words, DB)) else {
         return Err(OrderFault::BadValue(NO_COMMAND));
     };
-    let etypes = match read_key_types(alloc, args) {
+    let etypes = match read_key_types(alloc, words) {
         Ok(etypes) => etypes,
         Err(EtypesFault::Form) => return Err(OrderFault::BadValue(NO_TYPES)),
         Err(EtypesFault::Memory) => return Err(OrderFault::Memory),
     };
-    match task_of(sub, args) {
-        Some((db, task)) => Ok(Order {
+    match task_of(command, words) {
+        Some(task) => Ok(Order {
             db,
             task,
             etypes,
-            keep_mode: args.get_flag(KEEP_MODE),
+            keep_mode: has_flag(words, "--keep-mode"),
         }),
-        None => Err(fault_of(sub, args)),
+        None => Err(fault_of(command, words)),
     }
 }
 
 /// Returns which option is wrong.
-fn fault_of<'a>(sub: &str, args: &ArgMatches<'a>) -> OrderFault<'a> {
-    match sub {
+fn fault_of<'a>(command: &str, words: &[&'a str]) -> OrderFault<'a> {
+    match command {
         "add" => OrderFault::BadValue(NO_SOURCE),
         "drop" => OrderFault::BadValue(NO_VERSION),
         "keytab" => OrderFault::BadValue(NO_KEYTAB),
-        "policy" => policy_fault(args),
+        "policy" => policy_fault(words),
         _ => OrderFault::BadValue(NO_COMMAND),
     }
 }
 
-fn policy_fault<'a>(args: &ArgMatches<'a>) -> OrderFault<'a> {
-    let (Some(field), Some(value)) = (args.get_str("field"), args.get_str("value")) else {
+fn policy_fault<'a>(words: &[&'a str]) -> OrderFault<'a> {
+    let (Some(field), Some(value)) = (value_of(words, "--field"), value_of(words, "--value")) else {
         return OrderFault::BadValue(NO_COMMAND);
     };
     if accepted_by(field).is_none() {
@@ -259,98 +268,131 @@ fn policy_fault<'a>(args: &ArgMatches<'a>) -> OrderFault<'a> {
 }
 
 /// Returns the encryption types of the new keys: all four by default.
-fn read_key_types(alloc: Global, args: &ArgMatches<'_>) -> Result<Vec<Etype>, EtypesFault> {
-    match args.get_str("types") {
+fn read_key_types(alloc: Global, words: &[&str]) -> Result<Vec<Etype>, EtypesFault> {
+    match value_of(words, "--types") {
         Some(text) => read_etypes(alloc, text),
         None => Ok(offered(alloc)?),
     }
 }
 
-/// Returns the path of the database and what to do, or `None` if an option is wrong.
-fn task_of<'a>(sub: &str, args: &ArgMatches<'a>) -> Option<(&'a str, Task<'a>)> {
-    let db = args.get_str("db")?;
-    let task = match args.get_str("name") {
-        Some(name) => task_on(sub, name, args)?,
-        None => task_on_all(sub, args)?,
-    };
-    Some((db, task))
-}
-
-/// Returns what to do with a principal.
-fn task_on<'a>(sub: &str, name: &'a str, args: &ArgMatches<'a>) -> Option<Task<'a>> {
-    match sub {
-        "show" => Some(Task::Print(Print::Show { name })),
-        _ => Some(Task::Write(work_on(sub, name, args)?)),
+/// Returns what to do, or `None` if an option is wrong.
+fn task_of<'a>(command: &str, words: &[&'a str]) -> Option<Task<'a>>
+    ensures { command_of (texts words.now) ≡ Some command.now → IfSome result (λ task. IsTaskSpelled (texts words.now) task) }
+{
+    match command {
+        "list" => Some(Task::Print(Print::List {
+            like: value_of(words, "--like"),
+            long: has_flag(words, "--long"),
+        })),
+        "lint" => Some(Task::Print(Print::Lint)),
+        "show" => Some(Task::Print(Print::Show {
+            name: value_of(words, "--name")?,
+        })),
+        _ => Some(Task::Write(work_of(command, words)?)),
     }
 }
 
-fn work_on<'a>(sub: &str, name: &'a str, args: &ArgMatches<'a>) -> Option<Work<'a>> {
-    match sub {
-        "add" => added(name, args),
-        "passwd" => Some(Work::Password(PasswordGrant {
-            name,
-            password: password_args(args),
-            grant: next_grant(args),
-        })),
-        "random" => Some(Work::Random(RandomGrant {
-            name,
-            seed: args.get_str("seed"),
-            grant: random_grant(args),
-        })),
+/// Returns what to write.
+fn work_of<'a>(command: &str, words: &[&'a str]) -> Option<Work<'a>>
+    ensures { command_of (texts words.now) ≡ Some command.now → IfSome result (λ work. IsWorkSpelled (texts words.now) work) }
+{
+    match command {
+        "init" => Some(Work::Init {
+            realm: value_of(words, "--realm")?,
+            seed: value_of(words, "--seed"),
+        }),
+        "batch" => Some(Work::Batch {
+            keep_going: has_flag(words, "--keep-going"),
+        }),
         "keytab" => Some(Work::Keytab(KeytabOrder {
-            name,
-            out: keytab_path(args)?,
-            append: args.get_flag(APPEND),
+            name: value_of(words, "--name")?,
+            out: keytab_path(words)?,
+            append: has_flag(words, "--append"),
         })),
-        "import" => Some(Work::Import(ImportOrder {
-            name,
-            keytab: args.get_str("keytab")?,
-        })),
-        _ => Some(Work::Change {
-            name,
-            how: change_args(sub, args)?,
+        _ => Some(Work::Update(update_of(command, words)?)),
+    }
+}
+
+/// Returns how to change the database.
+fn update_of<'a>(command: &str, words: &[&'a str]) -> Option<Update<'a>>
+    ensures { command_of (texts words.now) ≡ Some command.now → IfSome result (λ update. IsUpdateSpelled (texts words.now) update) }
+{
+    match command {
+        "migrate" => Some(Update::Migrate {
+            users_are_no_services: has_flag(words, "--users-are-no-services"),
+        }),
+        _ => Some(Update::Row {
+            name: value_of(words, "--name")?,
+            how: row_update_of(command, words)?,
         }),
     }
 }
 
-/// Returns the principal to add, or `None` if both random keys and a password are asked for.
-fn added<'a>(name: &'a str, args: &ArgMatches<'a>) -> Option<Work<'a>> {
-    let password = password_args(args);
-    if !args.get_flag(RANDOM) {
-        return Some(Work::Password(PasswordGrant {
-            name,
+/// Returns how to change the row of a principal.
+fn row_update_of<'a>(command: &str, words: &[&'a str]) -> Option<RowUpdate<'a>>
+    ensures { command_of (texts words.now) ≡ Some command.now → IfSome result (λ how. IsRowSpelled (texts words.now) how) }
+{
+    match command {
+        "add" => added(words),
+        "passwd" => Some(RowUpdate::Password(PasswordGrant {
+            password: password_args(words),
+            grant: next_grant(words),
+        })),
+        "random" => Some(RowUpdate::Random(RandomGrant {
+            seed: value_of(words, "--seed"),
+            grant: random_grant(words),
+        })),
+        "import" => Some(RowUpdate::Import {
+            keytab: value_of(words, "--keytab")?,
+        }),
+        _ => Some(RowUpdate::Change(change_args(command, words)?)),
+    }
+}
+
+/// Returns the keys of the principal to add, or `None` if both random keys and a password are asked for.
+fn added<'a>(words: &[&'a str]) -> Option<RowUpdate<'a>>
+    ensures { command_of (texts words.now) ≡ Some (codes "add") → IfSome result (λ how. IsRowSpelled (texts words.now) how) }
+{
+    let password = password_args(words);
+    if !has_flag(words, "--random") {
+        return Some(RowUpdate::Password(PasswordGrant {
             password,
-            grant: new_grant(args),
+            grant: new_grant(words),
         }));
     }
     if password.any || password.file.is_some() {
         return None;
     }
-    Some(Work::Random(RandomGrant {
-        name,
-        seed: None,
+    Some(RowUpdate::Random(RandomGrant {
+        seed: value_of(words, "--seed"),
         grant: Grant::New,
     }))
 }
 
 /// Returns the grant for a new principal with a password: a user, unless `--service` is given.
-fn new_grant(args: &ArgMatches<'_>) -> Grant {
-    if args.get_flag(SERVICE) {
+fn new_grant(words: &[&str]) -> Grant
+    ensures { command_of (texts words.now) ≡ Some (codes "add") → IsPasswordGrant (texts words.now) result }
+{
+    if has_flag(words, "--service") {
         Grant::New
     } else {
         Grant::NewUser
     }
 }
 
-fn password_args<'a>(args: &ArgMatches<'a>) -> PasswordArgs<'a> {
+fn password_args<'a>(words: &[&'a str]) -> PasswordArgs<'a>
+    ensures { path_of result.file ≡ value_of (texts words.now) (codes "--password-file") }
+{
     PasswordArgs {
-        file: args.get_str("password-file"),
-        any: args.get_flag(ANY_PASSWORD),
+        file: value_of(words, "--password-file"),
+        any: has_flag(words, "--any-password"),
     }
 }
 
-fn next_grant(args: &ArgMatches<'_>) -> Grant {
-    if args.get_flag(REPLACE) {
+fn next_grant(words: &[&str]) -> Grant
+    ensures { command_of (texts words.now) ≡ Some (codes "passwd") → IsPasswordGrant (texts words.now) result }
+{
+    if has_flag(words, "--replace") {
         Grant::Replace
     } else {
         Grant::Next
@@ -359,10 +401,12 @@ fn next_grant(args: &ArgMatches<'_>) -> Grant {
 
 /// Returns the grant of random keys. Only without an option it may add the principal: a name with a typing error then
 /// gets no row in place of the one that needs new keys.
-fn random_grant(args: &ArgMatches<'_>) -> Grant {
-    if args.get_flag(REPLACE) {
+fn random_grant(words: &[&str]) -> Grant
+    ensures { command_of (texts words.now) ≡ Some (codes "random") → IsRandomGrant (texts words.now) result }
+{
+    if has_flag(words, "--replace") {
         Grant::Replace
-    } else if args.get_flag(EXISTING) {
+    } else if has_flag(words, "--existing") {
         Grant::Next
     } else {
         Grant::Either
@@ -370,26 +414,32 @@ fn random_grant(args: &ArgMatches<'_>) -> Grant {
 }
 
 /// Returns the path of a keytab, or `None` if it is the database's, which it would replace.
-fn keytab_path<'a>(args: &ArgMatches<'a>) -> Option<&'a str> {
-    let out = args.get_str("out")?;
-    if out == args.get_str("db")? {
+fn keytab_path<'a>(words: &[&'a str]) -> Option<&'a str>
+    ensures { IfSome result (λ path. value_of (texts words.now) (codes "--out") ≡ Some path.now) }
+{
+    let out = value_of(words, "--out")?;
+    if out == value_of(words, DB)? {
         return None;
     }
     Some(out)
 }
 
-fn change_args<'a>(sub: &str, args: &ArgMatches<'a>) -> Option<ChangeArgs<'a>> {
-    match sub {
-        "drop" => drop_args(args),
-        "policy" => policy_args(args),
+fn change_args<'a>(command: &str, words: &[&'a str]) -> Option<ChangeArgs<'a>>
+    ensures { command_of (texts words.now) ≡ Some command.now → IfSome result (λ how. IsChangeSpelled (texts words.now) how) }
+{
+    match command {
+        "drop" => drop_args(words),
+        "policy" => policy_args(words),
         "remove" => Some(ChangeArgs::Remove),
         _ => None,
     }
 }
 
 /// Returns which versions to drop, or `None` unless exactly one of `--version` and `--older` is given.
-fn drop_args<'a>(args: &ArgMatches<'a>) -> Option<ChangeArgs<'a>> {
-    match (args.get_str("version"), args.get_flag(OLDER)) {
+fn drop_args<'a>(words: &[&'a str]) -> Option<ChangeArgs<'a>>
+    ensures { command_of (texts words.now) ≡ Some (codes "drop") → IfSome result (λ how. IsChangeSpelled (texts words.now) how) }
+{
+    match (value_of(words, "--version"), has_flag(words, "--older")) {
         (Some(version), false) => Some(ChangeArgs::Drop {
             version: number_u32(version)?,
         }),
@@ -398,35 +448,18 @@ fn drop_args<'a>(args: &ArgMatches<'a>) -> Option<ChangeArgs<'a>> {
     }
 }
 
-/// Returns what to do with a whole database.
-fn task_on_all<'a>(sub: &str, args: &ArgMatches<'a>) -> Option<Task<'a>> {
-    match sub {
-        "init" => Some(Task::Write(Work::Init {
-            realm: args.get_str("realm")?,
-            seed: args.get_str("seed"),
-        })),
-        "list" => Some(Task::Print(Print::List {
-            like: args.get_str("like"),
-            long: args.get_flag(LONG),
-        })),
-        "lint" => Some(Task::Print(Print::Lint)),
-        "migrate" => Some(Task::Write(Work::Migrate {
-            users_are_no_services: args.get_flag(NO_SERVICES),
-        })),
-        _ => None,
-    }
-}
-
-fn policy_args<'a>(args: &ArgMatches<'a>) -> Option<ChangeArgs<'a>> {
-    let field = args.get_str("field")?;
-    let value = args.get_str("value")?;
+fn policy_args<'a>(words: &[&'a str]) -> Option<ChangeArgs<'a>>
+    ensures { command_of (texts words.now) ≡ Some (codes "policy") → IfSome result (λ how. IsChangeSpelled (texts words.now) how) }
+{
+    let field = value_of(words, "--field")?;
+    let value = value_of(words, "--value")?;
     if !is_setting(field, value) {
         return None;
     }
     Some(ChangeArgs::Policy { field, value })
 }
 
-const DB: OptionRow = OptionRow {
+const DATABASE: OptionRow = OptionRow {
     name: "db",
     shape: "FILE",
     help: "The database of the realm",
@@ -517,73 +550,58 @@ const TYPES: OptionRow = OptionRow {
     times: Times::AtMostOnce,
 };
 
-const APPEND: &str = "append";
-
 const APPENDS: FlagRow = FlagRow {
-    name: APPEND,
+    name: "append",
     help: "Adds the keys to the keytab, which keeps its entries, owner and group",
 };
 
-const RANDOM: &str = "random";
-
 const RANDOMS: FlagRow = FlagRow {
-    name: RANDOM,
+    name: "random",
     help: "Makes random keys, and asks for no password",
 };
 
-const SERVICE: &str = "service";
-
 const SERVICES: FlagRow = FlagRow {
-    name: SERVICE,
+    name: "service",
     help: "Allows tickets for the principal although its keys are made from a password",
 };
 
-const NO_SERVICES: &str = "users-are-no-services";
-
 const NO_SERVICES_ROW: FlagRow = FlagRow {
-    name: NO_SERVICES,
+    name: "users-are-no-services",
     help: "Denies tickets for users: for each principal whose name has one component, such as alice",
 };
 
-const REPLACE: &str = "replace";
-
 const REPLACES: FlagRow = FlagRow {
-    name: REPLACE,
+    name: "replace",
     help: "Drops all older key versions in the same change, as after a theft",
 };
 
-const EXISTING: &str = "existing";
-
 const EXISTINGS: FlagRow = FlagRow {
-    name: EXISTING,
+    name: "existing",
     help: "Refuses a name that the database doesn't have; so does --replace",
 };
 
-const KEEP_MODE: &str = "keep-mode";
-
 const KEEPS_MODE: FlagRow = FlagRow {
-    name: KEEP_MODE,
+    name: "keep-mode",
     help: "Leaves the mode of the changed file as it is; by default only its owner may then read and write it",
 };
 
-const OLDER: &str = "older";
+const KEEPS_GOING: FlagRow = FlagRow {
+    name: "keep-going",
+    help: "Does the other lines if one is refused; the status is then 1",
+};
 
 const OLDERS: FlagRow = FlagRow {
-    name: OLDER,
+    name: "older",
     help: "Drops all versions but the current one",
 };
 
-const LONG: &str = "long";
-
 const LONGS: FlagRow = FlagRow {
-    name: LONG,
+    name: "long",
     help: "Also prints expires, password_expires, disabled, the number of key versions, and service",
 };
 
-const ANY_PASSWORD: &str = "any-password";
-
 const ANY_PASSWORDS: FlagRow = FlagRow {
-    name: ANY_PASSWORD,
+    name: "any-password",
     help: "Accepts a password that is empty or ends in a carriage return",
 };
 
@@ -591,79 +609,85 @@ const SUBCOMMANDS: &[SubcommandRow] = &[
     SubcommandRow {
         name: "init",
         about: "Makes the database of a new realm; refuses a file that exists",
-        options: &[DB, REALM, REALM_SEED],
+        options: &[DATABASE, REALM, REALM_SEED],
         flags: &[],
     },
     SubcommandRow {
         name: "add",
         about: "Adds a principal with keys made from a password, or with random keys",
-        options: &[DB, NAME, PASSWORD, TYPES],
+        options: &[DATABASE, NAME, PASSWORD, TYPES],
         flags: &[RANDOMS, SERVICES, ANY_PASSWORDS, KEEPS_MODE],
     },
     SubcommandRow {
         name: "passwd",
         about: "Gives a principal new keys made from a password; clears a `password_expires` that is past",
-        options: &[DB, NAME, PASSWORD, TYPES],
+        options: &[DATABASE, NAME, PASSWORD, TYPES],
         flags: &[REPLACES, ANY_PASSWORDS, KEEPS_MODE],
     },
     SubcommandRow {
         name: "random",
         about: "Gives a principal random keys, or adds it with them; standard error says which",
-        options: &[DB, NAME, SEED, TYPES],
+        options: &[DATABASE, NAME, SEED, TYPES],
         flags: &[REPLACES, EXISTINGS, KEEPS_MODE],
     },
     SubcommandRow {
         name: "import",
         about: "Adds a principal with its keys from a keytab, in all their versions",
-        options: &[DB, NAME, KEYTAB, TYPES],
+        options: &[DATABASE, NAME, KEYTAB, TYPES],
         flags: &[KEEPS_MODE],
     },
     SubcommandRow {
         name: "drop",
         about: "Drops the keys of an old version, or of all old versions",
-        options: &[DB, NAME, VERSION],
+        options: &[DATABASE, NAME, VERSION],
         flags: &[OLDERS, KEEPS_MODE],
     },
     SubcommandRow {
         name: "policy",
         about: "Sets a field of a principal's policy",
-        options: &[DB, NAME, FIELD, VALUE],
+        options: &[DATABASE, NAME, FIELD, VALUE],
         flags: &[KEEPS_MODE],
+    },
+    SubcommandRow {
+        name: "batch",
+        about: "Runs commands from standard input, one on each line and without --db, and writes the database once: if one is refused, none is done",
+        options: &[DATABASE],
+        flags: &[KEEPS_GOING, KEEPS_MODE],
     },
     SubcommandRow {
         name: "remove",
         about: "Removes a principal",
-        options: &[DB, NAME],
+        options: &[DATABASE, NAME],
         flags: &[KEEPS_MODE],
     },
     SubcommandRow {
         name: "list",
         about: "Prints a line for each principal: its name, its current key version, and the types of its keys",
-        options: &[DB, LIKE],
+        options: &[DATABASE, LIKE],
         flags: &[LONGS],
     },
     SubcommandRow {
         name: "lint",
         about: "Prints what to check, with the command that mends it: rights on the file, what has expired, weak or older keys, and tickets for users",
-        options: &[DB],
+        options: &[DATABASE],
         flags: &[],
     },
     SubcommandRow {
         name: "show",
         about: "Prints a principal's policy, and its key versions with their types",
-        options: &[DB, NAME],
+        options: &[DATABASE, NAME],
         flags: &[],
     },
     SubcommandRow {
         name: "migrate",
         about: "Writes a database of version 1 or 2 as version 3",
-        options: &[DB],
+        options: &[DATABASE],
         flags: &[NO_SERVICES_ROW, KEEPS_MODE],
     },
     SubcommandRow {
         name: "keytab",
         about: "Writes a principal's current keys to a keytab",
-        options: &[DB, NAME, OUT],
+        options: &[DATABASE, NAME, OUT],
         flags: &[APPENDS, KEEPS_MODE],
     },
 ];

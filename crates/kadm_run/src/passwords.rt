@@ -1,9 +1,10 @@
 //! New passwords.
 ghost use Rattle.std.specs.Prelude.{◌≡◌, IfOk};
-ghost use Rattle.kadm_run.specs.Worlds.{IsPasswordOf, path_of};
+ghost use Rattle.kadm_run.specs.Updates.{IsPasswordOf, IsSecretOf};
+ghost use Rattle.kadm_run.specs.Words.{path_of};
 
 use crate::databases::read_database;
-use crate::order::{Order, PasswordArgs};
+use crate::order::{Order, PasswordArgs, RowUpdate};
 use crate::reason::Reason;
 use crate::stop::Stop;
 use file_store::{Store, ask_password, read_password};
@@ -11,8 +12,29 @@ use krb_fields::component_to_text;
 use std::alloc::Global;
 use std::io::Write;
 
-/// Gets the password of a principal, before the database is locked: from its file, or from standard input.
+/// Gets the password that a change takes, before the database is locked: from its file, or from standard input. It is
+/// empty if the change takes none.
 pub(crate) fn new_password<'p, T: Store, E: Write>(
+    alloc: Global,
+    order: &Order<'p>,
+    store: &mut T,
+    errors: &mut E,
+    name: &str,
+    how: &RowUpdate<'p>,
+) -> Result<Vec<u8>, Stop<'p>>
+    ensures given { IfOk result (λ pass. IsSecretOf (T.world store.old) how.now pass.items) }
+    ensures kept { T.world store.new ≡ T.world store.old }
+{
+    match how {
+        RowUpdate::Password(to) => any_password(alloc, order, store, errors, name, to.password),
+        RowUpdate::Random(_) => Ok(Vec::new(alloc)),
+        RowUpdate::Import { keytab: _ } => Ok(Vec::new(alloc)),
+        RowUpdate::Change(_) => Ok(Vec::new(alloc)),
+    }
+}
+
+/// Gets the password from its file, or from standard input.
+fn any_password<'p, T: Store, E: Write>(
     alloc: Global,
     order: &Order<'p>,
     store: &mut T,
@@ -27,7 +49,46 @@ pub(crate) fn new_password<'p, T: Store, E: Write>(
         Some(path) => read_password(alloc, store, path)?,
         None => asked_password(alloc, order, store, errors, name)?,
     };
-    if !args.any && is_unlikely(&pass) {
+    likely(pass, args.any)
+}
+
+/// Gets the password that a line of a batch takes. It is in a file: standard input has the batch.
+pub(crate) fn batch_password<'p, T: Store>(
+    alloc: Global,
+    store: &mut T,
+    how: &RowUpdate<'p>,
+) -> Result<Vec<u8>, Stop<'p>>
+    ensures given { IfOk result (λ pass. IsSecretOf (T.world store.old) how.now pass.items) }
+    ensures kept { T.world store.new ≡ T.world store.old }
+{
+    match how {
+        RowUpdate::Password(to) => file_password(alloc, store, to.password),
+        RowUpdate::Random(_) => Ok(Vec::new(alloc)),
+        RowUpdate::Import { keytab: _ } => Ok(Vec::new(alloc)),
+        RowUpdate::Change(_) => Ok(Vec::new(alloc)),
+    }
+}
+
+/// Gets the password from its file.
+fn file_password<'p, T: Store>(
+    alloc: Global,
+    store: &mut T,
+    args: PasswordArgs<'p>,
+) -> Result<Vec<u8>, Stop<'p>>
+    ensures given { IfOk result (λ pass. IsPasswordOf (T.world store.old) (path_of args.entry.file) pass.items) }
+    ensures kept { T.world store.new ≡ T.world store.old }
+{
+    let Some(path) = args.file else {
+        return Err(Stop::Refused(Reason::NoPassword));
+    };
+    likely(read_password(alloc, store, path)?, args.any)
+}
+
+/// Returns the password, unless it is unlikely and only likely ones are accepted.
+fn likely(pass: Vec<u8>, any: bool) -> Result<Vec<u8>, Stop<'static>>
+    ensures { IfOk result (λ likely. likely.items ≡ pass.items) }
+{
+    if !any && is_unlikely(&pass) {
         return Err(Stop::Refused(Reason::BadPassword));
     }
     Ok(pass)

@@ -1,5 +1,7 @@
 //! Why a command is refused, in one word and in a sentence.
 
+use crate::words::DB;
+
 /// Why a command is refused.
 #[derive(Clone, Copy)]
 pub(crate) enum Reason {
@@ -19,6 +21,10 @@ pub(crate) enum Reason {
     Mismatch,
     /// A password is empty, or ends in a carriage return.
     BadPassword,
+    /// A line of a batch names no file of the password.
+    NoPassword,
+    /// A line of a batch has a command that is not for a batch.
+    NotInBatch,
     /// A time from now is after the year 9999.
     BadTime,
     Exists,
@@ -43,7 +49,7 @@ pub(crate) enum Reason {
 }
 
 /// The option that names a keytab to read.
-pub(crate) const KEYTAB: &str = "keytab";
+pub(crate) const KEYTAB: &str = "--keytab";
 
 impl Reason {
     /// Returns the reason's word on standard output.
@@ -58,6 +64,8 @@ impl Reason {
             Reason::NoTicketGranter => "NoTicketGranter",
             Reason::Mismatch => "Mismatch",
             Reason::BadPassword => "BadPassword",
+            Reason::NoPassword => "NoPassword",
+            Reason::NotInBatch => "NotInBatch",
             Reason::BadTime => "BadTime",
             Reason::Protected | Reason::ServesAll => "Protected",
             Reason::Absent | Reason::NoVersion => "Absent",
@@ -88,6 +96,12 @@ impl Reason {
             Reason::BadPassword => {
                 "the password is empty or ends in a carriage return; `--any-password` allows that"
             }
+            Reason::NoPassword => {
+                "standard input has the commands; name the password's file by `--password-file`"
+            }
+            Reason::NotInBatch => {
+                "a batch takes add, passwd, random, import, drop, policy, remove and migrate"
+            }
             Reason::BadTime => "this time is past the end of the year 9999",
             Reason::Exists => "this principal already exists",
             Reason::Protected => "cannot remove it: the realm's tickets are made with its keys",
@@ -107,33 +121,35 @@ impl Reason {
         }
     }
 
-    /// Returns the option whose value is refused.
+    /// Returns the option whose value is refused. It is empty if the command is.
     pub(crate) fn option(self) -> &'static str {
         match self {
-            Reason::BadRealm => "realm",
-            Reason::BadTime => "value",
+            Reason::NotInBatch => "",
+            Reason::BadRealm => "--realm",
+            Reason::BadTime => "--value",
             Reason::Locked
             | Reason::FileExists
             | Reason::NotJson
             | Reason::BadVersion
             | Reason::BadRow
-            | Reason::NoTicketGranter => "db",
+            | Reason::NoTicketGranter => DB,
             Reason::IsDatabase
             | Reason::IsLock
             | Reason::BadMagic
             | Reason::Truncated
-            | Reason::BadEntry => "out",
+            | Reason::BadEntry => "--out",
             Reason::NoKeys => KEYTAB,
             Reason::BadName
             | Reason::Mismatch
             | Reason::BadPassword
+            | Reason::NoPassword
             | Reason::Exists
             | Reason::Protected
             | Reason::ServesAll
             | Reason::Absent
             | Reason::NoVersion
             | Reason::LastVersion
-            | Reason::CurrentKeys => "name",
+            | Reason::CurrentKeys => "--name",
         }
     }
 }

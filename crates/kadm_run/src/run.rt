@@ -1,63 +1,73 @@
 //! One command line: from its words to the files.
-ghost use Rattle.std.specs.Prelude.{◌≡◌, ◌⊎◌, IfErr, IfOk, OnErr, OnOk};
-ghost use Rattle.kadm_run.specs.Ends.{IsDone, IsEnd, IsStopped};
-ghost use Rattle.kadm_run.specs.Worlds.{Did, DidSome};
-ghost use Rattle.kadm_run.specs.declared.status.Status.TheVariants.{Failed};
+ghost use Rattle.std.specs.Prelude.{◌≡◌, IfErr, IfOk, OnErr, map, true};
+ghost use Rattle.kadm_run.specs.Ends.{IsEnd, IsOrderEnd, IsOrderStopped, IsStopped, IsWorkDone, IsWorkEnd, IsWorkStopped};
+ghost use Rattle.kadm_run.specs.Words.{asks_help, texts};
+ghost use Rattle.kadm_run.specs.declared.status.Status.TheVariants.{Done, Failed};
 
-use crate::changes::{change, make_realm, migrate};
-use crate::granting::{grant_password, grant_random};
-use crate::importing::import;
+use crate::batch::run_batch;
+use crate::changes::make_realm;
 use crate::keytabs::write_keytab;
 use crate::linting::print_lint;
 use crate::listing::{print_list, print_row};
-use crate::order::{Order, OrderFault, Print, Task, Work, read_args, read_order};
+use crate::order::{Order, Print, Task, Work, read_args, read_order};
 use crate::status::Status;
-use crate::stop::{Stop, report};
-use crate::values::accepted_by;
+use crate::stop::{Stop, Subject, report};
+use crate::updates::update;
+use crate::usage::{print_help, print_order_fault};
+use crate::words::words_of;
 use clap::ArgMatches;
-use clap::error::{Error, ErrorKind};
+use clap::error::Error;
 use file_store::Store;
-use std::alloc::{AllocError, Global};
+use std::alloc::Global;
 use std::convert::AsStr;
 use std::io;
 use std::io::{BufWriter, Write};
 
 /// Runs a command line, whose first word is the program's name. Prints the outcome to `writer`, and the reason of a
-/// refusal or failure to `errors`. Leaves the files unchanged unless the command is `Done`, or has only `Failed` to
-/// print.
+/// refusal or failure to `errors`; `watched` says whether that is a terminal. `Done` means that what the words order was
+/// done, or that they ask for help. Otherwise the files are unchanged, unless the words order a batch that keeps going
+/// (`Refused`), or only the printing failed (`Failed`).
 pub fn kadm_run<S: AsStr, T: Store, W: Write + Drop, E: Write + Drop>(
     alloc: Global,
     args: &[S],
+    watched: bool,
     store: &mut T,
     writer: W,
     errors: E,
 ) -> Status
-    ensures { IsEnd (T.world store.old) result (T.world store.new) }
+    ensures { IsEnd (map S.text args.now) (T.world store.old) result (T.world store.new) }
 {
+    let Ok(words) = words_of(alloc, args) else {
+        return Status::Failed;
+    };
     let Ok(mut out) = BufWriter::new(alloc, writer) else {
         return Status::Failed;
     };
     let Ok(mut errors) = BufWriter::new(alloc, errors) else {
         return Status::Failed;
     };
-    let matches = read_args(alloc, args);
-    run_and_report(alloc, &matches, store, &mut out, &mut errors).unwrap_or(Status::Failed)
+    run_and_report(alloc, &words, watched, store, &mut out, &mut errors).unwrap_or(Status::Failed)
 }
 
 /// Returns the status, or the error of a failed write to the output.
-fn run_and_report<T: Store, W: Write, E: Write>(
+#[tactic(auto, using(crate::proofs::Ending::stopped_end, crate::proofs::Ending::stopped_failed, crate::proofs::Ending::end_failed))]
+fn run_and_report<'a, T: Store, W: Write, E: Write>(
     alloc: Global,
-    matches: &Result<ArgMatches<'_>, Error>,
+    words: &'a [&'a str],
+    watched: bool,
     store: &mut T,
     out: &mut W,
     errors: &mut E,
 ) -> io::Result<Status>
-    ensures ended { IfOk result (λ status. IsEnd (T.world store.old) status (T.world store.new)) }
-    ensures failed { OnErr result (IsEnd (T.world store.old) Failed (T.world store.new)) }
+    ensures ended { IfOk result (λ status. IsEnd (texts words.entry.now) (T.world store.old) status (T.world store.new)) }
+    ensures failed { OnErr result (IsEnd (texts words.entry.now) (T.world store.old) Failed (T.world store.new)) }
 {
-    let status = match run_to_end(alloc, matches, store, out, errors) {
-        Ok(()) => Status::Done,
-        Err(stop) => report(out, errors, matches, stop)?,
+    let status = match run_to_end(alloc, words, watched, store, out, errors) {
+        Ok(status) => status,
+        Err(stop) => {
+            let subject = Subject { words, line: None };
+            report(out, errors, &subject, stop)?
+        }
     };
     // the errors first: they may say that the output failed
     let _ = errors.flush();
@@ -66,91 +76,96 @@ fn run_and_report<T: Store, W: Write, E: Write>(
 }
 
 /// Runs the command, and flushes what it prints.
+#[tactic(auto, using(crate::proofs::Ending::failed_after))]
 fn run_to_end<'a, T: Store, W: Write, E: Write>(
     alloc: Global,
-    matches: &Result<ArgMatches<'a>, Error>,
+    words: &'a [&'a str],
+    watched: bool,
     store: &mut T,
     out: &mut W,
     errors: &mut E,
-) -> Result<(), Stop<'a>>
-    ensures done { OnOk result ((T.world store.new ≡ T.world store.old) ⊎ DidSome (T.world store.old) (T.world store.new)) }
-    ensures stopped { IfErr result (λ stop. IsStopped stop (T.world store.old) (T.world store.new)) }
+) -> Result<Status, Stop<'a>>
+    ensures done { IfOk result (λ status. IsEnd (texts words.entry.now) (T.world store.old) status (T.world store.new)) }
+    ensures stopped { IfErr result (λ stop. IsStopped (texts words.entry.now) (T.world store.old) stop (T.world store.new)) }
+{
+    let status = run_words(alloc, words, watched, store, out, errors)?;
+    out.flush()?;
+    Ok(status)
+}
+
+/// Runs the command, or prints the help that it asks for.
+fn run_words<'a, T: Store, W: Write, E: Write>(
+    alloc: Global,
+    words: &'a [&'a str],
+    watched: bool,
+    store: &mut T,
+    out: &mut W,
+    errors: &mut E,
+) -> Result<Status, Stop<'a>>
+    ensures done { IfOk result (λ status. IsEnd (texts words.entry.now) (T.world store.old) status (T.world store.new)) }
+    ensures stopped { IfErr result (λ stop. IsStopped (texts words.entry.now) (T.world store.old) stop (T.world store.new)) }
+{
+    let matches = read_args(alloc, words);
+    if asks(&matches, words, out)? {
+        return Ok(Status::Done);
+    }
+    run_read(alloc, words, watched, store, out, errors)
+}
+
+/// Prints the help, and returns whether the words ask for it.
+fn asks<'a, W: Write>(
+    matches: &Result<ArgMatches<'a>, Error>,
+    words: &[&str],
+    out: &mut W,
+) -> Result<bool, Stop<'static>>
+    ensures { IfOk result (λ asks. asks ≡ true → asks_help (texts words.now) ≡ true) }
 {
     match matches {
-        Ok(matches) => run_matches(alloc, matches, store, out, errors)?,
-        Err(error) => print_args_fault(out, error)?,
-    }
-    Ok(out.flush()?)
-}
-
-/// Prints what is wrong with the command line, or the help that it asks for.
-fn print_args_fault<'a, W: Write>(out: &mut W, error: &Error) -> Result<(), Stop<'a>> {
-    if error.kind() == ErrorKind::OutOfMemory {
-        return Err(Stop::from(AllocError));
-    }
-    write!(out, "{error}")?;
-    if error.exit_code() == 0 {
-        Ok(())
-    } else {
-        Err(Stop::Usage)
+        Ok(_) => Ok(false),
+        Err(error) => {
+            print_help(out, words, error)?;
+            Ok(true)
+        }
     }
 }
 
-fn run_matches<'a, T: Store, W: Write, E: Write>(
+/// Runs the command that the parser has read.
+#[tactic(auto, using(crate::proofs::Ending::spelled_end, crate::proofs::Ending::spelled_stop))]
+fn run_read<'a, T: Store, W: Write, E: Write>(
     alloc: Global,
-    matches: &ArgMatches<'a>,
+    words: &'a [&'a str],
+    watched: bool,
     store: &mut T,
     out: &mut W,
     errors: &mut E,
-) -> Result<(), Stop<'a>>
-    ensures done { OnOk result ((T.world store.new ≡ T.world store.old) ⊎ DidSome (T.world store.old) (T.world store.new)) }
-    ensures stopped { IfErr result (λ stop. IsStopped stop (T.world store.old) (T.world store.new)) }
+) -> Result<Status, Stop<'a>>
+    ensures done { IfOk result (λ status. IsEnd (texts words.entry.now) (T.world store.old) status (T.world store.new)) }
+    ensures stopped { IfErr result (λ stop. IsStopped (texts words.entry.now) (T.world store.old) stop (T.world store.new)) }
 {
-    match read_order(alloc, matches) {
-        Ok(order) => run_order(alloc, &order, store, out, errors),
-        Err(fault) => print_order_fault(out, fault),
+    match read_order(alloc, words) {
+        Ok(order) => run_order(alloc, &order, watched, store, out, errors),
+        Err(fault) => {
+            print_order_fault(out, fault)?;
+            Err(Stop::Usage)
+        }
     }
 }
 
-/// Prints what is wrong with the options of a subcommand.
-fn print_order_fault<'a, W: Write>(out: &mut W, fault: OrderFault<'a>) -> Result<(), Stop<'a>> {
-    match fault {
-        OrderFault::BadValue(fault) => writeln!(out, "error: {fault}")?,
-        OrderFault::NoField(field) => {
-            writeln!(
-                out,
-                "error: --field: a policy has no field {field}; 'kadm policy --help' lists the fields"
-            )?;
-        }
-        OrderFault::NoSetting { field, value } => {
-            let accepted = accepted_by(field).unwrap_or("another value");
-            writeln!(
-                out,
-                "error: --value: {field} takes {accepted}, not '{value}'"
-            )?;
-        }
-        OrderFault::Memory => return Err(Stop::from(AllocError)),
-    }
-    Err(Stop::Usage)
-}
-
+#[tactic(auto, using(crate::proofs::Ending::work_end, crate::proofs::Ending::work_stop, crate::proofs::Ending::print_end))]
 fn run_order<'a, T: Store, W: Write, E: Write>(
     alloc: Global,
     order: &Order<'a>,
+    watched: bool,
     store: &mut T,
     out: &mut W,
     errors: &mut E,
-) -> Result<(), Stop<'a>>
-    ensures done { OnOk result (IsDone (T.world store.old) order.now (T.world store.new)) }
-    ensures stopped { IfErr result (λ stop. IsStopped stop (T.world store.old) (T.world store.new)) }
+) -> Result<Status, Stop<'a>>
+    ensures done { IfOk result (λ status. IsOrderEnd (T.world store.old) order.now status (T.world store.new)) }
+    ensures stopped { IfErr result (λ stop. IsOrderStopped (T.world store.old) order.now stop (T.world store.new)) }
 {
     match order.task {
         Task::Print(print) => run_print(alloc, order.db, print, store, out, errors),
-        Task::Write(work) => {
-            run_work(alloc, order, work, store, errors)?;
-            writeln!(out, "ok")?;
-            Ok(())
-        }
+        Task::Write(work) => run_work(alloc, order, work, watched, store, out, errors),
     }
 }
 
@@ -162,36 +177,67 @@ fn run_print<'a, T: Store, W: Write, E: Write>(
     store: &mut T,
     out: &mut W,
     errors: &mut E,
-) -> Result<(), Stop<'a>>
+) -> Result<Status, Stop<'a>>
+    ensures done { IfOk result (λ status. status ≡ Done) }
     ensures kept { T.world store.new ≡ T.world store.old }
 {
     match print {
-        Print::List { like, long } => print_list(alloc, db, like, long, store, out, errors),
-        Print::Lint => print_lint(alloc, db, store, out, errors),
-        Print::Show { name } => print_row(alloc, store, db, name, out, errors),
+        Print::List { like, long } => print_list(alloc, db, like, long, store, out, errors)?,
+        Print::Lint => print_lint(alloc, db, store, out, errors)?,
+        Print::Show { name } => print_row(alloc, store, db, name, out, errors)?,
     }
+    Ok(Status::Done)
 }
 
-/// Runs a command that writes a file.
-fn run_work<'a, T: Store, E: Write>(
+/// Runs a command that writes a file, and prints `ok` if it was done.
+fn run_work<'a, T: Store, W: Write, E: Write>(
     alloc: Global,
     order: &Order<'a>,
     work: Work<'a>,
+    watched: bool,
     store: &mut T,
+    out: &mut W,
     errors: &mut E,
-) -> Result<(), Stop<'a>>
-    ensures done { OnOk result (Did (T.world store.old) order.now.db.now order.now.etypes.items work.entry (T.world store.new)) }
+) -> Result<Status, Stop<'a>>
+    ensures done { IfOk result (λ status. IsWorkEnd (T.world store.old) order.now work.entry status (T.world store.new)) }
+    ensures stopped { IfErr result (λ stop. IsWorkStopped (T.world store.old) order.now work.entry stop (T.world store.new)) }
+{
+    if !write_files(alloc, order, work, watched, store, out, errors)? {
+        return Ok(Status::Refused);
+    }
+    writeln!(out, "ok")?;
+    Ok(Status::Done)
+}
+
+/// Writes the files of a command. Returns whether all was done: a batch that keeps going may have been done in part.
+#[tactic(auto, using(crate::proofs::Ending::batch_work))]
+fn write_files<'a, T: Store, W: Write, E: Write>(
+    alloc: Global,
+    order: &Order<'a>,
+    work: Work<'a>,
+    watched: bool,
+    store: &mut T,
+    out: &mut W,
+    errors: &mut E,
+) -> Result<bool, Stop<'a>>
+    ensures done { IfOk result (λ whole. IsWorkDone (T.world store.old) order.now work.entry whole (T.world store.new)) }
     ensures kept { OnErr result (T.world store.new ≡ T.world store.old) }
 {
     match work {
-        Work::Init { realm, seed } => make_realm(alloc, order, store, errors, realm, seed),
-        Work::Password(to) => grant_password(alloc, order, store, errors, to),
-        Work::Random(to) => grant_random(alloc, order, store, errors, to),
-        Work::Change { name, how } => change(alloc, order, store, errors, name, how),
-        Work::Keytab(to) => write_keytab(alloc, order, store, errors, to),
-        Work::Import(to) => import(alloc, order, store, errors, to),
-        Work::Migrate {
-            users_are_no_services,
-        } => migrate(alloc, order, store, errors, users_are_no_services),
+        Work::Batch { keep_going } => {
+            run_batch(alloc, order, keep_going, watched, store, out, errors)
+        }
+        Work::Init { realm, seed } => {
+            make_realm(alloc, order, store, errors, realm, seed)?;
+            Ok(true)
+        }
+        Work::Update(changes) => {
+            update(alloc, order, store, errors, changes)?;
+            Ok(true)
+        }
+        Work::Keytab(to) => {
+            write_keytab(alloc, order, store, errors, to)?;
+            Ok(true)
+        }
     }
 }

@@ -5,8 +5,7 @@ ghost use Rattle.kadm_run.specs.declared.status.Status.TheVariants.{Failed, Refu
 
 use crate::reason::{KEYTAB, Reason};
 use crate::status::Status;
-use clap::ArgMatches;
-use clap::error::Error;
+use crate::words::value_of;
 use file_store::{FileCause, FileFault};
 use krb_fields::NameFault;
 use principal_rows::KeyListFault;
@@ -27,6 +26,10 @@ const STANDARD_OUTPUT: &str = "standard output";
 pub(crate) enum Stop<'p> {
     /// The command line is wrong, and the error has been printed.
     Usage,
+    /// A line of a batch is refused, and the reason has been printed.
+    LineRefused,
+    /// A file that a line of a batch names failed, and the reason has been printed.
+    LineFailed,
     Refused(Reason),
     /// A file, a standard stream or an allocation is refused or failed.
     File(FileFault<'p>),
@@ -147,24 +150,34 @@ pub(crate) fn of_realm(fault: NameFault) -> Stop<'static> {
     }
 }
 
+/// The command that a report is about: its words, and the number of its line in a batch.
+#[derive(Clone, Copy)]
+pub(crate) struct Subject<'a> {
+    pub words: &'a [&'a str],
+    pub line: Option<usize>,
+}
+
 /// Reports why a command ended early: a word for programs on `out`, and the subject and reason on `errors`. Returns the
 /// status.
 pub(crate) fn report<W: Write, E: Write>(
     out: &mut W,
     errors: &mut E,
-    matches: &Result<ArgMatches<'_>, Error>,
+    subject: &Subject<'_>,
     stop: Stop<'_>,
 ) -> io::Result<Status>
     ensures { IfOk result (λ status. IsStatusOf stop.entry status) }
 {
     match stop {
         Stop::Usage => Ok(Status::Usage),
+        Stop::LineRefused => Ok(Status::Refused),
+        Stop::LineFailed => Ok(Status::Failed),
         Stop::Refused(reason) => {
-            report_reason(errors, matches, reason);
+            report_reason(errors, subject, reason);
             print_refusal(out, reason.name())
         }
         Stop::File(fault) => {
-            begin_line(errors, matches, fault.path);
+            begin_line(errors, subject);
+            name_imported(errors, subject, fault.path);
             let _ = writeln!(errors, "{fault}");
             match (fault.cause, fault.cause.refusal()) {
                 (FileCause::Failed(_), _) | (_, None) => print_failure(out),
@@ -176,50 +189,52 @@ pub(crate) fn report<W: Write, E: Write>(
 
 /// Returns the word of an option, if it is not empty. If the subcommand has no such option, returns that of the keytab
 /// to read.
-fn word_of<'a>(matches: &Result<ArgMatches<'a>, Error>, option: &str) -> Option<&'a str> {
-    let Ok(matches) = matches else {
-        return None;
-    };
-    let (_, args) = matches.subcommand()?;
-    let word = args.get_str(option).or(args.get_str(KEYTAB))?;
+fn word_of<'a>(words: &[&'a str], option: &str) -> Option<&'a str> {
+    let word = value_of(words, option).or(value_of(words, KEYTAB))?;
     if word.is_empty() { None } else { Some(word) }
 }
 
-/// Begins a line about a word or a file of the command. If it is the keytab to import from, the line names the principal
-/// too: the keytab may be that of many. Ignores a failed write.
-fn begin_line<E: Write>(errors: &mut E, matches: &Result<ArgMatches<'_>, Error>, word: &str) {
-    let _ = match imported_from(matches, word) {
-        Some(name) => write!(errors, "kadm: {name}: "),
-        None => write!(errors, "kadm: "),
+/// Begins a line about a command: with its number and its name, if it is a line of a batch. Ignores a failed write.
+pub(crate) fn begin_line<E: Write>(errors: &mut E, subject: &Subject<'_>) {
+    let _ = match (subject.line, subject.words) {
+        (Some(line), [_, command, ..]) => write!(errors, "kadm: line {line}: {command}: "),
+        (Some(line), _) => write!(errors, "kadm: line {line}: "),
+        (None, _) => write!(errors, "kadm: "),
     };
 }
 
+/// Names the principal that is imported, if the word is the keytab with its keys: it may be that of many. Ignores a
+/// failed write.
+fn name_imported<E: Write>(errors: &mut E, subject: &Subject<'_>, word: &str) {
+    if let Some(name) = imported_from(subject.words, word) {
+        let _ = write!(errors, "{name}: ");
+    }
+}
+
 /// Returns the principal that is imported, if the word is the keytab with its keys.
-fn imported_from<'a>(matches: &Result<ArgMatches<'a>, Error>, word: &str) -> Option<&'a str> {
-    let Ok(matches) = matches else {
-        return None;
-    };
-    let (_, args) = matches.subcommand()?;
-    if args.get_str(KEYTAB)? == word {
-        args.get_str("name")
+fn imported_from<'a>(words: &[&'a str], word: &str) -> Option<&'a str> {
+    if value_of(words, KEYTAB)? == word {
+        value_of(words, "--name")
     } else {
         None
     }
 }
 
 /// Reports the subject of a refusal, and the reason. Ignores a failed write.
-fn report_reason<E: Write>(
-    errors: &mut E,
-    matches: &Result<ArgMatches<'_>, Error>,
-    reason: Reason,
-) {
-    let word = word_of(matches, reason.option());
-    begin_line(errors, matches, word.unwrap_or(""));
-    let _ = match word {
-        Some(word) => writeln!(errors, "{word}: {}", reason.text()),
-        None => writeln!(errors, "--{}: {}", reason.option(), reason.text()),
+fn report_reason<E: Write>(errors: &mut E, subject: &Subject<'_>, reason: Reason) {
+    let (option, text) = (reason.option(), reason.text());
+    begin_line(errors, subject);
+    if option.is_empty() {
+        let _ = writeln!(errors, "{text}");
+        return;
+    }
+    let Some(word) = word_of(subject.words, option) else {
+        let _ = writeln!(errors, "{option}: {text}");
+        return;
     };
-    if let (Reason::BadName | Reason::BadRealm, Some(word)) = (reason, word) {
+    name_imported(errors, subject, word);
+    let _ = writeln!(errors, "{word}: {text}");
+    if let Reason::BadName | Reason::BadRealm = reason {
         let _ = explain_spelling(errors, word);
     }
 }

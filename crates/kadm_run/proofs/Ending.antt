@@ -1,0 +1,157 @@
+-- How an order ends, and how the words end that spell it.
+use Rattle.std.proofs.Common.{◌≡◌, ◌∙◌, List, Bool, true, false, Option, Result, Ok, Err, IfErr, IfOk, OnErr, ap, subst, sym, refl, inl, inr}
+use Rattle.std.specs.Result.{result_unwrap_or}
+use Rattle.file_store.specs.World.{World}
+use Rattle.file_store.specs.declared.faults.FileCause.{FileCause}
+use Rattle.file_store.specs.declared.faults.FileCause.TheVariants.{LongFile, ShortSeed, LongPassword, Failed}
+use Rattle.kadm_run.specs.Batches.{IsBatchDone}
+use Rattle.kadm_run.specs.Ends.{IsEnd, IsFailed, IsFailure, IsFileCauseStatus, IsOrderEnd, IsOrderStopped, IsStatusOf, IsStopped, IsTaskDone, IsWorkDone, IsWorkEnd, IsWorkStopped}
+use Rattle.kadm_run.specs.Words.{Spells, Text}
+use Rattle.kadm_run.specs.declared.order.Order.{Order}
+use Rattle.kadm_run.specs.declared.order.Print.{Print}
+use Rattle.kadm_run.specs.declared.order.Task.TheVariants as tasks
+use Rattle.kadm_run.specs.declared.order.Work.{Work}
+use Rattle.kadm_run.specs.declared.order.Work.TheVariants as works
+use Rattle.kadm_run.specs.declared.status.Status.{Status}
+use Rattle.kadm_run.specs.declared.status.Status.TheVariants as statuses
+use Rattle.kadm_run.specs.declared.stop.Stop.{Stop}
+use Rattle.kadm_run.specs.declared.stop.Stop.TheVariants as stops
+
+-- ---- work
+
+pub batch_work : {E : Type 0} (r : Result Bool E) (before : Option World) (order : Order) (keep : Bool) (after : Option World)
+    → IfOk r (λ whole. IsBatchDone before order.db.now keep whole after) → IfOk r (λ whole. IsWorkDone before order (works.Batch keep) whole after)
+batch_work (Ok true) before order keep after done = done
+batch_work (Ok false) before order keep after (keeps, tried) = (ap works.Batch keeps, tried)
+batch_work (Err e) before order keep after done = tt
+
+-- ---- orders
+
+pub work_end : {E : Type 0} (r : Result Status E) (before : Option World) (order : Order) (work : Work) (after : Option World)
+    → order.task ≡ tasks.Write work → IfOk r (λ status. IsWorkEnd before order work status after) → IfOk r (λ status. IsOrderEnd before order status after)
+work_end (Ok statuses.Done) before order work after is done =
+    subst (λ task. IsTaskDone before order.db.now order.etypes.items task after) (sym is) done
+work_end (Ok statuses.Refused) before order work after is (keeps, tried) = (is ∙ ap tasks.Write keeps, tried)
+work_end (Ok statuses.Usage) before order work after is done = done
+work_end (Ok statuses.Failed) before order work after is done = done
+work_end (Err e) before order work after is done = tt
+
+pub work_stop : {A : Type 0} (r : Result A Stop) (before : Option World) (order : Order) (work : Work) (after : Option World)
+    → order.task ≡ tasks.Write work → IfErr r (λ stop. IsWorkStopped before order work stop after) → IfErr r (λ stop. IsOrderStopped before order stop after)
+work_stop (Ok x) before order work after is stopped = tt
+work_stop (Err stop) before order work after is (inl same) = inl same
+work_stop (Err stop) before order work after is (inr (failed, done)) =
+    inr (failed, subst (λ task. IsTaskDone before order.db.now order.etypes.items task after) (sym is) done)
+
+pub print_end : {E : Type 0} (r : Result Status E) (before : Option World) (order : Order) (print : Print) (after : Option World)
+    → order.task ≡ tasks.Print print → after ≡ before → IfOk r (λ status. status ≡ statuses.Done) → IfOk r (λ status. IsOrderEnd before order status after)
+print_end (Ok status) before order print after is same done =
+    subst (λ s. IsOrderEnd before order s after) (sym done)
+    (subst (λ task. IsTaskDone before order.db.now order.etypes.items task after) (sym is) same)
+print_end (Err e) before order print after is same done = tt
+
+-- ---- words
+
+pub spelled_end : {E : Type 0} (r : Result Status E) (words : List Text) (before : Option World) (order : Order) (after : Option World)
+    → Spells words order → IfOk r (λ status. IsOrderEnd before order status after) → IfOk r (λ status. IsEnd words before status after)
+spelled_end (Ok statuses.Done) words before order after spelled done = inr (order, spelled, done)
+spelled_end (Ok statuses.Refused) words before order after spelled tried = inr (order, spelled, tried)
+spelled_end (Ok statuses.Usage) words before order after spelled none = absurd none
+spelled_end (Ok statuses.Failed) words before order after spelled none = absurd none
+spelled_end (Err e) words before order after spelled done = tt
+
+pub spelled_stop : {A : Type 0} (r : Result A Stop) (words : List Text) (before : Option World) (order : Order) (after : Option World)
+    → Spells words order → IfErr r (λ stop. IsOrderStopped before order stop after) → IfErr r (λ stop. IsStopped words before stop after)
+spelled_stop (Ok x) words before order after spelled stopped = tt
+spelled_stop (Err stop) words before order after spelled (inl same) = inl same
+spelled_stop (Err stop) words before order after spelled (inr (failed, done)) = inr (failed, inl (order, spelled, done))
+
+-- the output fails after a command
+pub failed_after : (words : List Text) (before : Option World) (status : Status) (stop : Stop) (after : Option World)
+    → IsEnd words before status after → IsFailed stop → IsStopped words before stop after
+failed_after words before statuses.Done stop after (inl (asks, same)) failed = inl same
+failed_after words before statuses.Done stop after (inr done) failed = inr (failed, inl done)
+failed_after words before statuses.Refused stop after (inl same) failed = inl same
+failed_after words before statuses.Refused stop after (inr tried) failed = inr (failed, inr tried)
+failed_after words before statuses.Usage stop after same failed = inl same
+failed_after words before statuses.Failed stop after (inl same) failed = inl same
+failed_after words before statuses.Failed stop after (inr done) failed = inr (failed, done)
+
+-- whatever the status, the output may fail at the end
+pub end_failed : (words : List Text) (before : Option World) (status : Status) (after : Option World)
+    → IsEnd words before status after → IsEnd words before statuses.Failed after
+end_failed words before statuses.Done after (inl (asks, same)) = inl same
+end_failed words before statuses.Done after (inr done) = inr (inl done)
+end_failed words before statuses.Refused after (inl same) = inl same
+end_failed words before statuses.Refused after (inr tried) = inr (inr tried)
+end_failed words before statuses.Usage after same = inl same
+end_failed words before statuses.Failed after left = left
+
+-- every status but `Done`
+abbrev IsOther : Status → Type 0
+IsOther statuses.Done = ⊥
+IsOther statuses.Refused = Unit {0}
+IsOther statuses.Usage = Unit {0}
+IsOther statuses.Failed = Unit {0}
+
+cause_other : (cause : FileCause) (status : Status) → IsFileCauseStatus cause status → IsOther status
+cause_other LongFile statuses.Refused is = tt
+cause_other LongFile statuses.Failed is = tt
+cause_other LongFile statuses.Done is = absurd is
+cause_other LongFile statuses.Usage is = tt
+cause_other ShortSeed statuses.Refused is = tt
+cause_other ShortSeed statuses.Failed is = tt
+cause_other ShortSeed statuses.Done is = absurd is
+cause_other ShortSeed statuses.Usage is = tt
+cause_other LongPassword statuses.Refused is = tt
+cause_other LongPassword statuses.Failed is = tt
+cause_other LongPassword statuses.Done is = absurd is
+cause_other LongPassword statuses.Usage is = tt
+cause_other (Failed error) status is = subst IsOther (sym is) tt
+
+other : (stop : Stop) (status : Status) → IsStatusOf stop status → IsOther status
+other stops.Usage status is = subst IsOther (sym is) tt
+other stops.LineRefused status is = subst IsOther (sym is) tt
+other stops.LineFailed status is = subst IsOther (sym is) tt
+other (stops.Refused reason) status is = subst IsOther (sym is) tt
+other (stops.File fault) status is = cause_other fault.cause status is
+
+same_end : (words : List Text) (before : Option World) (status : Status) (after : Option World) → IsOther status → after ≡ before
+    → IsEnd words before status after
+same_end words before statuses.Done after is same = absurd is
+same_end words before statuses.Refused after is same = inl same
+same_end words before statuses.Usage after is same = same
+same_end words before statuses.Failed after is same = inl same
+
+failed_cause : (cause : FileCause) (status : Status) → IsFailure cause → IsFileCauseStatus cause status → status ≡ statuses.Failed
+failed_cause LongFile status failed is = absurd failed
+failed_cause ShortSeed status failed is = absurd failed
+failed_cause LongPassword status failed is = absurd failed
+failed_cause (Failed error) status failed is = is
+
+failed_status : (stop : Stop) (status : Status) → IsFailed stop → IsStatusOf stop status → status ≡ statuses.Failed
+failed_status stops.Usage status failed is = absurd failed
+failed_status stops.LineRefused status failed is = absurd failed
+failed_status stops.LineFailed status failed is = absurd failed
+failed_status (stops.Refused reason) status failed is = absurd failed
+failed_status (stops.File fault) status failed is = failed_cause fault.cause status failed is
+
+-- a command that stopped early, with the status of what stopped it
+pub stopped_end : (words : List Text) (before : Option World) (stop : Stop) (status : Status) (after : Option World)
+    → IsStopped words before stop after → IsStatusOf stop status → IsEnd words before status after
+stopped_end words before stop status after (inl same) is = same_end words before status after (other stop status is) same
+stopped_end words before stop status after (inr (failed, done)) is =
+    subst (λ s. IsEnd words before s after) (sym (failed_status stop status failed is)) (inr done)
+
+-- the report of it fails
+pub stopped_failed : (words : List Text) (before : Option World) (stop : Stop) (after : Option World)
+    → IsStopped words before stop after → IsEnd words before statuses.Failed after
+stopped_failed words before stop after (inl same) = inl same
+stopped_failed words before stop after (inr (failed, done)) = inr done
+
+-- whatever the output says at the end
+pub ended : {E : Type 0} (r : Result Status E) (words : List Text) (before after : Option World)
+    → IfOk r (λ status. IsEnd words before status after) → OnErr r (IsEnd words before statuses.Failed after)
+    → IsEnd words before (result_unwrap_or r statuses.Failed) after
+ended (Ok status) words before after done failed = done
+ended (Err e) words before after done failed = failed

@@ -1,0 +1,11 @@
+use Rattle.std.proofs.Common.{◌∙◌, ap, map, string_bytes, subst}
+use Rattle.kadm_run.specs.Updates.{IsSpelledMade}
+use Rattle.kadm_run.specs.Words.{in_batch, texts}
+use Rattle.kadm_run.proofs.batch.run_line.Goals as goal
+
+pub returns-in-Ok-clause-done : goal.returns-in-Ok-clause-done
+returns-in-Ok-clause-done g c =
+    subst (λ words. IsSpelledMade (g.T.Store.world c.args.store.now) words c.args.database.now c.run_words.new.database)
+    (ap texts c.deref-3.ensures.value ∙ c.in_ok-words.ensures
+    ∙ ap (λ words. in_batch c.args.db.now (map string_bytes words)) c.deref.ensures.value)
+    c.in-Ok.ensures.done

@@ -1,0 +1,6 @@
+use Rattle.std.proofs.lemmas.Result.{on_ok_weaker}
+use Rattle.kadm_run.proofs.batch.run_words.Goals as goal
+
+pub returns-in-Ok-clause-done : goal.returns-in-Ok-clause-done
+returns-in-Ok-clause-done g c =
+    on_ok_weaker c.run_order.result (λ made. (c.in-Ok.order, c.in-Ok.ensures, made)) c.run_order.ensures.done

@@ -1,0 +1,109 @@
+-- The effect of the commands that change a database, one after another in a batch.
+use Rattle.std.specs.Prelude.{◌≡◌, ◌⊎◌, ℕ, Bool, true, false, List, [], ◌∷◌, map, Option, Some, None, ⊤}
+use Rattle.enctypes.specs.declared.etype.Etype.{Etype}
+use Rattle.file_store.specs.World.{World, HasFirstLine, HasSeed}
+use Rattle.krb_fields.specs.Name.{Components}
+use Rattle.krb_fields.specs.NameText.{IsNameText}
+use Rattle.krb_fields.specs.Salt.{default_salt}
+use Rattle.principal_keys.specs.Keys.{drawn_keys, password_key, seeded}
+use Rattle.principal_rows.specs.declared.row.KeyVersion.{KeyVersion}
+use Rattle.principals.specs.Database.{Principals}
+use Rattle.kadm_run.specs.Denying.{migrated_rows}
+use Rattle.kadm_run.specs.Granting.{IsChanged, IsCleared, IsGranted}
+use Rattle.kadm_run.specs.Importing.{HasVersions, Imports}
+use Rattle.kadm_run.specs.Words.{Spells, Text, in_batch, path_of}
+use Rattle.kadm_run.specs.declared.order.Grant.{Grant}
+use Rattle.kadm_run.specs.declared.order.Order.{Order}
+use Rattle.kadm_run.specs.declared.order.RowUpdate.{RowUpdate}
+use Rattle.kadm_run.specs.declared.order.RowUpdate.TheVariants as rows
+use Rattle.kadm_run.specs.declared.order.Task.TheVariants as tasks
+use Rattle.kadm_run.specs.declared.order.Update.{Update}
+use Rattle.kadm_run.specs.declared.order.Update.TheVariants as updates
+use Rattle.kadm_run.specs.declared.order.Work.TheVariants as works
+
+-- ---- one row
+
+-- a password is the first line of its file, if one is named
+abbrev pub IsPasswordOf : Option World → Option Text → List ℕ → Type 0
+IsPasswordOf world (Some path) pass = HasFirstLine world path pass
+IsPasswordOf world None pass = ⊤
+
+-- the password that a change of a row takes, if it takes one
+abbrev pub IsSecretOf : Option World → RowUpdate → List ℕ → Type 0
+IsSecretOf world (rows.Password to) pass = IsPasswordOf world (path_of to.password.file) pass
+IsSecretOf world (rows.Random to) pass = ⊤
+IsSecretOf world (rows.Import keytab) pass = ⊤
+IsSecretOf world (rows.Change how) pass = ⊤
+
+-- the keys of a password, and a password's expiry that is past is cleared
+abbrev pub GivesPassword : Option World → List Etype → List ℕ → Grant → Components → Principals → Principals → Type 0
+GivesPassword world etypes pass grant who p new =
+    (given : Principals) × IsGranted grant who (map (password_key pass (default_salt p.realm who)) etypes) p given
+    × IsCleared world who given new
+
+-- keys drawn from a seed: of a file, if one is named, or else of the system
+abbrev pub GivesRandom : Option World → List Etype → Option Text → Grant → Components → Principals → Principals → Type 0
+GivesRandom world etypes named grant who p new =
+    (seed : List ℕ) × HasSeed world named seed × IsGranted grant who (drawn_keys (seeded seed) etypes) p new
+
+-- a new principal, with its keys from a keytab
+abbrev pub IsImported : Option World → List Etype → Text → Components → Principals → Principals → Type 0
+IsImported world etypes keytab who p new =
+    (versions : List KeyVersion) × HasVersions world keytab (p.realm ∷ who) etypes versions × Imports p who versions new
+
+abbrev pub IsRowChanged : Option World → List Etype → List ℕ → RowUpdate → Components → Principals → Principals → Type 0
+IsRowChanged world etypes pass (rows.Password to) who p new = GivesPassword world etypes pass to.grant who p new
+IsRowChanged world etypes pass (rows.Random to) who p new = GivesRandom world etypes (path_of to.seed) to.grant who p new
+IsRowChanged world etypes pass (rows.Import keytab) who p new = IsImported world etypes keytab.now who p new
+IsRowChanged world etypes pass (rows.Change how) who p new = IsChanged world how who p new
+
+-- the row of the principal that a text names is changed
+pub record IsRowUpdated (world : Option World) (etypes : List Etype) (name : Text) (how : RowUpdate) (p : Principals) (new : Principals) : Type 0 where
+  pub who : Components
+  pub spelled : IsNameText who name
+  pub pass : List ℕ
+  pub secret : IsSecretOf world how pass
+  pub changed : IsRowChanged world etypes pass how who p new
+
+abbrev pub IsMigrated : Bool → Principals → Principals → Type 0
+IsMigrated users_are_no_services p new = new ≡ migrated_rows users_are_no_services p
+
+abbrev pub IsUpdated : Option World → List Etype → Update → Principals → Principals → Type 0
+IsUpdated world etypes (updates.Row name how) p new = IsRowUpdated world etypes name.now how p new
+IsUpdated world etypes (updates.Migrate users_are_no_services) p new = IsMigrated users_are_no_services p new
+
+-- ---- the lines of a batch
+
+-- the change that was ordered is made
+abbrev pub IsOrderMade : Option World → Order → Principals → Principals → Type 0
+IsOrderMade world order p new =
+    (update : Update) × (order.task ≡ tasks.Write (works.Update update)) × IsUpdated world order.etypes.items update p new
+
+-- the change that words spell is made
+abbrev pub IsSpelledMade : Option World → List Text → Principals → Principals → Type 0
+IsSpelledMade world words p new = (order : Order) × Spells words order × IsOrderMade world order p new
+
+-- the same for a line of a batch
+abbrev pub IsLineDone : Option World → Text → List Text → Principals → Principals → Type 0
+IsLineDone world db line p new = IsSpelledMade world (in_batch db line) p new
+
+-- all of them, one after another
+abbrev pub AreDone : Option World → Text → List (List Text) → Principals → Principals → Type 0
+AreDone world db [] p new = new ≡ p
+AreDone world db (line ∷ lines) p new = (next : Principals) × IsLineDone world db line p next × AreDone world db lines next new
+
+-- each of them, or what it changes is left as it was
+abbrev pub AreTried : Option World → Text → List (List Text) → Principals → Principals → Type 0
+AreTried world db [] p new = new ≡ p
+AreTried world db (line ∷ lines) p new =
+    (next : Principals) × (IsLineDone world db line p next ⊎ (next ≡ p)) × AreTried world db lines next new
+
+-- a run over the lines: all were done, or it keeps going and some were
+abbrev pub IsRun : Option World → Text → Bool → List (List Text) → Principals → Principals → Bool → Type 0
+IsRun world db keep_going lines p new true = AreDone world db lines p new
+IsRun world db keep_going lines p new false = (keep_going ≡ true) × AreTried world db lines p new
+
+-- a line was done, or is left and the run is no longer whole
+abbrev pub IsTurn : Option World → Text → List Text → Bool → Principals → Principals → Bool → Type 0
+IsTurn world db line whole p new whole_then =
+    (IsLineDone world db line p new × (whole_then ≡ whole)) ⊎ ((new ≡ p) × (whole_then ≡ false))

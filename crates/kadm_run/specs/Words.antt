@@ -1,0 +1,143 @@
+-- The words of a command line, and the order that they spell.
+use Rattle.std.specs.Prelude.{◌≡◌, ◌==◌, ◌&&◌, ◌||◌, ℕ, Bool, true, false, List, [], ◌∷◌, length, map, nat_lt, slice_get}
+use Rattle.std.specs.Prelude.{Option, Some, None, is_some, option_map, codes, bytes_eq, if◌then◌else◌, ⊤}
+use Rattle.std.specs.Borrow.{Bor}
+use Rattle.std.specs.List.{before_first, after_first, position_or_len}
+use Rattle.std.specs.Str.Parse.{IsNumeral, digits_value}
+use Rattle.kadm_run.specs.declared.order.ChangeArgs.{ChangeArgs}
+use Rattle.kadm_run.specs.declared.order.ChangeArgs.TheVariants.{Drop, DropOlder, Policy, Remove}
+use Rattle.kadm_run.specs.declared.order.Grant.{Grant}
+use Rattle.kadm_run.specs.declared.order.Grant.TheVariants.{New, NewUser, Next, Replace, Either}
+use Rattle.kadm_run.specs.declared.order.Order.{Order}
+use Rattle.kadm_run.specs.declared.order.Print.{Print}
+use Rattle.kadm_run.specs.declared.order.Print.TheVariants as prints
+use Rattle.kadm_run.specs.declared.order.RowUpdate.{RowUpdate}
+use Rattle.kadm_run.specs.declared.order.RowUpdate.TheVariants as rows
+use Rattle.kadm_run.specs.declared.order.Task.{Task}
+use Rattle.kadm_run.specs.declared.order.Task.TheVariants as tasks
+use Rattle.kadm_run.specs.declared.order.Update.{Update}
+use Rattle.kadm_run.specs.declared.order.Update.TheVariants as updates
+use Rattle.kadm_run.specs.declared.order.Work.{Work}
+use Rattle.kadm_run.specs.declared.order.Work.TheVariants as works
+
+-- ---- words
+
+-- a word is any text of a command line; an option is a word such as --db
+abbrev pub Text : Type 0
+Text = List ℕ
+
+abbrev pub texts : List (Bor Text) → List Text
+texts words = map (λ word. word.now) words
+
+-- the path of a named file, if there is one
+abbrev pub path_of : Option (Bor Text) → Option Text
+path_of named = option_map (λ path. path.now) named
+
+-- the word before the first equals sign, if there is one, is the option
+abbrev pub is_before : Text → Text → Bool
+is_before option word =
+    nat_lt (position_or_len (λ b. b == 0x3D) word) (length word) && bytes_eq (before_first (λ b. b == 0x3D) word) option
+
+-- the value that an option has at a word: the next word, or what follows the equals sign
+abbrev pub value_at : Text → Text → List Text → Option Text
+value_at option word others =
+    if bytes_eq word option then slice_get others 0
+    else if is_before option word then Some (after_first (λ b. b == 0x3D) word)
+    else None
+
+abbrev pub first_of : Option Text → Option Text → Option Text
+first_of (Some value) later = Some value
+first_of None later = later
+
+-- the first value of an option
+abbrev pub value_of : List Text → Text → Option Text
+value_of [] option = None
+value_of (word ∷ others) option = first_of (value_at option word others) (value_of others option)
+
+-- the option is there, as a flag without a value
+abbrev pub has_flag : List Text → Text → Bool
+has_flag [] flag = false
+has_flag (word ∷ others) flag = bytes_eq word flag || has_flag others flag
+
+-- the name of the subcommand, after that of the program
+abbrev pub command_of : List Text → Option Text
+command_of words = slice_get words 1
+
+-- the words of a line of a batch, as a command line with the batch's database
+abbrev pub in_batch : Text → List Text → List Text
+in_batch db [] = codes "kadm" ∷ []
+in_batch db (command ∷ others) = codes "kadm" ∷ command ∷ codes "--db" ∷ db ∷ others
+
+-- the help or the version is asked for
+abbrev pub asks_help : List Text → Bool
+asks_help words =
+    has_flag words (codes "help") || (has_flag words (codes "--help") || (has_flag words (codes "-h")
+    || (has_flag words (codes "--version") || has_flag words (codes "-V"))))
+
+-- ---- the order that words spell
+
+-- the principal to add is new, or has keys already
+abbrev pub IsPasswordGrant : List Text → Grant → Type 0
+IsPasswordGrant words New = (command_of words ≡ Some (codes "add")) × (has_flag words (codes "--service") ≡ true)
+IsPasswordGrant words NewUser = (command_of words ≡ Some (codes "add")) × (has_flag words (codes "--service") ≡ false)
+IsPasswordGrant words Next = (command_of words ≡ Some (codes "passwd")) × (has_flag words (codes "--replace") ≡ false)
+IsPasswordGrant words Replace = (command_of words ≡ Some (codes "passwd")) × (has_flag words (codes "--replace") ≡ true)
+IsPasswordGrant words Either = ⊥
+
+abbrev pub IsRandomGrant : List Text → Grant → Type 0
+IsRandomGrant words New = (command_of words ≡ Some (codes "add")) × (has_flag words (codes "--random") ≡ true)
+IsRandomGrant words NewUser = ⊥
+IsRandomGrant words Next = (command_of words ≡ Some (codes "random")) × (has_flag words (codes "--existing") ≡ true)
+IsRandomGrant words Replace = (command_of words ≡ Some (codes "random")) × (has_flag words (codes "--replace") ≡ true)
+IsRandomGrant words Either =
+    (command_of words ≡ Some (codes "random")) × (has_flag words (codes "--replace") ≡ false)
+    × (has_flag words (codes "--existing") ≡ false)
+
+abbrev pub IsChangeSpelled : List Text → ChangeArgs → Type 0
+IsChangeSpelled words (Drop version) =
+    (command_of words ≡ Some (codes "drop")) × (text : Text) × (value_of words (codes "--version") ≡ Some text)
+    × IsNumeral 10 text × (version ≡ digits_value 10 text)
+IsChangeSpelled words DropOlder = (command_of words ≡ Some (codes "drop")) × (has_flag words (codes "--older") ≡ true)
+IsChangeSpelled words (Policy field value) =
+    (command_of words ≡ Some (codes "policy")) × (value_of words (codes "--field") ≡ Some field.now)
+    × (value_of words (codes "--value") ≡ Some value.now)
+IsChangeSpelled words Remove = command_of words ≡ Some (codes "remove")
+
+abbrev pub IsRowSpelled : List Text → RowUpdate → Type 0
+IsRowSpelled words (rows.Password to) =
+    IsPasswordGrant words to.grant × (path_of to.password.file ≡ value_of words (codes "--password-file"))
+IsRowSpelled words (rows.Random to) = IsRandomGrant words to.grant × (path_of to.seed ≡ value_of words (codes "--seed"))
+IsRowSpelled words (rows.Import keytab) =
+    (command_of words ≡ Some (codes "import")) × (value_of words (codes "--keytab") ≡ Some keytab.now)
+IsRowSpelled words (rows.Change how) = IsChangeSpelled words how
+
+abbrev pub IsUpdateSpelled : List Text → Update → Type 0
+IsUpdateSpelled words (updates.Row name how) = (value_of words (codes "--name") ≡ Some name.now) × IsRowSpelled words how
+IsUpdateSpelled words (updates.Migrate users_are_no_services) =
+    (command_of words ≡ Some (codes "migrate")) × (users_are_no_services ≡ has_flag words (codes "--users-are-no-services"))
+
+abbrev pub IsWorkSpelled : List Text → Work → Type 0
+IsWorkSpelled words (works.Init realm seed) =
+    (command_of words ≡ Some (codes "init")) × (value_of words (codes "--realm") ≡ Some realm.now)
+    × (path_of seed ≡ value_of words (codes "--seed"))
+IsWorkSpelled words (works.Update update) = IsUpdateSpelled words update
+IsWorkSpelled words (works.Batch keep_going) =
+    (command_of words ≡ Some (codes "batch")) × (keep_going ≡ has_flag words (codes "--keep-going"))
+IsWorkSpelled words (works.Keytab to) =
+    (command_of words ≡ Some (codes "keytab")) × (value_of words (codes "--name") ≡ Some to.name.now)
+    × (value_of words (codes "--out") ≡ Some to.out.now) × (to.append ≡ has_flag words (codes "--append"))
+
+abbrev pub IsPrintSpelled : List Text → Print → Type 0
+IsPrintSpelled words (prints.List like long) = command_of words ≡ Some (codes "list")
+IsPrintSpelled words prints.Lint = command_of words ≡ Some (codes "lint")
+IsPrintSpelled words (prints.Show name) =
+    (command_of words ≡ Some (codes "show")) × (value_of words (codes "--name") ≡ Some name.now)
+
+abbrev pub IsTaskSpelled : List Text → Task → Type 0
+IsTaskSpelled words (tasks.Print print) = IsPrintSpelled words print
+IsTaskSpelled words (tasks.Write work) = IsWorkSpelled words work
+
+-- the order that the words of a command line spell: its database, and what to do with it
+pub record Spells (words : List Text) (order : Order) : Type 0 where
+  pub db : value_of words (codes "--db") ≡ Some order.db.now
+  pub task : IsTaskSpelled words order.task

@@ -1,0 +1,162 @@
+//! Splits the lines of a batch into words, as a shell does.
+
+use std::alloc::{AllocError, AllocFailed, Global};
+
+/// Why a line can't be split into words.
+#[derive(Clone, Copy)]
+pub(crate) enum LineFault {
+    NotUtf8,
+    /// There are more than a million lines.
+    TooMany,
+    /// A quotation mark is not followed by its other one.
+    OpenQuote,
+    /// The line ends in a backslash.
+    OpenEscape,
+    Memory,
+}
+
+impl LineFault {
+    /// Returns the explanation for standard error, if memory did not run out.
+    pub(crate) fn text(self) -> Option<&'static str> {
+        match self {
+            LineFault::NotUtf8 => Some("it is not UTF-8"),
+            LineFault::TooMany => Some("a batch has at most 1,000,000 lines"),
+            LineFault::OpenQuote => Some("a quotation mark is not closed"),
+            LineFault::OpenEscape => Some("nothing follows the backslash at its end"),
+            LineFault::Memory => None,
+        }
+    }
+}
+
+impl From<AllocError> for LineFault {
+    fn from(_: AllocError) -> LineFault {
+        LineFault::Memory
+    }
+}
+
+impl<T: Drop> From<AllocFailed<T>> for LineFault {
+    fn from(_: AllocFailed<T>) -> LineFault {
+        LineFault::Memory
+    }
+}
+
+/// What the next character is read as.
+#[derive(Clone, Copy, PartialEq, Eq)]
+enum State {
+    Between,
+    InWord,
+    /// Up to the other `'`.
+    InSingle,
+    /// Up to the other `"`.
+    InDouble,
+    /// The next character stands for itself.
+    Escaped,
+    /// The same between `"`, if it is special there. A `\` before another one stands for itself.
+    EscapedInDouble,
+    InComment,
+}
+
+/// Returns the words of a line: none if it is empty or a comment. Spaces and tabs separate words; `'` and `"` enclose
+/// characters of a word, and `\` stands before one; `#` at the start of a word begins a comment.
+pub(crate) fn line_words(alloc: Global, line: &[u8]) -> Result<Vec<String>, LineFault> {
+    let Ok(text) = std::str::from_utf8(line) else {
+        return Err(LineFault::NotUtf8);
+    };
+    let mut words = Vec::new(alloc);
+    let mut state = State::Between;
+    for letter in text.chars() {
+        state = read_letter(alloc, &mut words, state, letter)?;
+    }
+    match state {
+        State::Between | State::InWord | State::InComment => Ok(words),
+        State::InSingle | State::InDouble => Err(LineFault::OpenQuote),
+        State::Escaped | State::EscapedInDouble => Err(LineFault::OpenEscape),
+    }
+}
+
+/// Reads a character of a line. Returns what the next one is read as.
+fn read_letter(
+    alloc: Global,
+    words: &mut Vec<String>,
+    state: State,
+    letter: char,
+) -> Result<State, AllocError> {
+    match state {
+        State::Between => begin_word(alloc, words, letter),
+        State::InWord => read_plain(words, letter),
+        State::InSingle => read_single(words, letter),
+        State::InDouble => read_double(words, letter),
+        State::Escaped => {
+            push_letter(words, letter)?;
+            Ok(State::InWord)
+        }
+        State::EscapedInDouble => {
+            if !matches!(letter, '"' | '\\' | '$' | '`') {
+                push_letter(words, '\\')?;
+            }
+            push_letter(words, letter)?;
+            Ok(State::InDouble)
+        }
+        State::InComment => Ok(State::InComment),
+    }
+}
+
+/// Reads a character behind a space: it begins a word or a comment, or is a space itself.
+fn begin_word(alloc: Global, words: &mut Vec<String>, letter: char) -> Result<State, AllocError> {
+    if is_space(letter) {
+        return Ok(State::Between);
+    }
+    if letter == '#' {
+        return Ok(State::InComment);
+    }
+    words.push(String::new(alloc))?;
+    read_plain(words, letter)
+}
+
+/// Reads a character of a word outside quotation marks.
+fn read_plain(words: &mut Vec<String>, letter: char) -> Result<State, AllocError> {
+    if is_space(letter) {
+        return Ok(State::Between);
+    }
+    match letter {
+        '\'' => Ok(State::InSingle),
+        '"' => Ok(State::InDouble),
+        '\\' => Ok(State::Escaped),
+        _ => {
+            push_letter(words, letter)?;
+            Ok(State::InWord)
+        }
+    }
+}
+
+fn read_single(words: &mut Vec<String>, letter: char) -> Result<State, AllocError> {
+    if letter == '\'' {
+        return Ok(State::InWord);
+    }
+    push_letter(words, letter)?;
+    Ok(State::InSingle)
+}
+
+fn read_double(words: &mut Vec<String>, letter: char) -> Result<State, AllocError> {
+    match letter {
+        '"' => Ok(State::InWord),
+        '\\' => Ok(State::EscapedInDouble),
+        _ => {
+            push_letter(words, letter)?;
+            Ok(State::InDouble)
+        }
+    }
+}
+
+/// Adds a character to the last word.
+fn push_letter(words: &mut Vec<String>, letter: char) -> Result<(), AllocError> {
+    match words.last_mut() {
+        Some(word) => word.push(letter),
+        None => Ok(()),
+    }
+}
+
+/// Checks whether a character separates words. A line of a text from another system may end in a carriage return.
+fn is_space(letter: char) -> bool {
+    matches!(letter, ' ' | '\t' | '\r')
+}
