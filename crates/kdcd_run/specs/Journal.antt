@@ -32,6 +32,10 @@ abbrev pub is_whole_if : {J : Type 0} → (J → Bool) → Option J → Bool
 is_whole_if is_whole (Some journal) = is_whole journal
 is_whole_if is_whole None = true
 
+abbrev pub is_there_if : {J : Type 0} → (J → Bool) → Option J → Bool
+is_there_if is_there (Some journal) = is_there journal
+is_there_if is_there None = false
+
 -- whether a journal has kept all that it was handed; of an action without a reply nothing is asked
 abbrev pub is_kept : {J : Type 0} → (J → Bool) → J → Action → Bool
 is_kept is_whole journal action = not (has_reply action) || is_whole journal

@@ -1,5 +1,5 @@
 //! The host of a server.
-ghost use Rattle.std.specs.Prelude.{◌≡◌, ◌∷◌, [], List, Option, IfOk};
+ghost use Rattle.std.specs.Prelude.{◌≡◌, ◌∷◌, [], List, Option, IfOk, true, false};
 ghost use Rattle.kdc_hub.specs.Wire.{Records};
 ghost use Rattle.kdc_serving.specs.Recorded.{recorded_by_any};
 ghost use Rattle.kdcd_run.specs.Served.{IsNew};
@@ -109,12 +109,14 @@ pub trait Host {
     ) -> io::Result<Self::Journal>
         ensures began { IfOk result (λ _.
             Records (recorded self.old) (BeganJournal path.now beginning ∷ []) (recorded self.new)) }
-        ensures new { IfOk result (λ journal. IsNew (Self.Journal.handed journal)) };
+        ensures new { IfOk result (λ journal. IsNew (Self.Journal.handed journal)) }
+        ensures there { IfOk result (λ journal. Self.Journal.is_there journal ≡ true) };
 
     /// Returns what stands for the journal of a server that has none.
     fn no_journal(&mut self) -> Self::Journal
         ensures records { recorded self.new ≡ recorded self.old }
-        ensures new { IsNew (Self.Journal.handed result) };
+        ensures new { IsNew (Self.Journal.handed result) }
+        ensures there { Self.Journal.is_there result ≡ false };
 
     /// Announces that the server serves from now on.
     fn announce(&mut self, news: StartNews)

@@ -1,5 +1,5 @@
 //! The journal of a running server.
-ghost use Rattle.std.specs.Prelude.{◌≡◌, ◌-ℤ◌, ℤ, pos, [], ◌∷◌, IfOk, IfSome};
+ghost use Rattle.std.specs.Prelude.{◌≡◌, ◌-ℤ◌, ℤ, pos, [], ◌∷◌, IfOk, IfSome, true};
 ghost use Rattle.std.specs.Result.{is_ok};
 ghost use Rattle.kdc_hub.specs.Wire.{Records};
 ghost use Rattle.krb_fields.specs.Skew.{skew};
@@ -72,6 +72,8 @@ impl<F: JournalFiles> JournalWriter for JournalFile<F> {
     ghost handed = { none_handed };
 
     ghost is_whole = { is_whole };
+
+    ghost is_there = { λ _. true };
 
     fn keep(&mut self, alloc: Global, at: Moment, seen: &Seen) -> Result<(), NotKept>
         ensures handed { Records (none_handed self.old) (record { at = at; seen = seen.now } ∷ []) (none_handed self.new) }

@@ -3,7 +3,7 @@ ghost use Rattle.std.specs.Prelude.{◌≡◌, ◌∷◌, [], Bool, List, Option
 ghost use Rattle.std.specs.Result.{is_ok};
 ghost use Rattle.replay.specs.Run.{with_any};
 ghost use Rattle.kdc_hub.specs.Wire.{Records};
-ghost use Rattle.kdcd_run.specs.Journal.{Handed, handed_at, handed_by, is_kept, is_whole_if};
+ghost use Rattle.kdcd_run.specs.Journal.{Handed, handed_at, handed_by, is_kept, is_there_if, is_whole_if};
 ghost use Rattle.kdcd_run.specs.Served.{record_of};
 
 use journal::NotKept;
@@ -19,6 +19,9 @@ pub trait JournalWriter {
 
     // Whether it has kept all of them.
     ghost is_whole: { Self → Bool };
+
+    // Whether it is a journal, and does not stand for one that is absent.
+    ghost is_there: { Self → Bool };
 
     /// Keeps an authenticator, and whatever it could not keep before.
     fn keep(&mut self, alloc: Global, at: Moment, seen: &Seen) -> Result<(), NotKept>
@@ -36,6 +39,8 @@ impl<J: JournalWriter> JournalWriter for Option<J> {
     ghost handed = { record_of J.handed };
 
     ghost is_whole = { is_whole_if J.is_whole };
+
+    ghost is_there = { is_there_if J.is_there };
 
     fn keep(&mut self, alloc: Global, at: Moment, seen: &Seen) -> Result<(), NotKept>
         ensures handed { Records (record_of J.handed self.old) (record { at = at; seen = seen.now } ∷ [])

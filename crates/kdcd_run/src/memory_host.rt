@@ -183,7 +183,7 @@ impl Host for MemoryHost {
     }
 
     fn no_journal(&mut self) -> MemoryJournal {
-        MemoryJournal::new(self.alloc, self.keeps_before_fault)
+        MemoryJournal::absent(self.alloc)
     }
 
     fn announce(&mut self, news: StartNews) {

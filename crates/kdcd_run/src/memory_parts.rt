@@ -1,5 +1,5 @@
 //! The sockets, the tally, the journal and the log of a server in memory. Each keeps a record of what it did.
-ghost use Rattle.std.specs.Prelude.{◌≡◌, ◌∷◌, [], ℕ, IfOk, Some};
+ghost use Rattle.std.specs.Prelude.{◌≡◌, ◌∷◌, [], ℕ, IfOk, Some, true, false};
 ghost use Rattle.std.specs.Option.{option_copied};
 ghost use Rattle.std.specs.Result.{is_ok};
 ghost use Rattle.std.proofs.Common.{ap};
@@ -181,17 +181,34 @@ pub struct MemoryJournal {
     /// After how many calls one fails, if one is to fail.
     calls_before_fault: Option<u64>,
     is_whole: bool,
+    /// Whether it stands for a journal, and not for one that is absent.
+    is_there: bool,
 }
 
 impl MemoryJournal {
     /// Returns a journal that was handed nothing. After `calls_before_fault` calls one fails, if any is to.
     pub fn new(alloc: Global, calls_before_fault: Option<u64>) -> MemoryJournal
-        ensures { IsNew (⟦<MemoryJournal as JournalWriter>⟧.handed result) }
+        ensures new { IsNew (⟦<MemoryJournal as JournalWriter>⟧.handed result) }
+        ensures there { result.is_there ≡ true }
     {
         MemoryJournal {
             handed: Record::new(alloc),
             calls_before_fault,
             is_whole: true,
+            is_there: true,
+        }
+    }
+
+    /// Returns what stands for a journal that is absent.
+    pub fn absent(alloc: Global) -> MemoryJournal
+        ensures new { IsNew (⟦<MemoryJournal as JournalWriter>⟧.handed result) }
+        ensures there { result.is_there ≡ false }
+    {
+        MemoryJournal {
+            handed: Record::new(alloc),
+            calls_before_fault: None,
+            is_whole: true,
+            is_there: false,
         }
     }
 
@@ -228,6 +245,8 @@ impl JournalWriter for MemoryJournal {
     ghost handed = { λ j. seen_as handed_by j.handed };
 
     ghost is_whole = { λ j. j.is_whole };
+
+    ghost is_there = { λ j. j.is_there };
 
     fn keep(&mut self, alloc: Global, at: Moment, seen: &Seen) -> Result<(), NotKept> {
         self.note(handed_copy(alloc, at, seen));

@@ -1,5 +1,5 @@
 //! A server: it starts as its options say, and serves.
-ghost use Rattle.std.specs.Prelude.{◌≡◌, true, None, IfOk, option_copied};
+ghost use Rattle.std.specs.Prelude.{◌≡◌, true, None, IfOk, is_some, option_copied};
 ghost use Rattle.kdc_hub.specs.Hub.{standing};
 ghost use Rattle.kdc_hub.specs.Wire.{Records};
 ghost use Rattle.kdc_serving.specs.Recorded.{recorded_by_any};
@@ -91,6 +91,8 @@ pub fn start<'a, H: Host, L: LogWriter + Drop, E: Drop, T: Tally + Drop>(
         server.news) }
     ensures quiet { IfOk result (λ server.
         server.wire.quiet_until ≡ quiet_until server.news.refused options.now.is_quiet) }
+    ensures journal { IfOk result (λ server.
+        H.Journal.is_there server.wire.journal ≡ is_some (option_copied options.now.journal)) }
     ensures log { IfOk result (λ server. server.wire.log ≡ outlets.log) }
     ensures tally { IfOk result (λ server. server.wire.tally ≡ outlets.tally) }
 {
@@ -126,6 +128,7 @@ fn begin_journal<'a, H: Host>(
     ensures began { IfOk result (λ _.
         Records (H.recorded host.old) (began (option_copied path.entry) beginning) (H.recorded host.new)) }
     ensures new { IfOk result (λ journal. IsNew (H.Journal.handed journal)) }
+    ensures there { IfOk result (λ journal. H.Journal.is_there journal ≡ is_some (option_copied path.entry)) }
 {
     let Some(path) = path else {
         return Ok(host.no_journal());
