@@ -1,7 +1,7 @@
 /*
  * An acceptor of AP-REQ messages (RFC 4120, section 3.2.3), for services in C (C99 or later) and in C++.
  *
- * docs/SERVICES.md says what a service must do and how to build it ('In C'), and tools/ap_service.c is a whole service.
+ * docs/SERVICES.md says what a service must do and how to build it ('In C'), and tests/services/ap_service.c is a whole service.
  *
  *     struct ap_acceptor acceptor = { 0 };
  *     status = ap_open(&acceptor, keytab, keytab_length, 1024, false, now, 0);

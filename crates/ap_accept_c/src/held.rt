@@ -25,12 +25,14 @@ impl Model for Held {
 }
 
 impl Held {
+    /// Returns the pointer that owns this service.
     pub fn of(service: Box<Service>) -> Held
         ensures { result.value ≡ Some service.value }
     {
         Held::of_parts(Parts::of(service))
     }
 
+    /// Returns the service. There must be one.
     pub fn into_box(self) -> Box<Service>
         requires { IsSome self.value }
         ensures { self.value ≡ Some result.value }
@@ -38,6 +40,7 @@ impl Held {
         self.into_parts().into_box()
     }
 
+    /// Returns a null pointer, which holds no service.
     pub fn none(alloc: Global) -> Held
         ensures { result.value ≡ None }
     {

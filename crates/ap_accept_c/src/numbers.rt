@@ -48,6 +48,7 @@ impl Numbers {
         has_ap_rep: false,
     };
 
+    /// Returns the numbers of an accepted AP-REQ, or [`Numbers::NONE`] if there is none.
     pub fn of(accepted: Option<&Accepted>) -> Numbers
         ensures { result ≡ numbers_if (option_copied accepted.entry) }
     {

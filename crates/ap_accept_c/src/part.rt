@@ -18,6 +18,7 @@ pub enum Part {
 }
 
 impl Part {
+    /// Returns the part with this number of `enum ap_part` in `docs/ap_accept.h`: 1 to 6.
     pub fn numbered(number: u32) -> Option<Part>
         ensures { result ≡ part_numbered number }
     {

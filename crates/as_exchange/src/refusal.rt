@@ -42,6 +42,7 @@ pub enum Sequel {
 }
 
 impl AsRefusal {
+    /// Returns the error code of the KRB-ERROR that answers it (RFC 4120, section 7.5.9).
     pub fn code(self) -> Code
         ensures { result ≡ code_of self }
     {
@@ -67,6 +68,7 @@ impl AsRefusal {
         }
     }
 
+    /// Returns what it causes beside its error code.
     pub fn sequel(self) -> Sequel
         ensures { result ≡ sequel_of self }
     {

@@ -209,6 +209,7 @@ fn is_absent(timestamp: Outcome) -> bool
     matches!(timestamp, Outcome::Absent)
 }
 
+/// Checks whether a current key decrypts the timestamp, and its time is within the clock skew.
 pub fn is_good(timestamp: Outcome) -> bool
     ensures { result ≡ is_good timestamp }
 {

@@ -4,7 +4,7 @@ use std::alloc::Global;
 use std::fmt::Debug;
 use std::process::Abort;
 
-// The marks that `tools/refuse_allocations.py` reads. It refuses each allocation between `BEGIN` and `END`, one at a
+// The marks that `tests/crates/allocations.py` reads. It refuses each allocation between `BEGIN` and `END`, one at a
 // time. By `JUDGED`, a test has asserted all that has to hold after a refusal.
 
 pub const BEGIN: usize = 1 << 62;

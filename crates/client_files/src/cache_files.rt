@@ -3,7 +3,7 @@
 ghost use Rattle.std.specs.Prelude.{◌≡◌, IfOk, OnErr, OnOk, option_map};
 ghost use Rattle.cred_files.specs.Cache.{cache_text, put_first};
 ghost use Rattle.client_files.specs.Caches.{HasCache, new_cache};
-ghost use Rattle.file_store.specs.World.{with_file};
+ghost use Rattle.file_store.specs.World.{with_file, without_file};
 
 use crate::client_store::{ClientStore, Standing};
 use crate::faults::{Cause, Fault, at, at_file};
@@ -30,6 +30,7 @@ pub fn read_cache<T: ClientStore>(alloc: Global, store: &mut T, path: &str) -> R
     }
 }
 
+/// Reads the keytab at a path. Fails if no plain file is there, or its content is not a keytab.
 pub fn read_keytab<T: ClientStore>(
     alloc: Global,
     store: &mut T,
@@ -142,14 +143,25 @@ pub fn write_cache<T: ClientStore>(
     }
 }
 
-/// Removes the user's own cache.
-pub fn remove_cache<T: ClientStore>(alloc: Global, store: &mut T, path: &str) -> Result<(), Fault> {
-    at(alloc, path, remove_ours(store, path))
+/// Removes the user's own cache. After an `Err` the path is unchanged.
+pub fn remove_cache<T: ClientStore>(alloc: Global, store: &mut T, path: &str) -> Result<(), Fault>
+    ensures removed { OnOk result (
+        T.world store.new ≡ option_map (without_file path.now) (T.world store.old)) }
+    ensures kept { OnErr result (T.world store.new ≡ T.world store.old) }
+{
+    match remove_ours(alloc, store, path) {
+        Ok(()) => Ok(()),
+        Err(cause) => Err(Fault::new(alloc, path, cause)),
+    }
 }
 
-fn remove_ours<T: ClientStore>(store: &mut T, path: &str) -> Result<(), Cause> {
+fn remove_ours<T: ClientStore>(alloc: Global, store: &mut T, path: &str) -> Result<(), Cause>
+    ensures removed { OnOk result (
+        T.world store.new ≡ option_map (without_file path.now) (T.world store.old)) }
+    ensures kept { OnErr result (T.world store.new ≡ T.world store.old) }
+{
     check_cache(store.standing(path))?;
-    match store.remove(path) {
+    match store.remove(alloc, path) {
         Ok(()) => Ok(()),
         Err(error) => Err(Cause::File(FileCause::Failed(error))),
     }

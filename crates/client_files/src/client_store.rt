@@ -1,6 +1,7 @@
 //! What a client requires of its files beyond a [`Store`]: who owns them, what a folder contains, and how to remove a
 //! file.
-ghost use Rattle.std.specs.Prelude.{◌≡◌};
+ghost use Rattle.std.specs.Prelude.{◌≡◌, OnErr, OnOk, option_map};
+ghost use Rattle.file_store.specs.World.{without_file};
 
 use file_store::{FileStore, MemoryStore, Store};
 use std::alloc::{AllocError, Global};
@@ -35,7 +36,10 @@ pub trait ClientStore: Store {
         ensures kept { Self.world self.new ≡ Self.world self.old };
 
     /// Removes a file.
-    fn remove(&mut self, path: &str) -> io::Result<()>;
+    fn remove(&mut self, alloc: Global, path: &str) -> io::Result<()>
+        ensures removed { OnOk result (
+            Self.world self.new ≡ option_map (without_file path.now) (Self.world self.old)) }
+        ensures kept { OnErr result (Self.world self.new ≡ Self.world self.old) };
 
     /// Returns the names of the files in a folder, in rising order.
     fn names_in(&mut self, alloc: Global, path: &str) -> io::Result<Vec<String>>
@@ -63,7 +67,7 @@ where
         user_of(self.files())
     }
 
-    fn remove(&mut self, path: &str) -> io::Result<()> {
+    fn remove(&mut self, _alloc: Global, path: &str) -> io::Result<()> {
         fs::remove_file(self.files(), path)
     }
 
@@ -124,12 +128,12 @@ impl ClientStore for MemoryStore {
         Ok(MEMORY_USER)
     }
 
-    fn remove(&mut self, path: &str) -> io::Result<()> {
-        if self.remove_file(path) {
-            Ok(())
-        } else {
-            Err(Error::from(ErrorKind::NotFound))
+    fn remove(&mut self, alloc: Global, path: &str) -> io::Result<()> {
+        if self.get(path).is_none() {
+            return Err(Error::from(ErrorKind::NotFound));
         }
+        self.remove_file(alloc, path)?;
+        Ok(())
     }
 
     /// A folder in memory is a file of names, one on each line.

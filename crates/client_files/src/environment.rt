@@ -17,6 +17,8 @@ pub struct Defaults<'a> {
     pub cache: Variable<'a>,
     /// The value of `KRB5_CONFIG`: the path of a `krb5.conf`.
     pub config: Variable<'a>,
+    /// The value of `LOGNAME`: the name under which the user logged in to this computer.
+    pub user: Variable<'a>,
 }
 
 /// The value of a variable of the environment.

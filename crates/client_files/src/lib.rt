@@ -13,6 +13,9 @@
 //! | [`Fault::of_login`], [`unknown_hosts`] | why a login got no ticket, and what that concerns; hosts that were not asked |
 //!
 //! All of them fail with a [`Fault`], which names its subject and can be shown to a user.
+//!
+//! It does not send anything: `client_login` gets the tickets. A cache or a keytab is always a
+//! file: other types, such as `KEYRING:` and `KCM:`, are refused.
 #![tactic(auto)]
 
 mod cache_files;

@@ -4,3 +4,5 @@ mod Moving
 mod OwnKeys
 mod Takings
 mod Verified
+mod Wider
+mod Within

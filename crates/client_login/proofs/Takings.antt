@@ -26,9 +26,11 @@ use Rattle.client_login.specs.Faults.{IsUnheard, SaysFirst, SaysRefused, SaysTgs
 use Rattle.client_login.specs.Keys.{IsOwnKey}
 use Rattle.client_login.specs.Logins.{IsFirst, IsFurther, TakesFirst, presented_request}
 use Rattle.client_login.specs.Infos.{info_of_refusal}
+use Rattle.client_login.specs.Places.{IsKdc}
 use Rattle.client_login.specs.Replies.{IsAnswer, IsError, IsExchanged, IsReply, counted, said_of}
 use Rattle.client_login.specs.declared.asking.Reply.{Reply}
 use Rattle.client_login.specs.declared.faults.LoginFault.{LoginFault}
+use Rattle.client_login.specs.declared.kdc_places.KdcPlace.{KdcPlace}
 use Rattle.client_login.specs.declared.faults.LoginError.{LoginError}
 use Rattle.client_login.specs.declared.faults.LoginError.TheVariants as says
 use Rattle.client_login.specs.declared.secrets.Secret.{Secret}
@@ -429,11 +431,11 @@ module _ (answers : SocketAddr → List ℕ → List ℕ → Type 0) where
 
 -- ---- what a KDC answers with
 
-pub exchanged : (carries : List ℕ → Type 0) (answers : SocketAddr → List ℕ → List ℕ → Type 0) (kdc : SocketAddr)
-    (request octets : List ℕ) → carries request → answers kdc request octets
-    → IsAnswer (IsExchanged carries answers) kdc octets
-exchanged carries answers kdc request octets carried is =
-    record { request = request; answered = record { carried = carried; answered = is } }
+pub exchanged : (finds : List ℕ → ℕ → SocketAddr → Type 0) (places : List KdcPlace) (carries : List ℕ → Type 0)
+    (answers : SocketAddr → List ℕ → List ℕ → Type 0) (kdc : SocketAddr) (request octets : List ℕ) → IsKdc finds places kdc
+    → carries request → answers kdc request octets → IsAnswer (IsExchanged finds places carries answers) kdc octets
+exchanged finds places carries answers kdc request octets asked carried is =
+    record { request = request; answered = record { asked = asked; carried = carried; answered = is } }
 
 -- ---- a credential that can be presented has a session
 

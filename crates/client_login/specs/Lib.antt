@@ -7,5 +7,6 @@ pub mod Keys
 pub mod LoginLaws
 pub mod Logins
 pub mod Moments
+pub mod Places
 pub mod Replies
 pub mod Verifying

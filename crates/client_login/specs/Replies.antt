@@ -7,12 +7,15 @@ use Rattle.client_core.specs.declared.fault.ClientFault.{ClientFault}
 use Rattle.client_core.specs.declared.fault.ClientFault.TheVariants as found
 use Rattle.client_core.specs.declared.fault.Refusal.{Refusal}
 use Rattle.client_core.specs.declared.fault.ServerError.{ServerError}
+use Rattle.client_login.specs.Places.{IsKdc}
 use Rattle.client_login.specs.declared.asking.Reply.{Reply}
 use Rattle.client_login.specs.declared.faults.LoginFault.{LoginFault}
+use Rattle.client_login.specs.declared.kdc_places.KdcPlace.{KdcPlace}
 
--- The network carried a request, and a KDC answered it with this reply.
-pub record IsExchanged (carries : List ℕ → Type 0) (answers : SocketAddr → List ℕ → List ℕ → Type 0) (kdc : SocketAddr)
-    (request reply : List ℕ) : Type 0 where
+-- The network carried a request to a KDC at one of these places, and that KDC answered it with this reply.
+pub record IsExchanged (finds : List ℕ → ℕ → SocketAddr → Type 0) (places : List KdcPlace) (carries : List ℕ → Type 0)
+    (answers : SocketAddr → List ℕ → List ℕ → Type 0) (kdc : SocketAddr) (request reply : List ℕ) : Type 0 where
+  pub asked : IsKdc finds places kdc
   pub carried : carries request
   pub answered : answers kdc request reply
 

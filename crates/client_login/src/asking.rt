@@ -1,7 +1,9 @@
 //! Sends a request to the KDCs of a realm, and takes the first useful reply (RFC 4120, section 7.2).
-ghost use Rattle.std.specs.Prelude.{◌≡◌, IfErr, IfOk, None};
+ghost use Rattle.std.specs.Prelude.{◌≡◌, IfErr, IfOk, IfSome, None};
+ghost use Rattle.std.specs.List.{All, Contains};
 ghost use Rattle.client_core.specs.Replies as replies;
 ghost use Rattle.krb_fields.specs.Code.{number_of};
+ghost use Rattle.client_login.specs.Places.{AreWithin, IsKdc};
 ghost use Rattle.client_login.specs.Replies.{IsAnswer, IsExchanged, IsReply, counted, is_error, is_passed_over, said_of};
 ghost use Rattle.client_login.specs.Faults.{IsUnheard};
 ghost use Rattle.client_login.specs.declared.faults.LoginError.TheVariants.{Memory};
@@ -97,80 +99,72 @@ impl Reply {
 /// all requests of a login go to one, and then the others in order. It skips a KDC that doesn't reply, or says that it
 /// is not available or that the clocks differ. If no KDC does better, the first such error counts. A host's name is
 /// looked up when its turn comes.
+#[tactic(auto, using(crate::proofs::Takings::counted_unheard, crate::proofs::Within::further_within, crate::proofs::Within::same_places, crate::proofs::Wider::reply, crate::proofs::Wider::unheard))]
 pub(crate) fn ask<X: Network>(
     alloc: Global,
     kdcs: &mut Kdcs<X>,
     request: &[u8],
 ) -> Result<Reply, LoginFault>
     requires { X.carries request.now }
-    ensures ok { IfOk result (λ reply. IsReply (IsExchanged X.carries X.answers) reply) }
-    ensures err { IfErr result (λ fault. IsUnheard (IsExchanged X.carries X.answers) fault.why fault.kdc) }
+    ensures ok { IfOk result (λ reply.
+        IsReply (IsExchanged X.finds kdcs.old.places.items X.carries X.answers) reply) }
+    ensures err { IfErr result (λ fault.
+        IsUnheard (IsExchanged X.finds kdcs.old.places.items X.carries X.answers) fault.why fault.kdc) }
+    ensures within { AreWithin X.finds kdcs.old.places.items kdcs.new.places.items }
 {
-    let first = kdcs.answered;
-    let known = known_first(alloc, first)?;
-    let silence = LoginFault::new(LoginError::Silence(Error::from(ErrorKind::TimedOut)));
-    let mut end = match ask_each(alloc, kdcs, &known, None, silence, request) {
+    let first = known_first(kdcs);
+    let mut end = match ask_first(alloc, kdcs, first, request) {
         Ok(reply) => return Ok(reply),
         Err(fault) => unless_memory(fault)?,
     };
     for place in 0..kdcs.places.len() {
-        let addresses = addresses_at(alloc, kdcs, place)?;
-        match ask_each(alloc, kdcs, &addresses, first, end, request) {
-            Ok(reply) => return Ok(reply),
-            Err(fault) => end = unless_memory(fault)?,
+        let addresses = further_at(alloc, kdcs, place, first)?;
+        if !addresses.is_empty() {
+            match ask_each(alloc, kdcs, &addresses, request) {
+                Ok(reply) => return Ok(reply),
+                Err(fault) => end = passed_over(end, fault)?,
+            }
         }
     }
     kdcs.answered = end.kdc;
     Err(end)
 }
 
-/// Returns the KDC that is asked first, if one replied before.
-fn known_first(alloc: Global, first: Option<SocketAddr>) -> Result<Vec<SocketAddr>, AllocError> {
-    let mut known = Vec::new(alloc);
-    if let Some(first) = first {
-        known.push(first)?;
+/// Returns the KDC that replied last, if it is one of these.
+#[tactic(auto, using(crate::proofs::Within::known_kdc, crate::proofs::Within::contained))]
+fn known_first<X: Network>(kdcs: &Kdcs<X>) -> Option<SocketAddr>
+    ensures { IfSome result (λ kdc. IsKdc X.finds kdcs.now.places.items kdc) }
+{
+    let Some(last) = kdcs.answered else {
+        return None;
+    };
+    for place in &kdcs.places {
+        if let Some(kdc) = place.known(last) {
+            return Some(kdc);
+        }
     }
-    Ok(known)
+    None
 }
 
-/// Returns the addresses of a place. A host's name is looked up now, unless that was done before.
-fn addresses_at<X: Network>(
+/// Sends a request to the KDC that replied last, if there is one.
+fn ask_first<X: Network>(
     alloc: Global,
     kdcs: &mut Kdcs<X>,
-    place: usize,
-) -> Result<Vec<SocketAddr>, AllocError> {
-    match kdcs.places.get_mut(place) {
-        Some(place) => place.look_up(alloc, &mut kdcs.network),
-        None => Ok(Vec::new(alloc)),
-    }
-}
-
-/// Sends a request to each of these addresses but one, until a useful reply comes. If none does, returns the fault that
-/// counts, by the one so far.
-#[tactic(auto, using(crate::proofs::Takings::counted_unheard))]
-fn ask_each<X: Network>(
-    alloc: Global,
-    kdcs: &mut Kdcs<X>,
-    addresses: &[SocketAddr],
-    asked: Option<SocketAddr>,
-    before: LoginFault,
+    first: Option<SocketAddr>,
     request: &[u8],
 ) -> Result<Reply, LoginFault>
     requires carried { X.carries request.now }
-    requires before { IsUnheard (IsExchanged X.carries X.answers) before.why before.kdc }
-    ensures ok { IfOk result (λ reply. IsReply (IsExchanged X.carries X.answers) reply) }
-    ensures err { IfErr result (λ fault. IsUnheard (IsExchanged X.carries X.answers) fault.why fault.kdc) }
+    requires kdc { IfSome first (λ kdc. IsKdc X.finds kdcs.old.places.items kdc) }
+    ensures ok { IfOk result (λ reply.
+        IsReply (IsExchanged X.finds kdcs.old.places.items X.carries X.answers) reply) }
+    ensures err { IfErr result (λ fault.
+        IsUnheard (IsExchanged X.finds kdcs.old.places.items X.carries X.answers) fault.why fault.kdc) }
+    ensures places { kdcs.new.places ≡ kdcs.old.places }
 {
-    let mut end = before;
-    for kdc in addresses {
-        if asked != Some(*kdc) {
-            match ask_kdc(alloc, kdcs, *kdc, request) {
-                Ok(reply) => return Ok(reply),
-                Err(fault) => end = passed_over(end, fault)?,
-            }
-        }
+    match first {
+        Some(kdc) => ask_kdc(alloc, kdcs, kdc, request),
+        None => Err(LoginFault::new(LoginError::Silence(Error::from(ErrorKind::TimedOut)))),
     }
-    Err(end)
 }
 
 /// Returns the fault. Fails with it if memory ran out: then no further KDC is tried.
@@ -182,6 +176,85 @@ fn unless_memory(fault: LoginFault) -> Result<LoginFault, LoginFault>
         LoginError::Memory => Err(fault),
         _ => Ok(fault),
     }
+}
+
+/// Returns the addresses of a place, but for the KDC that was asked first. A host's name is looked up now, unless that
+/// was done before.
+#[tactic(auto, using(crate::proofs::Within::others_at))]
+fn further_at<X: Network>(
+    alloc: Global,
+    kdcs: &mut Kdcs<X>,
+    place: usize,
+    first: Option<SocketAddr>,
+) -> Result<Vec<SocketAddr>, AllocError>
+    ensures kdcs { IfOk result (λ further. All (IsKdc X.finds kdcs.new.places.items) further.items) }
+    ensures within { AreWithin X.finds kdcs.old.places.items kdcs.new.places.items }
+{
+    let addresses = addresses_at(alloc, kdcs, place)?;
+    let further = other_than(alloc, first, &addresses)?;
+    Ok(further)
+}
+
+/// Returns the addresses of a place. A host's name is looked up now, unless that was done before.
+/// It is apart from `further_at` for the proof alone.
+#[tactic(auto, using(crate::proofs::Within::same_places, crate::proofs::Within::contained, crate::proofs::Within::none_found, crate::proofs::Within::at_place, crate::proofs::Within::looked_up_at))]
+fn addresses_at<X: Network>(
+    alloc: Global,
+    kdcs: &mut Kdcs<X>,
+    place: usize,
+) -> Result<Vec<SocketAddr>, AllocError>
+    ensures kdcs { IfOk result (λ found. All (IsKdc X.finds kdcs.new.places.items) found.items) }
+    ensures within { AreWithin X.finds kdcs.old.places.items kdcs.new.places.items }
+{
+    if place >= kdcs.places.len() {
+        return Ok(Vec::new(alloc));
+    }
+    let found = kdcs.places[place].look_up(alloc, &mut kdcs.network)?;
+    Ok(found)
+}
+
+/// Returns these addresses without one.
+#[tactic(auto, using(crate::proofs::Within::contained))]
+fn other_than(
+    alloc: Global,
+    first: Option<SocketAddr>,
+    addresses: &[SocketAddr],
+) -> Result<Vec<SocketAddr>, AllocError>
+    ensures { IfOk result (λ others. All (Contains addresses.now) others.items) }
+{
+    let mut others = Vec::new(alloc);
+    for address in addresses {
+        if first != Some(*address) {
+            others.push(*address)?;
+        }
+    }
+    Ok(others)
+}
+
+/// Sends a request to each of these addresses until a useful reply comes. If none does, returns the fault that counts.
+#[tactic(auto, using(crate::proofs::Takings::counted_unheard))]
+fn ask_each<X: Network>(
+    alloc: Global,
+    kdcs: &mut Kdcs<X>,
+    addresses: &[SocketAddr],
+    request: &[u8],
+) -> Result<Reply, LoginFault>
+    requires carried { X.carries request.now }
+    requires kdcs { All (IsKdc X.finds kdcs.old.places.items) addresses.now }
+    ensures ok { IfOk result (λ reply.
+        IsReply (IsExchanged X.finds kdcs.old.places.items X.carries X.answers) reply) }
+    ensures err { IfErr result (λ fault.
+        IsUnheard (IsExchanged X.finds kdcs.old.places.items X.carries X.answers) fault.why fault.kdc) }
+    ensures places { kdcs.new.places ≡ kdcs.old.places }
+{
+    let mut end = LoginFault::new(LoginError::Silence(Error::from(ErrorKind::TimedOut)));
+    for kdc in addresses {
+        match ask_kdc(alloc, kdcs, *kdc, request) {
+            Ok(reply) => return Ok(reply),
+            Err(fault) => end = passed_over(end, fault)?,
+        }
+    }
+    Err(end)
 }
 
 /// Returns the fault that counts if no other KDC does better: the first error of a KDC, else the last silence. Once
@@ -206,14 +279,18 @@ fn ask_kdc<X: Network>(
     kdc: SocketAddr,
     request: &[u8],
 ) -> Result<Reply, LoginFault>
-    requires { X.carries request.now }
-    ensures ok { IfOk result (λ reply. IsReply (IsExchanged X.carries X.answers) reply) }
-    ensures err { IfErr result (λ fault. IsUnheard (IsExchanged X.carries X.answers) fault.why fault.kdc) }
+    requires carried { X.carries request.now }
+    requires kdc { IsKdc X.finds kdcs.old.places.items kdc }
+    ensures ok { IfOk result (λ reply.
+        IsReply (IsExchanged X.finds kdcs.old.places.items X.carries X.answers) reply) }
+    ensures err { IfErr result (λ fault.
+        IsUnheard (IsExchanged X.finds kdcs.old.places.items X.carries X.answers) fault.why fault.kdc) }
+    ensures places { kdcs.new.places ≡ kdcs.old.places }
 {
     if kdcs.transports == Transports::UdpFirst {
         match kdcs.network.exchange(alloc, Transport::Udp, kdc, request) {
             Ok(octets) => {
-                let reply = read_reply::<X>(alloc, kdc, octets)?;
+                let reply = read_reply(alloc, kdcs, kdc, octets)?;
                 if !reply.is_error(Code::KrbErrResponseTooBig) {
                     return useful(kdcs, reply);
                 }
@@ -223,7 +300,7 @@ fn ask_kdc<X: Network>(
     }
     match kdcs.network.exchange(alloc, Transport::Tcp, kdc, request) {
         Ok(octets) => {
-            let reply = read_reply::<X>(alloc, kdc, octets)?;
+            let reply = read_reply(alloc, kdcs, kdc, octets)?;
             useful(kdcs, reply)
         }
         Err(error) => {
@@ -237,9 +314,12 @@ fn ask_kdc<X: Network>(
 /// differ.
 #[tactic(auto, using(crate::proofs::Takings::refused_reply))]
 fn useful<X: Network>(kdcs: &mut Kdcs<X>, reply: Reply) -> Result<Reply, LoginFault>
-    requires { IsReply (IsExchanged X.carries X.answers) reply }
-    ensures ok { IfOk result (λ reply. IsReply (IsExchanged X.carries X.answers) reply) }
-    ensures err { IfErr result (λ fault. IsUnheard (IsExchanged X.carries X.answers) fault.why fault.kdc) }
+    requires { IsReply (IsExchanged X.finds kdcs.old.places.items X.carries X.answers) reply }
+    ensures ok { IfOk result (λ reply.
+        IsReply (IsExchanged X.finds kdcs.old.places.items X.carries X.answers) reply) }
+    ensures err { IfErr result (λ fault.
+        IsUnheard (IsExchanged X.finds kdcs.old.places.items X.carries X.answers) fault.why fault.kdc) }
+    ensures places { kdcs.new.places ≡ kdcs.old.places }
 {
     kdcs.answered = Some(reply.kdc);
     match &reply.refusal {
@@ -260,12 +340,15 @@ fn is_passed_over(code: i32) -> bool
 /// Reads the bytes that a KDC answered with.
 fn read_reply<X: Network>(
     alloc: Global,
+    kdcs: &Kdcs<X>,
     kdc: SocketAddr,
     octets: Vec<u8>,
 ) -> Result<Reply, LoginFault>
-    requires { IsAnswer (IsExchanged X.carries X.answers) kdc octets.items }
-    ensures ok { IfOk result (λ reply. IsReply (IsExchanged X.carries X.answers) reply) }
-    ensures err { IfErr result (λ fault. IsUnheard (IsExchanged X.carries X.answers) fault.why fault.kdc) }
+    requires { IsAnswer (IsExchanged X.finds kdcs.now.places.items X.carries X.answers) kdc octets.items }
+    ensures ok { IfOk result (λ reply.
+        IsReply (IsExchanged X.finds kdcs.now.places.items X.carries X.answers) reply) }
+    ensures err { IfErr result (λ fault.
+        IsUnheard (IsExchanged X.finds kdcs.now.places.items X.carries X.answers) fault.why fault.kdc) }
 {
     let refusal = refusal_in_octets(alloc, &octets)?;
     Ok(Reply {
@@ -277,7 +360,8 @@ fn read_reply<X: Network>(
 
 /// Counts a message without a reply. Fails if memory ran out for the reply.
 fn count_failure<X>(kdcs: &mut Kdcs<X>, error: Error) -> Result<(), LoginFault>
-    ensures { IfErr result (λ fault. fault ≡ record { why = Memory; kdc = None }) }
+    ensures memory { IfErr result (λ fault. fault ≡ record { why = Memory; kdc = None }) }
+    ensures places { kdcs.new.places ≡ kdcs.old.places }
 {
     if error.kind() == ErrorKind::OutOfMemory {
         return Err(LoginFault::new(LoginError::Memory));

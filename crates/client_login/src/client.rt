@@ -41,6 +41,7 @@ impl<X> KdcClient<X> {
     pub(crate) fn take_moment(&mut self) -> Moment
         ensures taken { result ≡ self.old.at }
         ensures next { IsNext self.old.at self.new.at }
+        ensures kdcs { self.new.kdcs ≡ self.old.kdcs }
         ensures clock { self.new.is_by_kdc ≡ self.old.is_by_kdc }
     {
         let at = self.at;

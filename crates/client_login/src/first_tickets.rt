@@ -11,6 +11,7 @@ ghost use Rattle.client_login.specs.Faults.{IsFirstFault, IsRejection, IsUnheard
 ghost use Rattle.client_login.specs.Keys.{IsOwnKey};
 ghost use Rattle.client_login.specs.Logins.{CarriesFirst, IsFirst, TakesFirst, logs_in, stamped_request};
 ghost use Rattle.client_login.specs.Moments.{IsMoved, IsNext};
+ghost use Rattle.client_login.specs.Places.{AreWithin};
 ghost use Rattle.client_login.specs.Replies.{IsExchanged, IsReply, said_of};
 
 use crate::asking::{Reply, ask};
@@ -35,7 +36,7 @@ impl<X: Network> KdcClient<X> {
     /// Gets a first ticket. The client sends a request without a timestamp, and another with one if the KDC requires
     /// preauthentication. It derives its key as the KDC says, but with no fewer iterations of string-to-key than the
     /// password's least count. With a keytab it requests exactly the types of the client's keys in it.
-    #[tactic(auto, using(crate::proofs::Moving::moved_none, crate::proofs::Clients::first_client))]
+    #[tactic(auto, using(crate::proofs::Moving::moved_none, crate::proofs::Clients::first_client, crate::proofs::Within::same_places))]
     pub fn log_in<R: Rng>(
         &mut self,
         alloc: Global,
@@ -48,16 +49,19 @@ impl<X: Network> KdcClient<X> {
             (logs_in login.now secret.now self.old.at.sec (drawn_nonce (R.stream rng.old)))
             self.old.at (after_nonce (R.stream rng.old)) }
         // The result is the ticket of a reply to these requests, under a key of the client.
-        ensures ok { IfOk result (λ credential. IsFirst (IsExchanged X.carries X.answers) secret.now
+        ensures ok { IfOk result (λ credential. IsFirst
+            (IsExchanged X.finds self.old.kdcs.places.items X.carries X.answers) secret.now
             (logs_in login.now secret.now self.old.at.sec (drawn_nonce (R.stream rng.old)))
             self.old.at.sec credential) }
         ensures client { IfOk result (λ credential. AreSame credential.client.realm credential.client.name
             login.now.client.realm login.now.client.name) }
         // A fault is the one that the bytes of the KDC that it names report, or it names none.
-        ensures err { IfErr result (λ fault. IsFirstFault (IsExchanged X.carries X.answers) secret.now
+        ensures err { IfErr result (λ fault. IsFirstFault
+            (IsExchanged X.finds self.old.kdcs.places.items X.carries X.answers) secret.now
             (logs_in login.now secret.now self.old.at.sec (drawn_nonce (R.stream rng.old)))
             self.old.at.sec fault.why fault.kdc) }
         ensures moved { IsMoved self.old.at self.new.at }
+        ensures within { AreWithin X.finds self.old.kdcs.places.items self.new.kdcs.places.items }
         ensures clock { self.new.is_by_kdc ≡ self.old.is_by_kdc }
     {
         self.kdcs.network.begin();
@@ -72,7 +76,7 @@ impl<X: Network> KdcClient<X> {
 }
 
 /// Sends the request without a timestamp.
-#[tactic(auto, using(crate::proofs::Takings::first_blamed, crate::proofs::Takings::first_taken, crate::proofs::Takings::first_unheard, crate::proofs::Moving::moved_none))]
+#[tactic(auto, using(crate::proofs::Takings::first_blamed, crate::proofs::Takings::first_taken, crate::proofs::Takings::first_unheard, crate::proofs::Moving::moved_none, crate::proofs::Within::same_places, crate::proofs::Within::further_within, crate::proofs::Wider::first_wider, crate::proofs::Wider::first_fault_wider))]
 fn ask_plainly<X: Network, R: Rng>(
     alloc: Global,
     client: &mut KdcClient<X>,
@@ -82,10 +86,13 @@ fn ask_plainly<X: Network, R: Rng>(
 ) -> Result<Credential, LoginFault>
     requires { CarriesFirst X.carries secret.now asked.now client.old.at (R.stream rng.old) }
     ensures ok { IfOk result (λ credential.
-        IsFirst (IsExchanged X.carries X.answers) secret.now asked.now client.old.at.sec credential) }
+        IsFirst (IsExchanged X.finds client.old.kdcs.places.items X.carries X.answers)
+        secret.now asked.now client.old.at.sec credential) }
     ensures err { IfErr result (λ fault.
-        IsFirstFault (IsExchanged X.carries X.answers) secret.now asked.now client.old.at.sec fault.why fault.kdc) }
+        IsFirstFault (IsExchanged X.finds client.old.kdcs.places.items X.carries X.answers)
+        secret.now asked.now client.old.at.sec fault.why fault.kdc) }
     ensures moved { IsMoved client.old.at client.new.at }
+    ensures within { AreWithin X.finds client.old.kdcs.places.items client.new.kdcs.places.items }
     ensures clock { client.new.is_by_kdc ≡ client.old.is_by_kdc }
 {
     if !asked.is_askable() {
@@ -135,10 +142,13 @@ fn ask_with_timestamp<X: Network, R: Rng>(
     requires own { IsOwnKey secret.now asked.now.realm asked.now.client key.now }
     requires carried { CarriesFirst X.carries secret.now asked.now client.old.at (R.stream rng.old) }
     ensures ok { IfOk result (λ credential.
-        IsFirst (IsExchanged X.carries X.answers) secret.now asked.now client.old.at.sec credential) }
-    ensures err { IfErr result (λ fault. IsFirstFault (IsExchanged X.carries X.answers) secret.now asked.now
+        IsFirst (IsExchanged X.finds client.old.kdcs.places.items X.carries X.answers)
+        secret.now asked.now client.old.at.sec credential) }
+    ensures err { IfErr result (λ fault. IsFirstFault
+        (IsExchanged X.finds client.old.kdcs.places.items X.carries X.answers) secret.now asked.now
         client.old.at.sec fault.why fault.kdc) }
     ensures moved { IsMoved client.old.at client.new.at }
+    ensures within { AreWithin X.finds client.old.kdcs.places.items client.new.kdcs.places.items }
     ensures clock { client.new.is_by_kdc ≡ client.old.is_by_kdc }
 {
     let at = client.at;
@@ -151,7 +161,7 @@ fn ask_with_timestamp<X: Network, R: Rng>(
 
 /// Returns the reply to the request with a timestamp. A KDC that has seen another request of the client with the same
 /// moment gets another one, with another timestamp.
-#[tactic(auto, using(crate::proofs::Moving::moved_once, crate::proofs::Moving::moved_twice))]
+#[tactic(auto, using(crate::proofs::Moving::moved_once, crate::proofs::Moving::moved_twice, crate::proofs::Within::further_within, crate::proofs::Wider::reply_wider, crate::proofs::Wider::unheard_wider))]
 fn send_stamped<X: Network, R: Rng>(
     alloc: Global,
     client: &mut KdcClient<X>,
@@ -163,9 +173,12 @@ fn send_stamped<X: Network, R: Rng>(
     requires askable { IsAskable asked.now }
     requires own { IsOwnKey secret.now asked.now.realm asked.now.client key.now }
     requires carried { CarriesFirst X.carries secret.now asked.now client.old.at (R.stream rng.old) }
-    ensures ok { IfOk result (λ reply. IsReply (IsExchanged X.carries X.answers) reply) }
-    ensures err { IfErr result (λ fault. IsUnheard (IsExchanged X.carries X.answers) fault.why fault.kdc) }
+    ensures ok { IfOk result (λ reply. IsReply
+        (IsExchanged X.finds client.old.kdcs.places.items X.carries X.answers) reply) }
+    ensures err { IfErr result (λ fault. IsUnheard
+        (IsExchanged X.finds client.old.kdcs.places.items X.carries X.answers) fault.why fault.kdc) }
     ensures moved { IsMoved client.old.at client.new.at }
+    ensures within { AreWithin X.finds client.old.kdcs.places.items client.new.kdcs.places.items }
     ensures clock { client.new.is_by_kdc ≡ client.old.is_by_kdc }
 {
     let reply = send_timestamp(alloc, client, rng, asked, key)?;
@@ -185,9 +198,12 @@ fn send_timestamp<X: Network, R: Rng>(
     requires askable { IsAskable asked.now }
     requires stamped { X.carries
         (stamped_request asked.now key.now client.old.at (drawn_confounder (R.stream rng.old))) }
-    ensures ok { IfOk result (λ reply. IsReply (IsExchanged X.carries X.answers) reply) }
-    ensures err { IfErr result (λ fault. IsUnheard (IsExchanged X.carries X.answers) fault.why fault.kdc) }
+    ensures ok { IfOk result (λ reply. IsReply
+        (IsExchanged X.finds client.old.kdcs.places.items X.carries X.answers) reply) }
+    ensures err { IfErr result (λ fault. IsUnheard
+        (IsExchanged X.finds client.old.kdcs.places.items X.carries X.answers) fault.why fault.kdc) }
     ensures next { IsNext client.old.at client.new.at }
+    ensures within { AreWithin X.finds client.old.kdcs.places.items client.new.kdcs.places.items }
     ensures clock { client.new.is_by_kdc ≡ client.old.is_by_kdc }
     ensures drawn { OnOk result (R.stream rng.new ≡ after_confounder (R.stream rng.old)) }
 {

@@ -12,6 +12,7 @@ ghost use Rattle.client_login.specs.Draws.{after_confounder, after_nonce, drawn_
 ghost use Rattle.client_login.specs.Faults.{IsFurtherFault, IsTgsRejection, IsUnheard, SaysTgs};
 ghost use Rattle.client_login.specs.Logins.{CarriesPresented, IsFurther, presented_request};
 ghost use Rattle.client_login.specs.Moments.{IsMoved, IsNext};
+ghost use Rattle.client_login.specs.Places.{AreWithin};
 ghost use Rattle.client_login.specs.Replies.{IsExchanged, IsReply, said_of};
 
 use crate::asking::{Reply, ask};
@@ -32,7 +33,7 @@ use std::alloc::Global;
 
 impl<X: Network> KdcClient<X> {
     /// Gets a ticket for a service of the client's realm, with a ticket-granting ticket. It ends as late as that one.
-    #[tactic(auto, using(crate::proofs::Moving::moved_none))]
+    #[tactic(auto, using(crate::proofs::Moving::moved_none, crate::proofs::Within::same_places))]
     pub fn service_ticket<R: Rng>(
         &mut self,
         alloc: Global,
@@ -45,14 +46,17 @@ impl<X: Network> KdcClient<X> {
             (further_asked 0 granting.now.client service.now (drawn_nonce (R.stream rng.old)))
             self.old.at (after_nonce (R.stream rng.old)) }
         // The result is the ticket of a reply to such a request, under the session key of the ticket.
-        ensures ok { IfOk result (λ credential. IsFurther (IsExchanged X.carries X.answers) granting.now
+        ensures ok { IfOk result (λ credential. IsFurther
+            (IsExchanged X.finds self.old.kdcs.places.items X.carries X.answers) granting.now
             (further_asked 0 granting.now.client service.now (drawn_nonce (R.stream rng.old)))
             self.old.at.sec credential) }
         // A fault is the one that the bytes of the KDC that it names report, or it names none.
-        ensures err { IfErr result (λ fault. IsFurtherFault (IsExchanged X.carries X.answers) granting.now
+        ensures err { IfErr result (λ fault. IsFurtherFault
+            (IsExchanged X.finds self.old.kdcs.places.items X.carries X.answers) granting.now
             (further_asked 0 granting.now.client service.now (drawn_nonce (R.stream rng.old)))
             self.old.at.sec fault.why fault.kdc) }
         ensures moved { IsMoved self.old.at self.new.at }
+        ensures within { AreWithin X.finds self.old.kdcs.places.items self.new.kdcs.places.items }
         ensures clock { self.new.is_by_kdc ≡ self.old.is_by_kdc }
     {
         self.kdcs.network.begin();
@@ -63,7 +67,7 @@ impl<X: Network> KdcClient<X> {
     }
 
     /// Gets a ticket again: renewed, with a new start; or validated, if it was postdated (RFC 4120, sections 2.3 and 2.4).
-    #[tactic(auto, using(crate::proofs::Moving::moved_none))]
+    #[tactic(auto, using(crate::proofs::Moving::moved_none, crate::proofs::Within::same_places))]
     pub fn renew<R: Rng>(
         &mut self,
         alloc: Global,
@@ -75,15 +79,18 @@ impl<X: Network> KdcClient<X> {
             (further_asked (renewal_options renewal granting.now.flags) granting.now.client granting.now.server.name
             (drawn_nonce (R.stream rng.old)))
             self.old.at (after_nonce (R.stream rng.old)) }
-        ensures ok { IfOk result (λ credential. IsFurther (IsExchanged X.carries X.answers) granting.now
+        ensures ok { IfOk result (λ credential. IsFurther
+            (IsExchanged X.finds self.old.kdcs.places.items X.carries X.answers) granting.now
             (further_asked (renewal_options renewal granting.now.flags) granting.now.client granting.now.server.name
             (drawn_nonce (R.stream rng.old)))
             self.old.at.sec credential) }
-        ensures err { IfErr result (λ fault. IsFurtherFault (IsExchanged X.carries X.answers) granting.now
+        ensures err { IfErr result (λ fault. IsFurtherFault
+            (IsExchanged X.finds self.old.kdcs.places.items X.carries X.answers) granting.now
             (further_asked (renewal_options renewal granting.now.flags) granting.now.client granting.now.server.name
             (drawn_nonce (R.stream rng.old)))
             self.old.at.sec fault.why fault.kdc) }
         ensures moved { IsMoved self.old.at self.new.at }
+        ensures within { AreWithin X.finds self.old.kdcs.places.items self.new.kdcs.places.items }
         ensures clock { self.new.is_by_kdc ≡ self.old.is_by_kdc }
     {
         self.kdcs.network.begin();
@@ -96,7 +103,7 @@ impl<X: Network> KdcClient<X> {
 }
 
 /// Sends the request with the ticket.
-#[tactic(auto, using(crate::proofs::Takings::further_blamed, crate::proofs::Takings::further_taken, crate::proofs::Takings::further_unheard, crate::proofs::Moving::moved_none))]
+#[tactic(auto, using(crate::proofs::Takings::further_blamed, crate::proofs::Takings::further_taken, crate::proofs::Takings::further_unheard, crate::proofs::Moving::moved_none, crate::proofs::Within::same_places))]
 fn ask_with_ticket<X: Network, R: Rng>(
     alloc: Global,
     client: &mut KdcClient<X>,
@@ -106,10 +113,13 @@ fn ask_with_ticket<X: Network, R: Rng>(
 ) -> Result<Credential, LoginFault>
     requires { CarriesPresented X.carries granting.now asked.now client.old.at (R.stream rng.old) }
     ensures ok { IfOk result (λ credential.
-        IsFurther (IsExchanged X.carries X.answers) granting.now asked.now client.old.at.sec credential) }
-    ensures err { IfErr result (λ fault. IsFurtherFault (IsExchanged X.carries X.answers) granting.now asked.now
+        IsFurther (IsExchanged X.finds client.old.kdcs.places.items X.carries X.answers)
+        granting.now asked.now client.old.at.sec credential) }
+    ensures err { IfErr result (λ fault. IsFurtherFault
+        (IsExchanged X.finds client.old.kdcs.places.items X.carries X.answers) granting.now asked.now
         client.old.at.sec fault.why fault.kdc) }
     ensures moved { IsMoved client.old.at client.new.at }
+    ensures within { AreWithin X.finds client.old.kdcs.places.items client.new.kdcs.places.items }
     ensures clock { client.new.is_by_kdc ≡ client.old.is_by_kdc }
 {
     let Some(key) = session_key(granting) else {
@@ -128,7 +138,7 @@ fn ask_with_ticket<X: Network, R: Rng>(
 
 /// Returns the reply to the request with the ticket. A KDC that has seen another authenticator of the client with the
 /// same moment gets another request, with another authenticator.
-#[tactic(auto, using(crate::proofs::Moving::moved_once, crate::proofs::Moving::moved_twice))]
+#[tactic(auto, using(crate::proofs::Moving::moved_once, crate::proofs::Moving::moved_twice, crate::proofs::Within::further_within, crate::proofs::Wider::reply_wider, crate::proofs::Wider::unheard_wider))]
 fn send_presented<X: Network, R: Rng>(
     alloc: Global,
     client: &mut KdcClient<X>,
@@ -139,9 +149,12 @@ fn send_presented<X: Network, R: Rng>(
     requires askable { IsAskable asked.now }
     requires presentable { sessions.IsPresentable granting.now }
     requires carried { CarriesPresented X.carries granting.now asked.now client.old.at (R.stream rng.old) }
-    ensures ok { IfOk result (λ reply. IsReply (IsExchanged X.carries X.answers) reply) }
-    ensures err { IfErr result (λ fault. IsUnheard (IsExchanged X.carries X.answers) fault.why fault.kdc) }
+    ensures ok { IfOk result (λ reply. IsReply
+        (IsExchanged X.finds client.old.kdcs.places.items X.carries X.answers) reply) }
+    ensures err { IfErr result (λ fault. IsUnheard
+        (IsExchanged X.finds client.old.kdcs.places.items X.carries X.answers) fault.why fault.kdc) }
     ensures moved { IsMoved client.old.at client.new.at }
+    ensures within { AreWithin X.finds client.old.kdcs.places.items client.new.kdcs.places.items }
     ensures clock { client.new.is_by_kdc ≡ client.old.is_by_kdc }
 {
     let reply = send_ticket(alloc, client, rng, granting, asked)?;
@@ -162,9 +175,12 @@ fn send_ticket<X: Network, R: Rng>(
     requires presentable { sessions.IsPresentable granting.now }
     requires presented { (held : session.Session) → sessions.session granting.now ≡ Some held → X.carries
         (presented_request granting.now asked.now held client.old.at (drawn_confounder (R.stream rng.old))) }
-    ensures ok { IfOk result (λ reply. IsReply (IsExchanged X.carries X.answers) reply) }
-    ensures err { IfErr result (λ fault. IsUnheard (IsExchanged X.carries X.answers) fault.why fault.kdc) }
+    ensures ok { IfOk result (λ reply. IsReply
+        (IsExchanged X.finds client.old.kdcs.places.items X.carries X.answers) reply) }
+    ensures err { IfErr result (λ fault. IsUnheard
+        (IsExchanged X.finds client.old.kdcs.places.items X.carries X.answers) fault.why fault.kdc) }
     ensures next { IsNext client.old.at client.new.at }
+    ensures within { AreWithin X.finds client.old.kdcs.places.items client.new.kdcs.places.items }
     ensures clock { client.new.is_by_kdc ≡ client.old.is_by_kdc }
     ensures drawn { OnOk result (R.stream rng.new ≡ after_confounder (R.stream rng.old)) }
 {

@@ -12,6 +12,8 @@
 //! | [`KdcClient::renew`] | the ticket that it is given, renewed or validated |
 //!
 //! If a KDC refuses because the clocks differ, [`KdcClient::take_clock`] sets the client's moment by the KDC's clock.
+//!
+//! It does not write a credential cache: `client_files` does.
 #![tactic(auto)]
 
 mod asking;

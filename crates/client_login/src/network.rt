@@ -1,5 +1,6 @@
 //! The network that carries a client's messages.
 ghost use Rattle.std.specs.Prelude.{ℕ, List, IfOk};
+ghost use Rattle.std.specs.List.{All};
 ghost use Rattle.std.specs.declared.net.socket_addr.SocketAddr as addresses;
 
 use std::alloc::Global;
@@ -22,6 +23,9 @@ pub trait Network {
     // any.
     ghost answers: { addresses.SocketAddr → List ℕ → List ℕ → Type 0 };
 
+    // The addresses of a host, by its name and a port. A network over a real network says `λ host port address. ⊤`: any.
+    ghost finds: { List ℕ → ℕ → addresses.SocketAddr → Type 0 };
+
     /// Begins a login, or a request for a further ticket. The network's waiting time counts from here.
     fn begin(&mut self);
 
@@ -37,7 +41,8 @@ pub trait Network {
         ensures { IfOk result (λ reply. answers to message.now reply.items) };
 
     /// Looks up a host by its name, and returns its addresses, each with this port. The network's waiting time goes on.
-    fn look_up(&mut self, alloc: Global, host: &str, port: u16) -> io::Result<Vec<SocketAddr>>;
+    fn look_up(&mut self, alloc: Global, host: &str, port: u16) -> io::Result<Vec<SocketAddr>>
+        ensures { IfOk result (λ found. All (finds host.now port) found.items) };
 }
 
 /// A network that takes any message.

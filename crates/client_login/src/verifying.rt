@@ -7,6 +7,7 @@ ghost use Rattle.client_login.specs.Asking.{further_asked};
 ghost use Rattle.client_login.specs.Draws.{after_nonce, drawn_nonce};
 ghost use Rattle.client_login.specs.Logins.{CarriesPresented, IsFurther};
 ghost use Rattle.client_login.specs.Moments.{IsMoved};
+ghost use Rattle.client_login.specs.Places.{AreWithin};
 ghost use Rattle.client_login.specs.Replies.{IsExchanged};
 ghost use Rattle.client_login.specs.Verifying.{IsTicketOf, IsUnverified, IsValidAt, if_of, if_valid, is_of, is_session_key};
 ghost use Rattle.client_login.specs.Verifying.{is_valid, opened, part_by, part_in, part_under, verified};
@@ -52,14 +53,17 @@ impl<X: Network> KdcClient<X> {
         // That client is the one that logged in.
         ensures client { IfOk result (λ credential.
             AreSame credential.client.realm credential.client.name granting.now.client.realm granting.now.client.name) }
-        ensures further { IfOk result (λ credential. IsFurther (IsExchanged X.carries X.answers) granting.now
+        ensures further { IfOk result (λ credential. IsFurther
+            (IsExchanged X.finds self.old.kdcs.places.items X.carries X.answers) granting.now
             (further_asked 0 granting.now.client service.now (drawn_nonce (R.stream rng.old)))
             self.old.at.sec credential) }
         // A ticket that came is doubted as `verified_ticket` does; or no ticket came.
-        ensures err { IfErr result (λ fault. IsUnverified (IsExchanged X.carries X.answers) keytab.now granting.now
+        ensures err { IfErr result (λ fault. IsUnverified
+            (IsExchanged X.finds self.old.kdcs.places.items X.carries X.answers) keytab.now granting.now
             (further_asked 0 granting.now.client service.now (drawn_nonce (R.stream rng.old)))
             self.old.at.sec fault.why fault.kdc) }
         ensures moved { IsMoved self.old.at self.new.at }
+        ensures within { AreWithin X.finds self.old.kdcs.places.items self.new.kdcs.places.items }
         ensures clock { self.new.is_by_kdc ≡ self.old.is_by_kdc }
     {
         let at = self.at;

@@ -192,6 +192,7 @@ fn read_config(rt: &HostRuntime) -> Result<Config, Fault> {
     let defaults = Defaults {
         cache: Variable::Absent,
         config: Variable::new(&variable)?,
+        user: Variable::Absent,
     };
     Config::read(rt.alloc(), &mut FileStore::new(rt), &defaults)
 }

@@ -2,6 +2,9 @@
 //!
 //! [`Client`] is a whole client: it is opened by its name, logs in and gets tickets. Below it, [`SocketNetwork`] sends a
 //! client's messages and looks up hosts, and [`now`] reads the clock.
+//!
+//! It does not write a credential cache (`client_files` does), and [`Client`] never takes a KDC's
+//! clock.
 #![tactic(auto)]
 
 mod client;

@@ -75,6 +75,8 @@ impl<'a, R: Net + Clock> Network for SocketNetwork<'a, R> {
 
     ghost answers = { λ to message reply. ⊤ };
 
+    ghost finds = { λ host port address. ⊤ };
+
     fn begin(&mut self) {
         if !self.is_for_command {
             self.end = None;

@@ -78,6 +78,7 @@ pub fn with_subcommands<'a>(
     Ok(command)
 }
 
+/// Returns the subcommand of a row, with its options and flags.
 pub fn subcommand<'a>(alloc: Global, row: &SubcommandRow) -> Result<Command<'a>, AllocError> {
     let command = Command::new(alloc, row.name).about(row.about);
     let command = with_options(alloc, command, row.options)?;

@@ -48,6 +48,7 @@ struct KeyFields {
 }
 
 impl KeytabEntry {
+    /// Returns a copy.
     pub fn copy(&self, alloc: Global) -> Result<KeytabEntry, AllocError>
         ensures { IfOk result (λ copy. copy ≡ self.now) }
     {

@@ -1,4 +1,14 @@
 //! Keytabs and credential caches.
+//!
+//! | call | what it does |
+//! |---|---|
+//! | [`Keytab::read`], [`Keytab::write`] | a keytab from the bytes of a file; the bytes of its file |
+//! | [`Keytab::find`], [`Keytab::key_for`] | a service's key, also as an encrypted part names it |
+//! | [`Cache::read`], [`Cache::write`] | a credential cache from the bytes of a file; the bytes of its file |
+//! | [`Cache::find`], [`Cache::put`] | the credential for a service; puts one in, in place of an earlier one |
+//!
+//! It does not open files: `client_files` does. Keytabs of version 1 and caches of versions 1 to 3
+//! are refused.
 #![tactic(auto)]
 
 mod cache;

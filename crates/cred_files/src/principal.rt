@@ -23,6 +23,7 @@ pub struct Principal {
 }
 
 impl Principal {
+    /// Returns a copy.
     pub fn copy(&self, alloc: Global) -> Result<Principal, AllocError>
         ensures { IfOk result (λ copy. copy ≡ self.now) }
     {
@@ -50,6 +51,7 @@ pub fn is_same(realm: &KerberosString, name: &Name, other_realm: &[u8], other_na
     realm.as_slice() == other_realm && name.is_same(other_name)
 }
 
+/// Reads a principal of a cache: name-type, number of components, realm, components.
 #[tactic(auto, unfolding(crate::specs::Principal::principal))]
 pub fn read_principal(alloc: Global, reader: &mut Reader<'_>) -> Result<Principal, Cut>
     ensures { Reads result reader.new (principal.form.at reader.old) }
@@ -65,6 +67,7 @@ pub fn read_principal(alloc: Global, reader: &mut Reader<'_>) -> Result<Principa
     Ok(Principal { realm, name })
 }
 
+/// Appends a principal as a cache holds it: name-type, number of components, realm, components.
 #[tactic(auto, unfolding(crate::specs::Principal::principal))]
 pub fn put_principal(out: &mut Vec<u8>, value: &Principal) -> Result<(), AllocError>
     requires { principal.form.Fits value.now }

@@ -66,6 +66,7 @@ impl Key {
         }
     }
 
+    /// Returns the encryption type.
     pub fn etype(&self) -> Etype
         ensures etype { result ≡ self.now.etype }
         ensures valid { IsKey self.now }

@@ -26,6 +26,8 @@ pub enum KeyUsage {
     ApReqAuthenticator,
     /// The encrypted part of an AP-REP, under the ticket's session key.
     ApRepEncPart,
+    /// A key in the database of MIT's KDC, under its master key. RFC 4120 has no such usage.
+    StoredKey,
 }
 
 impl KeyUsage {
@@ -44,6 +46,7 @@ impl KeyUsage {
             KeyUsage::ApReqAuthenticatorChecksum => 10,
             KeyUsage::ApReqAuthenticator => 11,
             KeyUsage::ApRepEncPart => 12,
+            KeyUsage::StoredKey => 0,
         }
     }
 }

@@ -16,6 +16,10 @@
 //! It opens what `seal` returned for the same key and usage. The calls depend on the key's encryption type: [`Suite`]
 //! has its numbers, its sizes and its functions, with one implementation for each of the four. Types 17 and 18 share
 //! the profile in `simplified`, and types 19 and 20 the one in `sha2_profile`.
+//!
+//! Nothing here draws random bytes: the caller supplies each confounder and the bytes of each
+//! random key. There is no DES, RC4 or Camellia. No contract says how long a call takes, or that
+//! keys are wiped.
 #![tactic(auto)]
 
 mod aes_key;

@@ -78,6 +78,7 @@ impl ReadyKey {
         }
     }
 
+    /// Returns the encryption type of the key.
     pub fn etype(&self) -> Etype
         ensures { result ≡ self.now.key.etype }
     {

@@ -13,6 +13,10 @@ abbrev pub with_file : List ℕ → List ℕ → World → World
 with_file path octets world =
     record world { files = λ asked. if bytes_eq path asked then Some octets else world.files asked }
 
+-- without the file at a path; every other path is unchanged
+abbrev pub without_file : List ℕ → World → World
+without_file path world = record world { files = λ asked. if bytes_eq path asked then None else world.files asked }
+
 abbrev pub IsThere : Option World → List ℕ → Bool → Type 0
 IsThere world path found = IfSome world (λ held. found ≡ is_some (held.files path))
 

@@ -1,7 +1,7 @@
 //! Files, random bytes and an input in memory, for tests.
 ghost use Rattle.std.specs.Prelude.{◌≡◌, ◌≤◌, Some, IfOk, OnOk, OnErr, IfSome, vec_len, option_map, is_some};
 ghost use Rattle.file_store.specs.Memory.{file_at, world_of};
-ghost use Rattle.file_store.specs.World.{first_octet, with_file};
+ghost use Rattle.file_store.specs.World.{first_octet, with_file, without_file};
 
 use crate::counting::counted;
 use crate::inputs::line_of;
@@ -13,17 +13,18 @@ use std::io::{Error, ErrorKind};
 /// The mode of each file in memory.
 const OWNER_ONLY: u32 = 0o600;
 
-/// A file in memory.
+/// What a path has in memory.
 #[derive(Drop)]
 struct StoredFile {
     path: String,
-    octets: Vec<u8>,
+    /// `None` if the file was removed.
+    octets: Option<Vec<u8>>,
 }
 
 /// Files in memory, for tests. One call can be made to fail.
 #[derive(Drop)]
 pub struct MemoryStore {
-    /// A file that was written again comes before its older version.
+    /// What was written or removed last comes first.
     files: Vec<StoredFile>,
     /// For how many pauses another program has the lock of each file.
     kept: u32,
@@ -70,17 +71,24 @@ impl MemoryStore {
     {
         for file in &self.files {
             if file.path.as_str() == path {
-                return Some(file.octets.as_slice());
+                return octets_of(file);
             }
         }
         None
     }
 
-    /// Removes a file. Returns whether it was there.
-    pub fn remove_file(&mut self, path: &str) -> bool {
-        let before = self.files.len();
-        self.files.retain(|file| file.path.as_str() != path);
-        self.files.len() < before
+    /// Removes the file at a path, if there is one.
+    pub fn remove_file(&mut self, alloc: Global, path: &str) -> Result<(), AllocError>
+        ensures removed { OnOk result (world_of self.new ≡ without_file path.now (world_of self.old)) }
+        ensures kept { OnErr result (world_of self.new ≡ world_of self.old) }
+        ensures faults { self.new.faults ≡ self.old.faults }
+    {
+        let file = StoredFile {
+            path: format!(in alloc; "{path}")?,
+            octets: None,
+        };
+        self.files.insert(0, file)?;
+        Ok(())
     }
 
     /// Makes a file with these bytes, which replaces the one there.
@@ -91,7 +99,7 @@ impl MemoryStore {
     {
         let file = StoredFile {
             path: format!(in alloc; "{path}")?,
-            octets: Vec::from_slice(alloc, octets)?,
+            octets: Some(Vec::from_slice(alloc, octets)?),
         };
         self.files.insert(0, file)?;
         Ok(())
@@ -253,6 +261,15 @@ impl MemoryStore {
         self.call()?;
         self.set(alloc, path, octets)?;
         Ok(())
+    }
+}
+
+fn octets_of(file: &StoredFile) -> Option<&[u8]>
+    ensures { option_map (λ octets. octets.now) result ≡ option_map (λ octets. octets.items) file.now.octets }
+{
+    match &file.octets {
+        Some(octets) => Some(octets.as_slice()),
+        None => None,
     }
 }
 

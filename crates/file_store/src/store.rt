@@ -41,7 +41,8 @@ pub trait Store {
         ensures kept { world self.new ≡ world self.old }
         ensures counted { IsCounted (fault_count self.old) result (fault_count self.new) };
 
-    /// Reads what `read` reads, and also a FIFO or a device to its end: a shell passes a command's output as a FIFO.
+    /// Reads what `read` reads, and also a FIFO or a device to its end: a shell passes a command's output as a FIFO. A
+    /// folder is an `Err`.
     fn read_stream(&mut self, alloc: Global, path: &str, most: usize) -> io::Result<Option<Vec<u8>>>
         ensures within { IfOk result (λ found. IfSome found (λ octets. vec_len octets ≤ most)) }
         ensures read { IfOk result (λ found. IfSome found (λ octets. IsRead (world self.old) path.now octets.items)) }

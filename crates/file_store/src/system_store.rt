@@ -96,6 +96,7 @@ pub struct FileStore<'a, R: Files> {
 }
 
 impl<'a, R: Files> FileStore<'a, R> {
+    /// Returns the store of a runtime's files. It holds no lock yet.
     pub fn new(files: &'a R) -> FileStore<'a, R> {
         FileStore {
             files,
@@ -150,12 +151,16 @@ impl<'a, R: Files> FileStore<'a, R> {
         self.read_whole(alloc, path, most)
     }
 
-    /// Reads a whole file, or a FIFO or a device to its end. `None` if it has more than this many bytes.
+    /// Reads a whole file, or a FIFO or a device to its end, and no folder. `None` if it has more than this many bytes.
     fn read_whole(&self, alloc: Global, path: &str, most: usize) -> io::Result<Option<Vec<u8>>>
         ensures { IfOk result (λ found. IfSome found (λ octets. vec_len octets ≤ most)) }
     {
         let file = File::open(self.files, path)?;
-        if file.metadata()?.len() > most as u64 {
+        let there = file.metadata()?;
+        if there.is_dir() {
+            return Err(no_file());
+        }
+        if there.len() > most as u64 {
             return Ok(None);
         }
         // reads one byte past the limit, to notice a file that grows or has no known length

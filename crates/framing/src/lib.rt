@@ -1,6 +1,8 @@
 //! Messages on a stream, as over TCP (RFC 4120, section 7.2.2): a length of four bytes, most significant first,
 //! followed by the message. A `Splitter` takes a stream in pieces of any size and returns its messages. `frame` and
 //! `prefix` write them.
+//!
+//! It does not read or write the stream: the caller feeds the pieces and sends the messages.
 #![tactic(auto)]
 
 mod fault;

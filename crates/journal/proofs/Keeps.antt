@@ -30,7 +30,7 @@ same_part None = ([], refl)
 same_part (Some w) = ([], ([], [], refl, same w.newer))
   where
     with_newer : Option (List ℕ) → World
-    with_newer newer = record { newer = newer; older = w.older }
+    with_newer newer = record { newer = newer; older = w.older; seal = w.seal }
 
     same : (newer : Option (List ℕ)) → with_newer newer ≡ with_newer (option_map (λ front. front ++ []) newer)
     same None = refl

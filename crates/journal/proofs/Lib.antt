@@ -8,3 +8,4 @@ mod Keeps
 mod Recent
 mod Starts
 mod Heads
+mod Seals

@@ -148,7 +148,7 @@ same_start place older newer (inr is) = by_newer newer ∙ ap (λ o. start_of pl
     by_newer Broken = refl
     by_newer (Whole j) = refl
 
-older_gone : (low : ℤ) (r : Resumption) (old : World) → IsSafe low r old → IsSafe low r (record { newer = old.newer; older = None })
+older_gone : (low : ℤ) (r : Resumption) (old : World) → IsSafe low r old → IsSafe low r (record { newer = old.newer; older = None; seal = old.seal })
 older_gone low r old safe = record {
   knows = λ place older newer found check older_found newer_found starts late below under.
       let other = broken_found old.older in

@@ -1,6 +1,6 @@
 -- What a start makes of the journals that it finds.
 use Rattle.std.specs.Prelude.{ℕ, ℤ, pos, neg_ℤ, ◌+ℤ◌, ◌-ℤ◌, Bool, false, not, ◌&&◌, ◌||◌, nat_eq, int_lt, int_le, if◌then◌else◌}
-use Rattle.std.specs.Prelude.{List, [], ◌∷◌, ◌++◌, map, Option, Some, None}
+use Rattle.std.specs.Prelude.{List, [], ◌∷◌, ◌++◌, map, Option, Some, None, Result, Ok, Err}
 use Rattle.std.specs.Int.{int_max}
 use Rattle.std.specs.List.{filter}
 use Rattle.std.specs.Cmp.Lexicographic.{pointwise}
@@ -54,8 +54,13 @@ above_all floor (e ∷ es) = above_all (above floor e.ctime) es
 abbrev pub is_other_realm : Place → Journal → Bool
 is_other_realm place j = not (pointwise nat_eq j.header.realm place.realm.now)
 
+-- the seal that a start finds is that of this journal
+abbrev pub is_sealed : Place → Journal → Bool
+is_sealed place j = pointwise nat_eq place.seal.now j.check
+
+-- the system was booted since the journal was begun, and nobody has sealed it
 abbrev pub is_other_boot : Place → Journal → Bool
-is_other_boot place j = not (pointwise nat_eq j.header.boot place.boot.now)
+is_other_boot place j = not (pointwise nat_eq j.header.boot place.boot.now || is_sealed place j)
 
 -- it was begun, or a request of it came, after the start
 abbrev pub is_later : Place → Journal → Bool
@@ -79,11 +84,11 @@ is_linked j Nothing = is_first j
 is_linked j Broken = is_first j
 is_linked j (Whole before) = is_first j || is_behind j before
 
--- of what it goes on behind, the realm or the boot is another one
+-- of what it goes on behind, the realm is another one
 abbrev pub is_foreign : Place → Journal → Found → Bool
 is_foreign place j Nothing = false
 is_foreign place j Broken = false
-is_foreign place j (Whole before) = not (is_first j) && (is_other_realm place before || is_other_boot place before)
+is_foreign place j (Whole before) = not (is_first j) && is_other_realm place before
 
 abbrev pub is_unlinked : Place → Found → Journal → Bool
 is_unlinked place older j = not (is_linked j older) || is_foreign place j older
@@ -150,3 +155,15 @@ abbrev pub start_of : Place → Found → Found → Start
 start_of place older Nothing = Refuses Absent
 start_of place older Broken = Refuses Damaged
 start_of place older (Whole j) = start_by place older j (doubt_of place older j)
+
+-- ---- a seal
+
+-- the last check of the newer journal, if a start would resume with both
+abbrev pub seal_by : Journal → Option Doubt → Result (List ℕ) Doubt
+seal_by j (Some doubt) = Err doubt
+seal_by j None = Ok j.check
+
+abbrev pub seal_of : Place → Found → Found → Result (List ℕ) Doubt
+seal_of place older Nothing = Err Absent
+seal_of place older Broken = Err Damaged
+seal_of place older (Whole j) = seal_by j (doubt_of place older j)

@@ -5,5 +5,6 @@ pub mod Keeping
 pub mod World
 pub mod Holding
 pub mod Appending
+pub mod Sealing
 pub mod MemoryWorld
 pub mod Head

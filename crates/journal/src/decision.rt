@@ -4,8 +4,8 @@ ghost use Rattle.std.specs.Int.{int_max};
 ghost use Rattle.krb_fields.specs.Skew.{skew};
 ghost use Rattle.journal.specs.Decision.{doubt_of, entries_behind, floor_behind, goes_on_behind};
 ghost use Rattle.journal.specs.Decision.{is_above, is_behind, is_early, is_first, is_foreign, is_later, is_linked};
-ghost use Rattle.journal.specs.Decision.{is_other_boot, is_other_realm, is_unlinked, resumed_floor, resumption_of};
-ghost use Rattle.journal.specs.Decision.{seen_of, start_by, start_of};
+ghost use Rattle.journal.specs.Decision.{is_other_boot, is_other_realm, is_sealed, is_unlinked, resumed_floor, resumption_of};
+ghost use Rattle.journal.specs.Decision.{seal_of, seen_of, start_by, start_of};
 
 use crate::entry::Entry;
 use crate::keeping::floor_on;
@@ -27,12 +27,14 @@ pub enum Found {
     Whole(Journal),
 }
 
-/// Where and when a server starts.
+/// Where and when a server starts, or a journal is sealed.
 #[derive(Clone, Copy)]
 pub struct Place<'a> {
     pub realm: &'a [u8],
     /// The system's name for its current boot.
     pub boot: &'a [u8],
+    /// The seal beside the journal. Without one there are no octets.
+    pub seal: &'a [u8],
     pub at: Moment,
 }
 
@@ -45,7 +47,7 @@ pub enum Doubt {
     /// the journal. An older journal that was put back looks like the right one, as one does that lacks its last entries.
     Damaged,
     OtherRealm,
-    /// The system was booted since then, so the end of the journal may be lost.
+    /// The system was booted since then, and the journal was not sealed before, so its end may be lost.
     OtherBoot,
     /// The journal that went before this one is missing.
     Unlinked,
@@ -57,7 +59,7 @@ impl fmt::Display for Doubt {
             Doubt::Absent => "there is none",
             Doubt::Damaged => "it is damaged, or others may write it",
             Doubt::OtherRealm => "it is of another realm",
-            Doubt::OtherBoot => "the system was booted since",
+            Doubt::OtherBoot => "the system was booted since, and it was not sealed before",
             Doubt::Unlinked => "the journal that goes before it is missing",
         })
     }
@@ -120,6 +122,20 @@ fn start_by(
     }
 }
 
+/// Returns the seal of these journals: the last check of the newer one, if a start would resume with both.
+pub fn seal_of(place: &Place<'_>, older: &Found, newer: &Found) -> Result<[u8; 16], Doubt>
+    ensures { result ≡ seal_of place.now older.now newer.now }
+{
+    match newer {
+        Found::Nothing => Err(Doubt::Absent),
+        Found::Broken => Err(Doubt::Damaged),
+        Found::Whole(journal) => match doubt_of(place, older, journal) {
+            Some(doubt) => Err(doubt),
+            None => Ok(journal.check),
+        },
+    }
+}
+
 /// Returns why the server can't resume with this journal, if it can't.
 fn doubt_of(place: &Place<'_>, older: &Found, journal: &Journal) -> Option<Doubt>
     ensures { result ≡ doubt_of place.now older.now journal.now }
@@ -140,7 +156,14 @@ fn is_other_realm(place: &Place<'_>, journal: &Journal) -> bool
 fn is_other_boot(place: &Place<'_>, journal: &Journal) -> bool
     ensures { result ≡ is_other_boot place.now journal.now }
 {
-    journal.header.boot.as_slice() != place.boot
+    !(journal.header.boot.as_slice() == place.boot || is_sealed(place, journal))
+}
+
+/// Checks whether the seal that a start finds is that of this journal.
+fn is_sealed(place: &Place<'_>, journal: &Journal) -> bool
+    ensures { result ≡ is_sealed place.now journal.now }
+{
+    place.seal == journal.check.as_slice()
 }
 
 fn is_later(place: &Place<'_>, journal: &Journal) -> bool
@@ -181,15 +204,13 @@ fn is_linked(journal: &Journal, older: &Found) -> bool
     }
 }
 
-/// Checks whether what goes before a journal is of another realm or another boot.
+/// Checks whether what goes before a journal is of another realm.
 fn is_foreign(place: &Place<'_>, journal: &Journal, older: &Found) -> bool
     ensures { result ≡ is_foreign place.now journal.now older.now }
 {
     match older {
         Found::Nothing | Found::Broken => false,
-        Found::Whole(before) => {
-            !is_first(journal) && (is_other_realm(place, before) || is_other_boot(place, before))
-        }
+        Found::Whole(before) => !is_first(journal) && is_other_realm(place, before),
     }
 }
 

@@ -1,7 +1,7 @@
 //! What a journal asks of its files.
 ghost use Rattle.std.specs.Prelude.{◌≡◌, Option, IfOk, IfSome};
 ghost use Rattle.std.specs.Result.{is_ok};
-ghost use Rattle.journal.specs.World.{Appends, BeginsAs, IsRead, Leaves, World, file_in};
+ghost use Rattle.journal.specs.World.{Appends, BeginsAs, IsRead, Leaves, Seals, Unseals, World, file_in};
 
 use crate::fault::FilesFault;
 use std::alloc::Global;
@@ -64,7 +64,8 @@ pub enum News<E> {
     Mended,
 }
 
-/// The two files of a journal. They may keep a record of what the files hold, for contracts alone.
+/// The two files of a journal, and its seal: the last check of a journal that no server holds and that is on the disk as a
+/// whole. They may keep a record of what the files hold, for contracts alone.
 pub trait JournalFiles {
     /// Why a call failed.
     type Fault: Drop;
@@ -84,6 +85,19 @@ pub trait JournalFiles {
     fn read(&mut self, alloc: Global, part: Part) -> Result<FileText, Self::Fault>
         ensures world { world self.new ≡ world self.old }
         ensures read { IfOk result (λ text. IfSome (world self.old) (λ w. IsRead (file_in part w) text)) };
+
+    /// Reads the seal. Without one there are no octets.
+    fn read_seal(&mut self, alloc: Global) -> Result<Vec<u8>, Self::Fault>
+        ensures world { world self.new ≡ world self.old }
+        ensures read { IfOk result (λ seal. IfSome (world self.old) (λ w. seal.items ≡ w.seal)) };
+
+    /// Seals the journal with its last check. When this returns, both files and the seal are on the disk.
+    fn seal(&mut self, check: &[u8; 16]) -> Result<(), Self::Fault>
+        ensures { Leaves (Seals check.now (is_ok result)) (world self.old) (world self.new) };
+
+    /// Breaks the seal, if there is one. When this returns, that is on the disk.
+    fn unseal(&mut self) -> Result<(), Self::Fault>
+        ensures { Leaves (Unseals (is_ok result)) (world self.old) (world self.new) };
 
     /// Says what became of the journal.
     fn say(&mut self, news: News<Self::Fault>)

@@ -1,5 +1,5 @@
 //! The journal of a running server: what it appends, and when its files take turns.
-ghost use Rattle.std.specs.Prelude.{◌≡◌, ◌-ℤ◌, ℤ, pos, true, false, Option, Some, None, IfOk, IfSome, is_some};
+ghost use Rattle.std.specs.Prelude.{◌≡◌, ◌-ℤ◌, ℤ, pos, true, false, [], Option, Some, None, IfOk, IfSome, is_some};
 ghost use Rattle.std.specs.Result.{is_ok};
 ghost use Rattle.krb_fields.specs.Skew.{skew};
 ghost use Rattle.replay.specs.declared.seen.Resumption.{Resumption};
@@ -7,13 +7,13 @@ ghost use Rattle.journal.specs.Appending.{FoundBy, HasAppended, HasBegun, HasMen
 ghost use Rattle.journal.specs.Appending.{FoundIn, HasKeptOne, HasTurned, kept_by};
 ghost use Rattle.journal.specs.Holding.{HasKept, IsFound, IsRaised, IsSafe, IsStart, is_whole, known_by, with_one};
 ghost use Rattle.journal.specs.Keeping.{Begins, begun};
-ghost use Rattle.journal.specs.World.{IsRead, file_in};
+ghost use Rattle.journal.specs.World.{IsRead, Leaves, SameSeal, file_in};
 
 use crate::decision::{Found, Place, Start};
 use crate::fault::{FilesFault, JournalFault, WriteFault};
 use crate::files::{Begun, FileText, JournalFiles, News, NotBegun, Part};
 use crate::keeping::{floor_on, write_beginning, write_seen};
-use crate::reading::read_journal;
+use crate::reading::{Journal, read_journal};
 use crate::writing::Written;
 use krb_elements::Octets;
 use krb_fields::Moment;
@@ -94,8 +94,9 @@ impl<F: JournalFiles> JournalFile<F> {
         self.files
     }
 
-    /// Goes on behind the newer of the files that a start found, if it resumes so. Otherwise it begins a file, with the
-    /// floor of the start. The newer file has this many octets.
+    /// Breaks the seal. Then it goes on behind the newer of the files that a start found, if the start resumes so: in
+    /// another file, if that one was begun in another boot. Otherwise it begins a file in place of both, with the floor of
+    /// the start. The newer file has this many octets.
     pub fn start(
         &mut self,
         alloc: Global,
@@ -112,17 +113,31 @@ impl<F: JournalFiles> JournalFile<F> {
         // And if it fails, no other start resumes without what the files held.
         ensures safe { (low : ℤ) (r : Resumption) → IfSome (F.world self.old.files) (IsSafe low r)
             → is_ok result ≡ false → IfSome (F.world self.new.files) (IsSafe low r) }
+        // No seal is left, so a start in another boot refuses.
+        ensures broken { IfOk result (λ _. IfSome (F.world self.new.files) (λ w. w.seal ≡ [])) }
     {
-        if let Some((tail, floor)) = tail_behind(start, newer, self.most.saturating_sub(len)) {
-            self.tail = Some(tail);
-            self.floor = Some(floor);
-            return Ok(());
+        if let Err(fault) = self.files.unseal() {
+            return Err(FilesFault::Files(fault));
         }
         let place = Place {
             realm: self.realm.as_slice(),
             boot: self.boot.as_slice(),
+            seal: &[],
             at,
         };
+        let left = self.most.saturating_sub(len);
+        if let Some((tail, floor)) = tail_behind(start, newer, place.boot, left) {
+            self.tail = turn_if_due(
+                alloc,
+                &mut self.files,
+                &place,
+                Some(floor),
+                self.most,
+                Some(tail),
+            );
+            self.floor = Some(floor);
+            return Ok(());
+        }
         match begin(
             alloc,
             &mut self.files,
@@ -147,10 +162,13 @@ impl<F: JournalFiles> JournalFile<F> {
             → HasKept F.world low (kept_by result kept (with_one all seen.now)) (with_one all seen.now)
             self.new.files self.new.tail self.new.floor }
         ensures whole { is_whole self.new ≡ is_ok result }
+        // It never seals the journal.
+        ensures seal { Leaves SameSeal (F.world self.old.files) (F.world self.new.files) }
     {
         let place = Place {
             realm: self.realm.as_slice(),
             boot: self.boot.as_slice(),
+            seal: &[],
             at,
         };
         let tail = turn_if_due(
@@ -176,6 +194,7 @@ impl<F: JournalFiles> JournalFile<F> {
         ensures whole { is_whole self.new ≡ is_ok result }
         // If there is nothing to make good, it does nothing.
         ensures still { is_whole self.old ≡ true → is_ok result ≡ true }
+        ensures seal { Leaves SameSeal (F.world self.old.files) (F.world self.new.files) }
     {
         if self.tail.is_some() {
             return Ok(());
@@ -183,6 +202,7 @@ impl<F: JournalFiles> JournalFile<F> {
         let place = Place {
             realm: self.realm.as_slice(),
             boot: self.boot.as_slice(),
+            seal: &[],
             at,
         };
         let tail = begin_anew(
@@ -203,7 +223,7 @@ impl<F: JournalFiles> JournalFile<F> {
 
 /// Returns the end of the newer file and the floor of a server that goes on behind what its start found. `None` if it
 /// doesn't.
-fn tail_behind(start: &Start, newer: &Found, left: u64) -> Option<(Tail, i64)>
+fn tail_behind(start: &Start, newer: &Found, boot: &[u8], left: u64) -> Option<(Tail, i64)>
     ensures { HasTail start.now newer.now result }
 {
     let Start::Resumes { resumption, check } = start else {
@@ -217,10 +237,19 @@ fn tail_behind(start: &Start, newer: &Found, left: u64) -> Option<(Tail, i64)>
     };
     let tail = Tail {
         check: *check,
-        last: journal.header.at.seconds().saturating_add(TURN),
+        last: last_second(journal, boot),
         left,
     };
     Some((tail, floor_on(resumption.floor, journal)))
+}
+
+/// Returns the last second in which a file is appended to: none, if it was begun in another boot than this one.
+fn last_second(journal: &Journal, boot: &[u8]) -> i64 {
+    if journal.header.boot.as_slice() == boot {
+        journal.header.at.seconds().saturating_add(TURN)
+    } else {
+        i64::MIN
+    }
 }
 
 /// Begins a file with this floor and this link.

@@ -3,6 +3,11 @@
 //! A journal is a header and entries. Each is in DER, in an OCTET STRING, and is followed by its check: a digest of the
 //! check before it and of its octets. So an entry that was cut or changed breaks the chain, and so does one that was left
 //! out or added before others. Nothing shows that the last entries are missing, or that an older journal was put back.
+//!
+//! A start in another boot resumes only with a journal that was sealed: the system may have lost the end of another one.
+//!
+//! It opens no file itself: [`JournalFiles`] are what a [`JournalFile`] reads and writes. It reads
+//! no clock.
 #![tactic(auto)]
 
 mod checks;
@@ -17,9 +22,10 @@ mod keeping;
 mod laws;
 mod memory_files;
 mod reading;
+mod sealing;
 mod writing;
 
-pub use decision::{Doubt, Found, Place, Start, start_of};
+pub use decision::{Doubt, Found, Place, Start, seal_of, start_of};
 pub use entry::{Entry, EntryRef};
 pub use fault::{FilesFault, JournalFault, WriteFault};
 pub use files::{Begun, FileText, JournalFiles, News, NotBegun, Part};
@@ -27,7 +33,8 @@ pub use head::{HEAD, may_be_journal};
 pub use header::{Header, HeaderRef};
 pub use journal_file::{JournalFile, NotKept, found_of, read_part};
 pub use keeping::{above, floor_on, write_beginning, write_seen};
-pub use laws::{every_front, every_journal};
+pub use laws::{every_front, every_journal, every_seal};
 pub use memory_files::MemoryFiles;
 pub use reading::{Journal, read_journal};
+pub use sealing::{NotSealed, seal_journal};
 pub use writing::{Written, write_entry, write_header};

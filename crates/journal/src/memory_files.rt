@@ -1,8 +1,8 @@
 //! The files of a journal in memory.
-ghost use Rattle.std.specs.Prelude.{◌≡◌, ◌++◌, List, Some, None, IfOk, OnErr, OnOk, option_map, vec_items};
+ghost use Rattle.std.specs.Prelude.{◌≡◌, ◌++◌, ℕ, List, [], Some, None, IfOk, OnErr, OnOk, option_map, vec_items};
 ghost use Rattle.std.specs.Result.{is_ok};
 ghost use Rattle.journal.specs.World.{Appends, BeginsAs, IsRead, IsTorn, Leaves, file_in, with_file, with_more};
-ghost use Rattle.journal.specs.MemoryWorld.{memory_world};
+ghost use Rattle.journal.specs.MemoryWorld.{memory_world, seal_in};
 
 use crate::files::{Begun, FileText, JournalFiles, News, NotBegun, Part};
 use std::alloc::{AllocError, Global};
@@ -21,6 +21,7 @@ pub enum MemoryFault {
 pub struct MemoryFiles {
     newer: Option<Vec<u8>>,
     older: Option<Vec<u8>>,
+    seal: Option<[u8; 16]>,
     /// How many calls that change a file succeed before some fail.
     good: u32,
     /// How many fail then.
@@ -34,11 +35,12 @@ pub struct MemoryFiles {
 impl MemoryFiles {
     /// Returns files that aren't there.
     pub fn new() -> MemoryFiles
-        ensures { memory_world result ≡ record { newer = None; older = None } }
+        ensures { memory_world result ≡ record { newer = None; older = None; seal = [] } }
     {
         MemoryFiles {
             newer: None,
             older: None,
+            seal: None,
             good: 0,
             bad: 0,
             cut: 0,
@@ -116,6 +118,30 @@ impl JournalFiles for MemoryFiles {
         }
     }
 
+    fn read_seal(&mut self, alloc: Global) -> Result<Vec<u8>, MemoryFault> {
+        match seal_text(alloc, &self.seal) {
+            Ok(seal) => Ok(seal),
+            Err(AllocError) => Err(MemoryFault::Memory),
+        }
+    }
+
+    fn seal(&mut self, check: &[u8; 16]) -> Result<(), MemoryFault> {
+        if self.fails() {
+            self.seal = None;
+            return Err(MemoryFault::Failed);
+        }
+        self.seal = Some(*check);
+        Ok(())
+    }
+
+    fn unseal(&mut self) -> Result<(), MemoryFault> {
+        if self.fails() {
+            return Err(MemoryFault::Failed);
+        }
+        self.seal = None;
+        Ok(())
+    }
+
     fn say(&mut self, news: News<MemoryFault>)
         ensures { memory_world self.new ≡ memory_world self.old }
     {
@@ -137,11 +163,21 @@ fn append_to(file: &mut Option<Vec<u8>>, text: &[u8]) -> Result<(), MemoryFault>
     }
 }
 
+/// Copies a seal.
+fn seal_text(alloc: Global, seal: &Option<[u8; 16]>) -> Result<Vec<u8>, AllocError>
+    ensures { IfOk result (λ octets. octets.items ≡ seal_in seal.now) }
+{
+    match seal {
+        None => Ok(Vec::new(alloc)),
+        Some(check) => Vec::from_slice(alloc, check.as_slice()),
+    }
+}
+
 /// Leaves a file half begun.
 fn tear(newer: &mut Option<Vec<u8>>, older: &mut Option<Vec<u8>>, how: Begun)
-    ensures { IsTorn
-        (record { newer = option_map vec_items newer.old; older = option_map vec_items older.old })
-        (record { newer = option_map vec_items newer.new; older = option_map vec_items older.new }) }
+    ensures { (seal : List ℕ) → IsTorn
+        (record { newer = option_map vec_items newer.old; older = option_map vec_items older.old; seal = seal })
+        (record { newer = option_map vec_items newer.new; older = option_map vec_items older.new; seal = seal }) }
 {
     match how {
         Begun::Linked => *older = newer.take(),
@@ -151,8 +187,9 @@ fn tear(newer: &mut Option<Vec<u8>>, older: &mut Option<Vec<u8>>, how: Begun)
 
 /// Makes these octets the newer file.
 fn replace(newer: &mut Option<Vec<u8>>, older: &mut Option<Vec<u8>>, octets: Vec<u8>, how: Begun)
-    ensures { record { newer = option_map vec_items newer.new; older = option_map vec_items older.new }
-        ≡ with_file how octets.items (record { newer = option_map vec_items newer.old; older = option_map vec_items older.old }) }
+    ensures { (seal : List ℕ) → record { newer = option_map vec_items newer.new; older = option_map vec_items older.new; seal = seal }
+        ≡ with_file how octets.items
+        (record { newer = option_map vec_items newer.old; older = option_map vec_items older.old; seal = seal }) }
 {
     match how {
         Begun::Linked => *older = newer.take(),

@@ -16,13 +16,16 @@ use Rattle.principals.specs.Database.{Principals}
 use Rattle.principals.specs.Importing.{import_refusal, imported}
 use Rattle.principals.specs.declared.change.ChangeFault.{ChangeFault}
 use Rattle.principals.specs.declared.change.RowChange.{RowChange}
+use Rattle.kadm_run.specs.Changing.{AreChanged}
 use Rattle.kadm_run.specs.Granting.{Makes}
 use Rattle.kadm_run.specs.Importing.{Imports}
 use Rattle.kadm_run.specs.Keytabs.{IsBehind, IsFreePath, IsFront, IsKeytabFor, IsNewKeytab, IsOldKeytab, entries_of}
 use Rattle.kadm_run.specs.Updates.{IsRowChanged, IsRowUpdated, IsSecretOf}
+use Rattle.kadm_run.specs.Words.{Text}
 use Rattle.kadm_run.specs.Worlds.{HoldsDatabase, Rewritten, WroteKeytab, with_database}
 use Rattle.kadm_run.specs.declared.order.KeytabOrder.{KeytabOrder}
-use Rattle.kadm_run.specs.declared.order.RowUpdate.{RowUpdate}
+use Rattle.kadm_run.specs.declared.order.ChangeArgs.{ChangeArgs}
+use Rattle.kadm_run.specs.declared.order.RowOrder.{RowOrder}
 
 -- ---- a change of a row
 
@@ -55,18 +58,23 @@ rewritten before asked locked read made after db path makes p q kept still same 
 }
 
 -- the change of a row, whose password was read before
-pub row_updated : (before changing : Option World) (etypes given : List Etype) (name : List ℕ) (how : RowUpdate) (who : Components) (pass octets : List ℕ) (p q : Principals)
-    → changing ≡ before → given ≡ etypes → octets ≡ pass → IsNameText who name → IsSecretOf before how pass
-    → IsRowChanged changing given octets how who p q → IsRowUpdated before etypes name how p q
-row_updated before changing etypes given name how who pass octets p q kept types taken spelled secret change = record {
+pub row_updated : (before changing : Option World) (etypes given : List Etype) (to : RowOrder) (who : Components) (pass octets : List ℕ) (p q : Principals)
+    → changing ≡ before → given ≡ etypes → octets ≡ pass → IsNameText who to.name.now → IsSecretOf before to.how pass
+    → IsRowChanged changing given octets to who p q → IsRowUpdated before etypes to p q
+row_updated before changing etypes given to who pass octets p q kept types taken spelled secret change = record {
   who = who;
   spelled = spelled;
   pass = pass;
   secret = secret;
-  changed = subst (λ world. IsRowChanged world etypes pass how who p q) kept
-      (subst (λ read. IsRowChanged changing etypes read how who p q) taken
-      (subst (λ ordered. IsRowChanged changing ordered octets how who p q) types change));
+  changed = subst (λ world. IsRowChanged world etypes pass to who p q) kept
+      (subst (λ read. IsRowChanged changing etypes read to who p q) taken
+      (subst (λ ordered. IsRowChanged changing ordered octets to who p q) types change));
 }
+
+-- the changes of all principals that are named
+pub rows_changed : (before changing : Option World) (words : List Text) (how : ChangeArgs) (p q : Principals)
+    → changing ≡ before → AreChanged changing words how p q → AreChanged before words how p q
+rows_changed before changing words how p q kept change = subst (λ world. AreChanged world words how p q) kept change
 
 -- ---- keytabs
 

@@ -1,5 +1,5 @@
 -- How an order ends, and how the words end that spell it.
-use Rattle.std.proofs.Common.{◌≡◌, ◌∙◌, List, Bool, true, false, Option, Result, Ok, Err, IfErr, IfOk, OnErr, ap, subst, sym, refl, inl, inr}
+use Rattle.std.proofs.Common.{◌≡◌, ◌∙◌, List, Bool, true, false, Option, Result, Ok, Err, IfErr, IfOk, OnErr, ap, subst, sym, inl, inr}
 use Rattle.std.specs.Result.{result_unwrap_or}
 use Rattle.file_store.specs.World.{World}
 use Rattle.file_store.specs.declared.faults.FileCause.{FileCause}
@@ -114,6 +114,7 @@ other stops.Usage status is = subst IsOther (sym is) tt
 other stops.LineRefused status is = subst IsOther (sym is) tt
 other stops.LineFailed status is = subst IsOther (sym is) tt
 other (stops.Refused reason) status is = subst IsOther (sym is) tt
+other (stops.RefusedOf word reason) status is = subst IsOther (sym is) tt
 other (stops.File fault) status is = cause_other fault.cause status is
 
 same_end : (words : List Text) (before : Option World) (status : Status) (after : Option World) → IsOther status → after ≡ before
@@ -134,6 +135,7 @@ failed_status stops.Usage status failed is = absurd failed
 failed_status stops.LineRefused status failed is = absurd failed
 failed_status stops.LineFailed status failed is = absurd failed
 failed_status (stops.Refused reason) status failed is = absurd failed
+failed_status (stops.RefusedOf word reason) status failed is = absurd failed
 failed_status (stops.File fault) status failed is = failed_cause fault.cause status failed is
 
 -- a command that stopped early, with the status of what stopped it

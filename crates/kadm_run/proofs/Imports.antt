@@ -18,7 +18,7 @@ use Rattle.kadm_run.specs.Importing.{next_number, with_version}
 -- ---- the next number
 
 -- what is left from an index on
-here_is : {A : Type 0} (es : List A) (i j : ℕ) (e : A) → j ≡ suc i → e ≡ get_or es i e → i < length es → drop i es ≡ e ∷ drop j es
+pub here_is : {A : Type 0} (es : List A) (i j : ℕ) (e : A) → j ≡ suc i → e ≡ get_or es i e → i < length es → drop i es ≡ e ∷ drop j es
 here_is [] i j e next is lt = absurd (omega (arith, lt))
 here_is (x ∷ es) zero j e next is lt = rw (next, is) refl
 here_is (x ∷ es) (suc i) zero e next is lt = absurd (omega (arith, next))

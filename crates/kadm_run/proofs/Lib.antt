@@ -2,6 +2,8 @@ mod Batching
 mod Doing
 mod Ending
 mod Imports
+mod Making
 mod Older
 mod Paths
 mod Users
+mod Moved

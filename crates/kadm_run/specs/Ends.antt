@@ -14,7 +14,7 @@ use Rattle.kadm_run.specs.declared.order.Work.TheVariants as works
 use Rattle.kadm_run.specs.declared.status.Status.{Status}
 use Rattle.kadm_run.specs.declared.status.Status.TheVariants as statuses
 use Rattle.kadm_run.specs.declared.stop.Stop.{Stop}
-use Rattle.kadm_run.specs.declared.stop.Stop.TheVariants.{Usage, LineRefused, LineFailed, Refused, File}
+use Rattle.kadm_run.specs.declared.stop.Stop.TheVariants.{Usage, LineRefused, LineFailed, Refused, RefusedOf, File}
 
 -- the exit status of the program
 abbrev pub status_code : Status → ℕ
@@ -35,6 +35,7 @@ IsFailed Usage = ⊥
 IsFailed LineRefused = ⊥
 IsFailed LineFailed = ⊥
 IsFailed (Refused reason) = ⊥
+IsFailed (RefusedOf word reason) = ⊥
 IsFailed (File fault) = IsFailure fault.cause
 
 -- refused or failed
@@ -55,6 +56,7 @@ IsStatusOf Usage status = status ≡ statuses.Usage
 IsStatusOf LineRefused status = status ≡ statuses.Refused
 IsStatusOf LineFailed status = status ≡ statuses.Failed
 IsStatusOf (Refused reason) status = status ≡ statuses.Refused
+IsStatusOf (RefusedOf word reason) status = status ≡ statuses.Refused
 IsStatusOf (File fault) status = IsFileCauseStatus fault.cause status
 
 -- ---- what is done

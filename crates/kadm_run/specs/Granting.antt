@@ -12,13 +12,11 @@ use Rattle.principals.specs.Database.{Principals, tgs_principal}
 use Rattle.principals.specs.declared.change.RowChange.{RowChange}
 use Rattle.principals.specs.declared.change.RowChange.TheVariants as row_changes
 use Rattle.text_fields.specs.Settings.{IsDateOf, IsSettingOf, life_of, time_of, with_setting}
+use Rattle.text_fields.specs.Spans.{IsSpanText}
 use Rattle.text_fields.specs.declared.settings.FlagField.TheVariants as flags
 use Rattle.text_fields.specs.declared.settings.Setting.{Setting}
 use Rattle.text_fields.specs.declared.settings.Setting.TheVariants as settings
 use Rattle.kadm_run.specs.Denying.{denied}
-use Rattle.kadm_run.specs.Spans.{IsSpanText}
-use Rattle.kadm_run.specs.declared.order.ChangeArgs.{ChangeArgs}
-use Rattle.kadm_run.specs.declared.order.ChangeArgs.TheVariants.{Drop, DropOlder, Policy, Remove}
 use Rattle.kadm_run.specs.declared.order.Grant.{Grant}
 use Rattle.kadm_run.specs.declared.order.Grant.TheVariants.{New, NewUser, Next, Replace, Either}
 use Rattle.kadm_run.specs.declared.order.KeyChange.{KeyChange}
@@ -135,9 +133,3 @@ abbrev pub IsPolicySet : Option World → List ℕ → List ℕ → Components �
 IsPolicySet world field value who p new =
     (row : Row) × (get p.rows who ≡ Some row) × (setting : Setting) × IsValueOf world setting field value
     × KeepsRealm p who setting × Makes p who (row_changes.SetPolicy (with_setting setting row.policy)) new
-
-abbrev pub IsChanged : Option World → ChangeArgs → Components → Principals → Principals → Type 0
-IsChanged world (Drop version) who p new = Makes p who (row_changes.DropKeys version) new
-IsChanged world DropOlder who p new = IsOlderDropped who p new
-IsChanged world (Policy field value) who p new = IsPolicySet world field.now value.now who p new
-IsChanged world Remove who p new = Makes p who row_changes.Remove new

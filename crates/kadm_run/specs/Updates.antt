@@ -8,12 +8,14 @@ use Rattle.krb_fields.specs.Salt.{default_salt}
 use Rattle.principal_keys.specs.Keys.{drawn_keys, password_key, seeded}
 use Rattle.principal_rows.specs.declared.row.KeyVersion.{KeyVersion}
 use Rattle.principals.specs.Database.{Principals}
+use Rattle.kadm_run.specs.Changing.{AreChanged, AreSet}
 use Rattle.kadm_run.specs.Denying.{migrated_rows}
-use Rattle.kadm_run.specs.Granting.{IsChanged, IsCleared, IsGranted}
+use Rattle.kadm_run.specs.Granting.{IsCleared, IsGranted}
 use Rattle.kadm_run.specs.Importing.{HasVersions, Imports}
-use Rattle.kadm_run.specs.Words.{Spells, Text, in_batch, path_of}
+use Rattle.kadm_run.specs.Words.{Spells, Text, in_batch, path_of, texts}
 use Rattle.kadm_run.specs.declared.order.Grant.{Grant}
 use Rattle.kadm_run.specs.declared.order.Order.{Order}
+use Rattle.kadm_run.specs.declared.order.RowOrder.{RowOrder}
 use Rattle.kadm_run.specs.declared.order.RowUpdate.{RowUpdate}
 use Rattle.kadm_run.specs.declared.order.RowUpdate.TheVariants as rows
 use Rattle.kadm_run.specs.declared.order.Task.TheVariants as tasks
@@ -33,7 +35,6 @@ abbrev pub IsSecretOf : Option World → RowUpdate → List ℕ → Type 0
 IsSecretOf world (rows.Password to) pass = IsPasswordOf world (path_of to.password.file) pass
 IsSecretOf world (rows.Random to) pass = ⊤
 IsSecretOf world (rows.Import keytab) pass = ⊤
-IsSecretOf world (rows.Change how) pass = ⊤
 
 -- the keys of a password, and a password's expiry that is past is cleared
 abbrev pub GivesPassword : Option World → List Etype → List ℕ → Grant → Components → Principals → Principals → Type 0
@@ -51,25 +52,30 @@ abbrev pub IsImported : Option World → List Etype → Text → Components → 
 IsImported world etypes keytab who p new =
     (versions : List KeyVersion) × HasVersions world keytab (p.realm ∷ who) etypes versions × Imports p who versions new
 
-abbrev pub IsRowChanged : Option World → List Etype → List ℕ → RowUpdate → Components → Principals → Principals → Type 0
-IsRowChanged world etypes pass (rows.Password to) who p new = GivesPassword world etypes pass to.grant who p new
-IsRowChanged world etypes pass (rows.Random to) who p new = GivesRandom world etypes (path_of to.seed) to.grant who p new
-IsRowChanged world etypes pass (rows.Import keytab) who p new = IsImported world etypes keytab.now who p new
-IsRowChanged world etypes pass (rows.Change how) who p new = IsChanged world how who p new
+abbrev pub IsRowGiven : Option World → List Etype → List ℕ → RowUpdate → Components → Principals → Principals → Type 0
+IsRowGiven world etypes pass (rows.Password to) who p new = GivesPassword world etypes pass to.grant who p new
+IsRowGiven world etypes pass (rows.Random to) who p new = GivesRandom world etypes (path_of to.seed) to.grant who p new
+IsRowGiven world etypes pass (rows.Import keytab) who p new = IsImported world etypes keytab.now who p new
+
+-- a principal is given keys, and then the settings of the command line
+abbrev pub IsRowChanged : Option World → List Etype → List ℕ → RowOrder → Components → Principals → Principals → Type 0
+IsRowChanged world etypes pass to who p new =
+    (given : Principals) × IsRowGiven world etypes pass to.how who p given × AreSet world (texts to.words.now) who given new
 
 -- the row of the principal that a text names is changed
-pub record IsRowUpdated (world : Option World) (etypes : List Etype) (name : Text) (how : RowUpdate) (p : Principals) (new : Principals) : Type 0 where
+pub record IsRowUpdated (world : Option World) (etypes : List Etype) (to : RowOrder) (p : Principals) (new : Principals) : Type 0 where
   pub who : Components
-  pub spelled : IsNameText who name
+  pub spelled : IsNameText who to.name.now
   pub pass : List ℕ
-  pub secret : IsSecretOf world how pass
-  pub changed : IsRowChanged world etypes pass how who p new
+  pub secret : IsSecretOf world to.how pass
+  pub changed : IsRowChanged world etypes pass to who p new
 
 abbrev pub IsMigrated : Bool → Principals → Principals → Type 0
 IsMigrated users_are_no_services p new = new ≡ migrated_rows users_are_no_services p
 
 abbrev pub IsUpdated : Option World → List Etype → Update → Principals → Principals → Type 0
-IsUpdated world etypes (updates.Row name how) p new = IsRowUpdated world etypes name.now how p new
+IsUpdated world etypes (updates.Row to) p new = IsRowUpdated world etypes to p new
+IsUpdated world etypes (updates.Changes words how) p new = AreChanged world (texts words.now) how p new
 IsUpdated world etypes (updates.Migrate users_are_no_services) p new = IsMigrated users_are_no_services p new
 
 -- ---- the lines of a batch

@@ -1,6 +1,7 @@
 -- The words of a command line, and the order that they spell.
-use Rattle.std.specs.Prelude.{◌≡◌, ◌==◌, ◌&&◌, ◌||◌, ℕ, Bool, true, false, List, [], ◌∷◌, length, map, nat_lt, slice_get}
-use Rattle.std.specs.Prelude.{Option, Some, None, is_some, option_map, codes, bytes_eq, if◌then◌else◌, ⊤}
+use Rattle.std.specs.Prelude.{◌≡◌, ◌==◌, ◌&&◌, ◌||◌, ℕ, Bool, true, false, not, List, [], ◌∷◌, length, map, nat_lt, slice_get}
+use Rattle.std.specs.Prelude.{Option, Some, None, is_some, option_map, unwrap_or, codes, bytes_eq, if◌then◌else◌}
+use Rattle.std.specs.Option.{option_or}
 use Rattle.std.specs.Borrow.{Bor}
 use Rattle.std.specs.List.{before_first, after_first, position_or_len}
 use Rattle.std.specs.Str.Parse.{IsNumeral, digits_value}
@@ -33,10 +34,12 @@ texts words = map (λ word. word.now) words
 abbrev pub path_of : Option (Bor Text) → Option Text
 path_of named = option_map (λ path. path.now) named
 
+abbrev pub has_equals : Text → Bool
+has_equals word = nat_lt (position_or_len (λ b. b == 0x3D) word) (length word)
+
 -- the word before the first equals sign, if there is one, is the option
 abbrev pub is_before : Text → Text → Bool
-is_before option word =
-    nat_lt (position_or_len (λ b. b == 0x3D) word) (length word) && bytes_eq (before_first (λ b. b == 0x3D) word) option
+is_before option word = has_equals word && bytes_eq (before_first (λ b. b == 0x3D) word) option
 
 -- the value that an option has at a word: the next word, or what follows the equals sign
 abbrev pub value_at : Text → Text → List Text → Option Text
@@ -63,6 +66,21 @@ has_flag (word ∷ others) flag = bytes_eq word flag || has_flag others flag
 abbrev pub command_of : List Text → Option Text
 command_of words = slice_get words 1
 
+-- with a database after the command
+abbrev pub behind_command : Text → List Text → List Text
+behind_command db (program ∷ command ∷ others) = program ∷ command ∷ codes "--db" ∷ db ∷ others
+behind_command db words = words
+
+-- the words name no database, and don't begin with `help`, which takes none
+abbrev pub lacks_db : List Text → Bool
+lacks_db words =
+    not (is_some (value_of words (codes "--db"))) && not (bytes_eq (unwrap_or (command_of words) []) (codes "help"))
+
+-- the words of a command line; if it names no database, then with the one that the environment names
+abbrev pub with_db : Option Text → List Text → List Text
+with_db None words = words
+with_db (Some db) words = if lacks_db words then behind_command db words else words
+
 -- the words of a line of a batch, as a command line with the batch's database
 abbrev pub in_batch : Text → List Text → List Text
 in_batch db [] = codes "kadm" ∷ []
@@ -73,6 +91,28 @@ abbrev pub asks_help : List Text → Bool
 asks_help words =
     has_flag words (codes "help") || (has_flag words (codes "--help") || (has_flag words (codes "-h")
     || (has_flag words (codes "--version") || has_flag words (codes "-V"))))
+
+-- ---- the settings of a policy
+
+-- a field and its value: FIELD=VALUE. Without an equals sign the value is empty, which no field accepts
+abbrev pub assigned : Text → Text × Text
+assigned word =
+    if has_equals word then (before_first (λ b. b == 0x3D) word, after_first (λ b. b == 0x3D) word) else (word, [])
+
+-- the setting that begins at a word, if one does: --set FIELD=VALUE, --field FIELD with the value of --value,
+-- --expires TIME, or --disabled
+abbrev pub setting_at : List Text → Text → List Text → Option (Text × Text)
+setting_at words word others =
+    option_or (option_map assigned (value_at (codes "--set") word others))
+    (option_or (option_map (λ field. (field, unwrap_or (value_of words (codes "--value")) [])) (value_at (codes "--field") word others))
+    (option_or (option_map (λ time. (codes "expires", time)) (value_at (codes "--expires") word others))
+    (if bytes_eq word (codes "--disabled") then Some (codes "disabled", codes "true") else None)))
+
+-- there is a setting, by --field and --value or by --set; and neither --field nor --value is alone
+abbrev pub sets_some : List Text → Bool
+sets_some words =
+    if is_some (value_of words (codes "--field")) then is_some (value_of words (codes "--value"))
+    else not (is_some (value_of words (codes "--value"))) && is_some (value_of words (codes "--set"))
 
 -- ---- the order that words spell
 
@@ -98,9 +138,7 @@ IsChangeSpelled words (Drop version) =
     (command_of words ≡ Some (codes "drop")) × (text : Text) × (value_of words (codes "--version") ≡ Some text)
     × IsNumeral 10 text × (version ≡ digits_value 10 text)
 IsChangeSpelled words DropOlder = (command_of words ≡ Some (codes "drop")) × (has_flag words (codes "--older") ≡ true)
-IsChangeSpelled words (Policy field value) =
-    (command_of words ≡ Some (codes "policy")) × (value_of words (codes "--field") ≡ Some field.now)
-    × (value_of words (codes "--value") ≡ Some value.now)
+IsChangeSpelled words Policy = (command_of words ≡ Some (codes "policy")) × (sets_some words ≡ true)
 IsChangeSpelled words Remove = command_of words ≡ Some (codes "remove")
 
 abbrev pub IsRowSpelled : List Text → RowUpdate → Type 0
@@ -109,10 +147,12 @@ IsRowSpelled words (rows.Password to) =
 IsRowSpelled words (rows.Random to) = IsRandomGrant words to.grant × (path_of to.seed ≡ value_of words (codes "--seed"))
 IsRowSpelled words (rows.Import keytab) =
     (command_of words ≡ Some (codes "import")) × (value_of words (codes "--keytab") ≡ Some keytab.now)
-IsRowSpelled words (rows.Change how) = IsChangeSpelled words how
 
 abbrev pub IsUpdateSpelled : List Text → Update → Type 0
-IsUpdateSpelled words (updates.Row name how) = (value_of words (codes "--name") ≡ Some name.now) × IsRowSpelled words how
+IsUpdateSpelled words (updates.Row to) =
+    (value_of words (codes "--name") ≡ Some to.name.now) × (texts to.words.now ≡ words) × IsRowSpelled words to.how
+IsUpdateSpelled words (updates.Changes given how) =
+    (is_some (value_of words (codes "--name")) ≡ true) × (texts given.now ≡ words) × IsChangeSpelled words how
 IsUpdateSpelled words (updates.Migrate users_are_no_services) =
     (command_of words ≡ Some (codes "migrate")) × (users_are_no_services ≡ has_flag words (codes "--users-are-no-services"))
 
@@ -126,9 +166,14 @@ IsWorkSpelled words (works.Batch keep_going) =
 IsWorkSpelled words (works.Keytab to) =
     (command_of words ≡ Some (codes "keytab")) × (value_of words (codes "--name") ≡ Some to.name.now)
     × (value_of words (codes "--out") ≡ Some to.out.now) × (to.append ≡ has_flag words (codes "--append"))
+IsWorkSpelled words (works.Dump from) =
+    (command_of words ≡ Some (codes "import")) × (value_of words (codes "--dump") ≡ Some from.dump.now)
+    × (value_of words (codes "--stash") ≡ Some from.stash.now) × (from.skip ≡ has_flag words (codes "--skip"))
 
 abbrev pub IsPrintSpelled : List Text → Print → Type 0
-IsPrintSpelled words (prints.List like long) = command_of words ≡ Some (codes "list")
+IsPrintSpelled words (prints.List list) =
+    (command_of words ≡ Some (codes "list")) × (path_of list.like ≡ value_of words (codes "--like"))
+    × (list.long ≡ has_flag words (codes "--long")) × (list.json ≡ has_flag words (codes "--json"))
 IsPrintSpelled words prints.Lint = command_of words ≡ Some (codes "lint")
 IsPrintSpelled words (prints.Show name) =
     (command_of words ≡ Some (codes "show")) × (value_of words (codes "--name") ≡ Some name.now)

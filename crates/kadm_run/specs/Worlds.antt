@@ -1,6 +1,5 @@
 -- The effect of a command on the files.
 use Rattle.std.specs.Prelude.{◌≡◌, ℕ, false, List, Option, option_map, Ok}
-use Rattle.std.specs.Borrow.{Bor}
 use Rattle.serde_json.specs.Written.{compact_text}
 use Rattle.enctypes.specs.declared.etype.Etype.{Etype}
 use Rattle.krb_fields.specs.Name.{Components}
@@ -10,9 +9,11 @@ use Rattle.principals.specs.Database.{Principals, first_database}
 use Rattle.principals_text.specs.Value.{text_database}
 use Rattle.principals_text.specs.Written.{database_value}
 use Rattle.file_store.specs.World.{World, with_file, HasSeed, IsRead, IsThere}
+use Rattle.kadm_run.specs.Dumps.{HasRealm}
 use Rattle.kadm_run.specs.Keytabs.{IsFreePath, IsKeytabFor}
 use Rattle.kadm_run.specs.Updates.{AreDone, AreTried, IsUpdated}
 use Rattle.kadm_run.specs.Words.{Text, path_of}
+use Rattle.kadm_run.specs.declared.order.DumpOrder.{DumpOrder}
 use Rattle.kadm_run.specs.declared.order.KeytabOrder.{KeytabOrder}
 use Rattle.kadm_run.specs.declared.order.Update.{Update}
 use Rattle.kadm_run.specs.declared.order.Work.{Work}
@@ -70,8 +71,16 @@ pub record WroteKeytab (before : Option World) (db : List ℕ) (to : KeytabOrder
   pub holds : IsKeytabFor before to who old octets
   pub written : after ≡ option_map (with_file to.out.now octets) before
 
+-- the database of the realm of a dump, at a path without a file
+pub record MadeFromDump (before : Option World) (db : List ℕ) (from : DumpOrder) (after : Option World) : Type 0 where
+  pub free : IsThere before db false
+  pub new : Principals
+  pub made : HasRealm before from new
+  pub written : after ≡ with_database db new before
+
 abbrev pub Did : Option World → List ℕ → List Etype → Work → Option World → Type 0
 Did before db etypes (works.Init realm seed) after = MadeRealm before db etypes realm.now (path_of seed) after
 Did before db etypes (works.Update update) after = Updated before db etypes update after
 Did before db etypes (works.Batch keep_going) after = Batched before db after
 Did before db etypes (works.Keytab to) after = WroteKeytab before db to after
+Did before db etypes (works.Dump from) after = MadeFromDump before db from after

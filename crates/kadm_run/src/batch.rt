@@ -11,7 +11,7 @@ use crate::reason::Reason;
 use crate::status::Status;
 use crate::stop::{Stop, Subject, begin_line, report};
 use crate::updates::update_in_batch;
-use crate::usage::{print_fault, print_order_fault};
+use crate::usage::{report_fault, report_order_fault};
 use crate::words::{has_flag, in_batch};
 use clap::ArgMatches;
 use clap::error::Error;
@@ -95,10 +95,10 @@ fn read_lines<T: Store, E: Write>(
             return Ok(lines);
         };
         if let Err(fault) = push_line(alloc, &mut lines, number, &octets) {
-            return Err(report_fault(errors, number, fault));
+            return Err(report_line_fault(errors, number, fault));
         }
     }
-    Err(report_fault(errors, MOST_LINES, LineFault::TooMany))
+    Err(report_line_fault(errors, MOST_LINES, LineFault::TooMany))
 }
 
 /// Reads the next line. `None` if the input has ended.
@@ -134,7 +134,7 @@ fn push_line(
 }
 
 /// Reports that a line is no command. Returns how the batch ends. Ignores a failed write.
-fn report_fault<E: Write>(errors: &mut E, number: usize, fault: LineFault) -> Stop<'static> {
+fn report_line_fault<E: Write>(errors: &mut E, number: usize, fault: LineFault) -> Stop<'static> {
     match fault.text() {
         Some(text) => {
             let _ = writeln!(errors, "kadm: line {number}: {text}");
@@ -319,8 +319,7 @@ fn run_words<'a, T: Store, E: Write>(
         Ok(order) => run_order(alloc, &order, subject, store, database, errors),
         Err(fault) => {
             begin_line(errors, subject);
-            print_order_fault(errors, fault)?;
-            Err(Stop::Usage)
+            Err(report_order_fault(errors, fault))
         }
     }
 }
@@ -336,8 +335,7 @@ fn check_words<E: Write>(
         Ok(_) => check_mode(words, subject, errors),
         Err(error) => {
             begin_line(errors, subject);
-            print_fault(errors, error)?;
-            Err(Stop::Usage)
+            Err(report_fault(errors, error))
         }
     }
 }
@@ -352,8 +350,7 @@ fn check_mode<E: Write>(
         return Ok(());
     }
     begin_line(errors, subject);
-    print_order_fault(errors, OrderFault::BadValue(NO_MODE))?;
-    Err(Stop::Usage)
+    Err(report_order_fault(errors, OrderFault::BadValue(NO_MODE)))
 }
 
 /// Makes a change that a line orders.

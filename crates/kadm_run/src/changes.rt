@@ -1,12 +1,14 @@
 //! A new database, and changes of one without new keys.
-ghost use Rattle.std.specs.Prelude.{◌≡◌, IfOk, IsFalse, OnOk, OnErr, false, true};
+ghost use Rattle.std.specs.Prelude.{◌≡◌, IfOk, IsFalse, OnOk, OnErr, false, option_map, true};
 ghost use Rattle.principals.specs.Database.{tgs_principal};
 ghost use Rattle.principals.specs.declared.change.RowChange.TheVariants as row_changes;
+ghost use Rattle.kadm_run.specs.Changing.{AreChanged, AreSet, IsChanged, IsChangedAt, IsNamedChanged, IsSetAt};
 ghost use Rattle.kadm_run.specs.Denying.{migrated_rows};
-ghost use Rattle.kadm_run.specs.Granting.{IsChanged, IsPolicySet, IsValueOf, Makes, denies_tickets};
-ghost use Rattle.kadm_run.specs.Words.{path_of};
+ghost use Rattle.kadm_run.specs.Granting.{IsPolicySet, IsValueOf, Makes, denies_tickets};
+ghost use Rattle.kadm_run.specs.Words.{path_of, texts};
 ghost use Rattle.kadm_run.specs.Worlds.{MadeNew, MadeRealm};
 
+use crate::assigning::{SettingWords, setting_at};
 use crate::databases::{apply, lock_database, write_database};
 use crate::denying::deny_users;
 use crate::granting::drop_older;
@@ -14,6 +16,7 @@ use crate::order::{ChangeArgs, Order};
 use crate::reason::Reason;
 use crate::stop::{Stop, of_realm};
 use crate::values::{setting_from, setting_of};
+use crate::words::value_at;
 use file_store::{Store, has_file, read_clock, read_or_draw_seed};
 use krb_elements::KerberosString;
 use krb_fields::{Name, component_from_text};
@@ -22,6 +25,9 @@ use principals::{ChangeFault, Database, RowChange, tgs_name};
 use std::alloc::{AllocError, Global};
 use std::io::Write;
 use text_fields::{FlagField, Setting};
+
+/// The option that names a principal.
+const NAME: &str = "--name";
 
 /// Makes the database of a new realm.
 pub(crate) fn make_realm<'p, T: Store, E: Write>(
@@ -63,24 +69,153 @@ fn make_new_realm<'p, T: Store, E: Write>(
     write_database(alloc, store, &locked, &database, order.keep_mode)
 }
 
+/// Fails if the words of a command line name a principal by a text that is no name.
+pub(crate) fn check_names<'p>(alloc: Global, words: &'p [&'p str]) -> Result<(), Stop<'p>> {
+    let mut rest = words;
+    while let [word, others @ ..] = rest {
+        if let Some(name) = value_at(NAME, word, others) {
+            check_name(alloc, name)?;
+        }
+        rest = others;
+    }
+    Ok(())
+}
+
+fn check_name<'p>(alloc: Global, name: &'p str) -> Result<(), Stop<'p>> {
+    match Name::from_text(alloc, name) {
+        Ok(_) => Ok(()),
+        Err(fault) => Err(Stop::from(fault).about(name)),
+    }
+}
+
+/// Changes each principal that the words of a command line name, without new keys. After an `Err` some may have been
+/// changed.
+pub(crate) fn change_all<'p, T: Store>(
+    alloc: Global,
+    store: &mut T,
+    database: &mut Database,
+    words: &'p [&'p str],
+    how: ChangeArgs,
+) -> Result<(), Stop<'p>>
+    ensures changed { OnOk result (AreChanged (T.world store.old) (texts words.entry.now) how database.old database.new) }
+    ensures kept { T.world store.new ≡ T.world store.old }
+{
+    let mut rest = words;
+    while let [word, others @ ..] = rest {
+        let name = value_at(NAME, word, others);
+        change_at(alloc, store, database, words, how, name)?;
+        rest = others;
+    }
+    Ok(())
+}
+
+/// Changes the principal that a word names, if it names one.
+fn change_at<'p, T: Store>(
+    alloc: Global,
+    store: &mut T,
+    database: &mut Database,
+    words: &'p [&'p str],
+    how: ChangeArgs,
+    name: Option<&'p str>,
+) -> Result<(), Stop<'p>>
+    ensures changed { OnOk result (IsChangedAt (T.world store.old) (texts words.entry.now) how (path_of name.entry) database.old database.new) }
+    ensures kept { T.world store.new ≡ T.world store.old }
+{
+    match name {
+        Some(name) => change_named(alloc, store, database, words, how, name),
+        None => Ok(()),
+    }
+}
+
+/// Changes the principal that a text names. A refusal names it.
+fn change_named<'p, T: Store>(
+    alloc: Global,
+    store: &mut T,
+    database: &mut Database,
+    words: &'p [&'p str],
+    how: ChangeArgs,
+    name: &'p str,
+) -> Result<(), Stop<'p>>
+    ensures changed { OnOk result (IsNamedChanged (T.world store.old) (texts words.entry.now) how name.entry.now database.old database.new) }
+    ensures kept { T.world store.new ≡ T.world store.old }
+{
+    match change_text(alloc, store, database, words, how, name) {
+        Ok(()) => Ok(()),
+        Err(stop) => Err(stop.about(name)),
+    }
+}
+
+fn change_text<'p, T: Store>(
+    alloc: Global,
+    store: &mut T,
+    database: &mut Database,
+    words: &'p [&'p str],
+    how: ChangeArgs,
+    name: &str,
+) -> Result<(), Stop<'p>>
+    ensures changed { OnOk result (IsNamedChanged (T.world store.old) (texts words.entry.now) how name.now database.old database.new) }
+    ensures kept { T.world store.new ≡ T.world store.old }
+{
+    let who = Name::from_text(alloc, name)?;
+    change(alloc, store, database, &who, words, how)
+}
+
 /// Changes the row of a principal, without new keys.
-pub(crate) fn change<T: Store>(
+fn change<'p, T: Store>(
     alloc: Global,
     store: &mut T,
     database: &mut Database,
     who: &Name,
-    how: ChangeArgs<'_>,
-) -> Result<(), Stop<'static>>
-    ensures changed { OnOk result (IsChanged (T.world store.old) how.entry who.now.components database.old database.new) }
+    words: &'p [&'p str],
+    how: ChangeArgs,
+) -> Result<(), Stop<'p>>
+    ensures changed { OnOk result (IsChanged (T.world store.old) (texts words.entry.now) how who.now.components database.old database.new) }
     ensures kept { T.world store.new ≡ T.world store.old }
 {
     match how {
         ChangeArgs::Drop { version } => drop_keys(alloc, database, who, version),
         ChangeArgs::DropOlder => Ok(drop_older(alloc, database, who)?),
-        ChangeArgs::Policy { field, value } => {
-            set_policy(alloc, store, database, who, field, value)
-        }
+        ChangeArgs::Policy => set_all(alloc, store, database, who, words),
         ChangeArgs::Remove => Ok(apply(alloc, database, who, RowChange::Remove)?),
+    }
+}
+
+/// Makes the settings that the words of a command line order, in their order. After an `Err` some may have been made.
+pub(crate) fn set_all<'p, T: Store>(
+    alloc: Global,
+    store: &mut T,
+    database: &mut Database,
+    who: &Name,
+    words: &'p [&'p str],
+) -> Result<(), Stop<'p>>
+    ensures set { OnOk result (AreSet (T.world store.old) (texts words.entry.now) who.now.components database.old database.new) }
+    ensures kept { T.world store.new ≡ T.world store.old }
+{
+    let mut rest = words;
+    while let [word, others @ ..] = rest {
+        let setting = setting_at(words, word, others);
+        set_at(alloc, store, database, who, setting)?;
+        rest = others;
+    }
+    Ok(())
+}
+
+/// Makes a setting, if there is one.
+fn set_at<'p, T: Store>(
+    alloc: Global,
+    store: &mut T,
+    database: &mut Database,
+    who: &Name,
+    setting: Option<SettingWords<'p>>,
+) -> Result<(), Stop<'p>>
+    ensures set { OnOk result (IsSetAt (T.world store.old)
+        (option_map (λ setting. (setting.field.now, setting.value.now)) setting.entry)
+        who.now.components database.old database.new) }
+    ensures kept { T.world store.new ≡ T.world store.old }
+{
+    match setting {
+        Some(setting) => set_policy(alloc, store, database, who, setting.field, setting.value),
+        None => Ok(()),
     }
 }
 
@@ -107,15 +242,15 @@ fn lacks_version(database: &Database, who: &Name, version: u32) -> bool {
     }
 }
 
-fn set_policy<T: Store>(
+fn set_policy<'p, T: Store>(
     alloc: Global,
     store: &mut T,
     database: &mut Database,
     who: &Name,
     field: &str,
-    value: &str,
-) -> Result<(), Stop<'static>>
-    ensures changed { OnOk result (IsPolicySet (T.world store.old) field.now value.now who.now.components database.old database.new) }
+    value: &'p str,
+) -> Result<(), Stop<'p>>
+    ensures changed { OnOk result (IsPolicySet (T.world store.old) field.now value.entry.now who.now.components database.old database.new) }
     ensures kept { T.world store.new ≡ T.world store.old }
 {
     let Some(row) = database.get(who) else {
@@ -156,8 +291,8 @@ fn denies_tickets(setting: Setting) -> bool
 }
 
 /// Returns a field with its value. It reads the clock if the value is a time from now.
-fn setting<T: Store>(store: &mut T, field: &str, value: &str) -> Result<Setting, Stop<'static>>
-    ensures setting { IfOk result (λ setting. IsValueOf (T.world store.old) setting field.now value.now) }
+fn setting<'p, T: Store>(store: &mut T, field: &str, value: &'p str) -> Result<Setting, Stop<'p>>
+    ensures setting { IfOk result (λ setting. IsValueOf (T.world store.old) setting field.now value.entry.now) }
     ensures kept { T.world store.new ≡ T.world store.old }
 {
     if let Some(setting) = setting_of(field, value) {
@@ -165,7 +300,10 @@ fn setting<T: Store>(store: &mut T, field: &str, value: &str) -> Result<Setting,
     }
     match setting_from(field, value, read_clock(store)?) {
         Some(setting) => Ok(setting),
-        None => Err(Stop::Refused(Reason::BadTime)),
+        None => Err(Stop::RefusedOf {
+            word: value,
+            reason: Reason::BadTime,
+        }),
     }
 }
 

@@ -63,7 +63,7 @@ fn read_versions<'p, T: Store>(
 }
 
 /// Returns the versions of a principal's keys with these types.
-fn versions_of(
+pub(crate) fn versions_of(
     alloc: Global,
     keytab: &Keytab,
     realm: &[u8],

@@ -3,13 +3,17 @@
 //! `kadm_run` takes the words of one command line and does what they say with the files of a `Store`.
 #![tactic(auto)]
 
+mod assigning;
 mod batch;
 mod changes;
 mod databases;
 mod denying;
+mod dump_import;
+mod dump_reports;
 mod granting;
 mod importing;
 mod joining;
+mod json_lines;
 mod keytabs;
 mod line_words;
 mod linting;
@@ -27,5 +31,5 @@ mod usage;
 mod values;
 mod words;
 
-pub use run::kadm_run;
+pub use run::{CommandLine, kadm_run};
 pub use status::Status;

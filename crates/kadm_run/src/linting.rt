@@ -232,13 +232,24 @@ fn names_host(name: &Name) -> bool {
     }
 }
 
-/// Checks whether a name's host is written as no client writes it: with a capital letter, or a dot at its end.
+/// Checks whether a name's host is written as no client writes it.
 fn names_odd_host(name: &Name) -> bool {
     match host_of(name) {
-        Some(host) => host.as_slice().iter().any(u8::is_ascii_uppercase)
-            || host.as_slice().last() == Some(&b'.'),
+        Some(host) => is_odd(host.as_slice()),
         None => false,
     }
+}
+
+/// Checks whether a host has a capital letter or another byte that no client writes, or a dot at one of its ends.
+fn is_odd(host: &[u8]) -> bool {
+    !host.iter().all(is_hosts) || host.first() == Some(&b'.') || host.last() == Some(&b'.')
+}
+
+/// Checks whether the name of a host may have a byte. A port follows some of them, behind a colon.
+fn is_hosts(octet: &u8) -> bool {
+    octet.is_ascii_lowercase()
+        || octet.is_ascii_digit()
+        || matches!(octet, b'-' | b'.' | b'_' | b':')
 }
 
 /// Returns the last component of a name that has several.

@@ -2,6 +2,8 @@
 ghost use Rattle.std.specs.Prelude.{◌≡◌};
 
 use crate::databases::read_database;
+use crate::json_lines::{json_line, print_json};
+use crate::order::ListArgs;
 use crate::patterns::is_like;
 use crate::stop::Stop;
 use file_store::Store;
@@ -18,8 +20,7 @@ use text_fields::{Setting, UtcDate};
 pub(crate) fn print_list<'p, T: Store, W: Write, E: Write>(
     alloc: Global,
     db: &'p str,
-    like: Option<&str>,
-    long: bool,
+    list: ListArgs<'_>,
     store: &mut T,
     out: &mut W,
     errors: &mut E,
@@ -27,7 +28,11 @@ pub(crate) fn print_list<'p, T: Store, W: Write, E: Write>(
     ensures kept { T.world store.new ≡ T.world store.old }
 {
     let database = read_database(alloc, store, errors, db)?;
-    let lines = sorted_lines(alloc, &database, like, long)?;
+    if list.json {
+        let lines = sorted_json(alloc, &database, list)?;
+        return Ok(print_json(&lines, out)?);
+    }
+    let lines = sorted_lines(alloc, &database, list)?;
     Ok(print_lines(&lines, out)?)
 }
 
@@ -41,10 +46,9 @@ pub(crate) fn print_lines<W: Write>(lines: &[String], out: &mut W) -> io::Result
 fn sorted_lines(
     alloc: Global,
     database: &Database,
-    like: Option<&str>,
-    long: bool,
+    list: ListArgs<'_>,
 ) -> Result<Vec<String>, AllocError> {
-    let mut lines = lines_of(alloc, database, like, long)?;
+    let mut lines = lines_of(alloc, database, list)?;
     // no text of a name has a byte as low as the space after it, so lines have the order of names
     lines.sort()?;
     Ok(lines)
@@ -53,18 +57,36 @@ fn sorted_lines(
 fn lines_of(
     alloc: Global,
     database: &Database,
-    like: Option<&str>,
-    long: bool,
+    list: ListArgs<'_>,
 ) -> Result<Vec<String>, AllocError> {
     let mut lines = Vec::new(alloc);
     for place in 0..database.len() {
         if let Some((name, row)) = database.at(place) {
             let name = name.to_text(alloc)?;
-            if fits(like, &name) {
-                lines.push(line_of(alloc, &name, row, long)?)?;
+            if fits(list.like, &name) {
+                lines.push(line_of(alloc, &name, row, list.long)?)?;
             }
         }
     }
+    Ok(lines)
+}
+
+/// Returns the lines of JSON, each behind its name and a space.
+fn sorted_json(
+    alloc: Global,
+    database: &Database,
+    list: ListArgs<'_>,
+) -> Result<Vec<Vec<u8>>, AllocError> {
+    let mut lines = Vec::new(alloc);
+    for place in 0..database.len() {
+        if let Some((name, row)) = database.at(place) {
+            let name = name.to_text(alloc)?;
+            if fits(list.like, &name) {
+                lines.push(json_line(alloc, &name, row, list.long)?)?;
+            }
+        }
+    }
+    lines.sort()?;
     Ok(lines)
 }
 

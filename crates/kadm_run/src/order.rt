@@ -5,8 +5,10 @@ ghost use Rattle.kadm_run.specs.Words.{IsChangeSpelled, IsPasswordGrant, IsPrint
 ghost use Rattle.kadm_run.specs.Words.{IsTaskSpelled, IsUpdateSpelled, IsWorkSpelled, Spells, command_of, path_of};
 ghost use Rattle.kadm_run.specs.Words.{texts, value_of};
 
-use crate::values::{accepted_by, is_setting};
-use crate::words::{DB, command_of, has_flag, value_of};
+use crate::assigning::{SettingWords, invalid_setting, sets_some};
+use crate::reason::KEYTAB;
+use crate::values::accepted_by;
+use crate::words::{DB, command_of, has_flag, is_given, value_of};
 use clap::error::Error;
 use clap::{ArgMatches, Command};
 use command_options::{FlagRow, OptionRow, SubcommandRow, Times, with_subcommands};
@@ -34,9 +36,9 @@ pub(crate) enum OrderFault<'a> {
     /// An option is wrong. The text says what is right.
     BadValue(&'static str),
     /// A policy has no field with this name.
-    NoField(&'a str),
+    NoField(SettingWords<'a>),
     /// A field of a policy does not accept this value.
-    NoSetting { field: &'a str, value: &'a str },
+    NoSetting(SettingWords<'a>),
     Memory,
 }
 
@@ -50,11 +52,22 @@ pub(crate) enum Task<'a> {
 /// What to print of a database.
 #[derive(Clone, Copy)]
 pub(crate) enum Print<'a> {
-    /// A line for each principal, or for those whose names fit a pattern. A long line has more columns.
-    List { like: Option<&'a str>, long: bool },
+    /// A line for each principal.
+    List(ListArgs<'a>),
     /// A line for each oddity of a principal.
     Lint,
     Show { name: &'a str },
+}
+
+/// Which principals to list, and what to print of each.
+#[derive(Clone, Copy)]
+pub(crate) struct ListArgs<'a> {
+    /// The pattern that the names fit, if there is one.
+    pub like: Option<&'a str>,
+    /// Whether a line has more columns.
+    pub long: bool,
+    /// Whether a line is an object of JSON.
+    pub json: bool,
 }
 
 /// What to write. If no file has the seed, the system draws it.
@@ -72,17 +85,34 @@ pub(crate) enum Work<'a> {
         keep_going: bool,
     },
     Keytab(KeytabOrder<'a>),
+    /// Makes the database of a realm from the dump of MIT's database.
+    Dump(DumpOrder<'a>),
 }
 
 /// How a database is changed.
 #[derive(Clone, Copy)]
 pub(crate) enum Update<'a> {
-    /// Changes the row of one principal, or adds it.
-    Row { name: &'a str, how: RowUpdate<'a> },
-    Migrate { users_are_no_services: bool },
+    /// Gives one principal keys, or adds it with them.
+    Row(RowOrder<'a>),
+    /// Changes each principal that the words of the command line name, without new keys.
+    Changes {
+        words: &'a [&'a str],
+        how: ChangeArgs,
+    },
+    Migrate {
+        users_are_no_services: bool,
+    },
 }
 
-/// How the row of a principal is changed.
+/// A principal that gets keys, and then the settings of the command line with these words.
+#[derive(Clone, Copy)]
+pub(crate) struct RowOrder<'a> {
+    pub name: &'a str,
+    pub how: RowUpdate<'a>,
+    pub words: &'a [&'a str],
+}
+
+/// The keys that a principal gets.
 #[derive(Clone, Copy)]
 pub(crate) enum RowUpdate<'a> {
     /// Gives the principal the keys of a password.
@@ -91,8 +121,6 @@ pub(crate) enum RowUpdate<'a> {
     Random(RandomGrant<'a>),
     /// Adds the principal with keys from a keytab.
     Import { keytab: &'a str },
-    /// Changes the row without new keys.
-    Change(ChangeArgs<'a>),
 }
 
 /// The keys of a password, and who gets them.
@@ -115,6 +143,14 @@ pub(crate) struct KeytabOrder<'a> {
     pub name: &'a str,
     pub out: &'a str,
     pub append: bool,
+}
+
+/// The dump of MIT's database, its stash file, and whether what has no place is left out.
+#[derive(Clone, Copy)]
+pub(crate) struct DumpOrder<'a> {
+    pub dump: &'a str,
+    pub stash: &'a str,
+    pub skip: bool,
 }
 
 /// Where a password comes from.
@@ -164,13 +200,14 @@ impl Grant {
     }
 }
 
-/// How a principal is changed. A field and its value are a setting.
+/// How a principal is changed.
 #[derive(Clone, Copy)]
-pub(crate) enum ChangeArgs<'a> {
+pub(crate) enum ChangeArgs {
     Drop { version: u32 },
     /// Drops all versions but the current one.
     DropOlder,
-    Policy { field: &'a str, value: &'a str },
+    /// Makes the settings of the command line.
+    Policy,
     Remove,
 }
 
@@ -185,6 +222,8 @@ A first realm:
 Each command prints `ok`; `list`, `lint` and `show` print what they found. A command that is refused prints `refused`
 and the reason, with status 1. If a file can't be read or written, or memory runs out, it prints `failed`, with status 3.
 Standard error then says which name or file, and why. A usage error has status 2.
+
+Without --db the database is the file that KADM_DB names in the environment.
 
 A name is components joined by `/`. Write `/`, `\\` and `@` inside a component, and all bytes other than 21 to 7e, as `\\`
 and two lower case hexadecimal digits.";
@@ -202,9 +241,15 @@ For a flag: true or false. For a time: a second since 1970, a date (2027-01-01, 
 const NO_VERSION: &str =
     "give either --version with a number from 0 to 4294967295, or --older for all versions but the current one";
 
+const NO_SETTING: &str = "give --set FIELD=VALUE, once or more, or --field with --value";
+
 const NO_KEYTAB: &str = "--out is the path of the database; give another one for the keytab";
 
 const NO_SOURCE: &str = "--random makes random keys: leave out --password-file and --any-password";
+
+const NO_IMPORT: &str = "\
+give either --name and --keytab, for one principal, or --dump and --stash, for a whole realm; --types goes with the \
+first, --skip with the second";
 
 const NO_TYPES: &str = "\
 --types takes the numbers 18, 17, 20 and 19, each at most once, separated by commas";
@@ -224,7 +269,10 @@ pub(crate) fn read_args<'a>(alloc: Global, words: &'a [&'a str]) -> Result<ArgMa
 }
 
 /// Returns the order that the words give.
-pub(crate) fn read_order<'a>(alloc: Global, words: &[&'a str]) -> Result<Order<'a>, OrderFault<'a>>
+pub(crate) fn read_order<'a>(
+    alloc: Global,
+    words: &'a [&'a str],
+) -> Result<Order<'a>, OrderFault<'a>>
     ensures { IfOk result (λ order. Spells (texts words.now) order) }
 {
     let (Some(command), Some(db)) = (command_of(words), value_of(words, DB)) else {
@@ -249,22 +297,22 @@ pub(crate) fn read_order<'a>(alloc: Global, words: &[&'a str]) -> Result<Order<'
 /// Returns which option is wrong.
 fn fault_of<'a>(command: &str, words: &[&'a str]) -> OrderFault<'a> {
     match command {
-        "add" => OrderFault::BadValue(NO_SOURCE),
+        "add" => setting_fault(words).unwrap_or(OrderFault::BadValue(NO_SOURCE)),
         "drop" => OrderFault::BadValue(NO_VERSION),
+        "import" => OrderFault::BadValue(NO_IMPORT),
         "keytab" => OrderFault::BadValue(NO_KEYTAB),
-        "policy" => policy_fault(words),
+        "policy" => setting_fault(words).unwrap_or(OrderFault::BadValue(NO_SETTING)),
         _ => OrderFault::BadValue(NO_COMMAND),
     }
 }
 
-fn policy_fault<'a>(words: &[&'a str]) -> OrderFault<'a> {
-    let (Some(field), Some(value)) = (value_of(words, "--field"), value_of(words, "--value")) else {
-        return OrderFault::BadValue(NO_COMMAND);
-    };
-    if accepted_by(field).is_none() {
-        return OrderFault::NoField(field);
+/// Returns what is wrong with the first invalid setting, if there is one.
+fn setting_fault<'a>(words: &[&'a str]) -> Option<OrderFault<'a>> {
+    let setting = invalid_setting(words)?;
+    if accepted_by(setting.field).is_none() {
+        return Some(OrderFault::NoField(setting));
     }
-    OrderFault::NoSetting { field, value }
+    Some(OrderFault::NoSetting(setting))
 }
 
 /// Returns the encryption types of the new keys: all four by default.
@@ -276,14 +324,15 @@ fn read_key_types(alloc: Global, words: &[&str]) -> Result<Vec<Etype>, EtypesFau
 }
 
 /// Returns what to do, or `None` if an option is wrong.
-fn task_of<'a>(command: &str, words: &[&'a str]) -> Option<Task<'a>>
+fn task_of<'a>(command: &str, words: &'a [&'a str]) -> Option<Task<'a>>
     ensures { command_of (texts words.now) ≡ Some command.now → IfSome result (λ task. IsTaskSpelled (texts words.now) task) }
 {
     match command {
-        "list" => Some(Task::Print(Print::List {
+        "list" => Some(Task::Print(Print::List(ListArgs {
             like: value_of(words, "--like"),
             long: has_flag(words, "--long"),
-        })),
+            json: has_flag(words, "--json"),
+        }))),
         "lint" => Some(Task::Print(Print::Lint)),
         "show" => Some(Task::Print(Print::Show {
             name: value_of(words, "--name")?,
@@ -293,7 +342,7 @@ fn task_of<'a>(command: &str, words: &[&'a str]) -> Option<Task<'a>>
 }
 
 /// Returns what to write.
-fn work_of<'a>(command: &str, words: &[&'a str]) -> Option<Work<'a>>
+fn work_of<'a>(command: &str, words: &'a [&'a str]) -> Option<Work<'a>>
     ensures { command_of (texts words.now) ≡ Some command.now → IfSome result (λ work. IsWorkSpelled (texts words.now) work) }
 {
     match command {
@@ -309,26 +358,81 @@ fn work_of<'a>(command: &str, words: &[&'a str]) -> Option<Work<'a>>
             out: keytab_path(words)?,
             append: has_flag(words, "--append"),
         })),
+        "import" => import_work(words),
         _ => Some(Work::Update(update_of(command, words)?)),
     }
 }
 
+/// Returns what an import writes: a whole realm, or one principal. `None` if the options are of both.
+fn import_work<'a>(words: &'a [&'a str]) -> Option<Work<'a>>
+    ensures { command_of (texts words.now) ≡ Some (codes "import") → IfSome result (λ work. IsWorkSpelled (texts words.now) work) }
+{
+    let Some(dump) = value_of(words, "--dump") else {
+        return import_row(words);
+    };
+    if is_any_given(words, &["--name", KEYTAB, "--types"]) {
+        return None;
+    }
+    Some(Work::Dump(DumpOrder {
+        dump,
+        stash: value_of(words, "--stash")?,
+        skip: has_flag(words, "--skip"),
+    }))
+}
+
+/// Returns the import of one principal.
+fn import_row<'a>(words: &'a [&'a str]) -> Option<Work<'a>>
+    ensures { command_of (texts words.now) ≡ Some (codes "import") → IfSome result (λ work. IsWorkSpelled (texts words.now) work) }
+{
+    if has_flag(words, "--skip") || is_given(words, "--stash") {
+        return None;
+    }
+    Some(Work::Update(Update::Row(RowOrder {
+        name: value_of(words, "--name")?,
+        how: RowUpdate::Import {
+            keytab: value_of(words, KEYTAB)?,
+        },
+        words,
+    })))
+}
+
+/// Checks whether one of these options is given.
+fn is_any_given(words: &[&str], options: &[&str]) -> bool {
+    options
+        .iter()
+        .any(|option| value_of(words, option).is_some())
+}
+
 /// Returns how to change the database.
-fn update_of<'a>(command: &str, words: &[&'a str]) -> Option<Update<'a>>
+fn update_of<'a>(command: &str, words: &'a [&'a str]) -> Option<Update<'a>>
     ensures { command_of (texts words.now) ≡ Some command.now → IfSome result (λ update. IsUpdateSpelled (texts words.now) update) }
 {
     match command {
         "migrate" => Some(Update::Migrate {
             users_are_no_services: has_flag(words, "--users-are-no-services"),
         }),
-        _ => Some(Update::Row {
+        "drop" => changes_of(words, drop_args(words)?),
+        "policy" => changes_of(words, policy_args(words)?),
+        "remove" => changes_of(words, ChangeArgs::Remove),
+        _ => Some(Update::Row(RowOrder {
             name: value_of(words, "--name")?,
             how: row_update_of(command, words)?,
-        }),
+            words,
+        })),
     }
 }
 
-/// Returns how to change the row of a principal.
+/// Returns a change of each principal that the words name, or `None` if they name none.
+fn changes_of<'a>(words: &'a [&'a str], how: ChangeArgs) -> Option<Update<'a>>
+    ensures { IsChangeSpelled (texts words.now) how → IfSome result (λ update. IsUpdateSpelled (texts words.now) update) }
+{
+    if !is_given(words, "--name") {
+        return None;
+    }
+    Some(Update::Changes { words, how })
+}
+
+/// Returns the keys to give to a principal.
 fn row_update_of<'a>(command: &str, words: &[&'a str]) -> Option<RowUpdate<'a>>
     ensures { command_of (texts words.now) ≡ Some command.now → IfSome result (λ how. IsRowSpelled (texts words.now) how) }
 {
@@ -342,17 +446,18 @@ fn row_update_of<'a>(command: &str, words: &[&'a str]) -> Option<RowUpdate<'a>>
             seed: value_of(words, "--seed"),
             grant: random_grant(words),
         })),
-        "import" => Some(RowUpdate::Import {
-            keytab: value_of(words, "--keytab")?,
-        }),
-        _ => Some(RowUpdate::Change(change_args(command, words)?)),
+        _ => None,
     }
 }
 
-/// Returns the keys of the principal to add, or `None` if both random keys and a password are asked for.
+/// Returns the keys of the principal to add. `None` if both random keys and a password are asked for, or a setting is
+/// invalid.
 fn added<'a>(words: &[&'a str]) -> Option<RowUpdate<'a>>
     ensures { command_of (texts words.now) ≡ Some (codes "add") → IfSome result (λ how. IsRowSpelled (texts words.now) how) }
 {
+    if invalid_setting(words).is_some() {
+        return None;
+    }
     let password = password_args(words);
     if !has_flag(words, "--random") {
         return Some(RowUpdate::Password(PasswordGrant {
@@ -424,19 +529,8 @@ fn keytab_path<'a>(words: &[&'a str]) -> Option<&'a str>
     Some(out)
 }
 
-fn change_args<'a>(command: &str, words: &[&'a str]) -> Option<ChangeArgs<'a>>
-    ensures { command_of (texts words.now) ≡ Some command.now → IfSome result (λ how. IsChangeSpelled (texts words.now) how) }
-{
-    match command {
-        "drop" => drop_args(words),
-        "policy" => policy_args(words),
-        "remove" => Some(ChangeArgs::Remove),
-        _ => None,
-    }
-}
-
 /// Returns which versions to drop, or `None` unless exactly one of `--version` and `--older` is given.
-fn drop_args<'a>(words: &[&'a str]) -> Option<ChangeArgs<'a>>
+fn drop_args(words: &[&str]) -> Option<ChangeArgs>
     ensures { command_of (texts words.now) ≡ Some (codes "drop") → IfSome result (λ how. IsChangeSpelled (texts words.now) how) }
 {
     match (value_of(words, "--version"), has_flag(words, "--older")) {
@@ -448,21 +542,20 @@ fn drop_args<'a>(words: &[&'a str]) -> Option<ChangeArgs<'a>>
     }
 }
 
-fn policy_args<'a>(words: &[&'a str]) -> Option<ChangeArgs<'a>>
+/// Returns the change by the settings that the words order, or `None` if there is none or one is invalid.
+fn policy_args(words: &[&str]) -> Option<ChangeArgs>
     ensures { command_of (texts words.now) ≡ Some (codes "policy") → IfSome result (λ how. IsChangeSpelled (texts words.now) how) }
 {
-    let field = value_of(words, "--field")?;
-    let value = value_of(words, "--value")?;
-    if !is_setting(field, value) {
+    if !sets_some(words) || invalid_setting(words).is_some() {
         return None;
     }
-    Some(ChangeArgs::Policy { field, value })
+    Some(ChangeArgs::Policy)
 }
 
 const DATABASE: OptionRow = OptionRow {
     name: "db",
     shape: "FILE",
-    help: "The database of the realm",
+    help: "The database of the realm; by default the file that KADM_DB names in the environment",
     times: Times::Once,
 };
 
@@ -485,6 +578,20 @@ const NAME: OptionRow = OptionRow {
     shape: "NAME",
     help: "The principal's name, without its realm",
     times: Times::Once,
+};
+
+const NAMES: OptionRow = OptionRow {
+    name: "name",
+    shape: "NAME",
+    help: "A principal's name, without its realm; with more of them, each is changed, or none",
+    times: Times::AtLeastOnce,
+};
+
+const EXPIRES: OptionRow = OptionRow {
+    name: "expires",
+    shape: "TIME",
+    help: "When the principal expires: a date (2027-01-01), a time from now (10h, 7d), a second since 1970 or never",
+    times: Times::AtMostOnce,
 };
 
 const PASSWORD: OptionRow = OptionRow {
@@ -515,18 +622,25 @@ const LIKE: OptionRow = OptionRow {
     times: Times::AtMostOnce,
 };
 
+const SET: OptionRow = OptionRow {
+    name: "set",
+    shape: "FIELD=VALUE",
+    help: "A field and its new value; with more of them, each is set, or none",
+    times: Times::Any,
+};
+
 const FIELD: OptionRow = OptionRow {
     name: "field",
     shape: "FIELD",
     help: FIELDS,
-    times: Times::Once,
+    times: Times::AtMostOnce,
 };
 
 const VALUE: OptionRow = OptionRow {
     name: "value",
     shape: "VALUE",
     help: VALUES,
-    times: Times::Once,
+    times: Times::AtMostOnce,
 };
 
 const OUT: OptionRow = OptionRow {
@@ -536,11 +650,37 @@ const OUT: OptionRow = OptionRow {
     times: Times::Once,
 };
 
-const KEYTAB: OptionRow = OptionRow {
+const IMPORTED_NAME: OptionRow = OptionRow {
+    name: "name",
+    shape: "NAME",
+    help: "The principal's name, without its realm",
+    times: Times::AtMostOnce,
+};
+
+const IMPORTED_KEYTAB: OptionRow = OptionRow {
     name: "keytab",
     shape: "FILE",
     help: "The keytab that has the principal's keys",
-    times: Times::Once,
+    times: Times::AtMostOnce,
+};
+
+const DUMP: OptionRow = OptionRow {
+    name: "dump",
+    shape: "FILE",
+    help: "The text that MIT's `kdb5_util dump` wrote; the database must be a new file",
+    times: Times::AtMostOnce,
+};
+
+const STASH: OptionRow = OptionRow {
+    name: "stash",
+    shape: "FILE",
+    help: "MIT's stash file, with the master key of the dump",
+    times: Times::AtMostOnce,
+};
+
+const SKIPS: FlagRow = FlagRow {
+    name: "skip",
+    help: "Leaves out what has no place here: policies, other encryption types, salts",
 };
 
 const TYPES: OptionRow = OptionRow {
@@ -563,6 +703,11 @@ const RANDOMS: FlagRow = FlagRow {
 const SERVICES: FlagRow = FlagRow {
     name: "service",
     help: "Allows tickets for the principal although its keys are made from a password",
+};
+
+const DISABLEDS: FlagRow = FlagRow {
+    name: "disabled",
+    help: "Adds the principal disabled: it can't log in until `policy` sets disabled to false",
 };
 
 const NO_SERVICES_ROW: FlagRow = FlagRow {
@@ -600,6 +745,11 @@ const LONGS: FlagRow = FlagRow {
     help: "Also prints expires, password_expires, disabled, the number of key versions, and service",
 };
 
+const JSONS: FlagRow = FlagRow {
+    name: "json",
+    help: "Prints each line as a JSON object, with the columns by their names",
+};
+
 const ANY_PASSWORDS: FlagRow = FlagRow {
     name: "any-password",
     help: "Accepts a password that is empty or ends in a carriage return",
@@ -615,8 +765,8 @@ const SUBCOMMANDS: &[SubcommandRow] = &[
     SubcommandRow {
         name: "add",
         about: "Adds a principal with keys made from a password, or with random keys",
-        options: &[DATABASE, NAME, PASSWORD, TYPES],
-        flags: &[RANDOMS, SERVICES, ANY_PASSWORDS, KEEPS_MODE],
+        options: &[DATABASE, NAME, PASSWORD, TYPES, EXPIRES],
+        flags: &[RANDOMS, SERVICES, DISABLEDS, ANY_PASSWORDS, KEEPS_MODE],
     },
     SubcommandRow {
         name: "passwd",
@@ -632,20 +782,20 @@ const SUBCOMMANDS: &[SubcommandRow] = &[
     },
     SubcommandRow {
         name: "import",
-        about: "Adds a principal with its keys from a keytab, in all their versions",
-        options: &[DATABASE, NAME, KEYTAB, TYPES],
-        flags: &[KEEPS_MODE],
+        about: "Adds a principal with its keys from a keytab, in all their versions; or makes the database of a realm from a dump of MIT's",
+        options: &[DATABASE, IMPORTED_NAME, IMPORTED_KEYTAB, TYPES, DUMP, STASH],
+        flags: &[SKIPS, KEEPS_MODE],
     },
     SubcommandRow {
         name: "drop",
         about: "Drops the keys of an old version, or of all old versions",
-        options: &[DATABASE, NAME, VERSION],
+        options: &[DATABASE, NAMES, VERSION],
         flags: &[OLDERS, KEEPS_MODE],
     },
     SubcommandRow {
         name: "policy",
-        about: "Sets a field of a principal's policy",
-        options: &[DATABASE, NAME, FIELD, VALUE],
+        about: "Sets fields of the policies of principals",
+        options: &[DATABASE, NAMES, SET, FIELD, VALUE],
         flags: &[KEEPS_MODE],
     },
     SubcommandRow {
@@ -656,15 +806,15 @@ const SUBCOMMANDS: &[SubcommandRow] = &[
     },
     SubcommandRow {
         name: "remove",
-        about: "Removes a principal",
-        options: &[DATABASE, NAME],
+        about: "Removes principals",
+        options: &[DATABASE, NAMES],
         flags: &[KEEPS_MODE],
     },
     SubcommandRow {
         name: "list",
         about: "Prints a line for each principal: its name, its current key version, and the types of its keys",
         options: &[DATABASE, LIKE],
-        flags: &[LONGS],
+        flags: &[LONGS, JSONS],
     },
     SubcommandRow {
         name: "lint",

@@ -29,7 +29,6 @@ pub(crate) fn new_password<'p, T: Store, E: Write>(
         RowUpdate::Password(to) => any_password(alloc, order, store, errors, name, to.password),
         RowUpdate::Random(_) => Ok(Vec::new(alloc)),
         RowUpdate::Import { keytab: _ } => Ok(Vec::new(alloc)),
-        RowUpdate::Change(_) => Ok(Vec::new(alloc)),
     }
 }
 
@@ -65,7 +64,6 @@ pub(crate) fn batch_password<'p, T: Store>(
         RowUpdate::Password(to) => file_password(alloc, store, to.password),
         RowUpdate::Random(_) => Ok(Vec::new(alloc)),
         RowUpdate::Import { keytab: _ } => Ok(Vec::new(alloc)),
-        RowUpdate::Change(_) => Ok(Vec::new(alloc)),
     }
 }
 

@@ -46,10 +46,19 @@ pub(crate) enum Reason {
     BadEntry,
     /// A keytab has no key of the principal, or one with version 0.
     NoKeys,
+    /// A file is not a dump of MIT's database.
+    BadDump,
+    /// A file is not MIT's stash file with the master key of a dump.
+    BadStash,
+    /// Something in a dump has no place in a database.
+    NoPlace,
 }
 
 /// The option that names a keytab to read.
 pub(crate) const KEYTAB: &str = "--keytab";
+
+/// The option that names a dump of MIT's database.
+const DUMP: &str = "--dump";
 
 impl Reason {
     /// Returns the reason's word on standard output.
@@ -77,6 +86,9 @@ impl Reason {
             Reason::Truncated => "Truncated",
             Reason::BadEntry => "BadEntry",
             Reason::NoKeys => "NoKeys",
+            Reason::BadDump => "BadDump",
+            Reason::BadStash => "BadStash",
+            Reason::NoPlace => "NoPlace",
         }
     }
 
@@ -118,6 +130,9 @@ impl Reason {
             Reason::NoKeys => {
                 "it has no key of the principal in this realm with the types asked for, or one of version 0"
             }
+            Reason::BadDump => "this is not a dump that MIT's kdb5_util writes, of version 5 to 8",
+            Reason::BadStash => "this is not MIT's stash file with the master key of the dump",
+            Reason::NoPlace => "what is listed has no place in a database; `--skip` leaves it out",
         }
     }
 
@@ -139,6 +154,8 @@ impl Reason {
             | Reason::Truncated
             | Reason::BadEntry => "--out",
             Reason::NoKeys => KEYTAB,
+            Reason::BadDump | Reason::NoPlace => DUMP,
+            Reason::BadStash => "--stash",
             Reason::BadName
             | Reason::Mismatch
             | Reason::BadPassword

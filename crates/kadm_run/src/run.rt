@@ -1,11 +1,12 @@
 //! One command line: from its words to the files.
-ghost use Rattle.std.specs.Prelude.{◌≡◌, IfErr, IfOk, OnErr, map, true};
+ghost use Rattle.std.specs.Prelude.{◌≡◌, IfErr, IfOk, OnErr, map, string_bytes, true};
 ghost use Rattle.kadm_run.specs.Ends.{IsEnd, IsOrderEnd, IsOrderStopped, IsStopped, IsWorkDone, IsWorkEnd, IsWorkStopped};
-ghost use Rattle.kadm_run.specs.Words.{asks_help, texts};
+ghost use Rattle.kadm_run.specs.Words.{asks_help, path_of, texts, with_db};
 ghost use Rattle.kadm_run.specs.declared.status.Status.TheVariants.{Done, Failed};
 
 use crate::batch::run_batch;
 use crate::changes::make_realm;
+use crate::dump_import::import_dump;
 use crate::keytabs::write_keytab;
 use crate::linting::print_lint;
 use crate::listing::{print_list, print_row};
@@ -13,31 +14,39 @@ use crate::order::{Order, Print, Task, Work, read_args, read_order};
 use crate::status::Status;
 use crate::stop::{Stop, Subject, report};
 use crate::updates::update;
-use crate::usage::{print_help, print_order_fault};
-use crate::words::words_of;
+use crate::usage::{print_help, report_order_fault};
+use crate::words::{with_db, words_of};
 use clap::ArgMatches;
 use clap::error::Error;
 use file_store::Store;
-use std::alloc::Global;
-use std::convert::AsStr;
+use std::alloc::{AllocError, Global};
 use std::io;
 use std::io::{BufWriter, Write};
 
-/// Runs a command line, whose first word is the program's name. Prints the outcome to `writer`, and the reason of a
-/// refusal or failure to `errors`; `watched` says whether that is a terminal. `Done` means that what the words order was
-/// done, or that they ask for help. Otherwise the files are unchanged, unless the words order a batch that keeps going
-/// (`Refused`), or only the printing failed (`Failed`).
-pub fn kadm_run<S: AsStr, T: Store, W: Write + Drop, E: Write + Drop>(
+/// What a command is given besides its files.
+#[derive(Clone, Copy)]
+pub struct CommandLine<'a> {
+    /// The words of the command line. The first is the program's name.
+    pub args: &'a [String],
+    /// The database of a command line that names none.
+    pub db: Option<&'a str>,
+    /// Whether standard error is a terminal.
+    pub is_watched: bool,
+}
+
+/// Runs a command line. Prints the outcome to `writer`, and the reason of a refusal or failure and what is wrong with the
+/// words to `errors`. `Done` means that what the words order was done, or that they ask for help. Otherwise the files are
+/// unchanged, unless the words order a batch that keeps going (`Refused`), or only the printing failed (`Failed`).
+pub fn kadm_run<T: Store, W: Write + Drop, E: Write + Drop>(
     alloc: Global,
-    args: &[S],
-    watched: bool,
+    line: CommandLine<'_>,
     store: &mut T,
     writer: W,
     errors: E,
 ) -> Status
-    ensures { IsEnd (map S.text args.now) (T.world store.old) result (T.world store.new) }
+    ensures { IsEnd (with_db (path_of line.entry.db) (map string_bytes line.entry.args.now)) (T.world store.old) result (T.world store.new) }
 {
-    let Ok(words) = words_of(alloc, args) else {
+    let Ok(words) = words_with_db(alloc, line) else {
         return Status::Failed;
     };
     let Ok(mut out) = BufWriter::new(alloc, writer) else {
@@ -46,7 +55,17 @@ pub fn kadm_run<S: AsStr, T: Store, W: Write + Drop, E: Write + Drop>(
     let Ok(mut errors) = BufWriter::new(alloc, errors) else {
         return Status::Failed;
     };
-    run_and_report(alloc, &words, watched, store, &mut out, &mut errors).unwrap_or(Status::Failed)
+    run_and_report(alloc, &words, line.is_watched, store, &mut out, &mut errors).unwrap_or(
+        Status::Failed,
+    )
+}
+
+/// Returns the words of a command line, with the database that is its default if they name none.
+fn words_with_db<'a>(alloc: Global, line: CommandLine<'a>) -> Result<Vec<&'a str>, AllocError>
+    ensures { IfOk result (λ words. texts words.items ≡ with_db (path_of line.entry.db) (map string_bytes line.entry.args.now)) }
+{
+    let words = words_of(alloc, line.args)?;
+    with_db(alloc, words, line.db)
 }
 
 /// Returns the status, or the error of a failed write to the output.
@@ -106,24 +125,25 @@ fn run_words<'a, T: Store, W: Write, E: Write>(
     ensures stopped { IfErr result (λ stop. IsStopped (texts words.entry.now) (T.world store.old) stop (T.world store.new)) }
 {
     let matches = read_args(alloc, words);
-    if asks(&matches, words, out)? {
+    if asks(&matches, words, out, errors)? {
         return Ok(Status::Done);
     }
     run_read(alloc, words, watched, store, out, errors)
 }
 
 /// Prints the help, and returns whether the words ask for it.
-fn asks<'a, W: Write>(
+fn asks<'a, W: Write, E: Write>(
     matches: &Result<ArgMatches<'a>, Error>,
     words: &[&str],
     out: &mut W,
+    errors: &mut E,
 ) -> Result<bool, Stop<'static>>
     ensures { IfOk result (λ asks. asks ≡ true → asks_help (texts words.now) ≡ true) }
 {
     match matches {
         Ok(_) => Ok(false),
         Err(error) => {
-            print_help(out, words, error)?;
+            print_help(out, errors, words, error)?;
             Ok(true)
         }
     }
@@ -144,10 +164,7 @@ fn run_read<'a, T: Store, W: Write, E: Write>(
 {
     match read_order(alloc, words) {
         Ok(order) => run_order(alloc, &order, watched, store, out, errors),
-        Err(fault) => {
-            print_order_fault(out, fault)?;
-            Err(Stop::Usage)
-        }
+        Err(fault) => Err(report_order_fault(errors, fault)),
     }
 }
 
@@ -182,7 +199,7 @@ fn run_print<'a, T: Store, W: Write, E: Write>(
     ensures kept { T.world store.new ≡ T.world store.old }
 {
     match print {
-        Print::List { like, long } => print_list(alloc, db, like, long, store, out, errors)?,
+        Print::List(list) => print_list(alloc, db, list, store, out, errors)?,
         Print::Lint => print_lint(alloc, db, store, out, errors)?,
         Print::Show { name } => print_row(alloc, store, db, name, out, errors)?,
     }
@@ -237,6 +254,10 @@ fn write_files<'a, T: Store, W: Write, E: Write>(
         }
         Work::Keytab(to) => {
             write_keytab(alloc, order, store, errors, to)?;
+            Ok(true)
+        }
+        Work::Dump(from) => {
+            import_dump(alloc, order, store, errors, from)?;
             Ok(true)
         }
     }

@@ -30,7 +30,10 @@ pub(crate) enum Stop<'p> {
     LineRefused,
     /// A file that a line of a batch names failed, and the reason has been printed.
     LineFailed,
+    /// The command is refused. The report begins with the word of the option that the reason names.
     Refused(Reason),
+    /// The command is refused for this word.
+    RefusedOf { word: &'p str, reason: Reason },
     /// A file, a standard stream or an allocation is refused or failed.
     File(FileFault<'p>),
 }
@@ -43,6 +46,16 @@ impl Stop<'_> {
             path,
             cause: FileCause::Failed(error),
         })
+    }
+}
+
+impl<'p> Stop<'p> {
+    /// Returns the same, with this word as that of a refusal that has none.
+    pub(crate) fn about(self, word: &'p str) -> Stop<'p> {
+        match self {
+            Stop::Refused(reason) => Stop::RefusedOf { word, reason },
+            stop => stop,
+        }
     }
 }
 
@@ -172,7 +185,12 @@ pub(crate) fn report<W: Write, E: Write>(
         Stop::LineRefused => Ok(Status::Refused),
         Stop::LineFailed => Ok(Status::Failed),
         Stop::Refused(reason) => {
-            report_reason(errors, subject, reason);
+            let word = word_of(subject.words, reason.option());
+            report_reason(errors, subject, reason, word);
+            print_refusal(out, reason.name())
+        }
+        Stop::RefusedOf { word, reason } => {
+            report_reason(errors, subject, reason, some_text(word));
             print_refusal(out, reason.name())
         }
         Stop::File(fault) => {
@@ -190,8 +208,12 @@ pub(crate) fn report<W: Write, E: Write>(
 /// Returns the word of an option, if it is not empty. If the subcommand has no such option, returns that of the keytab
 /// to read.
 fn word_of<'a>(words: &[&'a str], option: &str) -> Option<&'a str> {
-    let word = value_of(words, option).or(value_of(words, KEYTAB))?;
-    if word.is_empty() { None } else { Some(word) }
+    some_text(value_of(words, option).or(value_of(words, KEYTAB))?)
+}
+
+/// Returns a text, if it is not empty.
+fn some_text(text: &str) -> Option<&str> {
+    if text.is_empty() { None } else { Some(text) }
 }
 
 /// Begins a line about a command: with its number and its name, if it is a line of a batch. Ignores a failed write.
@@ -220,15 +242,20 @@ fn imported_from<'a>(words: &[&'a str], word: &str) -> Option<&'a str> {
     }
 }
 
-/// Reports the subject of a refusal, and the reason. Ignores a failed write.
-fn report_reason<E: Write>(errors: &mut E, subject: &Subject<'_>, reason: Reason) {
+/// Reports the word that is refused, or else the option that has it, and the reason. Ignores a failed write.
+fn report_reason<E: Write>(
+    errors: &mut E,
+    subject: &Subject<'_>,
+    reason: Reason,
+    word: Option<&str>,
+) {
     let (option, text) = (reason.option(), reason.text());
     begin_line(errors, subject);
     if option.is_empty() {
         let _ = writeln!(errors, "{text}");
         return;
     }
-    let Some(word) = word_of(subject.words, option) else {
+    let Some(word) = word else {
         let _ = writeln!(errors, "{option}: {text}");
         return;
     };

@@ -1,14 +1,16 @@
 //! The commands that change a database. Each reads it once and writes it once.
 ghost use Rattle.std.specs.Prelude.{◌≡◌, OnOk, OnErr};
-ghost use Rattle.kadm_run.specs.Updates.{IsMigrated, IsRowChanged, IsRowUpdated, IsUpdated};
+ghost use Rattle.kadm_run.specs.Changing.{AreChanged};
+ghost use Rattle.kadm_run.specs.Updates.{IsMigrated, IsRowChanged, IsRowGiven, IsRowUpdated, IsUpdated};
+ghost use Rattle.kadm_run.specs.Words.{texts};
 ghost use Rattle.kadm_run.specs.Worlds.{Rewritten, Updated};
 
-use crate::changes::{change, migrate_rows};
+use crate::changes::{change_all, check_names, migrate_rows, set_all};
 use crate::databases::{lock_database, read_database, write_database};
 use crate::denying::is_user;
 use crate::granting::{give_password, give_random};
 use crate::importing::import;
-use crate::order::{Grant, Order, RowUpdate, Update};
+use crate::order::{ChangeArgs, Grant, Order, RowOrder, RowUpdate, Update};
 use crate::passwords::{batch_password, new_password};
 use crate::stop::{Stop, Subject, begin_line};
 use enctypes::Etype;
@@ -31,7 +33,8 @@ pub(crate) fn update<'p, T: Store, E: Write>(
     ensures kept { OnErr result (T.world store.new ≡ T.world store.old) }
 {
     match update {
-        Update::Row { name, how } => update_row(alloc, order, store, errors, name, &how),
+        Update::Row(to) => update_row(alloc, order, store, errors, &to),
+        Update::Changes { words, how } => update_rows(alloc, order, store, errors, words, how),
         Update::Migrate {
             users_are_no_services,
         } => migrate(alloc, order, store, errors, users_are_no_services),
@@ -44,26 +47,45 @@ fn update_row<'p, T: Store, E: Write>(
     order: &Order<'p>,
     store: &mut T,
     errors: &mut E,
-    name: &str,
-    how: &RowUpdate<'p>,
+    to: &RowOrder<'p>,
 ) -> Result<(), Stop<'p>>
     ensures done { OnOk result (Rewritten (T.world store.old) order.now.db.now
-        (IsRowUpdated (T.world store.old) order.now.etypes.items name.now how.now) (T.world store.new)) }
+        (IsRowUpdated (T.world store.old) order.now.etypes.items to.now) (T.world store.new)) }
     ensures kept { OnErr result (T.world store.new ≡ T.world store.old) }
 {
-    let who = Name::from_text(alloc, name)?;
-    let pass = new_password(alloc, order, store, errors, name, how)?;
+    let who = Name::from_text(alloc, to.name)?;
+    let pass = new_password(alloc, order, store, errors, to.name, &to.how)?;
     let locked = lock_database(alloc, order.db, store, errors)?;
     let mut database = read_database(alloc, store, errors, order.db)?;
     let expires = password_expires(&database, &who);
-    change_row(alloc, store, &mut database, &order.etypes, &who, how, &pass)?;
+    change_row(alloc, store, &mut database, &order.etypes, &who, to, &pass)?;
     write_database(alloc, store, &locked, &database, order.keep_mode)?;
     let subject = Subject {
         words: &[],
         line: None,
     };
-    report_change(errors, &subject, name, how, &database, &who, expires);
+    report_change(errors, &subject, to, &database, &who, expires);
     Ok(())
+}
+
+/// Changes each principal that the words of the command line name, without new keys.
+fn update_rows<'p, T: Store, E: Write>(
+    alloc: Global,
+    order: &Order<'p>,
+    store: &mut T,
+    errors: &mut E,
+    words: &'p [&'p str],
+    how: ChangeArgs,
+) -> Result<(), Stop<'p>>
+    ensures done { OnOk result (Rewritten (T.world store.old) order.now.db.now
+        (AreChanged (T.world store.old) (texts words.entry.now) how) (T.world store.new)) }
+    ensures kept { OnErr result (T.world store.new ≡ T.world store.old) }
+{
+    check_names(alloc, words)?;
+    let locked = lock_database(alloc, order.db, store, errors)?;
+    let mut database = read_database(alloc, store, errors, order.db)?;
+    change_all(alloc, store, &mut database, words, how)?;
+    write_database(alloc, store, &locked, &database, order.keep_mode)
 }
 
 /// Writes the database in the current version of the format.
@@ -98,9 +120,8 @@ pub(crate) fn update_in_batch<'p, T: Store, E: Write>(
     ensures kept { T.world store.new ≡ T.world store.old }
 {
     match update {
-        Update::Row { name, how } => {
-            row_in_batch(alloc, store, database, errors, etypes, name, &how, subject)
-        }
+        Update::Row(to) => row_in_batch(alloc, store, database, errors, etypes, &to, subject),
+        Update::Changes { words, how } => change_all(alloc, store, database, words, how),
         Update::Migrate {
             users_are_no_services,
         } => Ok(migrate_rows(alloc, database, users_are_no_services)?),
@@ -113,23 +134,40 @@ fn row_in_batch<'p, T: Store, E: Write>(
     database: &mut Database,
     errors: &mut E,
     etypes: &[Etype],
-    name: &str,
-    how: &RowUpdate<'p>,
+    to: &RowOrder<'p>,
     subject: &Subject<'_>,
 ) -> Result<(), Stop<'p>>
-    ensures done { OnOk result (IsRowUpdated (T.world store.old) etypes.now name.now how.now database.old database.new) }
+    ensures done { OnOk result (IsRowUpdated (T.world store.old) etypes.now to.now database.old database.new) }
     ensures kept { T.world store.new ≡ T.world store.old }
 {
-    let who = Name::from_text(alloc, name)?;
-    let pass = batch_password(alloc, store, how)?;
+    let who = Name::from_text(alloc, to.name)?;
+    let pass = batch_password(alloc, store, &to.how)?;
     let expires = password_expires(database, &who);
-    change_row(alloc, store, database, etypes, &who, how, &pass)?;
-    report_change(errors, subject, name, how, database, &who, expires);
+    change_row(alloc, store, database, etypes, &who, to, &pass)?;
+    report_change(errors, subject, to, database, &who, expires);
     Ok(())
 }
 
-/// Changes the row of a principal. After an `Err` it may be changed in part.
+/// Gives keys to a principal, and then makes the settings of the command line. After an `Err` it may be changed in part.
 fn change_row<'p, T: Store>(
+    alloc: Global,
+    store: &mut T,
+    database: &mut Database,
+    etypes: &[Etype],
+    who: &Name,
+    to: &RowOrder<'p>,
+    pass: &[u8],
+) -> Result<(), Stop<'p>>
+    ensures changed { OnOk result (IsRowChanged (T.world store.old) etypes.now pass.now to.now who.now.components
+        database.old database.new) }
+    ensures kept { T.world store.new ≡ T.world store.old }
+{
+    give_row(alloc, store, database, etypes, who, &to.how, pass)?;
+    set_all(alloc, store, database, who, to.words)
+}
+
+/// Gives keys to a principal. After an `Err` it may be changed in part.
+fn give_row<'p, T: Store>(
     alloc: Global,
     store: &mut T,
     database: &mut Database,
@@ -138,7 +176,7 @@ fn change_row<'p, T: Store>(
     how: &RowUpdate<'p>,
     pass: &[u8],
 ) -> Result<(), Stop<'p>>
-    ensures changed { OnOk result (IsRowChanged (T.world store.old) etypes.now pass.now how.now who.now.components
+    ensures given { OnOk result (IsRowGiven (T.world store.old) etypes.now pass.now how.now who.now.components
         database.old database.new) }
     ensures kept { T.world store.new ≡ T.world store.old }
 {
@@ -148,7 +186,6 @@ fn change_row<'p, T: Store>(
         }
         RowUpdate::Random(to) => give_random(alloc, store, database, etypes, who, *to),
         RowUpdate::Import { keytab } => import(alloc, store, database, etypes, who, *keytab),
-        RowUpdate::Change(how) => change(alloc, store, database, who, *how),
     }
 }
 
@@ -165,13 +202,13 @@ fn password_expires(database: &Database, who: &Name) -> bool {
 fn report_change<E: Write>(
     errors: &mut E,
     subject: &Subject<'_>,
-    name: &str,
-    how: &RowUpdate<'_>,
+    to: &RowOrder<'_>,
     database: &Database,
     who: &Name,
     expires: bool,
 ) {
-    match how {
+    let name = to.name;
+    match &to.how {
         RowUpdate::Password(_) if expires && !password_expires(database, who) => {
             begin_line(errors, subject);
             let _ = writeln!(errors, "{name}: password_expires was past; it is now never");

@@ -10,52 +10,50 @@ use clap::error::{Error, ErrorKind};
 use std::alloc::AllocError;
 use std::io::Write;
 
-/// Prints the help that the command line asks for, or what is wrong with it. That is an `Err`.
-pub(crate) fn print_help<'a, W: Write>(
+/// Prints the help that the command line asks for to `out`, or what is wrong with it to `errors`. That is an `Err`.
+pub(crate) fn print_help<'a, W: Write, E: Write>(
     out: &mut W,
+    errors: &mut E,
     words: &[&str],
     error: &Error,
 ) -> Result<(), Stop<'a>>
     ensures { OnOk result (asks_help (texts words.now) ≡ true) }
 {
-    print_fault(out, error)?;
     if error.exit_code() == 0 && asks_help(words) {
-        Ok(())
-    } else {
-        Err(Stop::Usage)
+        write!(out, "{error}")?;
+        return Ok(());
     }
+    Err(report_fault(errors, error))
 }
 
-/// Prints what the parser says of a command line.
-pub(crate) fn print_fault<W: Write>(out: &mut W, error: &Error) -> Result<(), Stop<'static>> {
+/// Reports what the parser says of a command line. Returns how it ends. Ignores a failed write.
+pub(crate) fn report_fault<E: Write>(errors: &mut E, error: &Error) -> Stop<'static> {
     if error.kind() == ErrorKind::OutOfMemory {
-        return Err(Stop::from(AllocError));
+        return Stop::from(AllocError);
     }
-    write!(out, "{error}")?;
-    Ok(())
+    let _ = write!(errors, "{error}");
+    Stop::Usage
 }
 
-/// Prints what is wrong with the options of a subcommand.
-pub(crate) fn print_order_fault<'a, W: Write>(
-    out: &mut W,
-    fault: OrderFault<'a>,
-) -> Result<(), Stop<'a>> {
-    match fault {
-        OrderFault::BadValue(fault) => writeln!(out, "error: {fault}")?,
-        OrderFault::NoField(field) => {
-            writeln!(
-                out,
-                "error: --field: a policy has no field {field}; 'kadm policy --help' lists the fields"
-            )?;
-        }
-        OrderFault::NoSetting { field, value } => {
-            let accepted = accepted_by(field).unwrap_or("another value");
-            writeln!(
-                out,
-                "error: --value: {field} takes {accepted}, not '{value}'"
-            )?;
-        }
-        OrderFault::Memory => return Err(Stop::from(AllocError)),
-    }
-    Ok(())
+/// Reports what is wrong with the options of a subcommand. Returns how it ends. Ignores a failed write.
+pub(crate) fn report_order_fault<E: Write>(errors: &mut E, fault: OrderFault<'_>) -> Stop<'static> {
+    let _ = match fault {
+        OrderFault::BadValue(fault) => writeln!(errors, "error: {fault}"),
+        OrderFault::NoField(setting) => writeln!(
+            errors,
+            "error: {}: a policy has no field {}; 'kadm policy --help' lists the fields",
+            setting.form.field_option(),
+            setting.field
+        ),
+        OrderFault::NoSetting(setting) => writeln!(
+            errors,
+            "error: {}: {} takes {}, not '{}'",
+            setting.form.value_option(),
+            setting.field,
+            accepted_by(setting.field).unwrap_or("another value"),
+            setting.value
+        ),
+        OrderFault::Memory => return Stop::from(AllocError),
+    };
+    Stop::Usage
 }

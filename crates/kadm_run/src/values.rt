@@ -1,32 +1,9 @@
 //! The values of a policy's fields, as an administrator writes them.
-ghost use Rattle.std.specs.Prelude.{◌≡◌, ◌≤ℤ◌, ◌<ℤ◌, ◌++◌, IfSome, IsFalse, IsTrue, pos};
-ghost use Rattle.kadm_run.specs.Spans.{IsSpanText, unit_mark, unit_seconds};
+ghost use Rattle.std.specs.Prelude.{◌≡◌, ◌≤ℤ◌, ◌<ℤ◌, IfSome, IsFalse, IsTrue, pos};
 ghost use Rattle.kadm_run.specs.Granting.{IsFixedValue, IsLifeOf, IsTimeFrom};
 
 use krb_fields::Second;
-use text_fields::{Setting, number_u32};
-
-/// A unit of a time span.
-#[derive(Clone, Copy)]
-enum Unit {
-    Second,
-    Minute,
-    Hour,
-    Day,
-}
-
-impl Unit {
-    fn seconds(self) -> u32
-        ensures { result ≡ unit_seconds self }
-    {
-        match self {
-            Unit::Second => 1,
-            Unit::Minute => 60,
-            Unit::Hour => 3_600,
-            Unit::Day => 86_400,
-        }
-    }
-}
+use text_fields::{Setting, span};
 
 const FLAGS: &str = "true or false";
 
@@ -104,30 +81,5 @@ pub(crate) fn is_past(expires: Second, now: u64) -> bool
     match u64::try_from(expires.get()) {
         Ok(expires) => expires <= now,
         Err(_) => true,
-    }
-}
-
-/// Reads a time span, in seconds: a decimal number followed by its unit, which is `s`, `m`, `h` or `d`.
-pub(crate) fn span(text: &str) -> Option<u32>
-    ensures { IfSome result (λ seconds. IsSpanText seconds text.now) }
-{
-    let (digits, unit) = split_unit(text)?;
-    number_u32(digits)?.checked_mul(unit.seconds())
-}
-
-/// Splits the unit off.
-fn split_unit(text: &str) -> Option<(&str, Unit)>
-    ensures { IfSome result (λ found. text.now ≡ found.0.now ++ unit_mark found.1) }
-{
-    if let Some(digits) = text.strip_suffix("s") {
-        Some((digits, Unit::Second))
-    } else if let Some(digits) = text.strip_suffix("m") {
-        Some((digits, Unit::Minute))
-    } else if let Some(digits) = text.strip_suffix("h") {
-        Some((digits, Unit::Hour))
-    } else if let Some(digits) = text.strip_suffix("d") {
-        Some((digits, Unit::Day))
-    } else {
-        None
     }
 }

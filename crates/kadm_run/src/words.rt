@@ -1,25 +1,78 @@
 //! The words of a command line, and the values of its options.
-ghost use Rattle.std.specs.Prelude.{◌≡◌, ◌++◌, IfOk, OnOk, map, option_map, string_bytes};
-ghost use Rattle.kadm_run.specs.Words.{asks_help, command_of, has_flag, in_batch, texts, value_at, value_of};
+ghost use Rattle.std.specs.Prelude.{◌≡◌, ◌++◌, [], IfOk, OnOk, bytes_eq, codes, is_some, map, option_map, string_bytes};
+ghost use Rattle.std.specs.Prelude.{unwrap_or};
+ghost use Rattle.kadm_run.specs.Words.{asks_help, behind_command, command_of, has_flag, in_batch, lacks_db, path_of};
+ghost use Rattle.kadm_run.specs.Words.{texts, value_at, value_of, with_db};
 
 use std::alloc::{AllocError, Global};
-use std::convert::AsStr;
 
 /// The option that names the database.
 pub(crate) const DB: &str = "--db";
 
+/// The word that asks for the help of the command after it.
+const HELP: &str = "help";
+
 /// Returns the words as texts.
-pub(crate) fn words_of<'a, S: AsStr>(
-    alloc: Global,
-    args: &'a [S],
-) -> Result<Vec<&'a str>, AllocError>
-    ensures { IfOk result (λ words. texts words.items ≡ map S.text args.now) }
+pub(crate) fn words_of(alloc: Global, args: &[String]) -> Result<Vec<&str>, AllocError>
+    ensures { IfOk result (λ words. texts words.items ≡ map string_bytes args.now) }
 {
     let mut words = Vec::new(alloc);
-    for arg in args {
-        words.push(arg.as_str())?;
-    }
+    push_all(&mut words, args)?;
     Ok(words)
+}
+
+/// Returns the words with this database after the command, if they name none.
+pub(crate) fn with_db<'a>(
+    alloc: Global,
+    words: Vec<&'a str>,
+    db: Option<&'a str>,
+) -> Result<Vec<&'a str>, AllocError>
+    ensures { IfOk result (λ all. texts all.items ≡ with_db (path_of db.entry) (texts words.entry.items)) }
+{
+    let Some(db) = db else {
+        return Ok(words);
+    };
+    if !lacks_db(&words) {
+        return Ok(words);
+    }
+    behind_command(alloc, db, &words)
+}
+
+/// Checks whether the words name no database, and don't begin with `help`, which takes none.
+fn lacks_db(words: &[&str]) -> bool
+    ensures { result ≡ lacks_db (texts words.now) }
+{
+    !is_given(words, DB) && !begins_help(words)
+}
+
+fn begins_help(words: &[&str]) -> bool
+    ensures { result ≡ bytes_eq (unwrap_or (command_of (texts words.now)) []) (codes "help") }
+{
+    match command_of(words) {
+        Some(command) => command == HELP,
+        None => false,
+    }
+}
+
+/// Returns the words with a database after the command.
+fn behind_command<'a>(
+    alloc: Global,
+    db: &'a str,
+    words: &[&'a str],
+) -> Result<Vec<&'a str>, AllocError>
+    ensures { IfOk result (λ all. texts all.items ≡ behind_command db.now (texts words.now)) }
+{
+    let mut all = Vec::new(alloc);
+    let [program, command, others @ ..] = words else {
+        all.extend_from_slice(words)?;
+        return Ok(all);
+    };
+    all.push(*program)?;
+    all.push(*command)?;
+    all.push(DB)?;
+    all.push(db)?;
+    all.extend_from_slice(others)?;
+    Ok(all)
 }
 
 /// Returns a line of a batch as the words of a command line with the batch's database.
@@ -72,8 +125,18 @@ pub(crate) fn value_of<'a>(words: &[&'a str], option: &str) -> Option<&'a str>
     None
 }
 
+/// Checks whether an option is given.
+pub(crate) fn is_given(words: &[&str], option: &str) -> bool
+    ensures { result ≡ is_some (value_of (texts words.now) option.now) }
+{
+    match value_of(words, option) {
+        Some(_) => true,
+        None => false,
+    }
+}
+
 /// Returns the value that an option has at a word, if it is this option.
-fn value_at<'a>(option: &str, word: &'a str, others: &[&'a str]) -> Option<&'a str>
+pub(crate) fn value_at<'a>(option: &str, word: &'a str, others: &[&'a str]) -> Option<&'a str>
     ensures { option_map (λ value. value.now) result ≡ value_at option.now word.now (texts others.now) }
 {
     if word == option {

@@ -39,13 +39,14 @@ impl From<AllocError> for Fault {
     }
 }
 
-/// What a command is given: the moment, its words, and two variables of the environment.
+/// What a command is given: the moment, its words, and three variables of the environment.
 #[derive(Drop)]
 struct Given {
     at: Moment,
     args: Vec<String>,
     cache: Result<String, VarError>,
     config: Result<String, VarError>,
+    user: Result<String, VarError>,
 }
 
 impl Given {
@@ -55,6 +56,7 @@ impl Given {
             args: env::args(rt).map_err(Fault::Args)?.collect(rt.alloc())?,
             cache: env::var(rt, "KRB5CCNAME"),
             config: env::var(rt, "KRB5_CONFIG"),
+            user: env::var(rt, "LOGNAME"),
         })
     }
 
@@ -62,6 +64,7 @@ impl Given {
         Ok(Defaults {
             cache: Variable::new(&self.cache)?,
             config: Variable::new(&self.config)?,
+            user: Variable::new(&self.user)?,
         })
     }
 }

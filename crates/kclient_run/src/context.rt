@@ -1,4 +1,6 @@
 //! The context of a command.
+ghost use Rattle.std.specs.Prelude.{◌≡◌};
+
 use client_files::{Fault, unknown_hosts};
 use client_login::{KdcClient, LoginFault};
 use std::alloc::{AllocError, Global};
@@ -14,6 +16,7 @@ pub struct Context<T, X> {
 }
 
 impl<T, X> Context<T, X> {
+    /// Returns a context that has noted nothing.
     pub fn new(alloc: Global, store: T, client: KdcClient<X>) -> Context<T, X> {
         Context {
             alloc,
@@ -24,7 +27,9 @@ impl<T, X> Context<T, X> {
     }
 
     /// Begins a command: forgets what the one before noted.
-    pub(crate) fn begin(&mut self) {
+    pub(crate) fn begin(&mut self)
+        ensures store { self.new.store ≡ self.old.store }
+    {
         self.notes.clear();
     }
 
@@ -33,7 +38,9 @@ impl<T, X> Context<T, X> {
     }
 
     /// Notes each of these lines, unless that was done before.
-    pub(crate) fn note_lines(&mut self, lines: &str) -> Result<(), AllocError> {
+    pub(crate) fn note_lines(&mut self, lines: &str) -> Result<(), AllocError>
+        ensures store { self.new.store ≡ self.old.store }
+    {
         for line in lines.lines() {
             if !self.notes.contains(line) {
                 writeln!(self.notes, "kclient: {line}")?;
@@ -43,7 +50,9 @@ impl<T, X> Context<T, X> {
     }
 
     /// Notes hosts that were not asked because their addresses are unknown.
-    pub(crate) fn note_unknown(&mut self) -> Result<(), AllocError> {
+    pub(crate) fn note_unknown(&mut self) -> Result<(), AllocError>
+        ensures store { self.new.store ≡ self.old.store }
+    {
         let hosts = unknown_hosts(self.alloc, &self.client.kdcs.places)?;
         if hosts.is_empty() {
             return Ok(());
@@ -55,14 +64,18 @@ impl<T, X> Context<T, X> {
     }
 
     /// Notes which of several names ended the command.
-    pub(crate) fn note_name(&mut self, name: &str) -> Result<(), AllocError> {
+    pub(crate) fn note_name(&mut self, name: &str) -> Result<(), AllocError>
+        ensures store { self.new.store ≡ self.old.store }
+    {
         let word = if name.is_empty() { NO_WORD } else { name };
         writeln!(self.notes, "kclient: {word}: this name ended the command")
     }
 
     /// Takes the time of a KDC that refuses because the clocks differ, once. Otherwise the fault ends the command;
     /// `source` is the file with the keys of the request.
-    pub(crate) fn take_clock(&mut self, source: &str, fault: LoginFault) -> Result<(), Fault> {
+    pub(crate) fn take_clock(&mut self, source: &str, fault: LoginFault) -> Result<(), Fault>
+        ensures store { self.new.store ≡ self.old.store }
+    {
         if let Some(ahead) = self.client.take_clock(fault) {
             return Ok(note_clock(&mut self.notes, ahead)?);
         }

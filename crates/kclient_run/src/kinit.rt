@@ -1,4 +1,10 @@
 //! `kinit`: gets a first ticket, and makes a cache from it.
+ghost use Rattle.std.specs.Prelude.{◌≡◌, IfOk, OnErr, OnOk, option_map};
+ghost use Rattle.cred_files.specs.Cache.{cache_text};
+ghost use Rattle.client_files.specs.Caches.{new_cache};
+ghost use Rattle.file_store.specs.World.{with_file};
+ghost use Rattle.kclient_run.specs.Worlds.{CameFirst, Made};
+
 use crate::context::Context;
 use crate::places::{cache_path, configured_request, find_realm, use_given_kdcs, use_kdcs_of};
 use crate::run::Printed;
@@ -8,7 +14,8 @@ use crate::words::{
 };
 use clap::ArgMatches;
 use client_files::{
-    Cause, ClientStore, Defaults, Fault, at_file, read_cache, read_keytab, write_new_cache,
+    Cause, ClientStore, Defaults, Fault, Variable, at_file, read_cache, read_keytab,
+    write_new_cache,
 };
 use client_login::{AnyMessage, Login, Password, Secret, TicketRequest, granting_service};
 use cred_files::{Credential, Principal};
@@ -28,12 +35,17 @@ struct First {
     rng: ChaCha20Rng,
 }
 
-/// Gets a first ticket, and writes a cache with it.
+/// Gets a first ticket, and writes a cache with it. After an `Err` no file is changed.
+#[tactic(auto, using(crate::proofs::Doing::made))]
 pub(crate) fn get_first<T: ClientStore, X: AnyMessage>(
     context: &mut Context<T, X>,
     options: &ArgMatches<'_>,
     defaults: &Defaults<'_>,
-) -> Result<Printed, Fault> {
+) -> Result<Printed, Fault>
+    ensures made { OnOk result (
+        Made (CameFirst X.finds X.carries X.answers) (T.world context.old.store) (T.world context.new.store)) }
+    ensures kept { OnErr result (T.world context.new.store ≡ T.world context.old.store) }
+{
     let words = first_words(options)?;
     let mut first = prepare(context, options, defaults, &words)?;
     let credential = log_in(context, words.secret.source(), &mut first)?;
@@ -41,11 +53,15 @@ pub(crate) fn get_first<T: ClientStore, X: AnyMessage>(
 }
 
 /// Logs in, once more if the KDC's time is taken.
+#[tactic(auto, using(crate::proofs::Doing::came_first))]
 fn log_in<T, X: AnyMessage>(
     context: &mut Context<T, X>,
     source: &str,
     first: &mut First,
-) -> Result<Credential, Fault> {
+) -> Result<Credential, Fault>
+    ensures came { IfOk result (λ ticket. CameFirst X.finds X.carries X.answers ticket) }
+    ensures store { context.new.store ≡ context.old.store }
+{
     let alloc = context.alloc;
     let client = &mut context.client;
     match client.log_in(alloc, &mut first.rng, &first.login, &first.secret) {
@@ -64,7 +80,9 @@ fn prepare<T: ClientStore, X>(
     options: &ArgMatches<'_>,
     defaults: &Defaults<'_>,
     words: &FirstWords<'_>,
-) -> Result<First, Fault> {
+) -> Result<First, Fault>
+    ensures kept { T.world context.new.store ≡ T.world context.old.store }
+{
     let path = cache_path(context.alloc, &mut context.store, options, defaults)?;
     use_given_kdcs(context.alloc, &mut context.client.kdcs, options)?;
     let login = read_login(context, defaults, words, path.as_str())?;
@@ -83,7 +101,11 @@ pub(crate) fn write_new<T: ClientStore, X>(
     context: &mut Context<T, X>,
     path: &str,
     credential: &Credential,
-) -> Result<Printed, Fault> {
+) -> Result<Printed, Fault>
+    ensures written { OnOk result (T.world context.new.store
+        ≡ option_map (with_file path.now (cache_text (new_cache credential.now))) (T.world context.old.store)) }
+    ensures kept { OnErr result (T.world context.new.store ≡ T.world context.old.store) }
+{
     let printed = Printed::ok(context.alloc)?;
     write_new_cache(context.alloc, &mut context.store, path, credential)?;
     Ok(printed)
@@ -94,7 +116,9 @@ pub(crate) fn generator<T: ClientStore>(
     alloc: Global,
     store: &mut T,
     options: &ArgMatches<'_>,
-) -> Result<ChaCha20Rng, Fault> {
+) -> Result<ChaCha20Rng, Fault>
+    ensures kept { T.world store.new ≡ T.world store.old }
+{
     let seed = read_or_draw_seed(alloc, store, options.get_str("seed"));
     Ok(ChaCha20Rng::from_seed(at_file(alloc, seed)?))
 }
@@ -105,7 +129,9 @@ fn read_login<T: ClientStore, X>(
     defaults: &Defaults<'_>,
     words: &FirstWords<'_>,
     path: &str,
-) -> Result<Login, Fault> {
+) -> Result<Login, Fault>
+    ensures kept { T.world context.new.store ≡ T.world context.old.store }
+{
     let alloc = context.alloc;
     let given = given_client(alloc, words.client)?;
     let service = given_service(alloc, words.service)?;
@@ -120,20 +146,39 @@ fn read_login<T: ClientStore, X>(
     login_of(alloc, client, service, request)
 }
 
-/// Returns the client of the cache, and sets the KDCs to those of its realm.
+/// Returns the client of the cache, and sets the KDCs to those of its realm. Without a cache it is the user's own name.
 fn cached_client<T: ClientStore, X>(
     context: &mut Context<T, X>,
     defaults: &Defaults<'_>,
     path: &str,
-) -> Result<Principal, Fault> {
+) -> Result<Principal, Fault>
+    ensures kept { T.world context.new.store ≡ T.world context.old.store }
+{
     let cache = match read_cache(context.alloc, &mut context.store, path) {
         Ok(cache) => cache,
-        Err(fault) if matches!(fault.cause, Cause::NoCache) => return Err(Fault::usage(NO_NAME)),
+        Err(fault) if matches!(fault.cause, Cause::NoCache) => {
+            return own_client(context, defaults);
+        }
         Err(fault) => return Err(fault),
     };
     let client = cache.principal().copy(context.alloc)?;
     use_kdcs_of(context, defaults, client.realm.as_slice())?;
     Ok(client)
+}
+
+/// Returns the client with the user's own name, in the default realm.
+fn own_client<T: ClientStore, X>(
+    context: &mut Context<T, X>,
+    defaults: &Defaults<'_>,
+) -> Result<Principal, Fault>
+    ensures kept { T.world context.new.store ≡ T.world context.old.store }
+{
+    let Variable::Text(user) = defaults.user else {
+        return Err(Fault::usage(NO_NAME));
+    };
+    let name = read_name(context.alloc, "LOGNAME", user, user)?;
+    let realm = find_realm(context, defaults, None)?;
+    Ok(Principal { realm, name })
 }
 
 /// A client that words name.
@@ -195,7 +240,9 @@ fn read_secret<T: ClientStore>(
     store: &mut T,
     words: &FirstWords<'_>,
     client: &Principal,
-) -> Result<Secret, Fault> {
+) -> Result<Secret, Fault>
+    ensures kept { T.world store.new ≡ T.world store.old }
+{
     let pass = match words.secret {
         SecretWords::Keytab(path) => return Ok(Secret::Keytab(read_keytab(alloc, store, path)?)),
         SecretWords::PasswordFile(path) => at_file(alloc, read_password(alloc, store, path))?,

@@ -1,4 +1,7 @@
 //! `klist`: lists a credential cache or a keytab. `kdestroy`: removes a cache.
+ghost use Rattle.std.specs.Prelude.{◌≡◌, OnErr, OnOk};
+ghost use Rattle.kclient_run.specs.Worlds.{Removed};
+
 use crate::context::Context;
 use crate::listing::{lines_of_cache, lines_of_keytab};
 use crate::places::cache_path;
@@ -16,12 +19,14 @@ const SILENT_KEYTAB: &str = "-s and --keytab don't go together";
 
 const TWO_FILES: &str = "--cache and --keytab don't go together";
 
-/// Lists a keytab, or else a cache. It prints no line before all are known.
+/// Lists a keytab, or else a cache. It prints no line before all are known, and changes no file.
 pub(crate) fn list<T: ClientStore, X>(
     context: &mut Context<T, X>,
     options: &ArgMatches<'_>,
     defaults: &Defaults<'_>,
-) -> Result<Printed, Fault> {
+) -> Result<Printed, Fault>
+    ensures kept { T.world context.new.store ≡ T.world context.old.store }
+{
     let alloc = context.alloc;
     if let Some(path) = keytab_path(options)? {
         check_alone(options)?;
@@ -55,7 +60,9 @@ fn has_good_ticket<T: ClientStore>(
     store: &mut T,
     path: &str,
     at: Moment,
-) -> Result<bool, Fault> {
+) -> Result<bool, Fault>
+    ensures kept { T.world store.new ≡ T.world store.old }
+{
     let cache = read_cache(alloc, store, path)?;
     let service = granting_service(alloc, &cache.principal().realm)?;
     Ok(good_credential(&cache, &service, at).is_some())
@@ -71,13 +78,18 @@ fn status_of(found: &Result<bool, Fault>) -> Status {
     }
 }
 
-/// Removes a cache.
+/// Removes a cache. After an `Err` no file is changed.
+#[tactic(auto, using(crate::proofs::Doing::removed))]
 pub(crate) fn destroy<T: ClientStore, X>(
     context: &mut Context<T, X>,
     options: &ArgMatches<'_>,
     defaults: &Defaults<'_>,
-) -> Result<Printed, Fault> {
+) -> Result<Printed, Fault>
+    ensures removed { OnOk result (Removed (T.world context.old.store) (T.world context.new.store)) }
+    ensures kept { OnErr result (T.world context.new.store ≡ T.world context.old.store) }
+{
     let path = cache_path(context.alloc, &mut context.store, options, defaults)?;
+    let printed = Printed::ok(context.alloc)?;
     remove_cache(context.alloc, &mut context.store, path.as_str())?;
-    Ok(Printed::ok(context.alloc)?)
+    Ok(printed)
 }

@@ -1,6 +1,12 @@
 //! `kvno`: gets tickets for services, one after another.
-ghost use Rattle.std.specs.Prelude.{IfOk, IfSome};
+ghost use Rattle.std.specs.Prelude.{◌≡◌, ◌⊎◌, IfOk, IfSome, OnErr, OnOk, option_map};
+ghost use Rattle.std.specs.String.{string_bytes};
+ghost use Rattle.cred_files.specs.Cache.{cache_text, put_first};
+ghost use Rattle.client_files.specs.Caches.{HasCache};
 ghost use Rattle.client_login.specs.Verifying.{IsTicketOf};
+ghost use Rattle.file_store.specs.World.{with_file};
+ghost use Rattle.kclient_run.specs.Wallets.{Collected};
+ghost use Rattle.kclient_run.specs.Worlds.{Added, CameFurther, Filled};
 
 use crate::context::Context;
 use crate::kinit::generator;
@@ -42,11 +48,15 @@ struct Wallet {
 
 /// Gets a ticket for each service, unless the cache has one that can be used, and puts it into the cache. It prints the
 /// key versions of the tickets, in the order of the names. A name that ends the command keeps the tickets before it.
+#[tactic(auto, using(crate::proofs::Doing::filled, crate::proofs::Doing::unfilled))]
 pub(crate) fn get_tickets<T: ClientStore, X: AnyMessage>(
     context: &mut Context<T, X>,
     options: &ArgMatches<'_>,
     defaults: &Defaults<'_>,
-) -> Result<Printed, Fault> {
+) -> Result<Printed, Fault>
+    ensures world { (T.world context.new.store ≡ T.world context.old.store)
+        ⊎ Filled (CameFurther X.finds X.carries X.answers) (T.world context.old.store) (T.world context.new.store) }
+{
     let names = service_words(context.alloc, options)?;
     let keytab = keytab_path(options)?;
     let path = cache_path(context.alloc, &mut context.store, options, defaults)?;
@@ -54,21 +64,40 @@ pub(crate) fn get_tickets<T: ClientStore, X: AnyMessage>(
     let services = read_services(context, &names)?;
     let mut wallet = read_wallet(context, options, path, keytab)?;
     check_realms(context, &services, &wallet.cache)?;
-    let lines = get_each(context, defaults, &mut wallet, &services);
-    let written = write_changed(context.alloc, &mut context.store, &wallet);
+    Ok(Printed::done(fill(context, defaults, &mut wallet, &services)?))
+}
+
+/// Gets a ticket for each service, until one fails, and writes the cache with those that came. Returns a line for each.
+#[tactic(auto, using(crate::proofs::Doing::added))]
+fn fill<T: ClientStore, X: AnyMessage>(
+    context: &mut Context<T, X>,
+    defaults: &Defaults<'_>,
+    wallet: &mut Wallet,
+    services: &[Service],
+) -> Result<String, Fault>
+    ensures world { (T.world context.new.store ≡ T.world context.old.store)
+        ⊎ Added (CameFurther X.finds X.carries X.answers) (string_bytes wallet.old.path) wallet.old.cache
+        (T.world context.old.store) (T.world context.new.store) }
+{
+    let lines = get_each(context, defaults, wallet, services);
+    let written = write_changed(context.alloc, &mut context.store, wallet);
     // Why the command ends is what counts, not whether the tickets before can be written.
     let lines = lines?;
     written?;
-    Ok(Printed::done(lines))
+    Ok(lines)
 }
 
 /// Gets a ticket for each service, until one fails. Returns a line for each.
+#[tactic(auto, using(crate::proofs::Doing::collected_none, crate::proofs::Doing::collected_more))]
 fn get_each<T: ClientStore, X: AnyMessage>(
     context: &mut Context<T, X>,
     defaults: &Defaults<'_>,
     wallet: &mut Wallet,
     services: &[Service],
-) -> Result<String, Fault> {
+) -> Result<String, Fault>
+    ensures collected { Collected (CameFurther X.finds X.carries X.answers) wallet.old wallet.new }
+    ensures kept { T.world context.new.store ≡ T.world context.old.store }
+{
     let mut lines = String::new(context.alloc);
     for service in services {
         match get_ticket(context, defaults, wallet, &service.name) {
@@ -89,7 +118,11 @@ fn read_wallet<T: ClientStore, X>(
     options: &ArgMatches<'_>,
     path: String,
     keytab: Option<&str>,
-) -> Result<Wallet, Fault> {
+) -> Result<Wallet, Fault>
+    ensures held { IfOk result (λ wallet.
+        HasCache (T.world context.old.store) (string_bytes wallet.path) wallet.cache) }
+    ensures kept { T.world context.new.store ≡ T.world context.old.store }
+{
     let cache = read_cache(context.alloc, &mut context.store, path.as_str())?;
     let checks = read_checks(context.alloc, &mut context.store, keytab)?;
     let rng = generator(context.alloc, &mut context.store, options)?;
@@ -103,11 +136,11 @@ fn read_wallet<T: ClientStore, X>(
     })
 }
 
-fn write_changed<T: ClientStore>(
-    alloc: Global,
-    store: &mut T,
-    wallet: &Wallet,
-) -> Result<(), Fault> {
+#[tactic(auto, using(crate::proofs::Doing::written_or_kept))]
+fn write_changed<T: ClientStore>(alloc: Global, store: &mut T, wallet: &Wallet) -> Result<(), Fault>
+    ensures world { (T.world store.new ≡ T.world store.old) ⊎ (T.world store.new
+        ≡ option_map (with_file (string_bytes wallet.now.path) (cache_text wallet.now.cache)) (T.world store.old)) }
+{
     if !wallet.is_changed {
         return Ok(());
     }
@@ -133,7 +166,9 @@ fn service_words<'a>(alloc: Global, options: &ArgMatches<'a>) -> Result<Vec<&'a 
     Ok(names)
 }
 
-fn read_services<T, X>(context: &mut Context<T, X>, names: &[&str]) -> Result<Vec<Service>, Fault> {
+fn read_services<T, X>(context: &mut Context<T, X>, names: &[&str]) -> Result<Vec<Service>, Fault>
+    ensures store { context.new.store ≡ context.old.store }
+{
     let mut services = Vec::new(context.alloc);
     for name in names {
         match read_service(context.alloc, name) {
@@ -164,7 +199,9 @@ fn check_realms<T, X>(
     context: &mut Context<T, X>,
     services: &[Service],
     cache: &Cache,
-) -> Result<(), Fault> {
+) -> Result<(), Fault>
+    ensures store { context.new.store ≡ context.old.store }
+{
     for service in services {
         let word = service.word.as_str();
         if let Err(fault) = at(context.alloc, word, check_realm(service, cache)) {
@@ -184,7 +221,9 @@ fn check_realm(service: &Service, cache: &Cache) -> Result<(), Cause> {
 }
 
 /// Notes the name that ends the command, if there are several.
-fn at_name<T, X>(context: &mut Context<T, X>, count: usize, name: &str, fault: Fault) -> Fault {
+fn at_name<T, X>(context: &mut Context<T, X>, count: usize, name: &str, fault: Fault) -> Fault
+    ensures store { context.new.store ≡ context.old.store }
+{
     if count > 1
         && let Err(error) = context.note_name(name)
     {
@@ -197,7 +236,9 @@ fn read_checks<T: ClientStore>(
     alloc: Global,
     store: &mut T,
     path: Option<&str>,
-) -> Result<Option<Checks>, Fault> {
+) -> Result<Option<Checks>, Fault>
+    ensures kept { T.world store.new ≡ T.world store.old }
+{
     match path {
         Some(path) => Ok(Some(Checks {
             path: String::from_str(alloc, path)?,
@@ -224,12 +265,16 @@ const OPENED: &str = ", keytab entry valid";
 
 /// Returns the key version of the service's ticket: of the cache's own, if it need not be requested again, or of a new
 /// one. Only a request needs KDCs.
+#[tactic(auto, using(crate::proofs::Doing::collected_none, crate::proofs::Doing::collected_one))]
 fn get_ticket<T: ClientStore, X: AnyMessage>(
     context: &mut Context<T, X>,
     defaults: &Defaults<'_>,
     wallet: &mut Wallet,
     service: &Name,
-) -> Result<i64, Fault> {
+) -> Result<i64, Fault>
+    ensures collected { Collected (CameFurther X.finds X.carries X.answers) wallet.old wallet.new }
+    ensures kept { T.world context.new.store ≡ T.world context.old.store }
+{
     let alloc = context.alloc;
     if let Some(version) = held_version(alloc, wallet, service, context.client.at)? {
         return Ok(version);
@@ -242,13 +287,17 @@ fn get_ticket<T: ClientStore, X: AnyMessage>(
 }
 
 /// Returns a new ticket for a service. It is requested once more if the KDC's time is taken.
+#[tactic(auto, using(crate::proofs::Doing::came_further))]
 fn requested<T, X: AnyMessage>(
     context: &mut Context<T, X>,
     path: &str,
     rng: &mut ChaCha20Rng,
     granting: &Credential,
     service: &Name,
-) -> Result<Credential, Fault> {
+) -> Result<Credential, Fault>
+    ensures came { IfOk result (λ ticket. CameFurther X.finds X.carries X.answers ticket) }
+    ensures store { context.new.store ≡ context.old.store }
+{
     let alloc = context.alloc;
     match context.client.service_ticket(alloc, rng, granting, service) {
         Ok(credential) => return Ok(credential),
@@ -292,10 +341,17 @@ fn unended<'c>(
 }
 
 /// Puts a credential into the cache, and returns its key version.
-fn keep(alloc: Global, wallet: &mut Wallet, credential: &Credential) -> Result<i64, Fault> {
+fn keep(alloc: Global, wallet: &mut Wallet, credential: &Credential) -> Result<i64, Fault>
+    ensures put { OnOk result (wallet.new.cache
+        ≡ record wallet.old.cache { credentials = put_first credential.now wallet.old.cache.credentials }) }
+    ensures kept { OnErr result (wallet.new.cache ≡ wallet.old.cache) }
+    ensures path { wallet.new.path ≡ wallet.old.path }
+{
     let version = checked_version(alloc, &wallet.checks, credential)?;
-    let put = put_credential(alloc, &mut wallet.cache, credential);
-    at(alloc, wallet.path.as_str(), put)?;
+    match put_credential(alloc, &mut wallet.cache, credential) {
+        Ok(()) => {}
+        Err(cause) => return Err(Fault::new(alloc, wallet.path.as_str(), cause)),
+    }
     wallet.is_changed = true;
     Ok(version)
 }

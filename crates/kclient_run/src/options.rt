@@ -22,8 +22,8 @@ Without --cache, it uses the file that KRB5CCNAME names, or else /tmp/krb5cc_ an
 --kdc, it takes the default realm, and the realm's KDCs, from the file that KRB5_CONFIG names, or else from
 /etc/krb5.conf.
 
-A password that `kinit` asks for at a terminal shows as you type it. To hide it:
-  stty -echo; kclient kinit alice; stty echo
+A password that `kinit` asks for at a terminal shows as you type it. This hides it, and ends so after Ctrl-C too:
+  (trap 'stty echo' EXIT; trap 'exit 130' INT; stty -echo; kclient kinit alice)
 
 `kinit` and `kdestroy` print `ok`, and `kvno` prints the name and the key version of each service. A command that is
 refused prints `refused` with a reason, or with the error code of the KDC, and its status is 1. If a file, a socket,
@@ -227,7 +227,7 @@ pub(crate) fn read_args<'a, S: AsStr>(
 
 fn kinit<'a>(alloc: Global) -> Result<Command<'a>, AllocError> {
     let client = Arg::new(alloc, "client").value_name("CLIENT").help(
-        "The client's name, also with its realm, such as alice@EXAMPLE.COM; without it, the cache's client",
+        "The client's name, also with its realm, such as alice@EXAMPLE.COM; without it, the cache's client, or else LOGNAME",
     );
     let kinit = with_options(alloc, subcommand(alloc, &KINIT)?, KINIT_OPTIONS)?;
     with_flags(alloc, kinit, KINIT_FLAGS)?.arg(client)

@@ -1,4 +1,6 @@
 //! Where a command works: its cache, and the KDCs of its realm, from its words or else from the environment.
+ghost use Rattle.std.specs.Prelude.{◌≡◌};
+
 use crate::context::Context;
 use crate::words::word_fault;
 use clap::ArgMatches;
@@ -16,7 +18,9 @@ pub(crate) fn cache_path<T: ClientStore>(
     store: &mut T,
     options: &ArgMatches<'_>,
     defaults: &Defaults<'_>,
-) -> Result<String, Fault> {
+) -> Result<String, Fault>
+    ensures kept { T.world store.new ≡ T.world store.old }
+{
     match options.get_str("cache") {
         Some(name) => Ok(String::from_str(alloc, path_in(name, NameOf::Cache)?)?),
         None => defaults.cache_path(alloc, store),
@@ -55,7 +59,9 @@ pub(crate) fn find_realm<T: ClientStore, X>(
     context: &mut Context<T, X>,
     defaults: &Defaults<'_>,
     given: Option<KerberosString>,
-) -> Result<KerberosString, Fault> {
+) -> Result<KerberosString, Fault>
+    ensures kept { T.world context.new.store ≡ T.world context.old.store }
+{
     match given {
         Some(realm) if has_kdcs(context) => Ok(realm),
         given => configure(context, defaults, given),
@@ -66,7 +72,9 @@ fn configure<T: ClientStore, X>(
     context: &mut Context<T, X>,
     defaults: &Defaults<'_>,
     given: Option<KerberosString>,
-) -> Result<KerberosString, Fault> {
+) -> Result<KerberosString, Fault>
+    ensures kept { T.world context.new.store ≡ T.world context.old.store }
+{
     let config = read_config(context, defaults)?;
     let realm = match given {
         Some(realm) => realm,
@@ -81,7 +89,9 @@ fn configure<T: ClientStore, X>(
 fn read_config<T: ClientStore, X>(
     context: &mut Context<T, X>,
     defaults: &Defaults<'_>,
-) -> Result<Config, Fault> {
+) -> Result<Config, Fault>
+    ensures kept { T.world context.new.store ≡ T.world context.old.store }
+{
     let config = Config::read(context.alloc, &mut context.store, defaults)?;
     context.note_lines(config.notes())?;
     Ok(config)
@@ -91,7 +101,9 @@ fn read_config<T: ClientStore, X>(
 pub(crate) fn configured_request<T: ClientStore, X>(
     context: &mut Context<T, X>,
     defaults: &Defaults<'_>,
-) -> Result<TicketRequest, Fault> {
+) -> Result<TicketRequest, Fault>
+    ensures kept { T.world context.new.store ≡ T.world context.old.store }
+{
     let alloc = context.alloc;
     let Some(config) = Config::read_if_there(alloc, &mut context.store, defaults)? else {
         return Ok(TicketRequest::PLAIN);
@@ -105,7 +117,9 @@ pub(crate) fn use_kdcs_of<T: ClientStore, X>(
     context: &mut Context<T, X>,
     defaults: &Defaults<'_>,
     realm: &[u8],
-) -> Result<(), Fault> {
+) -> Result<(), Fault>
+    ensures kept { T.world context.new.store ≡ T.world context.old.store }
+{
     if !has_kdcs(context) {
         let config = read_config(context, defaults)?;
         context.client.kdcs.places = config.kdcs(context.alloc, realm)?;

@@ -1,4 +1,7 @@
 //! `kinit --renew` and `kinit --validate`: gets the ticket-granting ticket again (RFC 4120, sections 2.3 and 2.4).
+ghost use Rattle.std.specs.Prelude.{◌≡◌, IfOk, OnErr, OnOk};
+ghost use Rattle.kclient_run.specs.Worlds.{CameFurther, Made};
+
 use crate::context::Context;
 use crate::kinit::{generator, write_new};
 use crate::places::{cache_path, use_given_kdcs, use_kdcs_of};
@@ -11,13 +14,18 @@ use krb_fields::TicketFlag;
 use rand_chacha::ChaCha20Rng;
 use std::alloc::Global;
 
-/// Gets the cache's ticket-granting ticket again, and writes a new cache with it.
+/// Gets the cache's ticket-granting ticket again, and writes a new cache with it. After an `Err` no file is changed.
+#[tactic(auto, using(crate::proofs::Doing::made))]
 pub(crate) fn renew_ticket<T: ClientStore, X: AnyMessage>(
     context: &mut Context<T, X>,
     options: &ArgMatches<'_>,
     defaults: &Defaults<'_>,
     renewal: Renewal,
-) -> Result<Printed, Fault> {
+) -> Result<Printed, Fault>
+    ensures made { OnOk result (
+        Made (CameFurther X.finds X.carries X.answers) (T.world context.old.store) (T.world context.new.store)) }
+    ensures kept { OnErr result (T.world context.new.store ≡ T.world context.old.store) }
+{
     let alloc = context.alloc;
     let path = cache_path(alloc, &mut context.store, options, defaults)?;
     use_given_kdcs(alloc, &mut context.client.kdcs, options)?;
@@ -30,13 +38,17 @@ pub(crate) fn renew_ticket<T: ClientStore, X: AnyMessage>(
 }
 
 /// Returns the ticket renewed or validated. It is requested once more if the KDC's time is taken.
+#[tactic(auto, using(crate::proofs::Doing::came_further))]
 fn renewed<T, X: AnyMessage>(
     context: &mut Context<T, X>,
     path: &str,
     rng: &mut ChaCha20Rng,
     granting: &Credential,
     renewal: Renewal,
-) -> Result<Credential, Fault> {
+) -> Result<Credential, Fault>
+    ensures came { IfOk result (λ ticket. CameFurther X.finds X.carries X.answers ticket) }
+    ensures store { context.new.store ≡ context.old.store }
+{
     let alloc = context.alloc;
     match context.client.renew(alloc, rng, granting, renewal) {
         Ok(credential) => return Ok(credential),

@@ -1,5 +1,6 @@
 //! Running one command line: from its words to what is printed.
-ghost use Rattle.std.specs.Prelude.{◌≤◌, IfOk};
+ghost use Rattle.std.specs.Prelude.{◌≡◌, ◌≤◌, IfOk};
+ghost use Rattle.kclient_run.specs.Worlds.{CameFirst, CameFurther, Did};
 
 use crate::context::Context;
 use crate::kinit::get_first;
@@ -78,8 +79,8 @@ impl Printed {
 
 /// Runs a command line, whose first word is the program's name, at the context's moment. It writes the result to
 /// `writer`, and explains failures on `errors`. The status is `DONE`, `REFUSED`, `USAGE` or `FAILED`. Unless it is
-/// `DONE`, the cache is unchanged, with one exception: if only the printing failed, the status is `FAILED` and the
-/// cache is written.
+/// `DONE`, the cache is unchanged, with two exceptions: if only the printing failed, the status is `FAILED` and the cache
+/// is written; and of several names, one that fails keeps the tickets of those before it.
 pub fn kclient_run<S: AsStr, T: ClientStore, X: AnyMessage, W: Write + Drop, E: Write + Drop>(
     context: &mut Context<T, X>,
     args: &[S],
@@ -87,20 +88,14 @@ pub fn kclient_run<S: AsStr, T: ClientStore, X: AnyMessage, W: Write + Drop, E: 
     writer: W,
     errors: E,
 ) -> u8
-    ensures { result ≤ 3 }
+    ensures status { result ≤ 3 }
+    // The files are as before, or one path has what the command is for.
+    ensures world { Did (CameFirst X.finds X.carries X.answers) (CameFurther X.finds X.carries X.answers)
+        (T.world context.old.store) (T.world context.new.store) }
 {
     context.begin();
     let ended = run_command(context, args, defaults);
-    if !matches!(
-        &ended,
-        Err(Fault {
-            cause: Cause::NotAnAddress,
-            ..
-        })
-    ) {
-        // without memory for it, the note is left out
-        let _ = context.note_unknown();
-    }
+    note_hosts(context, &ended);
     let Ok(mut errors) = BufWriter::new(context.alloc, errors) else {
         return FAILED;
     };
@@ -120,11 +115,33 @@ pub fn kclient_run<S: AsStr, T: ClientStore, X: AnyMessage, W: Write + Drop, E: 
     }
 }
 
+/// Notes the hosts that have no known address, unless the command ended because of them.
+fn note_hosts<T, X>(context: &mut Context<T, X>, ended: &Result<Printed, Fault>)
+    ensures store { context.new.store ≡ context.old.store }
+{
+    match ended {
+        Err(
+            Fault {
+                cause: Cause::NotAnAddress,
+                ..
+            },
+        ) => {}
+        // without memory for it, the note is left out
+        _ => {
+            let _ = context.note_unknown();
+        }
+    }
+}
+
+#[tactic(auto, using(crate::proofs::Doing::did_make_first, crate::proofs::Doing::did_make_further, crate::proofs::Doing::did_fill, crate::proofs::Doing::did_remove, crate::proofs::Doing::did_nothing))]
 fn run_command<S: AsStr, T: ClientStore, X: AnyMessage>(
     context: &mut Context<T, X>,
     args: &[S],
     defaults: &Defaults<'_>,
-) -> Result<Printed, Fault> {
+) -> Result<Printed, Fault>
+    ensures world { Did (CameFirst X.finds X.carries X.answers) (CameFurther X.finds X.carries X.answers)
+        (T.world context.old.store) (T.world context.new.store) }
+{
     let matches = match read_args(context.alloc, args) {
         Ok(matches) => matches,
         Err(error) => return words_ended(context.alloc, &error),

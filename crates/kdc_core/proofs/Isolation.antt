@@ -40,7 +40,7 @@ use Rattle.kdc_core.specs.declared.run.Event.TheVariants.{Request, Change, Repla
 
 -- ---- names
 
-is_named : (c : Components) (o : Option Components) → is_client c o ≡ true → o ≡ Some c
+pub is_named : (c : Components) (o : Option Components) → is_client c o ≡ true → o ≡ Some c
 is_named c (Some name) e = ap Some (sym (same_name c name e))
 is_named c None e = absurd cc
 
@@ -99,7 +99,7 @@ module _ (c : Components) (S : Names) where
         kept_agrees state other a (named state incoming.octets).client None kept None (a.cache ∙ sym (other_kept state (named state incoming.octets).client kept c (is_not_named c (named state incoming.octets).client apart)))
 
     -- the states agree at what a request of c names
-    agrees_at : IsTrue (S (tgs_principal state.database.realm)) → (named state incoming.octets).client ≡ Some c → IfSome (named state incoming.octets).service (λ service. IsTrue (S service)) → Agrees state other incoming.octets
+    pub agrees_at : IsTrue (S (tgs_principal state.database.realm)) → (named state incoming.octets).client ≡ Some c → IfSome (named state incoming.octets).service (λ service. IsTrue (S service)) → Agrees state other incoming.octets
     agrees_at tgs is within = record {
       realm = a.realm;
       limits = a.limits;
@@ -255,7 +255,7 @@ module _ (c : Components) (S : Names) where
   same_granted realm later is tgs = subst (λ r. IsTrue (S (tgs_principal r))) (sym is) tgs
 
   -- S still holds the realm's ticket-granting service afterwards
-  still_granted : (state : State) (event : Event) → NamesWithin c S state event → IsTrue (S (tgs_principal state.database.realm)) → IsTrue (S (tgs_principal (after_event state event).database.realm))
+  pub still_granted : (state : State) (event : Event) → NamesWithin c S state event → IsTrue (S (tgs_principal state.database.realm)) → IsTrue (S (tgs_principal (after_event state event).database.realm))
   still_granted state (Request at random room request) within tgs =
       same_granted _ _ (ap (λ d. d.realm) (database_kept state (named state request).client (answer (view state request) at random room request).kept)) tgs
   still_granted state (Change change) within tgs = same_granted _ _ (realm_unless state change (refusal state.database change)) tgs
@@ -266,7 +266,7 @@ module _ (c : Components) (S : Names) where
   still_granted state (Resume database limits resumption) within tgs = same_granted _ _ (ap (λ (d : Principals). d.realm) (database_resumed database limits resumption)) within
 
   -- an event that stays: the second state runs it, or one like it, and gives the same reply
-  record IsLeft (state other : State) (event given : Event) : Type 0 where
+  pub record IsLeft (state other : State) (event given : Event) : Type 0 where
     pub reply : event_reply other given ≡ event_reply state event
     pub is_own : is_request other given ≡ is_request_of c state event
     pub agrees : AgreesFor c S (after_event state event) (after_event other given)
@@ -274,7 +274,7 @@ module _ (c : Components) (S : Names) where
   left_itself : (state other : State) (event : Event) (given : Event) → given ≡ event → IsLeft state other event event → IsLeft state other event given
   left_itself state other event given is at = subst (λ (e : Event). IsLeft state other event e) (sym is) at
 
-  event_left : (state other : State) (event given : Event) → IsTrue (S (tgs_principal state.database.realm)) → NamesWithin c S state event → AgreesFor c S state other → is_left c S state event ≡ true → IsAlike c S event given → IsLeft state other event given
+  pub event_left : (state other : State) (event given : Event) → IsTrue (S (tgs_principal state.database.realm)) → NamesWithin c S state event → AgreesFor c S state other → is_left c S state event ≡ true → IsAlike c S event given → IsLeft state other event given
   event_left state other (Request at random room octets) given tgs within a left is =
       let incoming : Incoming = record { at = at; random = random; room = room; octets = octets } in
       let named_c = is_named c (named state octets).client left in
@@ -297,7 +297,7 @@ module _ (c : Components) (S : Names) where
       (record { reply = refl; is_own = refl; agrees = both_resumed database is.0 limits resumption is.1 is.3 is.4 })
 
   -- an event that is struck out: no request of c, and only the first state runs it
-  event_struck : (state other : State) (event : Event) → AgreesFor c S state other → is_left c S state event ≡ false → (is_request_of c state event ≡ false) × AgreesFor c S (after_event state event) other
+  pub event_struck : (state other : State) (event : Event) → AgreesFor c S state other → is_left c S state event ≡ false → (is_request_of c state event ≡ false) × AgreesFor c S (after_event state event) other
   event_struck state other (Request at random room octets) a struck =
       (struck, other_request state other (record { at = at; random = random; room = room; octets = octets }) a struck)
   event_struck state other (Change change) a struck = (refl, other_change state other change a struck)
@@ -351,7 +351,7 @@ module _ (c : Components) (S : Names) where
   same_rows : (database : Principals) → HasSameRows c S database database
   same_rows database = record { realm = refl; row = refl; rows = λ name within. refl }
 
-  alike_itself : (event : Event) → IsAlike c S event event
+  pub alike_itself : (event : Event) → IsAlike c S event event
   alike_itself (Request at random room request) = refl
   alike_itself (Change change) = refl
   alike_itself (Replace database) = (database, refl, same_rows database)
@@ -360,7 +360,7 @@ module _ (c : Components) (S : Names) where
   alike_itself (Reopen database limits at) = (database, refl, same_rows database)
   alike_itself (Resume database limits resumption) = (database, resumption, refl, same_rows database, refl)
 
-  alike_all : (events : List Event) → AreAlike c S events events
+  pub alike_all : (events : List Event) → AreAlike c S events events
   alike_all [] = tt
   alike_all (event ∷ events) = (alike_itself event, alike_all events)
 
@@ -370,11 +370,11 @@ isolation state events c S other tgs within a = isolated c S events state other 
 -- ---- two runs
 
 module _ (c : Components) (S : Names) where
-  agrees_itself : (state : State) → AgreesFor c S state state
+  pub agrees_itself : (state : State) → AgreesFor c S state state
   agrees_itself state = record { realm = refl; limits = refl; row = refl; cache = refl; rows = λ name within. refl }
 
   -- two states that agree with a third
-  both_agree : (a b third : State) → AgreesFor c S a third → AgreesFor c S b third → AgreesFor c S a b
+  pub both_agree : (a b third : State) → AgreesFor c S a third → AgreesFor c S b third → AgreesFor c S a b
   both_agree a b third s t = record {
     realm = sym t.realm ∙ s.realm;
     limits = sym t.limits ∙ s.limits;

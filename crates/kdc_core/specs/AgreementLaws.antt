@@ -44,7 +44,7 @@ module _ (state other : State) (realm : other.database.realm ≡ state.database.
     (tgs : map.get other.database.rows (tgs_principal other.database.realm) ≡ map.get state.database.rows
     (tgs_principal state.database.realm)) where
   -- the service's rows agree, so both decrypt the presented ticket alike, and the clients are the same
-  same_names : (o : Option Request) → row_of other (named_by state o).service ≡ row_of state (named_by state o).service
+  pub same_names : (o : Option Request) → row_of other (named_by state o).service ≡ row_of state (named_by state o).service
       → named_by other o ≡ named_by state o
   same_names (Some request) service =
       let ticket : ticket_view other request.message ≡ ticket_view state request.message = (λ i.

@@ -112,6 +112,7 @@ pub fn account_if(
 }
 
 impl Account {
+    /// Returns a copy.
     pub fn copy(&self, alloc: Global) -> Result<Account, AllocError>
         ensures { IfOk result (λ account. account ≡ self.now) }
     {

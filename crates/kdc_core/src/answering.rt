@@ -113,7 +113,8 @@ fn reply<'q>(
     reply_to(state, alloc, incoming, held)
 }
 
-/// Returns the reply to the contents of a request.
+/// Returns the reply to the contents of a request. It is apart from [`reply`] for the proof alone:
+/// its clauses are over the contents, and those of `reply` over the bytes.
 fn reply_to<'q>(
     state: &State,
     alloc: Global,

@@ -18,9 +18,11 @@ ghost use Rattle.kdc_replies.specs.GoodStanding.{AreInGoodStanding};
 ghost use Rattle.krb_fields.specs.declared.moment.Moment as moments;
 ghost use Rattle.replay.specs.declared.opening.Opening.TheVariants.{Restart};
 ghost use Rattle.kdc_state.specs.Resumed.{resumed_state};
+ghost use Rattle.kdc_state.specs.Sizes.{bytes_of, pairs_of};
 ghost use Rattle.kdc_state.specs.State.{opened_state, cache_of, restarted, tidied_state};
 ghost use Rattle.replay.specs.ReplayCache as caches;
 ghost use Rattle.replay.specs.Resumed.{resumed_cache};
+ghost use Rattle.replay.specs.Sizes.{limited};
 ghost use Rattle.replay.specs.Tidied.{tidied};
 ghost use Rattle.kdc_state.specs.declared.state.State as states;
 ghost use Rattle.principals.specs.Change.{refusal, changed};
@@ -28,7 +30,7 @@ ghost use Rattle.principals.specs.Change.{refusal, changed};
 use crate::account::{Answer, reply_alone};
 use crate::answering::answer;
 use kdc_replies::{Incoming, error_reply};
-use kdc_state::{Opening, State};
+use kdc_state::{CacheSizes, Opening, State};
 use krb_fields::{Code, Moment, Name};
 use principal_rows::{Limits, Row};
 use principals::{Change, ChangeFault, Database};
@@ -258,6 +260,22 @@ impl Kdc {
         ensures { self.new ≡ self.old }
     {
         self.state.free_dropped(from, clients)
+    }
+
+    /// Returns how many principals there are.
+    pub fn row_count(&self) -> usize
+        ensures { result ≡ map.len self.now.database.rows }
+    {
+        self.state.database.len()
+    }
+
+    /// Returns how much the replay caches hold. It goes through all of them, and allocates nothing.
+    pub fn cache_sizes(&self) -> CacheSizes
+        ensures clients { result.clients ≡ map.len self.now.caches }
+        ensures authenticators { result.authenticators ≡ limited (pairs_of (map.entries self.now.caches)) }
+        ensures kept_bytes { result.kept_bytes ≡ limited (bytes_of (map.entries self.now.caches)) }
+    {
+        self.state.cache_sizes()
     }
 
     /// Drops all replay caches, as when a process ends and starts again: no authenticator that was accepted at a

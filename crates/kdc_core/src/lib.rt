@@ -1,4 +1,16 @@
 //! The key distribution centre: answers the bytes of a request with a reply and an account of the request.
+//!
+//! | call | what it does |
+//! |---|---|
+//! | [`Kdc::open`], [`Kdc::resume`] | a KDC with a database, also with the authenticators that were seen before |
+//! | [`Kdc::handle`] | answers the bytes of a request, with the bytes of a reply or none |
+//! | [`Kdc::answer`] | the same, with the account of the request and the authenticator that it records |
+//! | [`Kdc::apply`], [`Kdc::replace`] | changes the database; replaces it |
+//! | [`Kdc::tidy`] | drops authenticators that are too old to come again |
+//! | [`Kdc::run`] | handles events in order: requests, changes, restarts |
+//!
+//! Nothing here sends or waits, opens a file, draws random bytes or reads a clock: the caller
+//! supplies the moment and 64 random bytes for each request.
 #![tactic(auto)]
 
 mod account;
@@ -16,7 +28,7 @@ pub use ap_opening::ApRefusal;
 pub use as_exchange::{AsOutcome, AsRefusal};
 pub use kdc::{Kdc, OtherRealm};
 pub use kdc_replies::Granted;
-pub use kdc_state::Opening;
+pub use kdc_state::{CacheSizes, Opening};
 pub use laws::any_run;
 pub use replay::{Bears, Resumption, Seen};
 pub use run::{Event, RunFault};

@@ -11,20 +11,20 @@ use Rattle.kdc_core.specs.View.{View, view}
 use Rattle.kdc_core.specs.declared.account.Account.TheVariants.{NoRequest, As, Tgs}
 use Rattle.replay.specs.declared.seen.Seen.{Seen}
 use Rattle.kdc_hub.specs.Accounts.{FirstHold, ReplyHolds, if_answered}
-use Rattle.kdc_hub.specs.Hub.{requests_of}
-use Rattle.kdc_hub.specs.Issuing.{Issuing, after, reply_by, reply_in, reply_of}
+use Rattle.kdc_hub.specs.Hub.{messages_in}
+use Rattle.kdc_hub.specs.Issuing.{Issuing, after, reply_by, reply_with, reply_of}
 use Rattle.kdc_hub.specs.declared.reply.Reply.{Reply}
 
 module _ (keeps : Bool) (v : View) (at : Moment) (random : List ℕ) (room : ℕ) (request : List ℕ) where
   -- the reply in an answer of the rules
   pub made : (octets : Option (List ℕ)) (a : Option Account) (seen : Option Seen) → octets ≡ (answer v at random room request).reply
       → a ≡ account_if keeps (account v at random room request) → seen ≡ newly_seen v at random room request
-      → reply_in octets a seen ≡ reply_by keeps v at random room request
+      → reply_with octets a seen ≡ reply_by keeps v at random room request
   unfolding reply_by
-  made octets a seen octets_are is seen_is = λ k. reply_in (octets_are k) (is k) (seen_is k)
+  made octets a seen octets_are is seen_is = λ k. reply_with (octets_are k) (is k) (seen_is k)
 
   true_of : (b : Bool) (o : Option (List ℕ)) (a : Account) → AccountHolds v at random (request_of request) a o
-      → ReplyHolds v at random request (reply_in o (account_if b a) (newly_seen v at random room request))
+      → ReplyHolds v at random request (reply_with o (account_if b a) (newly_seen v at random room request))
   true_of true (Some octets) a h = h
   true_of false (Some octets) a h = tt
   true_of b None NoRequest h = h
@@ -58,9 +58,9 @@ none_hold i at room requests n e = subst (λ m. FirstHold m i at room requests) 
 
 -- the requests that a piece completes
 pub fed_hold : (i : Issuing) (at : Moment) (room : ℕ) (piece : List ℕ) (o : Option Splitting) (s f : Splitting) (n : ℕ) → o ≡ Some s → f ≡ fed s piece
-    → FirstHold n i at room (handed_out f).messages → FirstHold n i at room (requests_of piece o)
+    → FirstHold n i at room (handed_out f).messages → FirstHold n i at room (messages_in piece o)
 fed_hold i at room piece o s f n is feed h =
-    subst (λ x. FirstHold n i at room (requests_of piece x)) (sym is) (subst (λ (x : Splitting). FirstHold n i at room (handed_out x).messages) feed h)
+    subst (λ x. FirstHold n i at room (messages_in piece x)) (sym is) (subst (λ (x : Splitting). FirstHold n i at room (handed_out x).messages) feed h)
 
 -- a list that had nothing before a push has one entry
 pub one_pushed : {X : Type 0} (new old : List X) (x : X) → new ≡ old ++ x ∷ [] → old ≡ [] → length new ≡ 1

@@ -36,7 +36,7 @@ use Rattle.kdc_hub.specs.declared.event.Peer.{Peer}
 use Rattle.kdc_hub.specs.declared.reply.Reply.{Reply}
 use Rattle.kdc_hub.specs.Issuing.{Issuing, after, reply_by, reply_of, too_long}
 use Rattle.kdc_hub.specs.StreamStep.{StreamStep, action_for, after_reply, after_some, messages_step, reply_then, stream_room, stream_step}
-use Rattle.kdc_hub.specs.Hub.{Standing, Step, brings, datagram_room, greatest_request, hub_step, kept, most_connections, nothing, opened, requests_of as messages_of, sent, stopped}
+use Rattle.kdc_hub.specs.Hub.{Standing, Step, brings, datagram_room, greatest_request, hub_step, kept, most_connections, nothing, opened, messages_in, sent, stopped}
 use Rattle.kdc_hub.specs.Logged.{Entry, Stop, logged, step_by, step_of}
 use Rattle.kdc_hub.specs.History.{AnswersWhoAsked, Begins, CanBeResumed, IsOfOneProcess, IsOneRun, KeepsAccounts, account_in, accounts, event_accounts, octets_of, turn_accounts, OneTicketInProcess, OneTicketSent, ServesAlike, TidiesUnseen, Turn, Unaffected, Stepped, Replaced, Tidied, Reopened, Resumed, after_turn, all_seen_by, seen_by, turn_sees, after_turns, answers, asked, chosen, event_requests, events_in, others_after, piece_requests, newly_seen_in, replies_by, reply_in, requests_by, stopped_requests, stream_requests, tickets_among, turn_events, turn_replies}
 
@@ -272,7 +272,7 @@ module _ (hub : Standing) where
     event_stepped (Bytes conn piece) = piece_stepped conn piece (map.get hub.connections conn)
     event_stepped (Closed conn) = record { sent = no_reply _; kdc = refl; accounts = refl }
 
-    piece_before : (piece : List ℕ) (o : Option Splitting) (done : ℕ) → (after_some done hub.issuing at (messages_of piece o)).kdc ≡ run hub.issuing.kdc (take done (piece_requests hub.issuing at piece o))
+    piece_before : (piece : List ℕ) (o : Option Splitting) (done : ℕ) → (after_some done hub.issuing at (messages_in piece o)).kdc ≡ run hub.issuing.kdc (take done (piece_requests hub.issuing at piece o))
     piece_before piece (Some s) done = some_before done hub.issuing at (handed_out (fed s piece)).messages
     piece_before piece None zero = nobody_before 0 hub.issuing at
     piece_before piece None (suc done) = nobody_before (suc done) hub.issuing at
@@ -472,7 +472,7 @@ log_stands start (entry ∷ entries) = log_stands (step_of start entry).hub entr
 
 -- ---- isolation and tickets
 
-chosen_of_run : (test : State → KdcEvent → Bool) (state : State) (events : List KdcEvent) → chosen test state events (replies state events) ≡ replies_to test state events
+pub chosen_of_run : (test : State → KdcEvent → Bool) (state : State) (events : List KdcEvent) → chosen test state events (replies state events) ≡ replies_to test state events
 chosen_of_run test state [] = refl
 chosen_of_run test state (event ∷ events) =
     ap (λ l. if test state event then event_reply state event ∷ l else l) (chosen_of_run test (after_event state event) events)

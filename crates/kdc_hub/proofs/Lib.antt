@@ -10,3 +10,5 @@ pub mod Runs
 pub mod Histories
 pub mod Due
 pub mod Owning
+mod Moved
+pub mod Lives

@@ -16,7 +16,7 @@ use Rattle.kdc_hub.specs.declared.event.HubFault.{HubFault}
 use Rattle.kdc_state.specs.declared.state.State.{State}
 use Rattle.kdc_hub.specs.Issuing.{Issuing}
 use Rattle.kdc_hub.specs.StreamStep.{StreamStep, after_some, drawn, stream_step}
-use Rattle.kdc_hub.specs.Hub.{Standing, Step, Steps, brings, kept, opened, requests_of, stopped_issuing, most_connections}
+use Rattle.kdc_hub.specs.Hub.{Standing, Step, Steps, brings, kept, opened, messages_in, stopped_issuing, most_connections}
 use Rattle.kdc_hub.proofs.Tables.{set_anew, taken_out}
 
 abbrev pub Table : Type 0
@@ -78,12 +78,12 @@ module _ (hub : Standing) (at : Moment) (conn : ℕ) (piece : List ℕ) (o : Opt
       → done ≡ take (length done) (stream_step hub.issuing at conn f).actions → i.kdc ≡ (after_some (length done) hub.issuing at (handed_out f).messages).kdc → i.random ≡ drawn draws hub.issuing.random → i.accounts ≡ hub.issuing.accounts
       → table ≡ map.insert hub.connections conn place → table' ≡ map.remove table conn
       → (done ≡ take (length done) (brings hub at conn piece o).actions)
-      × ((let x : Standing = record { issuing = i; connections = table' } in x) ≡ record { issuing = stopped_issuing hub.issuing at (requests_of piece o) (length done) draws; connections = map.remove hub.connections conn })
+      × ((let x : Standing = record { issuing = i; connections = table' } in x) ≡ record { issuing = stopped_issuing hub.issuing at (messages_in piece o) (length done) draws; connections = map.remove hub.connections conn })
   unfolding full
   is_stopped done i draws place table table' acts kdc random accounts first then = (
     acts ∙ ap (take (length done)) taken_actions,
     same_standing i _ table' (map.remove hub.connections conn)
-        (same_issuing i.kdc _ i.random _ i.accounts hub.issuing.accounts kdc random accounts ∙ ap (λ x. stopped_issuing hub.issuing at (handed_out x).messages (length done) draws) feed ∙ sym (ap (λ x. stopped_issuing hub.issuing at (requests_of piece x) (length done) draws) is))
+        (same_issuing i.kdc _ i.random _ i.accounts hub.issuing.accounts kdc random accounts ∙ ap (λ x. stopped_issuing hub.issuing at (handed_out x).messages (length done) draws) feed ∙ sym (ap (λ x. stopped_issuing hub.issuing at (messages_in piece x) (length done) draws) is))
         (then ∙ ap (λ m. map.remove m conn) first ∙ taken_out hub.connections conn place),
   )
 
@@ -91,9 +91,9 @@ module _ (hub : Standing) (at : Moment) (conn : ℕ) (piece : List ℕ) (o : Opt
 pub not_fed : (hub : Standing) (at : Moment) (conn : ℕ) (piece : List ℕ) (o : Option Splitting) (done : List Action) (draws : ℕ) (place : Splitting) (table table' : Table)
     → done ≡ [] → draws ≡ 0 → table ≡ map.insert hub.connections conn place → table' ≡ map.remove table conn
     → (done ≡ take (length done) (brings hub at conn piece o).actions)
-    × ((let x : Standing = record { issuing = hub.issuing; connections = table' } in x) ≡ record { issuing = stopped_issuing hub.issuing at (requests_of piece o) (length done) draws; connections = map.remove hub.connections conn })
+    × ((let x : Standing = record { issuing = hub.issuing; connections = table' } in x) ≡ record { issuing = stopped_issuing hub.issuing at (messages_in piece o) (length done) draws; connections = map.remove hub.connections conn })
 not_fed hub at conn piece o done draws place table table' e d first then =
-    (rw e refl, same_standing hub.issuing _ table' _ (stopped_before (length done) draws hub.issuing at (requests_of piece o) (ap length e) d) (then ∙ ap (λ m. map.remove m conn) first ∙ taken_out hub.connections conn place))
+    (rw e refl, same_standing hub.issuing _ table' _ (stopped_before (length done) draws hub.issuing at (messages_in piece o) (ap length e) d) (then ∙ ap (λ m. map.remove m conn) first ∙ taken_out hub.connections conn place))
 
 full_there : (hub : Standing) (conn : ℕ) → map.contains_key hub.connections conn ≡ false → nat_lt (map.len hub.connections) most_connections ≡ false → opened hub conn ≡ record { actions = Close conn Full ∷ []; hub = hub }
 full_there hub conn e h = rw (e, h) refl

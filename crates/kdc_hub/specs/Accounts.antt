@@ -13,7 +13,7 @@ use Rattle.kdc_hub.specs.declared.event.Event.{Event}
 use Rattle.kdc_hub.specs.declared.event.Event.TheVariants.{Datagram, Opened, Bytes, Closed}
 use Rattle.kdc_hub.specs.declared.event.HubFault.{HubFault}
 use Rattle.kdc_hub.specs.declared.reply.Reply.{Reply}
-use Rattle.kdc_hub.specs.Hub.{Standing, datagram_room, requests_of}
+use Rattle.kdc_hub.specs.Hub.{Standing, datagram_room, messages_in}
 use Rattle.kdc_hub.specs.Issuing.{Issuing, after, reply_of}
 use Rattle.kdc_hub.specs.StreamStep.{stream_room}
 
@@ -41,7 +41,7 @@ abbrev pub EventHolds : Standing → Moment → Event → ℕ → Type 0
 EventHolds hub at (Datagram peer request) n = FirstHold n hub.issuing at datagram_room (request ∷ [])
 EventHolds hub at (Opened conn) n = ⊤
 EventHolds hub at (Bytes conn piece) n =
-    FirstHold n hub.issuing at stream_room (requests_of piece (map.get hub.connections conn))
+    FirstHold n hub.issuing at stream_room (messages_in piece (map.get hub.connections conn))
 EventHolds hub at (Closed conn) n = ⊤
 
 -- for those that have an action

@@ -89,9 +89,9 @@ hub_step hub at (Closed conn) = record {
 
 -- Out of memory: the step ends after this many actions and draws, and its connection is removed.
 
-abbrev pub requests_of : List ℕ → Option Splitting → List (List ℕ)
-requests_of piece (Some s) = (handed_out (fed s piece)).messages
-requests_of piece None = []
+abbrev pub messages_in : List ℕ → Option Splitting → List (List ℕ)
+messages_in piece (Some s) = (handed_out (fed s piece)).messages
+messages_in piece None = []
 
 abbrev pub stopped_issuing : Issuing → Moment → List (List ℕ) → ℕ → ℕ → Issuing
 stopped_issuing i at requests done draws = record {
@@ -108,7 +108,7 @@ stopped hub at (Opened conn) done draws =
 stopped hub at (Bytes conn piece) done draws = record {
   actions = take done (hub_step hub at (Bytes conn piece)).actions;
   hub = record {
-    issuing = stopped_issuing hub.issuing at (requests_of piece (map.get hub.connections conn)) done draws;
+    issuing = stopped_issuing hub.issuing at (messages_in piece (map.get hub.connections conn)) done draws;
     connections = map.remove hub.connections conn;
   };
 }

@@ -22,8 +22,8 @@ abbrev pub issuing : {R : Type 0} → (R → Stream) → Issuer R → Issuing
 issuing stream issuer = record { kdc = issuer.kdc; random = stream issuer.rng; accounts = issuer.keeps_accounts }
 
 -- the reply in an answer, if there is one
-abbrev pub reply_in : Option (List ℕ) → Option Account → Option Seen → Option Reply
-reply_in octets account seen =
+abbrev pub reply_with : Option (List ℕ) → Option Account → Option Seen → Option Reply
+reply_with octets account seen =
     option_map (λ message. record { message = message; account = account; newly_seen = seen }) octets
 
 -- the reply to a request, with its account if accounts are kept, and with the authenticator that it records

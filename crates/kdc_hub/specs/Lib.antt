@@ -11,3 +11,6 @@ pub mod Acts
 pub mod History
 pub mod Parties
 pub mod OwnBytes
+pub mod Moved
+pub mod Life
+pub mod Recorded

@@ -1,6 +1,6 @@
 //! The record of a Wire in memory.
 ghost use Rattle.std.specs.Prelude.{◌≡◌, ◌∷◌, [], Some, false, IfOk, OnErr};
-ghost use Rattle.kdc_hub.specs.Wire.{Records, kept};
+ghost use Rattle.kdc_hub.specs.Wire.{Records, complete};
 
 use crate::wires::Did;
 use std::alloc::{AllocError, Global};
@@ -13,8 +13,9 @@ pub struct Diary {
 }
 
 impl Diary {
+    /// Returns a diary with nothing done. It is complete.
     pub fn new(alloc: Global) -> Diary
-        ensures { kept result.is_whole result.did.items ≡ Some [] }
+        ensures { complete result.is_whole result.did.items ≡ Some [] }
     {
         Diary {
             did: Vec::new(alloc),
@@ -26,8 +27,8 @@ impl Diary {
     /// then on.
     pub fn keep(&mut self, did: Result<Did, AllocError>)
         ensures records { IfOk did
-            (λ did. Records (kept self.old.is_whole self.old.did.items) (did ∷ [])
-            (kept self.new.is_whole self.new.did.items)) }
+            (λ did. Records (complete self.old.is_whole self.old.did.items) (did ∷ [])
+            (complete self.new.is_whole self.new.did.items)) }
         ensures lost { OnErr did (self.new.is_whole ≡ false) }
     {
         let Ok(did) = did else {

@@ -29,6 +29,7 @@ pub enum Event {
 }
 
 impl Event {
+    /// Returns a copy.
     pub fn copy(&self, alloc: Global) -> Result<Event, AllocError>
         ensures { IfOk result (λ event. event ≡ self.now) }
     {
@@ -84,6 +85,7 @@ impl Action {
         }
     }
 
+    /// Returns a copy.
     pub fn copy(&self, alloc: Global) -> Result<Action, AllocError>
         ensures { IfOk result (λ action. action ≡ self.now) }
     {

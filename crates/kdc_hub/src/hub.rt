@@ -3,11 +3,13 @@ ghost use Rattle.std.specs.Prelude.{◌≡◌, ◌↔◌, ℕ, List, ◌∷◌, 
 ghost use Rattle.std.specs.FinMap as map;
 ghost use Rattle.kdc_hub.specs.History.{Reopened, Replaced, Resumed, Tidied, after_turn};
 ghost use Rattle.kdc_state.specs.Resumed.{resumed_state};
+ghost use Rattle.kdc_state.specs.Sizes.{bytes_of, pairs_of};
 ghost use Rattle.kdc_state.specs.State.{opened_state};
 ghost use Rattle.krb_fields.specs.declared.moment.Moment as moments;
 ghost use Rattle.principal_rows.specs.declared.limits.Limits.{Limits};
 ghost use Rattle.principals.specs.Database.{Principals};
 ghost use Rattle.replay.specs.declared.opening.Opening.TheVariants.{Restart};
+ghost use Rattle.replay.specs.Sizes.{limited};
 ghost use Rattle.replay.specs.declared.seen.Resumption.{Resumption};
 ghost use Rattle.kdc_hub.specs.Hub.{AreDraws, Standing, Steps, standing};
 ghost use Rattle.kdc_hub.specs.Logged.{Entry, LogsNext, logged};
@@ -21,7 +23,7 @@ use crate::event::{Action, CloseReason, Event, HubFault, Peer};
 use crate::issuer::Issuer;
 use crate::stream::answer_stream;
 use framing::Splitter;
-use kdc_core::{Kdc, OtherRealm};
+use kdc_core::{CacheSizes, Kdc, OtherRealm};
 use krb_fields::Moment;
 use principals::Database;
 use rand_core::Rng;
@@ -98,6 +100,24 @@ impl<R: Rng> Hub<R> {
         self.issuer.kdc.free_dropped(from, clients)
     }
 
+    /// Returns how many principals there are.
+    pub fn row_count(&self) -> usize
+        ensures { result ≡ map.len (standing R.stream self.now).issuing.kdc.database.rows }
+    {
+        self.issuer.kdc.row_count()
+    }
+
+    /// Returns how much the replay caches hold. It goes through all of them, and allocates nothing.
+    pub fn cache_sizes(&self) -> CacheSizes
+        ensures clients { result.clients ≡ map.len (standing R.stream self.now).issuing.kdc.caches }
+        ensures authenticators { result.authenticators
+            ≡ limited (pairs_of (map.entries (standing R.stream self.now).issuing.kdc.caches)) }
+        ensures kept_bytes { result.kept_bytes
+            ≡ limited (bytes_of (map.entries (standing R.stream self.now).issuing.kdc.caches)) }
+    {
+        self.issuer.kdc.cache_sizes()
+    }
+
     /// Returns the actions for an event, in order. It answers a connection until a request gets no reply, or a length
     /// is too large. Then it closes the connection and drops the rest of its bytes. If memory runs out, the step ends
     /// after the completed actions, and the event's connection is removed.
@@ -116,7 +136,7 @@ impl<R: Rng> Hub<R> {
         self.take(alloc, at, event)
     }
 
-    /// Does the step, without the log.
+    /// Does the step, without the clause on the log. It is apart from `step` for the proof alone.
     fn take(&mut self, alloc: Global, at: Moment, event: Event) -> Result<Vec<Action>, HubFault>
         ensures step { Steps (standing R.stream self.old) at event result (standing R.stream self.new) }
         ensures draws { IfErr result AreDraws }

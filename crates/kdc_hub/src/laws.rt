@@ -5,6 +5,7 @@ ghost use Rattle.kdc_hub.specs.History.{AnswersWhoAsked, CanBeResumed, IsOneRun,
 ghost use Rattle.kdc_hub.specs.History.{ServesAlike, Stepped, TidiesUnseen, Turn, Unaffected, after_turns};
 ghost use Rattle.kdc_hub.specs.Hub.{Standing};
 ghost use Rattle.kdc_hub.specs.Logged.{Entry, logged};
+ghost use Rattle.kdc_hub.specs.Moved.{MovesNothingElse};
 ghost use Rattle.kdc_hub.specs.OwnBytes.{AsksItsOwn};
 ghost use Rattle.kdc_hub.specs.Parties.{GetsItsOwn, RecordsItsOwn};
 
@@ -36,6 +37,8 @@ pub fn one_run()
     ensures isolation { ServesAlike }
     // Two histories in which a client sends the same requests give it the same replies, whatever others send in either.
     ensures unaffected { Unaffected }
+    // Others can move the moments of replacements and tidyings, and nothing else.
+    ensures moved { MovesNothingElse }
     // If no request is before an earlier tidying, the requests are sent what they get without any tidying.
     ensures unseen { TidiesUnseen }
     // No authenticator gets two different tickets, even across replacements and restarts, and across resumptions that

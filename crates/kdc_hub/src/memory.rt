@@ -72,9 +72,9 @@ impl MemoryWire {
 }
 
 impl Wire for MemoryWire {
-    ghost use Rattle.kdc_hub.specs.Wire.{kept};
+    ghost use Rattle.kdc_hub.specs.Wire.{complete};
 
-    ghost recorded = { λ w. kept w.diary.is_whole w.diary.did.items };
+    ghost recorded = { λ w. complete w.diary.is_whole w.diary.did.items };
 
     ghost fault_count = { λ w. w.faults };
 

@@ -16,6 +16,7 @@ pub struct Reply {
 }
 
 impl Reply {
+    /// Returns a copy.
     pub fn copy(&self, alloc: Global) -> Result<Reply, AllocError>
         ensures { IfOk result (λ reply. reply ≡ self.now) }
     {

@@ -79,6 +79,7 @@ impl Connection {
         self.is_closing && self.is_at_end && self.unsent.is_empty()
     }
 
+    /// Reads what has arrived into the buffer. Returns how many bytes: 0 at the end of the stream.
     pub fn read(&mut self, buffer: &mut [u8]) -> Result<usize>
         ensures { ReadsAtMost result buffer.new }
     {

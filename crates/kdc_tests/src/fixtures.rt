@@ -3,7 +3,7 @@ use std::alloc::Global;
 use std::process::Abort;
 use std::test::Fail;
 
-// The marks that `tools/refuse_allocations.py` reads. It refuses each allocation between `BEGIN` and `END`, one at a
+// The marks that `tests/crates/allocations.py` reads. It refuses each allocation between `BEGIN` and `END`, one at a
 // time. By `JUDGED`, a test has asserted all that has to hold after a refusal.
 
 pub const BEGIN: usize = 1 << 62;

@@ -4,9 +4,9 @@ use crate::fixtures::{BEGIN, END, JUDGED, holds, mark, octets};
 use crate::kdcs::{opened, with_one};
 use crate::messages::message;
 use kdc_hub::{
-    Action, CloseReason, Did, Event, Hub, HubFault, MemoryWire, Peer, Served, Wire, serve,
+    Action, CloseReason, Did, Event, Hub, HubFault, Look, MemoryRows, MemoryWire, Peer, Served,
+    Wire, serve, serve_life,
 };
-use kdc_serving::{Look, MemoryRows, serve_life};
 use krb_elements::Octets;
 use krb_fields::Moment;
 use rand_chacha::ChaCha20Rng;
@@ -520,7 +520,7 @@ const AROUND_A_LOOK_DONE: &[Done] = &[TO_1001, (b's', 1002, b'?')];
 fn live(alloc: Global, wire: &mut MemoryWire, rows: &mut MemoryRows) -> Result<(), Fail> {
     let kdc = opened(alloc, (0, 0), 0)?;
     let mut hub = Hub::new(alloc, kdc, ChaCha20Rng::from_seed([0; 32]), true);
-    serve_life(alloc, wire, rows, &mut hub, 17);
+    serve_life(alloc, wire, rows, &mut hub, 17, &mut ());
     Ok(())
 }
 

@@ -1,6 +1,6 @@
 //! Tests of a KDC and of the crates around it: runs of events, streams cut into messages, and the hub. They are a crate
 //! of their own because a crate with tests is proved twice. Scripts and sockets are tried over the program `kdcd`
-//! (`tools/try_script.py`, `tools/try_faults.py`).
+//! (`tests/kdcd`).
 #![tactic(auto)]
 
 #[cfg(test)]

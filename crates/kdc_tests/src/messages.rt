@@ -17,9 +17,9 @@
 /// - `LOGIN` is a login of `u` with a timestamp, and `LOGIN_REP` the reply to it with the random bytes
 ///   `LOGIN_RANDOM`, from the same model. The keys of `u` and of `krbtgt/A.B` count up from 64 and from 128.
 /// - `LOGIN_9`, `LOGIN_4` and `LOGIN_5` are logins of `u` with a timestamp of 2024-01-01 00:00:00 under the key that
-///   repeats this byte, by `tools/kerberos.py`.
-/// - `BUYS_AT_0` and the like are TGS-REQs of `u`, or of `w`, for `h`, by `tools/kerberos.py`. The number is the
-///   second of the authenticator, after 2024-01-01 00:00:00, and the microsecond, if it is not 0. The tickets are
+///   repeats this byte, by `tests/harness/kerberos.py`.
+/// - `BUYS_AT_0` and the like are TGS-REQs of `u`, or of `w`, for `h`, by `tests/harness/kerberos.py`. The number is
+///   the second of the authenticator, after 2024-01-01 00:00:00, and the microsecond, if it is not 0. The tickets are
 ///   encrypted under the key that repeats 1.
 /// - `STREAM` is a stream of two requests after their lengths: `BASIC`, and the same for the service `krbtgu/A.B`.
 const MESSAGES: &str = "

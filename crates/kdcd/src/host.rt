@@ -3,9 +3,9 @@ ghost use Rattle.std.specs.Prelude.{None};
 
 use kdc_sockets::{BindFault, SocketWire, now};
 use kdcd_run::{
-    FileFault, FileJournal, Host, JournalBeginning, JournalNews, Journals, OpenedJournals,
-    RowsFile, ServeOptions, StartNews, Started, SystemJournal, begin_journal, open_journals,
-    open_plain, read_at_most, say_rights,
+    FileFault, FileJournal, Host, JournalBeginning, JournalNews, Journals, MetricsFile,
+    OpenedJournals, RowsFile, ServeOptions, StartNews, Started, SystemJournal, begin_journal,
+    journal_beside, open_journals, open_plain, read_at_most, refuse_journal, say_rights,
 };
 use krb_fields::Moment;
 use principal_rows::Limits;
@@ -38,12 +38,16 @@ pub struct SystemHost<'a> {
     rows: Option<RowsFile<'a, HostRuntime, Errors>>,
     /// The files of the journal, once it was read and until it begins.
     held: Option<SystemFiles<'a>>,
+    /// The file of the numbers, until it is handed over, if there is to be one.
+    metrics: Option<MetricsFile<'a, HostRuntime, Errors>>,
     errors: Errors,
     /// The addresses of the sockets, once they are open.
     udp: Vec<SocketAddr>,
     tcp: Vec<SocketAddr>,
     db: &'a str,
     journal: Option<&'a str>,
+    journal_size: u64,
+    removes_journal: bool,
     is_quiet: bool,
     limits: Limits,
 }
@@ -59,11 +63,14 @@ impl<'a> SystemHost<'a> {
             rt,
             rows: Some(RowsFile::new(rt, options.db, errors.share()?)),
             held: None,
+            metrics: metrics_of(rt, options, errors)?,
             errors: errors.share()?,
             udp: Vec::new(rt.alloc()),
             tcp: Vec::new(rt.alloc()),
             db: options.db,
             journal: options.journal,
+            journal_size: options.journal_size,
+            removes_journal: options.removes_journal,
             is_quiet: options.is_quiet,
             limits: options.limits,
         })
@@ -78,6 +85,8 @@ impl<'a> Host for SystemHost<'a> {
     type Journal = Option<FileJournal<'a, HostRuntime, Errors>>;
 
     type Rows = RowsFile<'a, HostRuntime, Errors>;
+
+    type Metrics = MetricsFile<'a, HostRuntime, Errors>;
 
     ghost recorded = { λ _. None };
 
@@ -124,6 +133,12 @@ impl<'a> Host for SystemHost<'a> {
         Ok(journals)
     }
 
+    fn refuse_journal(&mut self, alloc: Global) -> Result<(), FileFault> {
+        let path = journal_beside(alloc, self.db)?;
+        let errors = self.errors.share()?;
+        refuse_journal(alloc, self.rt, path.as_str(), self.removes_journal, errors)
+    }
+
     fn begin_journal(
         &mut self,
         alloc: Global,
@@ -134,7 +149,7 @@ impl<'a> Host for SystemHost<'a> {
         let Some(files) = self.held.take() else {
             return Err(Error::from(ErrorKind::NotFound));
         };
-        Ok(Some(begin_journal(alloc, files, beginning)?))
+        Ok(Some(begin_journal(alloc, files, beginning, self.journal_size)?))
     }
 
     fn no_journal(&mut self) -> Option<FileJournal<'a, HostRuntime, Errors>> {
@@ -160,9 +175,27 @@ impl<'a> Host for SystemHost<'a> {
         self.rows.take()
     }
 
+    fn take_metrics(&mut self) -> Option<MetricsFile<'a, HostRuntime, Errors>> {
+        self.metrics.take()
+    }
+
     fn now(&mut self) -> io::Result<Moment> {
         now(self.rt)
     }
+}
+
+/// The file of the numbers, if the options ask for one.
+fn metrics_of<'a>(
+    rt: &'a HostRuntime,
+    options: &ServeOptions<'a>,
+    errors: &Errors,
+) -> Result<Option<MetricsFile<'a, HostRuntime, Errors>>, AllocError> {
+    let Some(path) = options.metrics else {
+        return Ok(None);
+    };
+    let lines = errors.share()?;
+    let file = MetricsFile::new(rt.alloc(), rt, path, options.journal, lines)?;
+    Ok(Some(file))
 }
 
 /// What is said of the journal, if there is one.

@@ -1,15 +1,17 @@
 //! The KDC's program: `kdcd script` runs a script from standard input to standard output, and `kdcd serve` serves a
-//! realm over UDP and TCP.
+//! realm over UDP and TCP. `kdcd seal` seals the journal of a server that has ended.
 #![tactic(auto)]
 
 mod host;
+mod sealing;
 mod serving;
 
+use crate::sealing::seal;
 use crate::serving::serve_realm;
 use clap::ArgMatches;
 use clap::error::ErrorKind;
 use kdc_script::{FAILED, run_script};
-use kdcd_run::{ArgsFault, read_args, serve_options};
+use kdcd_run::{ArgsFault, path_beside, read_args, serve_options};
 use std::process::ExitCode;
 use std::{env, io};
 
@@ -39,7 +41,8 @@ fn run(rt: &HostRuntime) -> io::Result<u8> {
         }
         Err(error) => return Err(error),
     };
-    match read_args(alloc, &args) {
+    let beside = path_beside(alloc, &args)?;
+    match read_args(alloc, &args, &beside) {
         Ok(matches) => run_subcommand(rt, &matches),
         Err(error) if error.kind() == ErrorKind::OutOfMemory => {
             Err(io::Error::from(io::ErrorKind::OutOfMemory))
@@ -62,6 +65,7 @@ fn run_subcommand(rt: &HostRuntime, matches: &ArgMatches<'_>) -> io::Result<u8> 
             }
             Err(ArgsFault::Memory) => Err(io::Error::from(io::ErrorKind::OutOfMemory)),
         },
+        Some(("seal", args)) => seal(rt, args.get_str("journal")),
         _ => Ok(USAGE),
     }
 }

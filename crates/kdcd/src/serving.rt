@@ -1,7 +1,9 @@
 //! Serving a realm: `kdcd serve`.
 use crate::host::{Errors, SystemHost};
 use kdc_sockets::BindFault;
-use kdcd_run::{FaultCount, Host, Outlets, Ran, RequestLines, ServeOptions, run_server};
+use kdcd_run::{
+    CountedLog, FaultCount, Host, Outlets, Ran, RequestLines, ServeOptions, run_server,
+};
 use ready_writer::{ReadyWriter, SharedWriter};
 use std::alloc::AllocError;
 use std::io;
@@ -23,10 +25,11 @@ type StartFault<'a> = kdcd_run::StartFault<'a, BindFault>;
 type SystemRan<'a> = Ran<
     <SystemHost<'a> as Host>::Sockets,
     <SystemHost<'a> as Host>::Journal,
-    Option<RequestLines<Errors>>,
+    CountedLog<Option<RequestLines<Errors>>>,
     Errors,
     FaultCount,
     <SystemHost<'a> as Host>::Rows,
+    <SystemHost<'a> as Host>::Metrics,
 >;
 
 /// Serves as the options say, and gives the status. An error is a failed write.
@@ -45,7 +48,7 @@ fn run<'a>(
     let mut errors = errors_of(rt)?;
     let mut host = SystemHost::new(rt, options, &errors)?;
     let outlets = Outlets {
-        log: open_log(options, &errors)?,
+        log: CountedLog::new(open_log(options, &errors)?),
         errors: errors.share()?,
         tally: FaultCount::new(),
     };
@@ -63,6 +66,7 @@ fn say_served(rt: &HostRuntime, errors: &mut Errors, ran: &SystemRan<'_>) -> io:
     let lost = ran
         .server
         .wire
+        .log()
         .log()
         .as_ref()
         .map_or(0, |log| log.unreported());

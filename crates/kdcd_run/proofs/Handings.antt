@@ -26,9 +26,9 @@ use Rattle.kdc_hub.specs.Issuing.{Issuing, after, reply_of, too_long}
 use Rattle.kdc_hub.specs.Logged.{Entry, Stop, logged, step_by, step_of}
 use Rattle.kdc_hub.specs.Rounds.{AreRounds, IsRound, NothingCame, PollFailed, Took, Tries, closing, did_in, ending, entries_of, lost_in}
 use Rattle.kdc_hub.specs.StreamStep.{StreamStep, ending_step, messages_step, reply_then, stream_room}
-use Rattle.kdc_serving.specs.Life.{ArePeriods, Period, replacement, rounds_in, tidying, turns_of}
-use Rattle.kdc_serving.specs.declared.rows.Look.{Look}
-use Rattle.kdc_serving.specs.declared.rows.Look.TheVariants.{Unchanged, Changed, Failed as LookFailed}
+use Rattle.kdc_hub.specs.Life.{ArePeriods, Period, replacement, rounds_in, tidying, turns_of}
+use Rattle.kdc_hub.specs.declared.rows.Look.{Look}
+use Rattle.kdc_hub.specs.declared.rows.Look.TheVariants.{Unchanged, Changed, Failed as LookFailed}
 use Rattle.kdcd_run.specs.Handing.{HandsAllInLife, HandsAllInRounds, all_seen}
 use Rattle.kdcd_run.specs.Journal.{Handed, handed_at, handed_by}
 use Rattle.kdcd_run.specs.Served.{handed_in}

@@ -3,3 +3,4 @@ pub mod Serving
 mod Handings
 mod Decided
 mod Restarts
+mod Counted

@@ -20,9 +20,9 @@ use Rattle.kdc_hub.specs.Hub.{Standing}
 use Rattle.kdc_hub.specs.Logged.{Entry}
 use Rattle.kdc_hub.specs.Rounds.{entries_of}
 use Rattle.kdc_hub.proofs.Histories.{AreAsked, IsAsked, entry_asks}
-use Rattle.kdc_serving.specs.Life.{ArePeriods, Period, replacement, tidying, turns_of}
-use Rattle.kdc_serving.specs.declared.rows.Look.{Look}
-use Rattle.kdc_serving.specs.declared.rows.Look.TheVariants.{Unchanged, Changed, Failed}
+use Rattle.kdc_hub.specs.Life.{ArePeriods, Period, replacement, tidying, turns_of}
+use Rattle.kdc_hub.specs.declared.rows.Look.{Look}
+use Rattle.kdc_hub.specs.declared.rows.Look.TheVariants.{Unchanged, Changed, Failed}
 use Rattle.journal.specs.declared.decision.Start.{Start}
 use Rattle.journal.specs.declared.decision.Start.TheVariants.{Resumes, Refuses}
 use Rattle.kdcd_run.specs.Handing.{HandsAllInLife}

@@ -6,7 +6,7 @@ use Rattle.replay.specs.declared.seen.Seen.{Seen}
 use Rattle.kdc_hub.specs.History.{Stepped, newly_seen_in}
 use Rattle.kdc_hub.specs.Hub.{Standing}
 use Rattle.kdc_hub.specs.Rounds.{AreRounds, Round, did_in, entries_of}
-use Rattle.kdc_serving.specs.Life.{ArePeriods, Period, rounds_in, turns_of}
+use Rattle.kdc_hub.specs.Life.{ArePeriods, Period, rounds_in, turns_of}
 use Rattle.kdcd_run.specs.Journal.{Handed}
 use Rattle.kdcd_run.specs.Served.{handed_in}
 

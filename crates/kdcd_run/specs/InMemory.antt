@@ -1,19 +1,14 @@
 -- The records of a host, a journal and a log in memory.
-use Rattle.std.specs.Prelude.{ℕ, Bool, true, false, List, map, Option, Some, None, option_map}
+use Rattle.std.specs.Prelude.{ℕ, List, [], map, Option, option_map}
 use Rattle.journal.specs.declared.decision.Found.TheVariants.{Nothing}
 use Rattle.kdcd_run.specs.Journal.{Handed}
 use Rattle.kdcd_run.specs.Log.{LogEntry}
-use Rattle.kdcd_run.specs.Starting.{BeganJournal, Drew, Held, HostDid, ReadJournals, ReadRows, ReadSeed, Showed}
+use Rattle.kdcd_run.specs.Starting.{BeganJournal, Drew, HasNoJournal, Held, HostDid, ReadJournals, ReadRows, ReadSeed, Showed}
 use Rattle.kdcd_run.specs.declared.host.Journals.{Journals}
 use Rattle.kdcd_run.specs.declared.memory_host.HostCall.{HostCall}
 use Rattle.kdcd_run.specs.declared.memory_host.HostCall.TheVariants as calls
 use Rattle.kdcd_run.specs.declared.memory_parts.HandedOver.{HandedOver}
 use Rattle.kdcd_run.specs.declared.memory_parts.MemoryEntry.{MemoryEntry}
-
--- all entries, or none if one of them is missing
-abbrev pub kept : {X : Type 0} → Bool → List X → Option (List X)
-kept true entries = Some entries
-kept false entries = None
 
 -- a record whose entries stand for others
 abbrev pub seen_as : {X Y : Type 0} → (X → Y) → Option (List X) → Option (List Y)
@@ -26,6 +21,7 @@ did_by (calls.ReadSeed path octets) = ReadSeed path octets
 did_by (calls.Drew octets) = Drew octets
 did_by (calls.Held udp tcp) = Held udp.items tcp.items
 did_by (calls.ReadJournals path journals) = ReadJournals path journals
+did_by calls.HasNoJournal = HasNoJournal
 did_by (calls.Showed at) = Showed at
 did_by (calls.BeganJournal path beginning) = BeganJournal path beginning
 
@@ -39,4 +35,4 @@ entry_by e = record { at = e.at; asker = e.asker; account = e.account; is_sent =
 
 -- this boot, and no journals
 abbrev pub no_journals : List ℕ → Journals
-no_journals boot = record { boot = boot; older = Nothing; newer = Nothing }
+no_journals boot = record { boot = boot; older = Nothing; newer = Nothing; seal = [] }

@@ -1,5 +1,5 @@
 -- What a server's journal is handed, and which actions wait for it.
-use Rattle.std.specs.Prelude.{◌≡◌, Bool, true, false, not, ◌||◌, List, map, Option, Some, None}
+use Rattle.std.specs.Prelude.{Bool, true, false, not, ◌||◌, List, map, Option, Some, None}
 use Rattle.krb_fields.specs.declared.moment.Moment.{Moment}
 use Rattle.replay.specs.declared.seen.Seen.{Seen}
 use Rattle.kdc_hub.specs.declared.event.Action.{Action}
@@ -7,7 +7,6 @@ use Rattle.kdc_hub.specs.declared.event.Action.TheVariants.{SendTo, Pass, Write,
 use Rattle.kdc_hub.specs.declared.wires.Did.{Did}
 use Rattle.kdc_hub.specs.declared.wires.Did.TheVariants.{Polled, Waited, Missed, Acted, Failed}
 use Rattle.kdc_hub.specs.History.{reply_in, seen_by}
-use Rattle.kdc_hub.specs.Wire.{Records}
 
 -- an authenticator that the KDC remembers, with the moment of its request
 pub record Handed : Type 0 where

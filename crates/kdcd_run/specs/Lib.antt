@@ -6,6 +6,7 @@ pub mod Memory
 pub mod Quiet
 pub mod Journal
 pub mod Withheld
+pub mod Numbers
 pub mod Served
 pub mod Handing
 pub mod Resuming

@@ -9,6 +9,7 @@ use Rattle.kdc_hub.specs.declared.event.Action.{Action}
 use Rattle.kdc_hub.specs.declared.event.Action.TheVariants.{SendTo, Pass, Write, Close}
 use Rattle.kdc_hub.specs.declared.event.CloseReason.{CloseReason}
 use Rattle.kdc_hub.specs.declared.event.CloseReason.TheVariants.{NoRequest, BadLength, Full, OutOfMemory}
+use Rattle.request_counts.specs.Counts.{Asked}
 use Rattle.request_log.specs.Entry.{entry_fields}
 use Rattle.request_log.specs.Field.{Field}
 use Rattle.request_log.specs.Lines.{json_line, text_line}
@@ -28,6 +29,10 @@ pub record LogEntry : Type 0 where
   pub asker : Asker
   pub account : Option Account
   pub is_sent : Bool
+
+-- what is counted of an entry
+abbrev pub asked_by : LogEntry → Asked
+asked_by entry = record { transport = entry.asker.transport; account = entry.account; is_sent = entry.is_sent }
 
 -- what an action that answers says of the request; a length that is too large is no request
 abbrev pub reports : Option Account → List (Option Account)

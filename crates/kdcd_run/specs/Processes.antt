@@ -18,7 +18,7 @@ use Rattle.kdc_core.specs.declared.run.Event.{Event as KdcEvent}
 use Rattle.kdc_hub.specs.History.{Reopened, Resumed, Turn, after_turn, after_turns, events_in, tickets_sent}
 use Rattle.kdc_hub.specs.Hub.{Standing}
 use Rattle.kdc_hub.specs.Rounds.{did_in}
-use Rattle.kdc_serving.specs.Life.{ArePeriods, Period, rounds_in, turns_of}
+use Rattle.kdc_hub.specs.Life.{ArePeriods, Period, rounds_in, turns_of}
 use Rattle.journal.specs.Decision.{Place, start_of}
 use Rattle.journal.specs.Holding.{IsFound, IsSafe}
 use Rattle.journal.specs.World.{World}

@@ -4,12 +4,13 @@ use Rattle.principals_text.specs.RefusalWord.{read_refusal}
 use Rattle.principals_text.specs.Value.{text_database}
 use Rattle.principals_text.specs.declared.read_fault.ReadFault.TheVariants.{NotJson, Memory}
 use Rattle.kdcd_run.specs.declared.files.FileFault.{FileFault}
-use Rattle.kdcd_run.specs.declared.files.FileFault.TheVariants.{LongFile, ShortSeed, NotJournal, Database, Failed}
+use Rattle.kdcd_run.specs.declared.files.FileFault.TheVariants.{LongFile, ShortSeed, NotJournal, Journal, Database, Failed}
 
 abbrev pub refusal : FileFault → Option (List ℕ)
 refusal LongFile = Some (codes "LongFile")
 refusal ShortSeed = Some (codes "ShortSeed")
 refusal (NotJournal part) = Some (codes "NotJournal")
+refusal Journal = Some (codes "Journal")
 refusal (Database fault) = read_refusal fault
 refusal (Failed error) = None
 
@@ -20,4 +21,5 @@ RefusesDatabase octets (Database fault) =
 RefusesDatabase octets LongFile = ⊥
 RefusesDatabase octets ShortSeed = ⊥
 RefusesDatabase octets (NotJournal part) = ⊥
+RefusesDatabase octets Journal = ⊥
 RefusesDatabase octets (Failed error) = ⊥

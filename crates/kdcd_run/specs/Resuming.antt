@@ -18,7 +18,7 @@ use Rattle.journal.specs.declared.decision.Found.TheVariants.{Nothing, Broken, W
 use Rattle.journal.specs.declared.decision.Start.{Start}
 use Rattle.journal.specs.declared.decision.Start.TheVariants.{Resumes, Refuses}
 use Rattle.kdc_core.specs.NewlySeen.{opening_resumption}
-use Rattle.kdcd_run.specs.Starting.{BeganJournal, HostDid, Held, ReadJournals, ReadRows, Showed, opened_by, seed_by}
+use Rattle.kdcd_run.specs.Starting.{BeganJournal, HasNoJournal, HostDid, Held, ReadJournals, ReadRows, Showed, opened_by, seed_by}
 use Rattle.kdcd_run.specs.Starting.{seeded, seeding}
 use Rattle.kdcd_run.specs.declared.args.ServeOptions.{ServeOptions}
 use Rattle.kdcd_run.specs.declared.host.JournalBeginning.{JournalBeginning}
@@ -56,20 +56,21 @@ found_at None start = None
 abbrev pub may_be_first : Bool → Journals → Bool
 may_be_first is_first journals = not is_first || not (is_there journals.newer || is_there journals.older)
 
--- it resumes exactly where the journals say so, by the realm of the rows, the boot and the moment
+-- it resumes exactly where the journals say so, by the realm of the rows, the boot, the seal and the moment
 pub record IsDecided (rows : Principals) (journals : Journals) (at : Moment) (start : Start) : Type 0 where
   pub place : Place
   pub realm : place.realm.now ≡ rows.realm
   pub boot : place.boot.now ≡ journals.boot
+  pub seal : place.seal.now ≡ journals.seal
   pub moment : place.at ≡ at
   pub is : start ≡ start_of place journals.older journals.newer
 
 -- ---- what is asked of the host for a journal at a path
 
--- the files are read; without a path there are none
+-- the files are read; a server without a journal makes sure that none is beside the database
 abbrev pub reading : Option (List ℕ) → Journals → List HostDid
 reading (Some path) journals = ReadJournals path journals ∷ []
-reading None journals = []
+reading None journals = HasNoJournal ∷ []
 
 abbrev pub AreAt : Option (List ℕ) → Journals → Type 0
 AreAt (Some path) journals = ⊤
@@ -99,6 +100,6 @@ pub record IsReady (options : ServeOptions) (before after : Option (List HostDid
   pub realm : beginning.realm ≡ rows.realm
   pub floor : beginning.floor ≡ (known_by (opened_by options.is_first beginning.at) beginning.start).floor
   pub random : hub.issuing.random ≡ seeded (seed_by (option_copied options.seed) octets)
-  pub accounts : hub.issuing.accounts ≡ (is_some options.log || options.is_quiet)
+  pub accounts : hub.issuing.accounts ≡ (is_some options.log || options.is_quiet || is_some options.metrics)
   pub connections : hub.connections ≡ map.empty
   pub count : row_count ≡ map.len rows.rows

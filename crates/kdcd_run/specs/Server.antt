@@ -5,9 +5,9 @@ use Rattle.krb_fields.specs.declared.moment.Moment.{Moment}
 use Rattle.kdc_hub.specs.declared.wires.Did.{Did}
 use Rattle.kdc_hub.specs.Hub.{Standing}
 use Rattle.kdc_hub.specs.Wire.{Records}
-use Rattle.kdc_serving.specs.declared.rows.Look.{Look}
-use Rattle.kdc_serving.specs.declared.totals.Totals.{Totals}
-use Rattle.kdc_serving.specs.Life.{IsLife, periods_of}
+use Rattle.kdc_hub.specs.declared.rows.Look.{Look}
+use Rattle.kdc_hub.specs.declared.totals.Totals.{Totals}
+use Rattle.kdc_hub.specs.Life.{IsLife, periods_of}
 use Rattle.kdcd_run.specs.Clocks.{refused_at_start}
 use Rattle.kdcd_run.specs.Resuming.{IsReady, began, found_at}
 use Rattle.kdcd_run.specs.Served.{IsNew}

@@ -14,14 +14,15 @@ use Rattle.kdcd_run.specs.declared.host.Journals.{Journals}
 
 -- A call of a host that succeeded, with its outcome: it read the rows of the database; it read the octets of the file
 -- of the seed at a path; the system gave random octets; sockets for datagrams and sockets that take connections are
--- held at these addresses from then on; it holds the journal at a path, and read these; the clock showed a moment; the
--- journal at a path began so.
+-- held at these addresses from then on; it holds the journal at a path, and read these; no journal is beside the
+-- database; the clock showed a moment; the journal at a path began so.
 pub data HostDid : Type 0 where
   ReadRows : Principals → HostDid
   ReadSeed : List ℕ → List ℕ → HostDid
   Drew : List ℕ → HostDid
   Held : List SocketAddr → List SocketAddr → HostDid
   ReadJournals : List ℕ → Journals → HostDid
+  HasNoJournal : HostDid
   Showed : Moment → HostDid
   BeganJournal : List ℕ → JournalBeginning → HostDid
 

@@ -1,12 +1,13 @@
 //! The command line of `kdcd`: its subcommands, their options, and what `--help` says.
 use crate::request_lines::LogFormat;
+use clap::builder::ValueParser;
 use clap::error::Error;
-use clap::{ArgMatches, Command};
+use clap::{Arg, ArgMatches, Command};
 use command_options::{FlagRow, OptionRow, SubcommandRow, Times, subcommand, with_subcommands};
 use principal_rows::Limits;
 use std::alloc::{AllocError, AllocFailed, Global};
 use std::net::SocketAddr;
-use text_fields::number_u32;
+use text_fields::{lifetime, number_u32};
 
 /// The options of a server.
 #[derive(Debug, Drop)]
@@ -28,6 +29,12 @@ pub struct ServeOptions<'a> {
     pub is_quiet: bool,
     /// The path of the journal's file, if there is one.
     pub journal: Option<&'a str>,
+    /// How many bytes a file of the journal has when it takes its turn.
+    pub journal_size: u64,
+    /// Whether a journal beside the database is removed.
+    pub removes_journal: bool,
+    /// The path of the file of the server's numbers, if there is to be one.
+    pub metrics: Option<&'a str>,
     /// Whether the database's file is read only once.
     pub is_fixed: bool,
     /// The format of the log on standard error, if there is one.
@@ -77,15 +84,23 @@ could not be sent. A line that can't be written is lost.
 
 With --journal the server appends each authenticator that enters a replay cache to FILE before it sends the reply. The
 next start reads FILE, refuses these authenticators, and refuses nothing else. It does so only if the journal is of this
-realm and of this boot of the system, whole, and not later than the clock. Otherwise it starts as without a journal, and
-standard error says why. FILE and FILE.old take turns every ten minutes. FILE.lock keeps a second server from FILE; it
-stays there. While FILE can't be written the server sends no reply, and standard error says so. If FILE, or FILE.old,
-FILE.new or FILE.lock, is something else than a journal's, the start is refused, and it stays as it is. --first is
-refused if there is a journal, since it is for the first start alone.
+realm, whole, and of this boot of the system or sealed by `kdcd seal` before the system went down. Otherwise it starts as
+without a journal, and standard error says why. If the clock is behind the journal, it refuses all that may have come
+before. FILE and FILE.old take turns every ten minutes, or when FILE has --journal-size bytes. FILE.lock keeps a second
+server from FILE; it stays there. While FILE can't be written the server sends no reply, and standard error says so. If
+FILE, or FILE.old, FILE.new, FILE.lock or FILE.sealed, is something else than a journal's, the start is refused, and it
+stays as it is. --first is refused if there is a journal, since it is for the first start alone. --journal without a
+value takes DATABASE.journal. A server without --journal is refused while that file is there, since what it answers
+would be missing in the journal; with --no-journal it removes that journal.
+
+With --metrics the server writes its numbers to FILE every ten seconds: requests by exchange, outcome and rule, replies
+by transport, events and faults, rows, replay caches and the journal. Everybody may read FILE (mode 644). FILE.new beside
+it is renamed to it, so no reader sees half of it. If FILE can't be written, or something else than numbers is there,
+standard error says so once, and the server goes on.
 
 Status: 0 after the last round; 1 if a file is refused (`refused NAME`: NotJson, BadVersion, BadRow, NoTicketGranter,
-ShortSeed, LongFile, NotJournal); 2 for a usage error; 3 if a file, a socket, the clock or memory failed (`failed`). Standard error
-says why the server did not start.";
+ShortSeed, LongFile, NotJournal, Journal); 2 for a usage error; 3 if a file, a socket, the clock or memory failed (`failed`).
+Standard error says why the server did not start.";
 
 const SERVE: SubcommandRow = SubcommandRow {
     name: "serve",
@@ -141,26 +156,32 @@ const SERVE: SubcommandRow = SubcommandRow {
         },
         OptionRow {
             name: "lock-seconds",
-            shape: "N",
-            help: "Lock it until N seconds after the last failure",
+            shape: "TIME",
+            help: "Lock it until TIME after the last failure: seconds, or a number with s, m, h or d (300, 5m)",
             times: Times::AtMostOnce,
         },
         OptionRow {
             name: "greatest-life",
-            shape: "N",
-            help: "Issue tickets with a lifetime of at most N seconds (default 36000)",
+            shape: "TIME",
+            help: "Issue tickets with a lifetime of at most TIME (default 10h)",
             times: Times::AtMostOnce,
         },
         OptionRow {
             name: "greatest-renewable",
-            shape: "N",
-            help: "Renew tickets for at most N seconds (default 604800)",
+            shape: "TIME",
+            help: "Renew tickets for at most TIME (default 7d)",
             times: Times::AtMostOnce,
         },
         OptionRow {
-            name: "journal",
+            name: "journal-size",
+            shape: "SIZE",
+            help: "Begin another file of the journal once one has SIZE bytes, up to 512M (default 64M)",
+            times: Times::AtMostOnce,
+        },
+        OptionRow {
+            name: "metrics",
             shape: "FILE",
-            help: "Append the authenticators of the replay caches to FILE, so that a restart refuses nothing else",
+            help: "Write the server's numbers to FILE every ten seconds, in Prometheus' text format, for those who watch it",
             times: Times::AtMostOnce,
         },
         OptionRow {
@@ -181,6 +202,10 @@ const SERVE: SubcommandRow = SubcommandRow {
             help: "Send no reply to a TGS-REQ while all are refused after the start, and close its connection: clients then ask another KDC",
         },
         FlagRow {
+            name: "no-journal",
+            help: "Remove the journal that is beside the database, and serve without one",
+        },
+        FlagRow {
             name: "fixed",
             help: "Read the database once, and never look at its file again",
         },
@@ -191,6 +216,28 @@ const SERVE: SubcommandRow = SubcommandRow {
     ],
 };
 
+const AFTER_SEAL_HELP: &str = "\
+After the system was booted a server resumes only with a journal that was sealed, since the end of another one may be
+lost. Run this after the server has ended and before the system goes down: it puts the journal on the disk, and then the
+seal, FILE.sealed. The next start breaks the seal. Only a whole journal of this boot of the system is sealed, and none
+that a server has open.
+
+Status: 0 if it is sealed (`ok`); 1 if a start would not resume with it, or a file is none of a journal's
+(`refused NAME`: Absent, Damaged, OtherBoot, Unlinked, NotJournal); 2 for a usage error; 3 if a file or memory failed (`failed`).
+Standard error says why.";
+
+const SEAL: SubcommandRow = SubcommandRow {
+    name: "seal",
+    about: "Seals the journal of a server that has ended, so that it resumes after the next boot",
+    options: &[OptionRow {
+        name: "journal",
+        shape: "FILE",
+        help: "The journal, as the server's --journal names it",
+        times: Times::Once,
+    }],
+    flags: &[],
+};
+
 const SCRIPT: SubcommandRow = SubcommandRow {
     name: "script",
     about: "Runs a script from standard input",
@@ -198,12 +245,54 @@ const SCRIPT: SubcommandRow = SubcommandRow {
     flags: &[],
 };
 
-/// Reads the words of a command line, which begin with the program's name.
-pub fn read_args<'a>(alloc: Global, args: &'a [String]) -> Result<ArgMatches<'a>, Error> {
+/// Reads the words of a command line, which begin with the program's name. A server whose `--journal` has no value has its
+/// journal at the path `beside`.
+pub fn read_args<'a>(
+    alloc: Global,
+    args: &'a [String],
+    beside: &'a str,
+) -> Result<ArgMatches<'a>, Error> {
     let kdcd = Command::new(alloc, "kdcd").about("A Kerberos KDC");
+    let serve = subcommand(alloc, &SERVE)?
+        .arg(journal_option(alloc, beside))?
+        .after_help(AFTER_HELP);
     with_subcommands(alloc, kdcd, &[SCRIPT])?
-        .subcommand(subcommand(alloc, &SERVE)?.after_help(AFTER_HELP))?
+        .subcommand(serve)?
+        .subcommand(subcommand(alloc, &SEAL)?.after_help(AFTER_SEAL_HELP))?
         .try_get_matches_from(args)
+}
+
+/// The option of a journal. Without a value it has this path.
+fn journal_option<'a>(alloc: Global, beside: &'a str) -> Arg<'a> {
+    Arg::new(alloc, "journal")
+        .long("journal")
+        .value_name("FILE")
+        .num_args(0..=1)
+        .default_missing_value(beside)
+        .value_parser(ValueParser::NonEmptyString)
+        .help(
+            "Append the authenticators of the replay caches to FILE (default DATABASE.journal), so that a restart refuses nothing else",
+        )
+}
+
+/// Returns the path of the journal beside the database of a server, by the words of its command line. It is empty if they
+/// are none of a server's.
+pub fn path_beside(alloc: Global, args: &[String]) -> Result<String, AllocError> {
+    let Ok(matches) = read_args(alloc, args, "journal") else {
+        return Ok(String::new(alloc));
+    };
+    let Some(("serve", serve)) = matches.subcommand() else {
+        return Ok(String::new(alloc));
+    };
+    match serve.get_str("db") {
+        Some(db) => journal_beside(alloc, db),
+        None => Ok(String::new(alloc)),
+    }
+}
+
+/// Returns the path of the journal beside a database.
+pub fn journal_beside(alloc: Global, db: &str) -> Result<String, AllocError> {
+    format!(in alloc; "{db}.journal")
 }
 
 /// Reads the options after `serve`.
@@ -245,6 +334,9 @@ fn with_addresses<'a>(
             "--lock-after needs --lock-seconds, for how long a client is locked, such as --lock-seconds 300",
         ));
     }
+    if args.get_flag("no-journal") && args.get_str("journal").is_some() {
+        return Err(ArgsFault::BadUsage("--journal and --no-journal exclude each other"));
+    }
     let log = log_format(args)?;
     Ok(ServeOptions {
         db,
@@ -256,10 +348,44 @@ fn with_addresses<'a>(
         is_first: args.get_flag("first"),
         is_quiet: args.get_flag("quiet-start"),
         journal: args.get_str("journal"),
+        journal_size: journal_size(args)?,
+        removes_journal: args.get_flag("no-journal"),
+        metrics: args.get_str("metrics"),
         is_fixed: args.get_flag("fixed"),
         log,
     })
 }
+
+/// How many bytes a journal's file has at most when it takes its turn, if no option says so.
+const JOURNAL_SIZE: u64 = 67_108_864;
+
+/// The greatest number of bytes that an option can say: a start reads two such files.
+const GREATEST_JOURNAL: u64 = 536_870_912;
+
+fn journal_size(args: &ArgMatches<'_>) -> Result<u64, ArgsFault> {
+    let Some(word) = args.get_str("journal-size") else {
+        return Ok(JOURNAL_SIZE);
+    };
+    match size(word) {
+        Some(size) if size <= GREATEST_JOURNAL => Ok(size),
+        Some(_) | None => Err(ArgsFault::BadUsage(
+            "--journal-size takes a number of bytes up to 512M, such as 64M: K, M and G are allowed",
+        )),
+    }
+}
+
+/// Reads a number of bytes, or of units of 1,024, 1,024 * 1,024 and so on.
+fn size(word: &str) -> Option<u64> {
+    for (unit, bytes) in UNITS {
+        if let Some(front) = word.strip_suffix(unit) {
+            return u64::from(number_u32(front)?).checked_mul(bytes);
+        }
+    }
+    number_u32(word).map(u64::from)
+}
+
+/// The units of a number of bytes.
+const UNITS: [(&str, u64); 3] = [("K", 1 << 10), ("M", 1 << 20), ("G", 1 << 30)];
 
 /// Reads the format of the log, if there is to be one.
 fn log_format(args: &ArgMatches<'_>) -> Result<Option<LogFormat>, ArgsFault> {
@@ -326,23 +452,23 @@ fn limits(args: &ArgMatches<'_>) -> Result<Limits, ArgsFault> {
             0,
             "--lock-after takes a number from 0 to 4294967295",
         )?,
-        limit(
+        duration(
             args,
             "lock-seconds",
             0,
-            "--lock-seconds takes a number from 0 to 4294967295",
+            "--lock-seconds takes seconds (300), or a number followed by s, m, h or d (5m)",
         )?,
-        limit(
+        duration(
             args,
             "greatest-life",
             36_000,
-            "--greatest-life takes a number from 0 to 4294967295",
+            "--greatest-life takes seconds (36000), or a number followed by s, m, h or d (10h)",
         )?,
-        limit(
+        duration(
             args,
             "greatest-renewable",
             604_800,
-            "--greatest-renewable takes a number from 0 to 4294967295",
+            "--greatest-renewable takes seconds (604800), or a number followed by s, m, h or d (7d)",
         )?,
     );
     let limits = limits.ok_or(ArgsFault::BadUsage(REMEMBERED_FAULT))?;
@@ -366,6 +492,19 @@ fn limit(
 ) -> Result<u32, ArgsFault> {
     match args.get_str(name) {
         Some(word) => number_u32(word).ok_or(ArgsFault::BadUsage(fault)),
+        None => Ok(otherwise),
+    }
+}
+
+/// Returns the seconds behind an option, or others if the option is not given.
+fn duration(
+    args: &ArgMatches<'_>,
+    name: &str,
+    otherwise: u32,
+    fault: &'static str,
+) -> Result<u32, ArgsFault> {
+    match args.get_str(name) {
+        Some(word) => lifetime(word).ok_or(ArgsFault::BadUsage(fault)),
         None => Ok(otherwise),
     }
 }

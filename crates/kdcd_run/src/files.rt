@@ -20,6 +20,8 @@ pub enum FileFault {
     ShortSeed,
     /// Something else than a journal has the name of one of its files.
     NotJournal(JournalPart),
+    /// The file is a database, and the journal of a server that had one is beside it.
+    Journal,
     /// The text denotes no database.
     Database(ReadFault),
     /// The file could not be read, or memory ran out.
@@ -35,6 +37,7 @@ impl FileFault {
             FileFault::LongFile => Some("LongFile"),
             FileFault::ShortSeed => Some("ShortSeed"),
             FileFault::NotJournal(_) => Some("NotJournal"),
+            FileFault::Journal => Some("Journal"),
             FileFault::Database(fault) => fault.refusal(),
             FileFault::Failed(_) => None,
         }
@@ -47,6 +50,9 @@ impl fmt::Display for FileFault {
             FileFault::LongFile => f.write_str("it is longer than the maximum"),
             FileFault::ShortSeed => f.write_str("it has fewer than 32 bytes"),
             FileFault::NotJournal(part) => write!(f, "{part}"),
+            FileFault::Journal => f.write_str(
+                "its journal is beside it; start with --journal to go on with that, or with --no-journal to remove it",
+            ),
             FileFault::Database(fault) => write!(f, "{fault}"),
             FileFault::Failed(error) => write!(f, "{error}"),
         }

@@ -1,17 +1,18 @@
 //! The host of a server.
 ghost use Rattle.std.specs.Prelude.{◌≡◌, ◌∷◌, [], List, Option, IfOk, true, false};
 ghost use Rattle.kdc_hub.specs.Wire.{Records};
-ghost use Rattle.kdc_serving.specs.Recorded.{recorded_by_any};
+ghost use Rattle.kdc_hub.specs.Recorded.{recorded_by_any};
 ghost use Rattle.kdcd_run.specs.Served.{IsNew};
-ghost use Rattle.kdcd_run.specs.Starting.{HostDid, ReadRows, ReadSeed, Drew, Held, ReadJournals, Showed, BeganJournal};
+ghost use Rattle.kdcd_run.specs.Starting.{HostDid, ReadRows, ReadSeed, Drew, Held, HasNoJournal, ReadJournals, Showed, BeganJournal};
 
 use crate::clock_watch::Refused;
 use crate::files::FileFault;
 use crate::keeping::JournalWriter;
+use crate::metrics::MetricsWriter;
 use crate::sockets::Sockets;
 use crate::started::JournalFound;
 use journal::{Found, Start};
-use kdc_serving::RowSource;
+use kdc_hub::RowSource;
 use krb_elements::Octets;
 use krb_fields::Moment;
 use principals::Database;
@@ -28,6 +29,8 @@ pub struct Journals {
     pub older: Found,
     /// The journal that is appended to.
     pub newer: Found,
+    /// The seal beside them. Without one there are no octets.
+    pub seal: Octets,
 }
 
 /// What the journal of a server begins with.
@@ -68,6 +71,9 @@ pub trait Host {
     /// The source of the rows after the start.
     type Rows: RowSource + Drop;
 
+    /// What takes the text of a server's numbers.
+    type Metrics: MetricsWriter + Drop;
+
     // The calls so far that succeeded, with their outcomes, in order, if the host keeps a record.
     ghost recorded: { Self → Option (List HostDid) };
 
@@ -100,6 +106,11 @@ pub trait Host {
         ensures { IfOk result (λ journals.
             Records (recorded self.old) (ReadJournals path.now journals ∷ []) (recorded self.new)) };
 
+    /// Makes sure that no journal is beside the database, for a server that has none. One that is there refuses the start,
+    /// or is removed, as the options say.
+    fn refuse_journal(&mut self, alloc: Global) -> Result<(), FileFault>
+        ensures { IfOk result (λ _. Records (recorded self.old) (HasNoJournal ∷ []) (recorded self.new)) };
+
     /// Begins the journal at a path, or goes on with the one that was read.
     fn begin_journal(
         &mut self,
@@ -126,6 +137,10 @@ pub trait Host {
     fn take_rows(&mut self) -> Option<Self::Rows>
         ensures records { recorded self.new ≡ recorded self.old }
         ensures new { IsNew (recorded_by_any Self.Rows.recorded result) };
+
+    /// Hands over what takes the text of the server's numbers, if it is to be written.
+    fn take_metrics(&mut self) -> Option<Self::Metrics>
+        ensures { recorded self.new ≡ recorded self.old };
 
     /// Returns the moment that the clock shows.
     fn now(&mut self) -> io::Result<Moment>

@@ -20,38 +20,40 @@ use std::io;
 use std::io::{Error, ErrorKind, Write};
 use std::rt::Files;
 
-/// A journal's file takes its turn once it has 64 MiB.
-const LONGEST_JOURNAL: u64 = 67_108_864;
-
 /// The journal of a server in the system's files.
 pub type FileJournal<'a, F, W> = JournalFile<SystemJournal<'a, F, W>>;
 
-/// Begins the journal of a server in the system's files, or goes on with what was read of them.
+/// Begins the journal of a server in the system's files, or goes on with what was read of them. A file takes its turn
+/// once it has `most` octets.
 pub fn begin_journal<'a, F: Files<File = File>, W: Write + Drop>(
     alloc: Global,
     files: SystemJournal<'a, F, W>,
     beginning: JournalBeginning,
+    most: u64,
 ) -> io::Result<FileJournal<'a, F, W>> {
     let len = files.len();
-    match begun(alloc, files, beginning, len) {
+    match begun(alloc, files, beginning, len, most) {
         Ok(journal) => Ok(journal),
         Err(fault) => Err(io_error(fault)),
     }
 }
 
-/// Begins the journal of a server, or goes on with what was read of its files. The newer one has this
-/// many octets.
+/// Begins the journal of a server, or goes on with what was read of its files. The newer one has `len` octets, and takes its
+/// turn once it has `most`.
 pub fn begun<F: JournalFiles + Drop>(
     alloc: Global,
     files: F,
     beginning: JournalBeginning,
     len: u64,
+    most: u64,
 ) -> Result<JournalFile<F>, FilesFault<F::Fault>>
     // If the start made this of what is in the files, they hold all that it knows.
     ensures kept { IfOk result (λ journal.
         IfSome (F.world files) (IsStart beginning.at beginning.floor beginning.journals.newer beginning.start)
         → HasKept F.world (beginning.at.sec -ℤ pos skew) (known_by beginning.floor beginning.start)
         (known_by beginning.floor beginning.start) journal.files journal.tail journal.floor) }
+    // No seal is left of what another boot could resume with.
+    ensures broken { IfOk result (λ journal. IfSome (F.world journal.files) (λ w. w.seal ≡ [])) }
 {
     let JournalBeginning {
         realm,
@@ -60,7 +62,7 @@ pub fn begun<F: JournalFiles + Drop>(
         start,
         journals,
     } = beginning;
-    let mut journal = JournalFile::new(files, realm, journals.boot, floor, LONGEST_JOURNAL);
+    let mut journal = JournalFile::new(files, realm, journals.boot, floor, most);
     match journal.start(alloc, at, &start, &journals.newer, len) {
         Ok(()) => Ok(journal),
         Err(fault) => Err(fault),

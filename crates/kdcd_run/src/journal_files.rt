@@ -3,7 +3,7 @@ use crate::files::{FileFault, read_at_most, read_whole};
 use crate::host::Journals;
 use crate::journal_store::SystemJournal;
 use crate::plain_files::{open_plain, open_plain_with, own_user};
-use journal::{FileText, FilesFault, Found, Part, read_part};
+use journal::{FileText, FilesFault, Found, JournalFiles, Part, read_part};
 use krb_elements::Octets;
 use std::alloc::{AllocError, Global};
 use std::fs::{File, OpenOptions, TryLockError};
@@ -43,8 +43,14 @@ pub fn open_journals<'a, F: Files<File = File>, W: Write + Drop>(
     let boot = boot_id(alloc, files)?;
     let older = found(alloc, &mut held, Part::Older)?;
     let newer = found(alloc, &mut held, Part::Newer)?;
+    let seal = Octets::new(held.read_seal(alloc)?);
     Ok(OpenedJournals {
-        journals: Journals { boot, older, newer },
+        journals: Journals {
+            boot,
+            older,
+            newer,
+            seal,
+        },
         files: held,
     })
 }
@@ -75,6 +81,18 @@ pub(crate) fn open_locked<F: Files<File = File>>(files: &F, path: &str) -> io::R
             "another server appends to it; each server needs a journal of its own",
         )),
         Err(TryLockError::Error(error)) => Err(error),
+    }
+}
+
+/// Reads the seal at a path. Without one there are no octets.
+pub(crate) fn seal_at<F: Files<File = File>>(
+    alloc: Global,
+    files: &F,
+    path: &str,
+) -> io::Result<Vec<u8>> {
+    match text_at(alloc, files, path)? {
+        FileText::Octets(octets) => Ok(octets),
+        FileText::Nothing | FileText::Unusable => Ok(Vec::new(alloc)),
     }
 }
 

@@ -7,6 +7,9 @@ use std::io::{Error, ErrorKind, Read};
 use std::rt::Files;
 use std::{fmt, fs, io};
 
+/// The length of a seal, in bytes: that of a check.
+pub(crate) const SEAL_LEN: u64 = 16;
+
 /// A file of a journal.
 #[derive(Clone, Copy, Debug, PartialEq, Eq)]
 pub enum JournalPart {
@@ -18,6 +21,8 @@ pub enum JournalPart {
     Beside,
     /// The file that is locked. It is empty.
     Lock,
+    /// The file of the seal. It has a check, or is empty.
+    Seal,
 }
 
 impl fmt::Display for JournalPart {
@@ -27,6 +32,7 @@ impl fmt::Display for JournalPart {
             JournalPart::Older => "the file .old beside it is no journal, and stays as it is",
             JournalPart::Beside => "the file .new beside it is no journal, and stays as it is",
             JournalPart::Lock => "the file .lock beside it is no empty file, and stays as it is",
+            JournalPart::Seal => "the file .sealed beside it is no seal, and stays as it is",
         })
     }
 }
@@ -38,6 +44,7 @@ pub(crate) struct Paths {
     pub(crate) older: String,
     pub(crate) beside: String,
     pub(crate) lock: String,
+    pub(crate) seal: String,
 }
 
 impl Paths {
@@ -47,7 +54,13 @@ impl Paths {
             older: format!(in alloc; "{path}.old")?,
             beside: format!(in alloc; "{path}.new")?,
             lock: format!(in alloc; "{path}.lock")?,
+            seal: format!(in alloc; "{path}.sealed")?,
         })
+    }
+
+    /// Checks whether either of the two files of a journal is there.
+    pub(crate) fn are_there<F: Files>(&self, files: &F) -> io::Result<bool> {
+        Ok(is_there(files, self.newer.as_str())? || is_there(files, self.older.as_str())?)
     }
 
     /// Refuses names that something else than a journal has. Nothing is changed by that.
@@ -55,7 +68,16 @@ impl Paths {
         check_part(alloc, files, self.newer.as_str(), JournalPart::Newer)?;
         check_part(alloc, files, self.older.as_str(), JournalPart::Older)?;
         check_part(alloc, files, self.beside.as_str(), JournalPart::Beside)?;
-        check_lock(files, self.lock.as_str())
+        check_short(files, self.lock.as_str(), 0, JournalPart::Lock)?;
+        check_short(files, self.seal.as_str(), SEAL_LEN, JournalPart::Seal)
+    }
+}
+
+fn is_there<F: Files>(files: &F, path: &str) -> io::Result<bool> {
+    match fs::metadata(files, path) {
+        Ok(_) => Ok(true),
+        Err(error) if error.kind() == ErrorKind::NotFound => Ok(false),
+        Err(error) => Err(error),
     }
 }
 
@@ -71,10 +93,16 @@ fn check_part<F: Files>(
     Err(FileFault::NotJournal(part))
 }
 
-fn check_lock<F: Files>(files: &F, path: &str) -> Result<(), FileFault> {
+/// Refuses a path that has something else than a plain file of at most this many bytes.
+fn check_short<F: Files>(
+    files: &F,
+    path: &str,
+    most: u64,
+    part: JournalPart,
+) -> Result<(), FileFault> {
     match fs::metadata(files, path) {
-        Ok(file) if file.is_file() && file.len() == 0 => Ok(()),
-        Ok(_) => Err(FileFault::NotJournal(JournalPart::Lock)),
+        Ok(file) if file.is_file() && file.len() <= most => Ok(()),
+        Ok(_) => Err(FileFault::NotJournal(part)),
         Err(error) if error.kind() == ErrorKind::NotFound => Ok(()),
         Err(error) => Err(FileFault::Failed(error)),
     }

@@ -3,7 +3,7 @@ ghost use Rattle.std.specs.Prelude.{◌≡◌};
 ghost use Rattle.kdcd_run.specs.Unrecorded.{no_world};
 
 use crate::files::FileFault;
-use crate::journal_files::{OWNER_ONLY, open_locked, open_newer, text_at, text_in};
+use crate::journal_files::{OWNER_ONLY, open_locked, open_newer, seal_at, text_at, text_in};
 use crate::journal_parts::{Paths, require_replaceable};
 use journal::{Begun, FileText, JournalFiles, News, NotBegun, Part};
 use std::alloc::Global;
@@ -56,6 +56,29 @@ impl<'a, F: Files<File = File>, W: Write + Drop> SystemJournal<'a, F, W> {
                 Err(_) => 0,
             },
             None => 0,
+        }
+    }
+
+    /// Removes the journal, but for the file that is locked.
+    pub fn remove(&mut self, alloc: Global) -> io::Result<()> {
+        self.newer = None;
+        for path in [
+            self.paths.newer.as_str(),
+            self.paths.older.as_str(),
+            self.paths.beside.as_str(),
+        ] {
+            require_replaceable(alloc, self.files, path)?;
+            remove_if_there(self.files, path)?;
+        }
+        remove_if_there(self.files, self.paths.seal.as_str())
+    }
+
+    /// Puts what was written to the older file on the disk, if it is there.
+    fn sync_older(&self) -> io::Result<()> {
+        match File::open(self.files, self.paths.older.as_str()) {
+            Ok(older) => older.sync_all(),
+            Err(error) if error.kind() == ErrorKind::NotFound => Ok(()),
+            Err(error) => Err(error),
         }
     }
 
@@ -140,6 +163,36 @@ impl<F: Files<File = File>, W: Write + Drop> JournalFiles for SystemJournal<'_, 
         match part {
             Part::Older => text_at(alloc, self.files, self.paths.older.as_str()),
             Part::Newer => text_in(alloc, self.files, self.newer.as_ref()),
+        }
+    }
+
+    fn read_seal(&mut self, alloc: Global) -> io::Result<Vec<u8>> {
+        seal_at(alloc, self.files, self.paths.seal.as_str())
+    }
+
+    fn seal(&mut self, check: &[u8; 16]) -> io::Result<()> {
+        self.sync_older()?;
+        match &self.newer {
+            Some(newer) => newer.sync_all()?,
+            None => return Err(Error::from(ErrorKind::NotFound)),
+        }
+        let mut how = OpenOptions::new();
+        how.write(true).create(true).truncate(true).mode(OWNER_ONLY);
+        let mut seal = how.open(self.files, self.paths.seal.as_str())?;
+        append_to(&mut seal, check)?;
+        seal.sync_all()
+    }
+
+    fn unseal(&mut self) -> io::Result<()> {
+        let mut how = OpenOptions::new();
+        how.write(true);
+        match how.open(self.files, self.paths.seal.as_str()) {
+            Ok(seal) => {
+                seal.set_len(0)?;
+                seal.sync_all()
+            }
+            Err(error) if error.kind() == ErrorKind::NotFound => Ok(()),
+            Err(error) => Err(error),
         }
     }
 

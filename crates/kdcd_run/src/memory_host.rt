@@ -3,15 +3,15 @@ ghost use Rattle.std.specs.Prelude.{◌≡◌, ◌∷◌, [], IfOk, Some};
 ghost use Rattle.std.specs.Option.{option_copied};
 ghost use Rattle.kdc_hub.specs.Wire.{Records};
 ghost use Rattle.kdcd_run.specs.InMemory.{did_by, no_journals, seen_as};
-ghost use Rattle.kdcd_run.specs.Starting.{BeganJournal, Held, HostDid, ReadJournals, ReadRows, ReadSeed};
+ghost use Rattle.kdcd_run.specs.Starting.{BeganJournal, HasNoJournal, Held, HostDid, ReadJournals, ReadRows, ReadSeed};
 
 use crate::files::FileFault;
 use crate::host::{Host, JournalBeginning, Journals, StartNews};
+use crate::memory_metrics::MemoryMetrics;
 use crate::memory_parts::{MemoryJournal, MemorySockets};
 use crate::record::Record;
 use journal::Found;
-use kdc_hub::Event;
-use kdc_serving::{Look, MemoryRows};
+use kdc_hub::{Event, Look, MemoryRows};
 use krb_elements::Octets;
 use krb_fields::Moment;
 use principals::Database;
@@ -38,6 +38,7 @@ pub enum HostCall {
         path: Octets,
         journals: Journals,
     },
+    HasNoJournal,
     Showed(Moment),
     BeganJournal {
         path: Octets,
@@ -83,6 +84,7 @@ pub struct MemoryHost {
 const BOOT: &[u8] = b"boot";
 
 impl MemoryHost {
+    /// Returns a host with what it is given. It has recorded no call.
     pub fn new(alloc: Global, given: Given) -> MemoryHost
         ensures { ⟦<MemoryHost as Host>⟧.recorded result ≡ Some [] }
     {
@@ -130,6 +132,8 @@ impl Host for MemoryHost {
 
     type Rows = MemoryRows;
 
+    type Metrics = MemoryMetrics;
+
     ghost recorded = { λ h. seen_as did_by h.calls };
 
     fn read_rows(&mut self, alloc: Global) -> Result<Database, FileFault> {
@@ -171,6 +175,11 @@ impl Host for MemoryHost {
         Ok(journals)
     }
 
+    fn refuse_journal(&mut self, _alloc: Global) -> Result<(), FileFault> {
+        self.note(Ok(HostCall::HasNoJournal));
+        Ok(())
+    }
+
     fn begin_journal(
         &mut self,
         alloc: Global,
@@ -193,6 +202,10 @@ impl Host for MemoryHost {
     fn take_rows(&mut self) -> Option<MemoryRows> {
         let looks = self.looks.take()?;
         Some(MemoryRows::new(self.alloc, looks))
+    }
+
+    fn take_metrics(&mut self) -> Option<MemoryMetrics> {
+        Some(MemoryMetrics::new(self.alloc))
     }
 
     fn now(&mut self) -> io::Result<Moment> {
@@ -233,6 +246,7 @@ fn no_journals(alloc: Global) -> Result<Journals, AllocError>
         boot: Octets::from_slice(alloc, BOOT)?,
         older: Found::Nothing,
         newer: Found::Nothing,
+        seal: Octets::new(Vec::new(alloc)),
     })
 }
 

@@ -102,6 +102,7 @@ pub struct MemoryTally {
 }
 
 impl MemoryTally {
+    /// Returns a tally that has counted nothing.
     pub fn new(alloc: Global) -> MemoryTally
         ensures { IsNew (⟦<MemoryTally as Tally>⟧.recorded result) }
     {
@@ -283,6 +284,7 @@ pub struct MemoryLog {
 }
 
 impl MemoryLog {
+    /// Returns an empty log.
     pub fn new(alloc: Global) -> MemoryLog
         ensures { IsNew (⟦<MemoryLog as LogWriter>⟧.logged result) }
     {

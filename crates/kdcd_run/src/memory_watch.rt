@@ -22,6 +22,7 @@ pub struct MemoryWatch {
 }
 
 impl MemoryWatch {
+    /// Returns the watch of a server that has had no event.
     pub fn new() -> MemoryWatch
         ensures { result ≡ record { awaits = false; count = 0; reported = 0; said = None } }
     {

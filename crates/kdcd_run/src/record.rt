@@ -15,14 +15,15 @@ pub struct Record<T> {
 
 impl<T> Model for Record<T> {
     ghost use Rattle.std.specs.Prelude.{List, Option};
-    ghost use Rattle.kdcd_run.specs.InMemory.{kept};
+    ghost use Rattle.kdc_hub.specs.Wire.{complete};
 
     ghost Value = { Option (List T) };
 
-    ghost view = { λ r. kept r.is_whole r.entries.items };
+    ghost view = { λ r. complete r.is_whole r.entries.items };
 }
 
 impl<T: Drop> Record<T> {
+    /// Returns an empty record.
     pub fn new(alloc: Global) -> Record<T>
         ensures { result ≡ Some [] }
     {

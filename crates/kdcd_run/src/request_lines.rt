@@ -32,6 +32,7 @@ pub struct RequestLines<W> {
 }
 
 impl<W: Write + Drop> RequestLines<W> {
+    /// Returns a log that writes to `lines` in this format, and has lost no line.
     pub fn new(lines: W, format: LogFormat) -> RequestLines<W> {
         RequestLines {
             lines,

@@ -1,6 +1,7 @@
 //! What a start makes of the journals that it finds.
-ghost use Rattle.std.specs.Prelude.{◌≡◌, IfOk, true, false, option_copied};
+ghost use Rattle.std.specs.Prelude.{◌≡◌, ◌∷◌, [], IfOk, true, false, option_copied};
 ghost use Rattle.kdc_hub.specs.Wire.{Records};
+ghost use Rattle.kdcd_run.specs.Starting.{HasNoJournal};
 ghost use Rattle.kdcd_run.specs.Resuming.{AreAt, IsDecided, is_there, known_by, may_be_first, reading};
 ghost use Rattle.kdcd_run.specs.Resuming.{started_state};
 ghost use Rattle.journal.specs.declared.decision.Found.TheVariants.{Nothing};
@@ -15,10 +16,12 @@ use principal_rows::Limits;
 use principals::Database;
 use std::alloc::{AllocError, Global};
 
-/// Reads the journals at a path; without a path there are none. A start that is to be the first is refused if there are some.
+/// Reads the journals at a path; without a path there are none, and none is beside the database. A start that is to be
+/// the first is refused if there are some.
 pub(crate) fn read_journals<'a, H: Host>(
     alloc: Global,
     host: &mut H,
+    db: &'a str,
     path: Option<&'a str>,
     is_first: bool,
 ) -> Result<Journals, StartFault<'a, H::SocketFault>>
@@ -28,7 +31,7 @@ pub(crate) fn read_journals<'a, H: Host>(
     ensures first { IfOk result (λ journals. may_be_first is_first journals ≡ true) }
 {
     let Some(path) = path else {
-        return Ok(no_journals(alloc));
+        return without_journal(alloc, host, db);
     };
     let journals = match host.read_journals(alloc, path) {
         Ok(journals) => journals,
@@ -40,6 +43,22 @@ pub(crate) fn read_journals<'a, H: Host>(
     Ok(journals)
 }
 
+/// Makes sure that a server without a journal leaves none beside its database.
+fn without_journal<'a, H: Host>(
+    alloc: Global,
+    host: &mut H,
+    db: &'a str,
+) -> Result<Journals, StartFault<'a, H::SocketFault>>
+    ensures record { IfOk result (λ _. Records (H.recorded host.old) (HasNoJournal ∷ []) (H.recorded host.new)) }
+    ensures older { IfOk result (λ journals. journals.older ≡ Nothing) }
+    ensures newer { IfOk result (λ journals. journals.newer ≡ Nothing) }
+{
+    match host.refuse_journal(alloc) {
+        Ok(()) => Ok(no_journals(alloc)),
+        Err(fault) => Err(StartFault::File(db, fault)),
+    }
+}
+
 fn no_journals(alloc: Global) -> Journals
     ensures older { result.older ≡ Nothing }
     ensures newer { result.newer ≡ Nothing }
@@ -48,6 +67,7 @@ fn no_journals(alloc: Global) -> Journals
         boot: Octets::new(Vec::new(alloc)),
         older: Found::Nothing,
         newer: Found::Nothing,
+        seal: Octets::new(Vec::new(alloc)),
     }
 }
 
@@ -80,6 +100,7 @@ pub(crate) fn decide(
     let place = Place {
         realm: rows.realm(),
         boot: journals.boot.as_slice(),
+        seal: journals.seal.as_slice(),
         at,
     };
     start_of(alloc, &place, &journals.older, &journals.newer)

@@ -3,7 +3,8 @@ ghost use Rattle.std.specs.Prelude.{None};
 
 use crate::files::{FileFault, database_of, place_of, read_whole};
 use crate::plain_files::{open_plain, say_rights};
-use kdc_serving::{Look, OtherRealm, RowSource};
+use kdc_hub::{Look, OtherRealm, RowSource, RowsState};
+use kdc_sockets::now;
 use principals::Database;
 use std::alloc::Global;
 use std::fs::{Metadata, OpenFile};
@@ -53,6 +54,7 @@ pub struct RowsFile<'a, F, W> {
     row_count: usize,
     /// What is still to be logged.
     unsaid: Option<News>,
+    state: RowsState,
 }
 
 impl<'a, F: Files + Clock, W: Write + Drop> RowsFile<'a, F, W> {
@@ -71,6 +73,7 @@ impl<'a, F: Files + Clock, W: Write + Drop> RowsFile<'a, F, W> {
             place: None,
             row_count: 0,
             unsaid: None,
+            state: RowsState::first(),
         }
     }
 
@@ -155,6 +158,7 @@ impl<'a, F: Files + Clock, W: Write + Drop> RowsFile<'a, F, W> {
 
     /// Logs this, in place of what could not be logged yet.
     fn report(&mut self, news: News) {
+        self.state = state_after(self.files, self.state, &news);
         self.unsaid = Some(news);
         self.say();
     }
@@ -194,6 +198,32 @@ impl<F: Files + Clock, W: Write + Drop> RowSource for RowsFile<'_, F, W> {
             Err(OtherRealm) => News::OtherRealm,
         };
         self.report(news);
+    }
+
+    fn state(&self) -> RowsState {
+        self.state
+    }
+}
+
+/// Returns what is known of the served rows after the file's last change.
+fn state_after(clock: &impl Clock, state: RowsState, news: &News) -> RowsState {
+    match news {
+        News::Taken(_) => RowsState {
+            taken_at: second_at(clock),
+            is_behind: false,
+        },
+        News::Faulty(_) | News::OtherRealm => RowsState {
+            taken_at: state.taken_at,
+            is_behind: true,
+        },
+    }
+}
+
+/// Returns the second that the clock shows, if it shows one.
+fn second_at(clock: &impl Clock) -> Option<i64> {
+    match now(clock) {
+        Ok(at) => Some(at.sec),
+        Err(_) => None,
     }
 }
 

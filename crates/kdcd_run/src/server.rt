@@ -2,7 +2,7 @@
 ghost use Rattle.std.specs.Prelude.{◌≡◌, true, None, IfOk, is_some, option_copied};
 ghost use Rattle.kdc_hub.specs.Hub.{standing};
 ghost use Rattle.kdc_hub.specs.Wire.{Records};
-ghost use Rattle.kdc_serving.specs.Recorded.{recorded_by_any};
+ghost use Rattle.kdc_hub.specs.Recorded.{recorded_by_any};
 ghost use Rattle.rand_core.specs.Steps.{steps_u32, stream_of};
 ghost use Rattle.rand_chacha.specs.ChaCha.{next_word};
 ghost use Rattle.kdcd_run.specs.Clocks.{quiet_until};
@@ -12,17 +12,18 @@ ghost use Rattle.kdcd_run.specs.Server.{HasRun, IsStarted, rounds_of};
 
 use crate::args::ServeOptions;
 use crate::clock_watch::refused_at_start;
+use crate::counted_log::LogNumbers;
 use crate::files::FileFault;
 use crate::host::{Host, JournalBeginning, StartNews};
 use crate::keeping::JournalWriter;
 use crate::logging::LogWriter;
+use crate::metrics::Reporter;
 use crate::server_wire::{Outlets, ServerWire};
 use crate::started::{JournalFound, quiet_until};
 use crate::starting::{ReadyServer, StartFault, ready};
 use crate::tally::Tally;
 use journal::Start;
-use kdc_hub::{Hub, Wire};
-use kdc_serving::{Totals, serve_life};
+use kdc_hub::{Hub, Totals, Wire, serve_life};
 use rand_chacha::ChaCha20Rng;
 use std::alloc::Global;
 use std::io::Write;
@@ -40,20 +41,25 @@ pub struct Server<S: Wire, J: JournalWriter, L: LogWriter, E, T: Tally> {
 
 /// A server that has served all its rounds.
 #[derive(Drop)]
-pub struct Ran<S: Wire, J: JournalWriter, L: LogWriter, E, T: Tally, R> {
+pub struct Ran<S: Wire, J: JournalWriter, L: LogWriter, E, T: Tally, R, M> {
     pub server: Server<S, J, L, E, T>,
     /// Where its rows came from, unless they were fixed.
     pub rows: Option<R>,
     pub totals: Totals,
+    /// What took the text of its numbers, if anything did.
+    pub metrics: Option<M>,
 }
 
 /// Starts a server as its options say, announces it, and serves its rounds.
-pub fn run_server<'a, H: Host, L: LogWriter + Drop, E: Write + Drop, T: Tally + Drop>(
+pub fn run_server<'a, H: Host, L: LogWriter + LogNumbers + Drop, E: Write + Drop, T: Tally + Drop>(
     alloc: Global,
     host: &mut H,
     options: &ServeOptions<'a>,
     outlets: Outlets<L, E, T>,
-) -> Result<Ran<H::Sockets, H::Journal, L, E, T, H::Rows>, StartFault<'a, H::SocketFault>>
+) -> Result<
+    Ran<H::Sockets, H::Journal, L, E, T, H::Rows, H::Metrics>,
+    StartFault<'a, H::SocketFault>,
+>
     requires tally { IsNew (T.recorded outlets.tally) }
     requires log { IsNew (L.logged outlets.log) }
     // It starts as the host's record says, and then lives over the hub and the wire of that start.
@@ -69,11 +75,21 @@ pub fn run_server<'a, H: Host, L: LogWriter + Drop, E: Write + Drop, T: Tally + 
     host.announce(server.news);
     let mut rows = take_rows(host, options.is_fixed);
     let rounds = rounds_of(options.rounds);
-    let totals = serve_life(alloc, &mut server.wire, &mut rows, &mut server.hub, rounds);
+    let started = server.wire.came_at();
+    let mut reporter = Reporter::new(host.take_metrics(), started, server.news.refused);
+    let totals = serve_life(
+        alloc,
+        &mut server.wire,
+        &mut rows,
+        &mut server.hub,
+        rounds,
+        &mut reporter,
+    );
     Ok(Ran {
         server,
         rows,
         totals,
+        metrics: reporter.into_writer(),
     })
 }
 

@@ -4,11 +4,12 @@ ghost use Rattle.std.specs.Result.{is_ok};
 ghost use Rattle.kdc_hub.specs.Wire.{IsCounted, Records, acted, faults_of, polled};
 ghost use Rattle.kdc_hub.specs.Rounds.{action_connection};
 ghost use Rattle.kdcd_run.specs.Clocks.{clock_after};
-ghost use Rattle.kdcd_run.specs.Journal.{handed_by, moment_after};
+ghost use Rattle.kdcd_run.specs.Journal.{handed_by, is_kept, moment_after};
 ghost use Rattle.kdcd_run.specs.Log.{LogsAll, entries_of};
 ghost use Rattle.kdcd_run.specs.Memory.{after_act, memory_after};
 ghost use Rattle.kdcd_run.specs.Served.{IsNew, Serves};
-ghost use Rattle.kdcd_run.specs.Withheld.{EndsOnly, may_send};
+ghost use Rattle.kdcd_run.specs.Quiet.{is_quiet};
+ghost use Rattle.kdcd_run.specs.Withheld.{EndsOnly, may_send, withheld_after};
 
 use crate::clock_watch::{ClockWatch, watch};
 use crate::keeping::{JournalWriter, keep_for};
@@ -17,6 +18,7 @@ use crate::memory_watch::{MemoryWatch, watch_memory};
 use crate::quiet::is_quiet;
 use crate::sockets::Sockets;
 use crate::tally::Tally;
+use crate::withheld::Withheld;
 use kdc_hub::{Action, Event, Wire, WireFault};
 use krb_fields::Moment;
 use std::alloc::Global;
@@ -46,6 +48,7 @@ pub struct ServerWire<S: Wire, J: JournalWriter, L: LogWriter, E, T: Tally> {
     quiet_until: Option<i64>,
     clock: ClockWatch,
     memory: MemoryWatch,
+    withheld: Withheld,
     /// Where it is said that the clock went back, and that memory ran out.
     errors: E,
     /// The last event, or the start.
@@ -75,6 +78,7 @@ impl<S: Wire, J: JournalWriter, L: LogWriter, E, T: Tally> ServerWire<S, J, L, E
         ensures quiet { result.quiet_until ≡ quiet_until }
         ensures clock { result.clock ≡ record { floor = floor; latest = None; said = None } }
         ensures memory { result.memory ≡ record { awaits = false; count = 0; reported = 0; said = None } }
+        ensures withheld { result.withheld ≡ record { by_journal = 0; by_quiet_start = 0 } }
         ensures came { result.came ≡ record { at = at; source = None } }
     {
         ServerWire {
@@ -85,33 +89,52 @@ impl<S: Wire, J: JournalWriter, L: LogWriter, E, T: Tally> ServerWire<S, J, L, E
             quiet_until,
             clock: ClockWatch::new(floor),
             memory: MemoryWatch::new(),
+            withheld: Withheld::new(),
             errors: outlets.errors,
             came: Came { at, source: None },
         }
     }
 
+    /// Returns the log of its requests.
     pub fn log(&self) -> &L
         ensures { result.now ≡ self.now.log }
     {
         &self.log
     }
 
+    /// Returns the sockets below it.
     pub fn sockets(&self) -> &S
         ensures { result.now ≡ self.now.sockets }
     {
         &self.sockets
     }
 
+    /// Returns the tally of what was polled and of the acts that were tried.
     pub fn tally(&self) -> &T
         ensures { result.now ≡ self.now.tally }
     {
         &self.tally
     }
 
+    /// Returns the journal of the authenticators that it recorded.
     pub fn journal(&self) -> &J
         ensures { result.now ≡ self.now.journal }
     {
         &self.journal
+    }
+
+    /// Returns how many replies were withheld.
+    pub fn withheld(&self) -> Withheld
+        ensures { result ≡ self.now.withheld }
+    {
+        self.withheld
+    }
+
+    /// Returns when the last event came, or when the server started.
+    pub fn came_at(&self) -> Moment
+        ensures { result ≡ self.now.came.at }
+    {
+        self.came.at
     }
 }
 
@@ -129,6 +152,7 @@ impl<S: Sockets, J: JournalWriter, L: LogWriter, E: Write, T: Tally> Wire
         ensures came { self.new.came.at ≡ moment_after self.old.came.at (polled result) }
         ensures clock { self.new.clock ≡ clock_after self.old.clock (polled result) }
         ensures memory { (lost : ℕ) × (self.new.memory ≡ memory_after lost self.old.memory (polled result)) }
+        ensures withheld { self.new.withheld ≡ self.old.withheld }
         ensures journal { self.new.journal ≡ self.old.journal }
         ensures log { self.new.log ≡ self.old.log }
         ensures quiet { self.new.quiet_until ≡ self.old.quiet_until }
@@ -160,11 +184,15 @@ impl<S: Sockets, J: JournalWriter, L: LogWriter, E: Write, T: Tally> Wire
         ensures came { self.new.came ≡ self.old.came }
         ensures clock { self.new.clock ≡ self.old.clock }
         ensures memory { self.new.memory ≡ after_act self.old.memory action.now }
+        ensures withheld_count { self.new.withheld ≡ withheld_after self.old.withheld
+            (is_kept J.is_whole self.new.journal action.now)
+            (is_quiet self.old.quiet_until self.old.came.at action.now) }
         ensures quiet { self.new.quiet_until ≡ self.old.quiet_until }
     {
         let is_kept = keep_for(alloc, &mut self.journal, self.came.at, action);
         let is_quiet = is_quiet(&self.quiet_until, self.came.at, action);
         let outcome = send(alloc, &mut self.sockets, is_kept && !is_quiet, action);
+        self.withheld.note(is_kept, is_quiet);
         self.tally.add_act(alloc, action, outcome);
         self.memory.note(action);
         log_action(alloc, &mut self.log, self.came, action, outcome.is_ok());

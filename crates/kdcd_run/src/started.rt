@@ -4,6 +4,7 @@ ghost use Rattle.kdcd_run.specs.Clocks.{quiet_until};
 ghost use Rattle.kdcd_run.specs.Resuming.{found_by};
 
 use crate::clock_watch::Refused;
+use command_options::VERSION;
 use journal::{Doubt, Start};
 use principal_rows::Limits;
 use std::fmt;
@@ -16,6 +17,7 @@ pub struct JournalNews<'a> {
     pub found: JournalFound,
 }
 
+/// What a start made of the journal.
 #[derive(Clone, Copy)]
 pub enum JournalFound {
     /// It resumed with this many authenticators.
@@ -45,7 +47,7 @@ impl JournalFound {
     }
 }
 
-/// A server that listens. Its text is a line each for the addresses, the database, the journal if there is one, what is
+/// A server that listens. Its text is a line each for the version, the addresses, the database, the journal if there is one, what is
 /// refused after the start if anything is, and the limits.
 #[derive(Clone, Copy)]
 pub struct Started<'a> {
@@ -65,7 +67,7 @@ pub struct Started<'a> {
 
 impl fmt::Display for Started<'_> {
     fn fmt<W: fmt::Write>(&self, f: &mut fmt::Formatter<W>) -> fmt::Result {
-        f.write_str("kdcd: serving on ")?;
+        write!(f, "kdcd: version {VERSION}\nkdcd: serving on ")?;
         write_addresses(f, self.udp, self.tcp)?;
         writeln!(f, "\nkdcd: database {} with {} rows", self.db, self.rows)?;
         if let Some(news) = &self.journal {

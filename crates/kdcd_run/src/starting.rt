@@ -106,7 +106,7 @@ pub fn ready<'a, H: Host>(
         Ok(sockets) => sockets,
         Err(fault) => return Err(StartFault::Sockets(fault)),
     };
-    let journals = read_journals(alloc, host, options.journal, options.is_first)?;
+    let journals = read_journals(alloc, host, options.db, options.journal, options.is_first)?;
     let at = match host.now() {
         Ok(at) => at,
         Err(error) => return Err(StartFault::Clock(error)),
@@ -131,11 +131,11 @@ pub fn ready<'a, H: Host>(
     })
 }
 
-/// Checks whether the log or a quiet start needs the account of each request.
+/// Checks whether the log, a quiet start or the counts of requests need the account of each request.
 fn keeps_accounts(options: &ServeOptions<'_>) -> bool
-    ensures { result ≡ (is_some options.now.log || options.now.is_quiet) }
+    ensures { result ≡ (is_some options.now.log || options.now.is_quiet || is_some options.now.metrics) }
 {
-    options.log.is_some() || options.is_quiet
+    options.log.is_some() || options.is_quiet || options.metrics.is_some()
 }
 
 /// Takes the seed: the first 32 octets of the file at a path, or 32 octets that the system draws.

@@ -35,6 +35,7 @@ pub struct FaultCount {
 }
 
 impl FaultCount {
+    /// Returns a count of 0.
     pub fn new() -> FaultCount
         ensures { result.faults ≡ 0 }
     {

@@ -1,4 +1,6 @@
 //! The messages between a client and a service (RFC 4120, section 5.5), each with its relation to its encoding.
+//!
+//! Nothing here decrypts a ticket or checks an authenticator: `ap_opening` does.
 #![tactic(auto)]
 
 mod ap_rep;

@@ -2,6 +2,8 @@
 //!
 //! A value is its tag, its length and its contents. Tags are single bytes. Lengths are definite and in their shortest
 //! form, with at most four bytes after the first.
+//!
+//! It does not know which fields a message has: `krb_elements` and the crates above it do.
 #![tactic(auto)]
 
 mod bits;

@@ -31,6 +31,7 @@ impl<'a> Reader<'a> {
         Reader { rest: bytes }
     }
 
+    /// Checks whether no byte is left.
     pub fn is_empty(&self) -> bool
         ensures { result ≡ (length self.now == 0) }
     {

@@ -20,6 +20,7 @@ impl<'a, T> Model for Lent<'a, T> {
 }
 
 impl<'a, T> Lent<'a, T> {
+    /// Borrows a value.
     pub fn new(value: &'a T) -> Lent<'a, T>
         ensures { result ≡ value.now }
     {

@@ -43,6 +43,7 @@ impl Microseconds {
         Microseconds { value }
     }
 
+    /// Returns the number, from 0 to 999999.
     pub fn get(self) -> u32
         ensures value { result ≡ self }
         ensures range { IsMicrosecond result }

@@ -19,12 +19,14 @@ impl Model for Octets {
 }
 
 impl Octets {
+    /// Returns these bytes as an OCTET STRING, without a copy.
     pub fn new(bytes: Vec<u8>) -> Octets
         ensures { result ≡ bytes.items }
     {
         Octets { bytes }
     }
 
+    /// Returns a copy of these bytes as an OCTET STRING.
     pub fn from_slice(alloc: Global, bytes: &[u8]) -> Result<Octets, AllocError>
         ensures { IfOk result (λ octets. octets ≡ bytes.now) }
     {
@@ -32,18 +34,21 @@ impl Octets {
         Ok(Octets { bytes })
     }
 
+    /// Returns the bytes.
     pub fn as_slice(&self) -> &[u8]
         ensures { result.now ≡ self.now }
     {
         self.bytes.as_slice()
     }
 
+    /// Returns a copy.
     pub fn copy(&self, alloc: Global) -> Result<Octets, AllocError>
         ensures { IfOk result (λ octets. octets ≡ self.now) }
     {
         Octets::from_slice(alloc, self.as_slice())
     }
 
+    /// Returns the bytes, without a copy.
     pub fn into_vec(self) -> Vec<u8>
         ensures { result.items ≡ self }
     {
@@ -67,12 +72,14 @@ impl<'a> Model for OctetsRef<'a> {
 }
 
 impl<'a> OctetsRef<'a> {
+    /// Returns these bytes as an OCTET STRING.
     pub fn new(bytes: &'a [u8]) -> OctetsRef<'a>
         ensures { result ≡ bytes.now }
     {
         OctetsRef { bytes }
     }
 
+    /// Returns the bytes, for as long as they are borrowed.
     pub fn as_slice(&self) -> &'a [u8]
         ensures { result.now ≡ self.now }
     {

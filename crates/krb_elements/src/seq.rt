@@ -19,6 +19,7 @@ impl<T> Model for Seq<T> {
 }
 
 impl<T> Seq<T> {
+    /// Returns an empty list. It allocates nothing.
     pub fn new(alloc: Global) -> Seq<T>
         ensures { result ≡ [] }
     {
@@ -27,24 +28,28 @@ impl<T> Seq<T> {
         }
     }
 
+    /// Returns the list of these values, without a copy.
     pub fn from_vec(items: Vec<T>) -> Seq<T>
         ensures { result ≡ items.items }
     {
         Seq { items }
     }
 
+    /// Returns the values, in order.
     pub fn as_slice(&self) -> &[T]
         ensures { result.now ≡ self.now }
     {
         self.items.as_slice()
     }
 
+    /// Returns the number of values.
     pub fn len(&self) -> usize
         ensures { result ≡ length self.now }
     {
         self.items.len()
     }
 
+    /// Checks whether there is no value.
     pub fn is_empty(&self) -> bool
         ensures { IsTrue result ↔ (self.now ≡ []) }
     {

@@ -26,12 +26,14 @@ impl Model for KerberosString {
 }
 
 impl KerberosString {
+    /// Returns these bytes as a string, without a copy.
     pub fn new(bytes: Vec<u8>) -> KerberosString
         ensures { result ≡ bytes.items }
     {
         KerberosString { bytes }
     }
 
+    /// Returns a copy of these bytes as a string.
     pub fn from_slice(alloc: Global, bytes: &[u8]) -> Result<KerberosString, AllocError>
         ensures { IfOk result (λ string. string ≡ bytes.now) }
     {
@@ -39,18 +41,21 @@ impl KerberosString {
         Ok(KerberosString { bytes })
     }
 
+    /// Returns the bytes.
     pub fn as_slice(&self) -> &[u8]
         ensures { result.now ≡ self.now }
     {
         self.bytes.as_slice()
     }
 
+    /// Returns a copy.
     pub fn copy(&self, alloc: Global) -> Result<KerberosString, AllocError>
         ensures { IfOk result (λ string. string ≡ self.now) }
     {
         KerberosString::from_slice(alloc, self.as_slice())
     }
 
+    /// Returns the bytes, without a copy.
     pub fn into_vec(self) -> Vec<u8>
         ensures { result.items ≡ self }
     {
@@ -74,12 +79,14 @@ impl<'a> Model for KerberosStringRef<'a> {
 }
 
 impl<'a> KerberosStringRef<'a> {
+    /// Returns these bytes as a string.
     pub fn new(bytes: &'a [u8]) -> KerberosStringRef<'a>
         ensures { result ≡ bytes.now }
     {
         KerberosStringRef { bytes }
     }
 
+    /// Returns the bytes, for as long as they are borrowed.
     pub fn as_slice(&self) -> &'a [u8]
         ensures { result.now ≡ self.now }
     {

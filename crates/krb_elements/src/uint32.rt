@@ -38,6 +38,7 @@ impl UInt32 {
         Some(UInt32 { value })
     }
 
+    /// Returns the number as it was sent, from -2147483648 to 4294967295.
     pub fn get(self) -> i64
         ensures value { result ≡ self }
         ensures range { IsUInt32 result }

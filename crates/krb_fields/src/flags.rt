@@ -39,6 +39,7 @@ impl Flags {
         Flags { bits }
     }
 
+    /// Returns the bits: bit 0 is the most significant.
     pub fn bits(self) -> u32
         ensures { result ≡ self }
     {

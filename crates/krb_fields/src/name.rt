@@ -52,6 +52,7 @@ impl Name {
         self.order(other).is_eq()
     }
 
+    /// Returns a copy, with the same name-type.
     pub fn copy(&self, alloc: Global) -> Result<Name, AllocError>
         ensures { IfOk result (λ name. name ≡ self.now) }
     {

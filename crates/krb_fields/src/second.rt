@@ -37,6 +37,7 @@ impl Second {
         }
     }
 
+    /// Returns the number: whole seconds since the start of 1970.
     pub fn get(self) -> i64
         ensures value { result ≡ self }
         ensures range { IsSecond result }

@@ -1,4 +1,8 @@
 //! The messages of Kerberos V5 (RFC 4120, section 5), each with its relation to its encoding.
+//!
+//! They are AS-REQ and TGS-REQ, tickets, and KRB-ERROR. AS-REP and TGS-REP are in `krb_replies`,
+//! and AP-REQ and AP-REP in `krb_ap`. Nothing here encrypts or decrypts: encrypted parts are read
+//! and written as they are.
 #![tactic(auto)]
 
 mod kdc_req;

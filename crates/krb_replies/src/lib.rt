@@ -1,5 +1,7 @@
 //! The KDC's replies with a ticket (RFC 4120, section 5.4.2), and requests and the encrypted parts of replies in their
 //! tags.
+//!
+//! Nothing here encrypts or decrypts: `sealed_parts` does.
 #![tactic(auto)]
 
 mod kdc_rep;

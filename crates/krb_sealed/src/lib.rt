@@ -1,5 +1,7 @@
 //! The values whose encodings are inside an OCTET STRING of a message: the encrypted parts of tickets, replies and
 //! authenticators, and preauthentication data (RFC 4120, sections 5.2.7, 5.3, 5.4.2 and 5.5).
+//!
+//! Nothing here encrypts or decrypts: `sealed_parts` does.
 #![tactic(auto)]
 
 mod authenticator;

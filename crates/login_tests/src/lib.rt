@@ -1,4 +1,4 @@
-//! Tests of `client_login` and `krb5_conf`: what no command line of `kclient` shows. `tools/try_kclient.py` tries the
+//! Tests of `client_login` and `krb5_conf`: what no command line of `kclient` shows. `tests/kclient` tries the
 //! rest with the program.
 #![tactic(auto)]
 

@@ -47,6 +47,8 @@ impl Network for SaidNetwork {
 
     ghost answers = { λ to message reply. ⊤ };
 
+    ghost finds = { λ host port address. ⊤ };
+
     fn begin(&mut self) {}
 
     fn exchange(

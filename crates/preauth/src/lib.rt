@@ -1,4 +1,6 @@
 //! Preauthentication by timestamps (RFC 4120, sections 3.1.3 and 5.2.7), and the lock of clients that fail at it.
+//!
+//! There is no other method of preauthentication, such as FAST or PKINIT.
 #![tactic(auto)]
 
 mod keys;

@@ -10,7 +10,7 @@ use crate::hasher::Hasher;
 use sha1::Sha1;
 use sha2::{Sha256, Sha384};
 
-// The longest block length of the three hash functions, in bytes.
+/// The longest block length of the three hash functions, in bytes.
 pub const LONGEST_BLOCK: usize = 128;
 
 // The bytes with which each byte of the key is masked (RFC 2104, section 2).
@@ -93,7 +93,7 @@ pub fn hmac_sha384(key: &[u8], parts: &[&[u8]]) -> [u8; 48]
     mac
 }
 
-// Writes the HMAC of the parts with the key.
+/// Writes the HMAC of the parts with the key.
 #[tactic(auto, unfolding(crate::specs::Hmac::hmac))]
 pub fn write_hmac<H: Hasher>(key: &[u8], parts: &[&[u8]], out: &mut [u8])
     requires { length out.old ≡ H.SIZE }
@@ -128,7 +128,7 @@ fn key_block<H: Hasher>(key: &[u8]) -> [u8; LONGEST_BLOCK]
     block_of(digest)
 }
 
-// Returns the bytes, padded with zeros.
+/// Returns the bytes, padded with zeros.
 pub fn block_of(octets: &[u8]) -> [u8; LONGEST_BLOCK]
     requires { length octets.now ≤ LONGEST_BLOCK }
     ensures { result ≡ block_of LONGEST_BLOCK octets.now }

@@ -10,6 +10,8 @@
 //! | [`n_fold`] | RFC 3961, section 5.1 | a slice of any length except 0 |
 //! | [`kdf_sha256`], [`kdf_sha384`] | RFC 8009, section 3 | a slice of at most 32, 48 bytes |
 //! | [`kdf_sha256_both`], [`kdf_sha384_both`] | the same | two such slices, from one key |
+//!
+//! Which derivation an encryption type uses, and with which constants, is in `enctypes`.
 #![tactic(auto)]
 
 mod fold;

@@ -92,6 +92,7 @@ impl<V> Model for NameMap<V> {
 }
 
 impl<V: Drop> NameMap<V> {
+    /// Returns an empty map.
     pub fn new(alloc: Global) -> NameMap<V>
         ensures { result ≡ map.empty }
     {
@@ -110,6 +111,7 @@ impl<V: Drop> NameMap<V> {
         Ok(NameMap { entries })
     }
 
+    /// Returns the number of names.
     pub fn len(&self) -> usize
         ensures { result ≡ map.len self.now }
     {

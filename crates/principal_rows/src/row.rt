@@ -45,6 +45,7 @@ impl KeyVersion {
         KeyVersion { number, keys }
     }
 
+    /// Returns a copy.
     pub fn copy(&self, alloc: Global) -> Result<KeyVersion, AllocError>
         ensures { IfOk result (λ version. version ≡ self.now) }
     {
@@ -126,6 +127,7 @@ impl Versions {
         self.versions.retain(|version| version.number != number);
     }
 
+    /// Returns a copy.
     pub fn copy(&self, alloc: Global) -> Result<Versions, AllocError>
         ensures versions { IfOk result (λ versions. versions ≡ self.now) }
         ensures valid { IfOk result IsVersions }
@@ -181,6 +183,7 @@ impl Row {
         })
     }
 
+    /// Returns a copy.
     pub fn copy(&self, alloc: Global) -> Result<Row, AllocError>
         ensures row { IfOk result (λ row. row ≡ self.now) }
         ensures valid { IfOk result IsRow }

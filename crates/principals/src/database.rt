@@ -110,6 +110,7 @@ impl Database {
         Some(Database { realm, rows })
     }
 
+    /// Returns a copy.
     pub fn copy(&self, alloc: Global) -> Result<Database, AllocError>
         ensures { IfOk result (λ database. database ≡ self.now) }
     {

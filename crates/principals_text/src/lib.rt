@@ -1,4 +1,6 @@
 //! The text of a database of principals: JSON, read and written.
+//!
+//! [`read`] and [`write`] work on the text alone: nothing here opens a file.
 #![tactic(auto)]
 
 mod by_rows;

@@ -13,6 +13,7 @@ pub struct SharedWriter<W> {
 }
 
 impl<W: Drop> SharedWriter<W> {
+    /// Returns the first handle to the stream of this writer.
     pub fn new(alloc: Global, writer: ReadyWriter<W>) -> Result<SharedWriter<W>, AllocError> {
         Ok(SharedWriter {
             writer: Rc::new(alloc, RefCell::new(writer))?,

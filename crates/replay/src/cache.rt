@@ -130,6 +130,7 @@ impl<T: Keep> ReplayCache<T> {
         self.failures = failures;
     }
 
+    /// Returns a copy.
     pub fn copy(&self, alloc: Global) -> Result<ReplayCache<T>, AllocError>
         ensures { IfOk result (λ copy. copy ≡ self.now) }
     {

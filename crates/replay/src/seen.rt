@@ -15,6 +15,7 @@ pub struct Seen {
 }
 
 impl Seen {
+    /// Returns a copy.
     pub fn copy(&self, alloc: Global) -> Result<Seen, AllocError>
         ensures { IfOk result (λ seen. seen ≡ self.now) }
     {

@@ -1,4 +1,7 @@
 //! The encrypted parts of messages.
+//!
+//! A part is encoded and encrypted, or decrypted and decoded. Nothing here chooses a key or a key
+//! usage, or draws a confounder: the caller supplies them.
 #![tactic(auto)]
 
 mod encrypting;

@@ -2,12 +2,11 @@
 //! record. Its journal fails once.
 use journal::{Doubt, Start};
 use kdc_core::{Account, Bears, TgsOutcome};
-use kdc_hub::{Action, Did, Event, Peer};
-use kdc_serving::{Look, MemoryRows, Totals};
+use kdc_hub::{Action, Did, Event, Look, MemoryRows, Peer, Totals};
 use kdcd_run::{
-    Given, HandedOver, HostCall, JournalBeginning, LogFormat, MemoryEntry, MemoryHost,
-    MemoryJournal, MemoryLog, MemorySockets, MemoryTally, Outlets, Ran, ServeOptions, database_of,
-    run_server,
+    CountedLog, Given, HandedOver, HostCall, JournalBeginning, LogFormat, MemoryEntry, MemoryHost,
+    MemoryJournal, MemoryLog, MemoryMetrics, MemorySockets, MemoryTally, Outlets, Ran,
+    ServeOptions, database_of, run_server,
 };
 use krb_elements::Octets;
 use krb_fields::Moment;
@@ -18,6 +17,7 @@ use std::alloc::Global;
 use std::collections::VecDeque;
 use std::net::{Ipv4Addr, SocketAddr};
 use std::process::Abort;
+use std::str;
 use std::test::Fail;
 
 /// The first second of 2024.
@@ -49,7 +49,7 @@ const CLIENT_UNKNOWN: &str = "\
     7e4a3048a003020105a10302011ea411180f32303234303130313030303030305aa503020100a603020106a9051b03412e42\
     aa183016a003020102a10f300d1b066b72627467741b03412e42";
 
-/// A TGS-REQ of `u` for `h`, whose authenticator is of that moment, by `tools/kerberos.py`.
+/// A TGS-REQ of `u` for `h`, whose authenticator is of that moment, by `tests/harness/kerberos.py`.
 const BUYS: &str = "\
     6c820202308201fea103020105a20302010ca38201a4308201a03082019ca103020101a28201930482018f6e82018b308201\
     87a003020105a10302010ea20703050000000000a381f76181f43081f1a003020105a1051b03412e42a2183016a003020102\
@@ -82,6 +82,22 @@ const TRIED: &[u8] = b"pappfpawwww";
 
 /// The same without what failed.
 const SUCCEEDED: &[u8] = b"papppawwww";
+
+/// Lines of its numbers after these: the login is refused, the ticket is withheld once, and then sent again.
+const NUMBERS: [&str; 12] = [
+    "kdcd_start_time_seconds 1704067200\n",
+    "kdcd_events_total 4\n",
+    "kdcd_faults_total 1\n",
+    "kdcd_database_rows 3\n",
+    "kdcd_replay_clients 1\n",
+    "kdcd_replay_authenticators 1\n",
+    "kdcd_withheld_total{for=\"journal\"} 1\n",
+    "kdcd_requests_total{exchange=\"as\",outcome=\"refused\",rule=\"client-unknown\"} 1\n",
+    "kdcd_requests_total{exchange=\"tgs\",outcome=\"ticket\",rule=\"\"} 1\n",
+    "kdcd_requests_total{exchange=\"tgs\",outcome=\"ticket-again\",rule=\"\"} 1\n",
+    "kdcd_replies_total{transport=\"udp\",sent=\"yes\"} 2\n",
+    "kdcd_replies_total{transport=\"tcp\",sent=\"no\"} 1\n",
+];
 
 fn octets(alloc: Global, digits: &str) -> Result<Octets, Fail> {
     Ok(Octets::new(hex::decode(alloc, digits)?))
@@ -147,17 +163,28 @@ fn options(alloc: Global) -> Result<ServeOptions<'static>, Fail> {
         is_first: true,
         is_quiet: false,
         journal: Some("journal"),
+        journal_size: 67_108_864,
+        removes_journal: false,
         is_fixed: false,
         log: Some(LogFormat::Text),
+        metrics: None,
     })
 }
 
 /// A server that has run.
-type Finished = Ran<MemorySockets, MemoryJournal, MemoryLog, Vec<u8>, MemoryTally, MemoryRows>;
+type Finished = Ran<
+    MemorySockets,
+    MemoryJournal,
+    CountedLog<MemoryLog>,
+    Vec<u8>,
+    MemoryTally,
+    MemoryRows,
+    MemoryMetrics,
+>;
 
 fn run(alloc: Global, host: &mut MemoryHost) -> Result<Finished, Fail> {
     let outlets = Outlets {
-        log: MemoryLog::new(alloc),
+        log: CountedLog::new(MemoryLog::new(alloc)),
         errors: Vec::new(alloc),
         tally: MemoryTally::new(alloc),
     };
@@ -284,6 +311,29 @@ fn are_calls(record: Option<&[HostCall]>) -> bool {
     }
 }
 
+/// Checks whether the numbers that were written have their lines.
+fn are_numbers(metrics: &Option<MemoryMetrics>) -> bool {
+    let Some(metrics) = metrics else {
+        return false;
+    };
+    match metrics.text() {
+        Some(text) => match str::from_utf8(text) {
+            Ok(text) => has_lines(text),
+            Err(_) => false,
+        },
+        None => false,
+    }
+}
+
+fn has_lines(text: &str) -> bool {
+    for line in NUMBERS {
+        if !text.contains(line) {
+            return false;
+        }
+    }
+    true
+}
+
 fn is_looked(rows: &Option<MemoryRows>) -> bool {
     match rows {
         Some(rows) => matches!(rows.looks(), Some([Look::Unchanged])),
@@ -305,8 +355,9 @@ fn is_right(alloc: Global, ran: &Finished) -> Result<bool, Fail> {
             && are(sockets.did(), SUCCEEDED)
             && sockets.ended() == Some([1].as_slice())
             && is_handed(wire.journal().handed())
-            && are_logged(wire.log().entries())
+            && are_logged(wire.log().log().entries())
             && is_looked(&ran.rows)
+            && are_numbers(&ran.metrics)
             && are_replies(alloc, tried)?,
     )
 }

@@ -1,5 +1,6 @@
 pub mod Dates
 pub mod Numbers
 pub mod Settings
+pub mod Spans
 -- laws that proofs cite; readers of a contract don't need them
 pub mod SettingLaws

@@ -42,6 +42,7 @@ pub enum TgsRefusal {
 }
 
 impl TgsRefusal {
+    /// Returns the error code of the KRB-ERROR that answers it (RFC 4120, section 7.5.9).
     pub fn code(self) -> Code
         ensures { result ≡ code_of self }
     {

@@ -3,7 +3,7 @@ use enctypes::{Etype, Key};
 use std::alloc::Global;
 use std::test::Fail;
 
-// The marks that `tools/refuse_allocations.py` reads. It refuses each allocation between `BEGIN` and `END`, one at a
+// The marks that `tests/crates/allocations.py` reads. It refuses each allocation between `BEGIN` and `END`, one at a
 // time. By `JUDGED`, a test has checked all that has to hold after a refusal.
 
 pub const BEGIN: usize = 1 << 62;

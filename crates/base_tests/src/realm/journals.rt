@@ -4,8 +4,9 @@ use crate::cryptography::fixtures::sized;
 use crate::expect::{are, bytes, holds, same};
 use crate::realm::fixtures::{T, at};
 use journal::{
-    Doubt, Found, JournalFault, JournalFile, MemoryFiles, Part, Place, Start, WriteFault, Written,
-    read_journal, read_part, start_of, write_beginning, write_seen,
+    Doubt, Found, JournalFault, JournalFile, JournalFiles, MemoryFiles, NotSealed, Part, Place,
+    Start, WriteFault, Written, read_journal, read_part, seal_journal, start_of, write_beginning,
+    write_seen,
 };
 use krb_elements::Octets;
 use krb_fields::{Moment, Name};
@@ -14,7 +15,7 @@ use std::alloc::{AllocError, Global};
 
 // A journal of the realm A.B, begun at the second T after a restart, with two authenticators of the client u. One has
 // the time T and 7 microseconds, and came a second later. One has T + 300 and 999999, and came 298 seconds before
-// that. `tools/journal_vector.py` prints it.
+// that. `dev/journal_vector.py` prints it.
 
 const BEGINNING: &str = "\
     043b3039a0050403412e42a1060404626f6f74a211180f32303234303130313030303030305aa311180f3230323430313031303030353031\
@@ -47,6 +48,7 @@ fn here(later: u32) -> Place<'static> {
     Place {
         realm: b"A.B",
         boot: b"boot",
+        seal: &[],
         at: at(later),
     }
 }
@@ -176,20 +178,21 @@ fn count_changed(
     found
 }
 
-/// A realm, a boot and a second.
-type Where = (&'static [u8], &'static [u8], i64);
+/// A realm, a boot, a seal and a second.
+type Where = (&'static [u8], &'static [u8], &'static [u8], i64);
 
 /// The floor and the number of authenticators with which a start resumes, or why it can't.
 type Made = Result<(i64, usize), Doubt>;
 
 fn made(alloc: Global, place: &Where, older: &Found, newer: &Found) -> Result<Made, AllocError> {
-    let (realm, boot, second) = place;
+    let (realm, boot, seal, second) = place;
     let Some(at) = Moment::new(*second, 0) else {
         return Err(AllocError);
     };
     let place = Place {
         realm: *realm,
         boot: *boot,
+        seal: *seal,
         at,
     };
     Ok(match start_of(alloc, &place, older, newer)? {
@@ -198,16 +201,32 @@ fn made(alloc: Global, place: &Where, older: &Found, newer: &Found) -> Result<Ma
     })
 }
 
+/// The last check of the whole journal, and the one before it.
+const SEAL: &[u8] = &[
+    0xaf, 0x2a, 0xc5, 0x8d, 0x56, 0x62, 0x6d, 0xfa, 0x63, 0xd3, 0xb3, 0x06, 0x2d, 0xc5, 0xcf, 0x93,
+];
+
+const EARLIER_SEAL: &[u8] = &[
+    0xef, 0xf6, 0x85, 0x1b, 0x28, 0x5e, 0x9d, 0xb2, 0x8b, 0xe1, 0xc0, 0x78, 0xdd, 0xb5, 0x36, 0x6f,
+];
+
 /// What a start with a whole journal does.
 const STARTS: &[(Where, Made)] = &[
-    ((b"A.B", b"boot", T + 2), Ok((T + 301, 2))),
-    ((b"A.B", b"boot", T + 601), Ok((T + 301, 2))),
-    ((b"A.B", b"boot", T + 602), Ok((T + 302, 2))),
-    ((b"A.C", b"boot", T + 2), Err(Doubt::OtherRealm)),
-    ((b"A.B", b"bott", T + 2), Err(Doubt::OtherBoot)),
+    ((b"A.B", b"boot", b"", T + 2), Ok((T + 301, 2))),
+    ((b"A.B", b"boot", b"", T + 601), Ok((T + 301, 2))),
+    ((b"A.B", b"boot", b"", T + 602), Ok((T + 302, 2))),
+    ((b"A.C", b"boot", b"", T + 2), Err(Doubt::OtherRealm)),
+    ((b"A.B", b"bott", b"", T + 2), Err(Doubt::OtherBoot)),
+    // It was sealed before the boot, or it was sealed, and then there was one more entry, or one less.
+    ((b"A.B", b"bott", SEAL, T + 2), Ok((T + 301, 2))),
+    (
+        (b"A.B", b"bott", EARLIER_SEAL, T + 2),
+        Err(Doubt::OtherBoot),
+    ),
+    ((b"A.C", b"boot", SEAL, T + 2), Err(Doubt::OtherRealm)),
     // The clock is behind the journal.
-    ((b"A.B", b"boot", T + 1), Ok((T + 302, 2))),
-    ((b"A.B", b"boot", T - 1), Ok((T + 301, 2))),
+    ((b"A.B", b"boot", b"", T + 1), Ok((T + 302, 2))),
+    ((b"A.B", b"boot", b"", T - 1), Ok((T + 301, 2))),
 ];
 
 /// Returns a journal with this floor that links to the check of the second entry.
@@ -220,7 +239,7 @@ fn linked(alloc: Global, floor: i64) -> Found {
 
 #[test]
 fn a_start_resumes_or_says_why_not(rt: HostRuntime) {
-    const HERE: Where = (b"A.B", b"boot", T + 700);
+    const HERE: Where = (b"A.B", b"boot", b"", T + 700);
     let alloc = rt.alloc();
     let whole = found_of(alloc, &[BEGINNING, FIRST, SECOND]);
     for (place, wanted) in STARTS {
@@ -308,14 +327,14 @@ const FAILURES: &[(Failure, Kept)] = &[
     // None fails.
     ((0, 0, 0, false), ([true, true, true], Some(3))),
     // The second entry is cut, and a file is begun in place of both.
-    ((2, 1, 5, false), ([true, true, true], Some(1))),
+    ((3, 1, 5, false), ([true, true, true], Some(1))),
     // It is not there, and that file is begun with the next entry only.
-    ((2, 2, 0, false), ([true, false, true], Some(0))),
-    ((2, 2, 0, true), ([true, false, true], Some(0))),
+    ((3, 2, 0, false), ([true, false, true], Some(0))),
+    ((3, 2, 0, true), ([true, false, true], Some(0))),
     // The last entry is not there, and no file can be begun: the start finds what was kept before.
-    ((3, 2, 0, false), ([true, true, false], Some(2))),
+    ((4, 2, 0, false), ([true, true, false], Some(2))),
     // It is cut, and no file can be begun.
-    ((3, 2, 9, false), ([true, true, false], None)),
+    ((4, 2, 9, false), ([true, true, false], None)),
 ];
 
 #[test]
@@ -369,4 +388,118 @@ fn resumed_with(alloc: Global, files: &mut MemoryFiles) -> Result<Option<usize>,
         Start::Resumes { resumption, .. } => Some(resumption.seen.len()),
         Start::Refuses { .. } => None,
     })
+}
+
+/// With how many authenticators a start resumes, or why it doesn't.
+type Resumed = Result<usize, Doubt>;
+
+#[test]
+fn a_sealed_journal_outlives_a_boot(rt: HostRuntime) {
+    let alloc = rt.alloc();
+    same(
+        &rt,
+        &"starts in three boots",
+        &starts_in_boots(alloc),
+        &Ok([
+            // One authenticator was kept. Another boot refuses it, and can't seal it either.
+            Err(Doubt::OtherBoot),
+            Err(Doubt::OtherBoot),
+            // It is sealed in its own boot.
+            Ok(0),
+            Ok(1),
+            // The start broke the seal, and kept one more: a third boot refuses, and the second one resumes with both.
+            Err(Doubt::OtherBoot),
+            Ok(2),
+        ]),
+    );
+}
+
+fn starts_in_boots(alloc: Global) -> Result<[Resumed; 6], AllocError> {
+    let mut files = kept_in(alloc, MemoryFiles::new(), b"boot", 0)?;
+    let unsealed = resumed_in(alloc, &mut files, b"bott")?;
+    let foreign = sealed_in(alloc, &mut files, b"bott")?;
+    let sealed = sealed_in(alloc, &mut files, b"boot")?;
+    let resumed = resumed_in(alloc, &mut files, b"bott")?;
+    let mut files = kept_in(alloc, files, b"bott", 1)?;
+    let third = resumed_in(alloc, &mut files, b"bout")?;
+    let again = resumed_in(alloc, &mut files, b"bott")?;
+    Ok([unsealed, foreign, sealed, resumed, third, again])
+}
+
+/// What a start in a boot finds.
+#[derive(Drop)]
+struct Files {
+    older: Found,
+    newer: Found,
+    seal: Vec<u8>,
+}
+
+fn files_in(alloc: Global, files: &mut MemoryFiles) -> Result<Files, AllocError> {
+    let (Ok(older), Ok(newer), Ok(seal)) = (
+        read_part(alloc, files, Part::Older),
+        read_part(alloc, files, Part::Newer),
+        files.read_seal(alloc),
+    ) else {
+        return Err(AllocError);
+    };
+    Ok(Files { older, newer, seal })
+}
+
+fn start_in(alloc: Global, found: &Files, boot: &[u8]) -> Result<Start, AllocError> {
+    let place = Place {
+        realm: b"A.B",
+        boot,
+        seal: &found.seal,
+        at: at(302),
+    };
+    start_of(alloc, &place, &found.older, &found.newer)
+}
+
+fn resumed_in(alloc: Global, files: &mut MemoryFiles, boot: &[u8]) -> Result<Resumed, AllocError> {
+    let found = files_in(alloc, files)?;
+    Ok(match start_in(alloc, &found, boot)? {
+        Start::Resumes { resumption, .. } => Ok(resumption.seen.len()),
+        Start::Refuses { doubt } => Err(doubt),
+    })
+}
+
+/// Seals files. Returns 0 if that succeeds.
+fn sealed_in(alloc: Global, files: &mut MemoryFiles, boot: &[u8]) -> Result<Resumed, AllocError> {
+    let found = files_in(alloc, files)?;
+    let place = Place {
+        realm: b"A.B",
+        boot,
+        seal: &found.seal,
+        at: at(302),
+    };
+    match seal_journal(files, &place, &found.older, &found.newer) {
+        Ok(()) => Ok(Ok(0)),
+        Err(NotSealed::Doubted(doubt)) => Ok(Err(doubt)),
+        Err(NotSealed::Failed(_)) => Err(AllocError),
+    }
+}
+
+/// Starts in a boot, and keeps an authenticator with this number of microseconds.
+fn kept_in(
+    alloc: Global,
+    files: MemoryFiles,
+    boot: &[u8],
+    cusec: u32,
+) -> Result<MemoryFiles, AllocError> {
+    let mut files = files;
+    let found = files_in(alloc, &mut files)?;
+    let start = start_in(alloc, &found, boot)?;
+    let realm = Octets::from_slice(alloc, b"A.B")?;
+    let boot = Octets::from_slice(alloc, boot)?;
+    let mut journal = JournalFile::new(files, realm, boot, T + 301, 1_000_000);
+    let begun = journal.start(alloc, at(302), &start, &found.newer, 0);
+    let seen = Seen {
+        client: Name::new(alloc, 1, &[b"u"])?,
+        ctime: T + 301,
+        cusec,
+    };
+    if begun.is_err() || journal.keep(alloc, at(302), &seen).is_err() {
+        return Err(AllocError);
+    }
+    Ok(journal.into_files())
 }

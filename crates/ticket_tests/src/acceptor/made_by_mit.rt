@@ -1,5 +1,5 @@
-//! AP-REQs from MIT's library, made by `tools/mk_req.c` with tickets from MIT's `krb5kdc`, both of version 1.20.1 on
-//! Debian.
+//! AP-REQs from MIT's library, made by `tests/services/mk_req.c` with tickets from MIT's `krb5kdc`, both of version
+//! 1.20.1 on Debian.
 //!
 //! The expected contents of each are what that library reads from it, as the tool prints it. The AP-REPs come from an
 //! independent model in Python, and the library has accepted each. All bytes are texts of hexadecimal digits, because

@@ -1,4 +1,4 @@
-use Rattle.std.proofs.Common.{map, ◌∙◌, ap, subst, sym}
+use Rattle.std.proofs.Common.{◌∙◌, ap, subst, sym}
 use Rattle.kadm_run.specs.Ends.{IsEnd}
 use Rattle.kadm_run.specs.Words.{texts}
 use Rattle.kadm_run.proofs.Ending.{ended}

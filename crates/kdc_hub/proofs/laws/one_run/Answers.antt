@@ -1,5 +1,6 @@
 use Rattle.kdc_hub.proofs.Due as due
 use Rattle.kdc_hub.proofs.Histories as histories
+use Rattle.kdc_hub.proofs.Moved as moved
 use Rattle.kdc_hub.proofs.laws.one_run.Goals as goal
 
 pub returns-clause-run : goal.returns-clause-run
@@ -37,3 +38,6 @@ returns-clause-own c = due.gets_its_own
 
 pub returns-clause-own_record : goal.returns-clause-own_record
 returns-clause-own_record c = due.records_its_own
+
+pub returns-clause-moved : goal.returns-clause-moved
+returns-clause-moved c = moved.moves_nothing_else

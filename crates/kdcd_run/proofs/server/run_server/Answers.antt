@@ -1,7 +1,7 @@
 use Rattle.std.proofs.Common.{◌∙◌, subst, sym}
 use Rattle.kdc_hub.specs.Hub.{standing}
-use Rattle.kdc_serving.specs.Life.{IsLife, periods_of}
-use Rattle.kdc_serving.specs.Recorded.{recorded_by_any}
+use Rattle.kdc_hub.specs.Life.{IsLife, periods_of}
+use Rattle.kdc_hub.specs.Recorded.{recorded_by_any}
 use Rattle.rand_core.specs.Steps.{steps_u32, stream_of}
 use Rattle.rand_chacha.specs.ChaCha.{next_word}
 use Rattle.kdcd_run.specs.Server.{IsStarted}
@@ -21,7 +21,7 @@ returns-clause-run g c =
       floor = server.wire.clock.floor;
       rows = rows;
       started = subst (λ after. IsStarted c.args.options.now (g.H.Host.recorded c.args.host.now) after begun server.wire.came.at server.wire.clock.floor server.news)
-          (sym (c.take_rows-rows.ensures.records ∙ c.announce.ensures)) c.in_ok-server.ensures.start;
+          (sym (c.take_metrics.ensures ∙ c.take_rows-rows.ensures.records ∙ c.announce.ensures)) c.in_ok-server.ensures.start;
       looks = c.take_rows-rows.ensures.new;
       life = subst (λ n. IsLife (g.T.Tally.recorded c.args.outlets.tally) rows begun (periods_of n) c.serve_life-totals.result tally_after rows_after ended) c.rounds_of-rounds.ensures
           (subst (λ t. IsLife (g.T.Tally.recorded t) rows begun (periods_of c.rounds_of-rounds.result) c.serve_life-totals.result tally_after rows_after ended) c.in_ok-server.ensures.tally

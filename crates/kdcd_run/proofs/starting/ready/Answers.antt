@@ -1,4 +1,4 @@
-use Rattle.std.proofs.Common.{rules, ◌≡◌, ◌∙◌, SFits, w64, true, ap, subst, sym, [], ◌∷◌}
+use Rattle.std.proofs.Common.{rules, ◌∙◌, SFits, w64, ap, subst, [], ◌∷◌}
 use Rattle.std.specs.Option.{option_copied}
 use Rattle.std.proofs.lemmas.Int.{to_z-of_z}
 use Rattle.kdc_hub.specs.Wire.{Records}

@@ -1,21 +1,49 @@
-use Rattle.std.proofs.Common.{rules, None, SFits, w64}
+use Rattle.std.proofs.Common.{rules, None, Some, true, false, SFits, w64, pos, ◌-ℤ◌}
+use Rattle.std.specs.Prelude.{IfSome}
 use Rattle.std.proofs.lemmas.Int.{to_z-of_z}
+use Rattle.krb_fields.specs.Skew.{skew}
 use Rattle.journal.specs.Appending.{HasTail}
+use Rattle.journal.specs.Holding.{IsKept, IsSafe, IsStart, known_by}
+use Rattle.journal.proofs.Keeps.{turned_kept}
+use Rattle.journal.proofs.Seals.{sealed_safe, sealed_start, unsealed}
 use Rattle.journal.proofs.Starts.{start_begins, start_fails, start_goes_on}
 use Rattle.journal.proofs.journal_file.JournalFile.start.Goals as goal
 
 pub returns-in-Some-clause-kept : goal.returns-in-Some-clause-kept
 returns-in-Some-clause-kept g c =
     λ floor floor_is starts.
+    let world = g.F.JournalFiles.world in
+    let newer = c.args.newer.now in
+    let start = c.args.start.now in
+    let low = c.args.at.sec -ℤ pos skew in
+    let known = known_by floor start in
     let fits : SFits w64 c.in-Some.floor = search rules in
-    simp to_z-of_z (start_goes_on c.args.at floor c.args.newer.now c.args.start.now (c.in-Some.tail, c.in-Some.floor) (g.F.JournalFiles.world c.args.self.now.files) c.in-Some.ensures starts)
+    let broken : IfSome (world c.unseal.new.self) (IsStart c.args.at floor newer start) =
+    unsealed (IsStart c.args.at floor newer start) (λ w seal is. sealed_start c.args.at floor newer start w seal is) true (world c.args.self.now.files) (world c.unseal.new.self) c.in_default.ensures starts in
+    let on : IfSome (world c.unseal.new.self) (λ w. IsKept low known known w (Some c.in-Some.tail) (Some c.in-Some.floor)) =
+    start_goes_on c.args.at floor newer start (c.in-Some.tail, c.in-Some.floor) (world c.unseal.new.self) c.in-Some.ensures broken in
+    simp to_z-of_z
+    (turned_kept low known known _ (Some c.in-Some.floor) (Some c.in-Some.tail) (world c.unseal.new.self) c.turn_if_due-self.result (world c.turn_if_due-self.new.files) (simp to_z-of_z at c.turn_if_due-self.ensures) on)
 
 pub returns-in-Ok-clause-kept : goal.returns-in-Ok-clause-kept
 returns-in-Ok-clause-kept g c =
     λ floor floor_is starts.
-    let none : HasTail c.args.start.now c.args.newer.now None = search rules in
-    start_begins c.args.at floor c.args.newer.now c.args.start.now none _ c.args.self.now.floor floor_is c.in-Ok.tail (g.F.JournalFiles.world c.args.self.now.files) (g.F.JournalFiles.world c.begin.new.files) c.in-Ok.ensures starts
+    let world = g.F.JournalFiles.world in
+    let newer = c.args.newer.now in
+    let start = c.args.start.now in
+    let none : HasTail start newer None = search rules in
+    let broken : IfSome (world c.unseal.new.self) (IsStart c.args.at floor newer start) =
+    unsealed (IsStart c.args.at floor newer start) (λ w seal is. sealed_start c.args.at floor newer start w seal is) true (world c.args.self.now.files) (world c.unseal.new.self) c.in_default.ensures starts in
+    start_begins c.args.at floor newer start none _ c.args.self.now.floor floor_is c.in-Ok.tail (world c.unseal.new.self) (world c.begin.new.files) c.in-Ok.ensures broken
 
 pub returns-in-Err-clause-safe : goal.returns-in-Err-clause-safe
 returns-in-Err-clause-safe g c =
-    λ low r safe failed. start_fails low r (g.F.JournalFiles.world c.args.self.now.files) c.in-Err.fault (g.F.JournalFiles.world c.begin.new.files) safe c.in-Err.ensures
+    λ low r safe failed.
+    unsealed (IsSafe low r) (λ w seal is. sealed_safe low r w seal is) false (g.F.JournalFiles.world c.args.self.now.files) (g.F.JournalFiles.world c.unseal.new.self) c.in-Err.ensures safe
+
+pub returns-in-Err-begin-clause-safe : goal.returns-in-Err-begin-clause-safe
+returns-in-Err-begin-clause-safe g c =
+    λ low r safe failed.
+    let world = g.F.JournalFiles.world in
+    let broken = unsealed (IsSafe low r) (λ w seal is. sealed_safe low r w seal is) true (world c.args.self.now.files) (world c.unseal.new.self) c.in_default.ensures safe in
+    start_fails low r (world c.unseal.new.self) c.in-Err-begin.fault (world c.begin.new.files) broken c.in-Err-begin.ensures

@@ -1,0 +1,2 @@
+pub mod Wallets
+pub mod Worlds

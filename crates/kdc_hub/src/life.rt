@@ -1,0 +1,162 @@
+//! Serving a realm whose rows may change in the meantime.
+ghost use Rattle.std.specs.Prelude.{◌≡◌, ◌≤◌};
+ghost use Rattle.kdc_hub.specs.Hub.{standing};
+ghost use Rattle.kdc_hub.specs.Wire.{IsCounted};
+ghost use Rattle.kdc_hub.specs.Life.{HasLooked, HasTidied, IsLife, IsPeriod, due, periods_of};
+
+use crate::hub::Hub;
+use crate::laws::one_run;
+use crate::onlooker::Onlooker;
+use crate::rows::{Look, RowSource};
+use crate::server::{Served, serve};
+use crate::totals::Totals;
+use crate::wires::Wire;
+use krb_fields::Moment;
+use rand_core::Rng;
+use std::alloc::Global;
+
+/// In seconds.
+const MINUTE: i64 = 60;
+
+/// For how many clients a period frees the memory of dropped authenticators.
+const CLIENTS_FREED: usize = 512;
+
+/// The tidyings of a life.
+#[derive(Drop)]
+struct Tidyings {
+    /// The moment of the last one.
+    last: Option<Moment>,
+    freeing: Freeing,
+}
+
+/// The freeing of what tidyings dropped, for some clients after each period.
+#[derive(Drop)]
+struct Freeing {
+    /// The next client.
+    place: usize,
+    /// How often the last client is still to be reached: twice after a tidying, so that each one has its turn.
+    passes: u32,
+}
+
+/// Serves this many rounds. Before the first, and again after each 16, it checks whether the source has new rows. Rows
+/// of the same realm replace those that are served; the replay caches are unchanged. After the rounds it drops
+/// authenticators that can't come again, at most once a minute by the moment of the last poll. So a server without
+/// requests drops them too. The memory of these is freed in parts, after the rounds that follow. An onlooker sees it after each
+/// 16 rounds, and at the end.
+pub fn serve_life<W: Wire, S: RowSource, R: Rng, O: Onlooker<W, S, R>>(
+    alloc: Global,
+    wire: &mut W,
+    source: &mut S,
+    hub: &mut Hub<R>,
+    rounds: u64,
+    onlooker: &mut O,
+) -> Totals
+    // The records of the Wire and of the source, and the hub at the end, are those of one history, which is one run of
+    // the key distribution centre. No authenticator gets two different tickets in it. What others send changes nothing
+    // for a client. What is dropped changes nothing either, if no request is before an earlier tidying.
+    ensures life { IsLife (W.recorded wire.old) (S.recorded source.old) (standing R.stream hub.old) (periods_of rounds) result
+        (W.recorded wire.new) (S.recorded source.new) (standing R.stream hub.new) }
+    ensures counted { IsCounted (W.fault_count wire.old) result.faults (W.fault_count wire.new) }
+{
+    one_run();
+    let mut totals = Totals::new();
+    let mut tidied = Tidyings {
+        last: None,
+        freeing: Freeing {
+            place: 0,
+            passes: 0,
+        },
+    };
+    for _ in 0..rounds / 16 {
+        let served = serve_period(alloc, wire, source, hub, &mut tidied, 16);
+        totals = totals.with(served);
+        onlooker.see(alloc, wire, source, hub, &served);
+    }
+    let rest = (rounds % 16) as u32;
+    let last = serve_period(alloc, wire, source, hub, &mut tidied, rest);
+    onlooker.see(alloc, wire, source, hub, &last);
+    totals.with(last)
+}
+
+/// Checks for new rows, serves this many rounds, and tidies if that is due.
+fn serve_period<W: Wire, S: RowSource, R: Rng>(
+    alloc: Global,
+    wire: &mut W,
+    source: &mut S,
+    hub: &mut Hub<R>,
+    tidied: &mut Tidyings,
+    rounds: u32,
+) -> Served
+    ensures period { IsPeriod (W.recorded wire.old) (S.recorded source.old) (standing R.stream hub.old) tidied.old.last rounds result
+        (W.recorded wire.new) (S.recorded source.new) (standing R.stream hub.new) tidied.new.last }
+    ensures counted { IsCounted (W.fault_count wire.old) result.faults (W.fault_count wire.new) }
+    ensures few_events { result.events ≤ rounds }
+    ensures few_refused { result.refused ≤ rounds }
+{
+    take_rows(alloc, source, hub);
+    let served = serve(alloc, wire, hub, rounds);
+    tidy_if_due(hub, tidied, &served.last);
+    served
+}
+
+/// Drops authenticators that can't come again, if the last poll returned at least a minute after the last tidying, or
+/// before it. If not, it frees the memory of some that were dropped.
+fn tidy_if_due<R: Rng>(hub: &mut Hub<R>, tidied: &mut Tidyings, last: &Option<Moment>)
+    ensures { HasTidied (standing R.stream hub.old) tidied.old.last last.now (standing R.stream hub.new) tidied.new.last }
+{
+    match due(&tidied.last, last) {
+        Some(at) => {
+            hub.tidy(at);
+            tidied.last = Some(at);
+            tidied.freeing.passes = 2;
+        }
+        None => free_some(hub, &mut tidied.freeing),
+    }
+}
+
+/// Frees the memory of the dropped authenticators of the clients whose turn it is.
+fn free_some<R: Rng>(hub: &mut Hub<R>, freeing: &mut Freeing)
+    ensures { standing R.stream hub.new ≡ standing R.stream hub.old }
+{
+    if freeing.passes == 0 {
+        return;
+    }
+    match hub.free_dropped(freeing.place, CLIENTS_FREED) {
+        Some(next) => freeing.place = next,
+        None => {
+            freeing.place = 0;
+            freeing.passes -= 1;
+        }
+    }
+}
+
+/// Returns when to tidy, if that is due.
+fn due(tidied: &Option<Moment>, last: &Option<Moment>) -> Option<Moment>
+    ensures { result ≡ due tidied.now last.now }
+{
+    match (tidied, last) {
+        (_, None) => None,
+        (None, Some(at)) => Some(*at),
+        (Some(before), Some(at)) => {
+            if before.sec <= at.sec && at.sec < before.sec + MINUTE {
+                None
+            } else {
+                Some(*at)
+            }
+        }
+    }
+}
+
+/// Replaces the rows that are served by those of the source, if they changed.
+fn take_rows<S: RowSource, R: Rng>(alloc: Global, source: &mut S, hub: &mut Hub<R>)
+    ensures { HasLooked (S.recorded source.old) (standing R.stream hub.old) (S.recorded source.new)
+        (standing R.stream hub.new) }
+{
+    match source.look(alloc) {
+        Look::Changed(database) => {
+            let taken = hub.replace(database);
+            source.hear(taken);
+        }
+        Look::Unchanged | Look::Failed => {}
+    }
+}

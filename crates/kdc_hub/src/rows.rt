@@ -1,0 +1,94 @@
+//! The source of a realm's rows while it is served.
+ghost use Rattle.std.specs.Prelude.{◌≡◌, ◌∷◌, [], List, Option, IfOk};
+ghost use Rattle.kdc_hub.specs.Wire.{Records};
+ghost use Rattle.kdc_hub.specs.Recorded.{recorded_by_any};
+ghost use Rattle.kdc_hub.specs.declared.rows.Look.{Look};
+
+use kdc_core::OtherRealm;
+use principals::Database;
+use std::alloc::{AllocError, Global};
+
+/// The result of a look at a source of rows.
+#[derive(Drop)]
+pub enum Look {
+    /// The rows are those that the source gave last.
+    Unchanged,
+    /// There are new rows.
+    Changed(Database),
+    /// There are new rows, but they can't be used.
+    Failed,
+}
+
+impl Look {
+    /// Returns a copy.
+    pub fn copy(&self, alloc: Global) -> Result<Look, AllocError>
+        ensures { IfOk result (λ copy. copy ≡ self.now) }
+    {
+        Ok(match self {
+            Look::Unchanged => Look::Unchanged,
+            Look::Changed(database) => Look::Changed(database.copy(alloc)?),
+            Look::Failed => Look::Failed,
+        })
+    }
+}
+
+/// What a source knows of the rows that are served.
+#[derive(Clone, Copy, PartialEq, Eq)]
+pub struct RowsState {
+    /// The second since 1970 when they were taken, if they are not those of the start.
+    pub taken_at: Option<i64>,
+    /// Whether there were newer ones that can't be used.
+    pub is_behind: bool,
+}
+
+impl RowsState {
+    /// Returns the state of a source whose rows were never replaced.
+    pub fn first() -> RowsState {
+        RowsState {
+            taken_at: None,
+            is_behind: false,
+        }
+    }
+}
+
+/// A source of a realm's rows while it is served. It may have a record, for contracts alone.
+pub trait RowSource {
+    // What the looks so far have found, in order, if the source has a record.
+    ghost recorded: { Self → Option (List Look) };
+
+    /// Checks whether there are other rows than those that the source gave last.
+    fn look(&mut self, alloc: Global) -> Look
+        ensures records { Records (recorded self.old) (result ∷ []) (recorded self.new) };
+
+    /// Learns whether the rows of the last look are served from now on.
+    fn hear(&mut self, taken: Result<(), OtherRealm>)
+        ensures records { recorded self.new ≡ recorded self.old };
+
+    /// Returns what it knows of the rows that are served.
+    fn state(&self) -> RowsState;
+}
+
+/// Without a source the rows never change.
+impl<S: RowSource> RowSource for Option<S> {
+    ghost recorded = { recorded_by_any S.recorded };
+
+    fn look(&mut self, alloc: Global) -> Look {
+        match self {
+            Some(source) => source.look(alloc),
+            None => Look::Unchanged,
+        }
+    }
+
+    fn hear(&mut self, taken: Result<(), OtherRealm>) {
+        if let Some(source) = self {
+            source.hear(taken);
+        }
+    }
+
+    fn state(&self) -> RowsState {
+        match self {
+            Some(source) => source.state(),
+            None => RowsState::first(),
+        }
+    }
+}

@@ -1,0 +1,105 @@
+//! Sealing a journal, and removing one.
+use crate::files::FileFault;
+use crate::journal_files::{OpenedJournals, open_journals};
+use crate::journal_parts::Paths;
+use crate::journal_store::SystemJournal;
+use journal::{Doubt, Found, NotSealed, Place, seal_journal};
+use krb_fields::Moment;
+use std::alloc::Global;
+use std::fmt;
+use std::fs::File;
+use std::io::Write;
+use std::rt::Files;
+
+/// Why a journal was not sealed.
+#[derive(Debug, Drop)]
+pub enum SealFault {
+    /// A start would not resume with it.
+    Doubted(Doubt),
+    /// A file of it is refused, or failed.
+    File(FileFault),
+}
+
+impl SealFault {
+    /// Returns the word for the refusal, unless a file failed.
+    pub fn refusal(&self) -> Option<&'static str> {
+        match self {
+            SealFault::Doubted(doubt) => Some(doubt_word(*doubt)),
+            SealFault::File(fault) => fault.refusal(),
+        }
+    }
+}
+
+impl fmt::Display for SealFault {
+    fn fmt<W: fmt::Write>(&self, f: &mut fmt::Formatter<W>) -> fmt::Result {
+        match self {
+            SealFault::Doubted(doubt) => write!(f, "not sealed: {doubt}"),
+            SealFault::File(fault) => write!(f, "{fault}"),
+        }
+    }
+}
+
+fn doubt_word(doubt: Doubt) -> &'static str {
+    match doubt {
+        Doubt::Absent => "Absent",
+        Doubt::Damaged => "Damaged",
+        Doubt::OtherRealm => "OtherRealm",
+        Doubt::OtherBoot => "OtherBoot",
+        Doubt::Unlinked => "Unlinked",
+    }
+}
+
+/// Seals the journal at a path at this moment, if no server has it open and a start would resume with it.
+pub fn seal_at_path<F: Files<File = File>, W: Write + Drop>(
+    alloc: Global,
+    files: &F,
+    path: &str,
+    lines: W,
+    at: Moment,
+) -> Result<(), SealFault> {
+    let OpenedJournals {
+        journals,
+        mut files,
+    } = match open_journals(alloc, files, path, lines) {
+        Ok(opened) => opened,
+        Err(fault) => return Err(SealFault::File(fault)),
+    };
+    let place = Place {
+        realm: realm_of(&journals.newer),
+        boot: journals.boot.as_slice(),
+        seal: journals.seal.as_slice(),
+        at,
+    };
+    match seal_journal(&mut files, &place, &journals.older, &journals.newer) {
+        Ok(()) => Ok(()),
+        Err(NotSealed::Doubted(doubt)) => Err(SealFault::Doubted(doubt)),
+        Err(NotSealed::Failed(error)) => Err(SealFault::File(FileFault::Failed(error))),
+    }
+}
+
+/// Returns the realm of a journal, or no octets if there is none.
+fn realm_of(found: &Found) -> &[u8] {
+    match found {
+        Found::Whole(journal) => journal.header.realm.as_slice(),
+        Found::Nothing | Found::Broken => &[],
+    }
+}
+
+/// Makes sure that no journal is at a path: one that is there is removed, or refused.
+pub fn refuse_journal<F: Files<File = File>, W: Write + Drop>(
+    alloc: Global,
+    files: &F,
+    path: &str,
+    removes: bool,
+    lines: W,
+) -> Result<(), FileFault> {
+    if !Paths::new(alloc, path)?.are_there(files)? {
+        return Ok(());
+    }
+    if !removes {
+        return Err(FileFault::Journal);
+    }
+    let mut journal = SystemJournal::open(alloc, files, path, lines)?;
+    journal.remove(alloc)?;
+    Ok(())
+}

@@ -1,0 +1,6 @@
+mod Chains
+mod Lists
+mod Rows
+mod Masters
+mod Lines
+mod Hex

@@ -1,0 +1,13 @@
+pub mod Chain
+pub mod Attribute
+pub mod Dump
+pub mod Entries
+pub mod Fields
+pub mod Losses
+pub mod Master
+pub mod NameText
+pub mod Part
+pub mod Place
+pub mod Policy
+pub mod Principal
+pub mod StoredKey

@@ -1,0 +1,163 @@
+//! What of a principal has no place in a row.
+ghost use Rattle.std.specs.Prelude.{◌≡◌, ◌++◌, IfOk, OnOk};
+ghost use Rattle.mit_dump.specs.Losses.{has_policy, has_twin, is_default, key_loss, key_losses, loss_if, losses};
+ghost use Rattle.mit_dump.specs.Losses.{lost_bits, names_policy};
+
+use crate::master::part_tagged;
+use crate::part::Part;
+use crate::place::has_key;
+use crate::principal::DumpedPrincipal;
+use crate::stored_key::StoredKey;
+use krb_fields::Name;
+use std::alloc::{AllocError, Global};
+
+/// What has no place.
+#[derive(Clone, Copy, Debug, PartialEq, Eq)]
+pub enum Loss {
+    /// The principal: it is of another realm.
+    Realm,
+    /// The principal: its name has more than 16 components, or one of them has not 1 to 255 bytes.
+    Name,
+    /// The principal: it has no key with a place.
+    NoKeys,
+    /// Its password policy, with the lock after failed logins.
+    Policy,
+    /// Its string attributes (`setstr`).
+    Strings,
+    /// These bits of its attributes.
+    Attributes(u32),
+    /// A key with another encryption type.
+    KeyType { etype: u32, version: u32 },
+    /// A key with version 0.
+    NoVersion { etype: u32 },
+    /// The second key with the same type and version.
+    Twin { etype: u32, version: u32 },
+    /// The salt of a key: it is not that of the principal's name, so the password doesn't give the key.
+    Salt { etype: u32, version: u32 },
+}
+
+/// The number of the tagged data with the policy: `KRB5_TL_KADM_DATA`.
+const KADM_DATA: u32 = 3;
+
+/// The number of the tagged data with string attributes: `KRB5_TL_STRING_ATTRS`.
+const STRING_ATTRS: u32 = 11;
+
+/// The attributes that neither have a place in a policy nor say nothing of tickets: `-allow_tgs_req`,
+/// `-allow_dup_skey`, `+requires_hwauth`, `+password_changing_service`, `+ok_to_auth_as_delegate`, and bits that MIT
+/// gives no name.
+const UNPLACED: u32 = 0xff2f_2d24;
+
+/// The type of the default salt: `KRB5_KDB_SALTTYPE_NORMAL`.
+const NORMAL_SALT: u32 = 0;
+
+impl DumpedPrincipal {
+    /// Returns what has no place in a database of this realm.
+    pub fn losses(&self, alloc: Global, realm: &[u8]) -> Result<Vec<Loss>, AllocError>
+        ensures { IfOk result (λ found. found.items ≡ losses realm.now self.now) }
+    {
+        let mut losses = Vec::new(alloc);
+        push_if(&mut losses, self.realm.as_slice() != realm, Loss::Realm)?;
+        push_if(&mut losses, !self.name.is_within_limits(), Loss::Name)?;
+        push_if(&mut losses, !has_key(&self.keys), Loss::NoKeys)?;
+        push_if(&mut losses, has_policy(&self.tagged), Loss::Policy)?;
+        push_if(
+            &mut losses,
+            part_tagged(&self.tagged, STRING_ATTRS).is_some(),
+            Loss::Strings,
+        )?;
+        let lost = lost_bits(self.numbers.attributes.bits());
+        push_if(&mut losses, lost != 0, Loss::Attributes(lost))?;
+        let salt = self.name.salt(alloc, self.realm.as_slice())?;
+        push_key_losses(&mut losses, &self.keys, salt.as_slice())?;
+        Ok(losses)
+    }
+}
+
+/// Checks whether tagged data names a policy: its second four bytes, which are the length of the name, are not zero.
+fn has_policy(tagged: &[Part]) -> bool
+    ensures { result ≡ has_policy tagged.now }
+{
+    match part_tagged(tagged, KADM_DATA) {
+        Some(part) => names_policy(part.octets.as_slice()),
+        None => false,
+    }
+}
+
+fn names_policy(octets: &[u8]) -> bool
+    ensures { result ≡ names_policy octets.now }
+{
+    match octets {
+        [_, _, _, _, a, b, c, d, ..] => *a != 0 || *b != 0 || *c != 0 || *d != 0,
+        _ => false,
+    }
+}
+
+/// Returns the attributes without a place.
+fn lost_bits(attributes: u32) -> u32
+    ensures { result ≡ lost_bits attributes }
+{
+    attributes & UNPLACED
+}
+
+fn push_if(losses: &mut Vec<Loss>, is_lost: bool, loss: Loss) -> Result<(), AllocError>
+    ensures { OnOk result (losses.new.items ≡ losses.old.items ++ loss_if is_lost loss) }
+{
+    if is_lost {
+        losses.push(loss)?;
+    }
+    Ok(())
+}
+
+fn push_key_losses(
+    losses: &mut Vec<Loss>,
+    keys: &[StoredKey],
+    salt: &[u8],
+) -> Result<(), AllocError>
+    ensures { OnOk result (losses.new.items ≡ losses.old.items ++ key_losses salt.now keys.entry.now) }
+{
+    let mut rest = keys;
+    while let [key, later @ ..] = rest {
+        if let Some(loss) = key_loss(key, later, salt) {
+            losses.push(loss)?;
+        }
+        rest = later;
+    }
+    Ok(())
+}
+
+/// Returns what is lost of a key, given those behind it.
+fn key_loss(key: &StoredKey, later: &[StoredKey], salt: &[u8]) -> Option<Loss>
+    ensures { result ≡ key_loss salt.now key.now later.now }
+{
+    let etype = key.key.tag;
+    let version = key.version;
+    if version == 0 {
+        return Some(Loss::NoVersion { etype });
+    }
+    if key.etype().is_none() {
+        return Some(Loss::KeyType { etype, version });
+    }
+    if has_twin(key, later) {
+        return Some(Loss::Twin { etype, version });
+    }
+    if !has_default_salt(key, salt) {
+        return Some(Loss::Salt { etype, version });
+    }
+    None
+}
+
+fn has_twin(key: &StoredKey, later: &[StoredKey]) -> bool
+    ensures { result ≡ has_twin key.now later.now }
+{
+    later.iter().any(|other| other.key.tag == key.key.tag && other.version == key.version)
+}
+
+/// Checks whether the salt of a key is the default one, by its type or by its bytes.
+fn has_default_salt(key: &StoredKey, salt: &[u8]) -> bool
+    ensures { result ≡ is_default salt.now key.now.salt }
+{
+    match &key.salt {
+        Some(given) => given.tag == NORMAL_SALT || given.octets.as_slice() == salt,
+        None => true,
+    }
+}

@@ -1,0 +1,77 @@
+//! Which principals of a dump have a place in the database of a realm.
+ghost use Rattle.std.specs.Prelude.{◌≡◌};
+ghost use Rattle.mit_dump.specs.Place.{grants_tickets, has_key, has_place, is_master, is_own, is_server};
+
+use crate::principal::DumpedPrincipal;
+use crate::stored_key::StoredKey;
+use krb_elements::KerberosString;
+
+impl DumpedPrincipal {
+    /// Checks whether it is one of MIT's own: `K/M`, `kadmin/..` and `kiprop/..`.
+    pub fn is_own(&self) -> bool
+        ensures { result ≡ is_own self.now.name.components }
+    {
+        is_own(self.name.components.as_slice())
+    }
+
+    /// Checks whether it is the ticket-granting service of its realm: `krbtgt/REALM@REALM`.
+    pub fn grants_tickets(&self) -> bool
+        ensures { result ≡ grants_tickets self.now.name.components self.now.realm }
+    {
+        grants_tickets(self.name.components.as_slice(), self.realm.as_slice())
+    }
+
+    /// Checks whether it has a row in a database of this realm: it is not MIT's own, and has a name within the limits
+    /// and a key.
+    pub fn has_place(&self, realm: &[u8]) -> bool
+        ensures { result ≡ has_place realm.now self.now }
+    {
+        !self.is_own()
+            && self.realm.as_slice() == realm
+            && self.name.is_within_limits()
+            && has_key(&self.keys)
+    }
+}
+
+fn is_own(components: &[KerberosString]) -> bool
+    ensures { result ≡ is_own components.now }
+{
+    match components {
+        [first, second] => {
+            is_server(first.as_slice()) || is_master(first.as_slice(), second.as_slice())
+        }
+        [first, _, ..] => is_server(first.as_slice()),
+        _ => false,
+    }
+}
+
+/// Checks whether two components are those of `K/M`.
+fn is_master(first: &[u8], second: &[u8]) -> bool
+    ensures { result ≡ is_master first.now second.now }
+{
+    first == b"K".as_slice() && second == b"M".as_slice()
+}
+
+fn is_server(component: &[u8]) -> bool
+    ensures { result ≡ is_server component.now }
+{
+    component == b"kadmin".as_slice() || component == b"kiprop".as_slice()
+}
+
+fn grants_tickets(components: &[KerberosString], realm: &[u8]) -> bool
+    ensures { result ≡ grants_tickets components.now realm.now }
+{
+    match components {
+        [service, instance] => {
+            service.as_slice() == b"krbtgt".as_slice() && instance.as_slice() == realm
+        }
+        _ => false,
+    }
+}
+
+/// Checks whether a key has a place in a row.
+pub(crate) fn has_key(keys: &[StoredKey]) -> bool
+    ensures { result ≡ has_key keys.now }
+{
+    keys.iter().any(|key| key.etype().is_some())
+}

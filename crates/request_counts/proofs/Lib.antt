@@ -1,0 +1,3 @@
+pub mod Found
+pub mod Counting
+pub mod Appended

@@ -1,0 +1,5 @@
+pub mod Kinds
+pub mod Places
+pub mod Counts
+pub mod Prometheus
+pub mod Text

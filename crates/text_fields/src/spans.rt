@@ -1,0 +1,63 @@
+//! Time spans in seconds: a decimal number followed by its unit, as `10h` and `7d`.
+ghost use Rattle.std.specs.Prelude.{◌≡◌, ◌⊎◌, ◌++◌, IfSome};
+ghost use Rattle.text_fields.specs.Numbers.{IsU32Text};
+ghost use Rattle.text_fields.specs.Spans.{IsSpanText, unit_mark, unit_seconds};
+
+use crate::numbers::number_u32;
+
+/// A unit of a time span.
+#[derive(Clone, Copy)]
+enum Unit {
+    Second,
+    Minute,
+    Hour,
+    Day,
+}
+
+impl Unit {
+    fn seconds(self) -> u32
+        ensures { result ≡ unit_seconds self }
+    {
+        match self {
+            Unit::Second => 1,
+            Unit::Minute => 60,
+            Unit::Hour => 3_600,
+            Unit::Day => 86_400,
+        }
+    }
+}
+
+/// Reads a time span, in seconds: a decimal number followed by its unit, which is `s`, `m`, `h` or `d`.
+pub fn span(text: &str) -> Option<u32>
+    ensures { IfSome result (λ seconds. IsSpanText seconds text.now) }
+{
+    let (digits, unit) = split_unit(text)?;
+    number_u32(digits)?.checked_mul(unit.seconds())
+}
+
+/// Reads a lifetime: a number of seconds, or a time span.
+pub fn lifetime(text: &str) -> Option<u32>
+    ensures { IfSome result (λ seconds. IsU32Text seconds text.now ⊎ IsSpanText seconds text.now) }
+{
+    match number_u32(text) {
+        Some(seconds) => Some(seconds),
+        None => span(text),
+    }
+}
+
+/// Splits the unit off.
+fn split_unit(text: &str) -> Option<(&str, Unit)>
+    ensures { IfSome result (λ found. text.now ≡ found.0.now ++ unit_mark found.1) }
+{
+    if let Some(digits) = text.strip_suffix("s") {
+        Some((digits, Unit::Second))
+    } else if let Some(digits) = text.strip_suffix("m") {
+        Some((digits, Unit::Minute))
+    } else if let Some(digits) = text.strip_suffix("h") {
+        Some((digits, Unit::Hour))
+    } else if let Some(digits) = text.strip_suffix("d") {
+        Some((digits, Unit::Day))
+    } else {
+        None
+    }
+}

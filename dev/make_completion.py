@@ -1,0 +1,253 @@
+#!/usr/bin/env python3
+"""Makes the completion of `kdcd`, `kadm` and `kclient` for bash and zsh, in docs/completion, from the tables of their
+commands and options in the sources. Run it after a change of a table; `tests/packaging/completion.py` checks that the
+files are what it makes.
+
+    python3 dev/make_completion.py
+
+It needs only Python 3, and prints each file that it changed. The status is 1 if a table can't be read, or if no command
+has an option of it."""
+
+import pathlib
+import re
+import sys
+import typing
+
+TOP = pathlib.Path(__file__).resolve().parent.parent
+MADE = TOP / "docs" / "completion"
+# Where each program has its tables.
+TABLES = {"kadm": "kadm_run/src/order.rt", "kclient": "kclient_run/src/options.rt", "kdcd": "kdcd_run/src/args.rt"}
+# What a command takes besides its own table: the names of the constants, or of the function of an option whose value
+# may be left away.
+ADDED = {"kinit": ("KINIT_OPTIONS", "KINIT_FLAGS"), "serve": ("journal_option",)}
+# The words that may stand for a placeholder; `FIELD` has those of a policy besides.
+WORDS = {"FORMAT": "text json", "TYPES": "18,17,20,19 20,19", "VALUE": "true false never"}
+# A field of a policy in `text_fields`.
+FIELD = re.compile(r'^\s+\w+Field::\w+ => "([a-z_]+)",$', re.M)
+# What proposes names of files in bash.
+BASH_FILES = "compopt -o filenames 2>/dev/null; mapfile -t COMPREPLY < <(compgen -f -- \"$word\")"
+HELP, VERSION = ("help", "Prints the options"), ("version", "Prints the version")
+
+
+class Unreadable(Exception):
+    """Why a table is not read."""
+
+
+class Row(typing.NamedTuple):
+    """An expression `KIND { FIELD: VALUE, .. }`."""
+    kind: str
+    fields: dict
+
+
+class Option(typing.NamedTuple):
+    """An option with a value, or a flag, whose shape is empty."""
+    name: str
+    help: str
+    shape: str = ""
+    is_repeated: bool = False
+    is_optional: bool = False
+
+    @property
+    def word(self):
+        return f"--{self.name}" if len(self.name) > 1 else f"-{self.name}"
+
+
+class Reader:
+    """Reads the constants of a source that are rows, lists of rows, or texts."""
+    TOKEN = re.compile(r'\s*(?:("(?:[^"\\]|\\.)*")|(\w+(?:::\w+)*)|(.))', re.S)
+
+    def __init__(self, text):
+        self.text = re.sub(r"//.*", "", text)
+        self.places = {each[1]: each.end() for each in re.finditer(r"\bconst (\w+): &?\[?&?\w+\]? =", self.text)}
+        self.rows, self.used = [], set()
+
+    def constant(self, name):
+        """The value of a constant."""
+        if name not in self.places:
+            raise Unreadable(f"{name} is no constant")
+        self.used.add(name)
+        return self.value(self.places[name])[0]
+
+    def token(self, at):
+        found = self.TOKEN.match(self.text, at)
+        return found[1] or found[2] or found[3], found.end()
+
+    def value(self, at):
+        """The expression at this place, and the place behind it."""
+        token, end = self.token(at)
+        if token == "&":
+            return self.value(end)
+        if token == "[":
+            return self.list_at(end)
+        if token.startswith('"'):
+            return re.sub(r"\\(.)", r"\1", re.sub(r"\\\n\s*", "", token[1:-1])), end
+        if self.token(end)[0] == "{":
+            return self.row_at(token, self.token(end)[1])
+        return (self.constant(token), end) if token.isupper() or token in self.places else (token, end)
+
+    def list_at(self, at):
+        values = []
+        while self.token(at)[0] != "]":
+            value, at = self.value(at)
+            values.append(value)
+            at = self.token(at)[1] if self.token(at)[0] == "," else at
+        return values, self.token(at)[1]
+
+    def row_at(self, kind, at):
+        fields = {}
+        while self.token(at)[0] != "}":
+            name, at = self.token(at)
+            value, at = self.value(self.token(at)[1])
+            fields[name] = value
+            at = self.token(at)[1] if self.token(at)[0] == "," else at
+        return Row(kind, fields), self.token(at)[1]
+
+
+def argument(text, function):
+    """The option that a function makes without a row."""
+    body = text.partition(f"fn {function}")[2].partition("\n}\n")[0]
+    found = [re.search(rf'\.{call}\(\s*"((?:[^"\\]|\\.)*)"', body) for call in ("long", "help", "value_name")]
+    if not all(found):
+        raise Unreadable(f"{function} makes no option")
+    return Option(*(each[1] for each in found), is_optional="num_args(0..=1)" in body)
+
+
+def option_of(row):
+    fields = row.fields
+    is_repeated = fields.get("times") in ("Times::Any", "Times::AtLeastOnce")
+    return Option(fields["name"], fields["help"], fields.get("shape", ""), is_repeated)
+
+
+def commands_in(source):
+    """The commands of a program with what each is for and its options."""
+    reader = Reader((TOP / "crates" / source).read_text())
+    found, named = {}, set()
+    for place in re.finditer(r"\bSubcommandRow \{", reader.text):
+        row = reader.value(place.start())[0].fields
+        rows = [*row["options"], *row["flags"]]
+        added = ADDED.get(row["name"], ())
+        rows += [each for name in added if name in reader.places for each in reader.constant(name)]
+        more = [argument(reader.text, name) for name in added if name not in reader.places]
+        found[row["name"]] = row["about"], [*map(option_of, rows), *more, Option(*HELP)]
+        named |= {each.name for each in found[row["name"]][1]}
+    written = set(re.findall(r'\b(?:OptionRow|FlagRow) \{\s*name: "([\w-]+)"|\.long\(\s*"([\w-]+)"', reader.text))
+    written = {one or other for one, other in written}
+    if not found or written - named:
+        raise Unreadable(f"{source}: no command has {', '.join(sorted(written - named)) or 'a row'}")
+    return found
+
+
+def bash_values(command, option):
+    """The line of bash that completes the value of an option of a command. It returns false if an option may follow in
+    its place."""
+    if option.is_optional:
+        done = f"[[ $word == -* ]] || {{ {BASH_FILES}; }}"
+    elif option.shape == "FILE":
+        done = BASH_FILES
+    elif words := WORDS.get(option.shape):
+        done = f"mapfile -t COMPREPLY < <(compgen -W '{words}' -- \"$word\")"
+    else:
+        done = ":"
+    return done, f"{command}:{option.word}"
+
+
+def bash(program, commands):
+    values = {}
+    for command, (_, options) in commands.items():
+        for option in options:
+            if option.shape:
+                done, pattern = bash_values(command, option)
+                values.setdefault(done, []).append(pattern)
+    lines = [
+        f"# Completes the commands and options of {program} in bash. Made by dev/make_completion.py.",
+        f"_{program}() {{",
+        "    local word=${COMP_WORDS[COMP_CWORD]} before=${COMP_WORDS[COMP_CWORD - 1]} command=${COMP_WORDS[1]}",
+        "    COMPREPLY=()",
+        "    if [ \"$COMP_CWORD\" -eq 1 ]; then",
+        f"        mapfile -t COMPREPLY < <(compgen -W '{' '.join(commands)} --help --version' -- \"$word\")",
+        "        return",
+        "    fi",
+        "    # A word such as --db=FILE is three words here.",
+        "    if [ \"$word\" = = ]; then",
+        "        word=",
+        "    elif [ \"$before\" = = ]; then",
+        "        before=${COMP_WORDS[COMP_CWORD - 2]}",
+        "    fi",
+        "    case $command:$before in",
+    ]
+    for done, patterns in values.items():
+        end = '            [[ $word == -* ]] || return' if done.startswith("[[") else "            return"
+        lines += [f"        {' | '.join(patterns)})", f"            {done}", end, "            ;;"]
+    lines += ["    esac", "    case $command in"]
+    for command, (_, options) in commands.items():
+        words = " ".join(option.word for option in options)
+        lines.append(f"        {command}) mapfile -t COMPREPLY < <(compgen -W '{words}' -- \"$word\") ;;")
+    return "\n".join([*lines, "    esac", "}", f"complete -F _{program} {program}", ""])
+
+
+def zsh_text(text):
+    return re.sub(r"([\[\]:])", r"\\\1", text.replace("'", "'\\''"))
+
+
+def zsh_option(option):
+    """The specification of an option for `_arguments`."""
+    value = ""
+    if option.shape == "FILE":
+        value = f"{':' * option.is_optional}:FILE:_files"
+    elif option.shape:
+        words = WORDS.get(option.shape)
+        value = f":{zsh_text(option.shape)}:({words})" if words else f":{zsh_text(option.shape)}: "
+    return f"'{'*' * option.is_repeated}{option.word}{'=' * bool(value)}[{zsh_text(option.help)}]{value}'"
+
+
+def zsh(program, commands):
+    lines = [
+        f"#compdef {program}",
+        f"# Completes the commands and options of {program} in zsh. Made by dev/make_completion.py.",
+        f"_{program}() {{",
+        "    local -a commands",
+        "    commands=(",
+        *(f"        '{command}:{zsh_text(about)}'" for command, (about, _) in commands.items()),
+        "    )",
+        "    if (( CURRENT == 2 )); then",
+        "        _describe -t commands command commands",
+        f"        compadd -- --{HELP[0]} --{VERSION[0]}",
+        "        return",
+        "    fi",
+        "    local command=$words[2]",
+        "    shift words",
+        "    (( CURRENT-- ))",
+        "    case $command in",
+    ]
+    for command, (_, options) in commands.items():
+        lines += [f"        {command})", "            _arguments \\"]
+        lines.append(" \\\n".join(f"                {zsh_option(option)}" for option in options))
+        lines.append("            ;;")
+    return "\n".join([*lines, "    esac", "}", f'_{program} "$@"', ""])
+
+
+def made():
+    """Each file, by its name, with its text."""
+    WORDS["FIELD"] = " ".join(FIELD.findall((TOP / "crates/text_fields/src/settings.rt").read_text()))
+    files = {}
+    for program, source in TABLES.items():
+        commands = commands_in(source)
+        files |= {f"{program}.bash": bash(program, commands), f"_{program}": zsh(program, commands)}
+    return files
+
+
+def main():
+    try:
+        files = made()
+    except Unreadable as fault:
+        sys.exit(f"make_completion.py: {fault}")
+    MADE.mkdir(exist_ok=True)
+    for name, text in files.items():
+        place = MADE / name
+        if not place.exists() or place.read_text() != text:
+            place.write_text(text)
+            print(place.relative_to(TOP))
+
+
+if __name__ == "__main__":
+    main()

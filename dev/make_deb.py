@@ -1,0 +1,146 @@
+#!/usr/bin/env python3
+"""Makes a package for Debian of what `install.py` installs: `kdcd`, `kadm` and `kclient` with their manual pages,
+completion for bash and zsh, the units of systemd, what makes the user and its folder, and the pages.
+
+    python3 dev/make_deb.py [--programs FOLDER] [--out FOLDER] [--unproved]
+
+The programs are those of the crates, as `rt run` leaves them there, or of FOLDER. An unproved program, whose version
+says so, is refused without --unproved, and the package's version then ends with `~unproved`. The package is
+plovertrunk_VERSION_ARCHITECTURE.deb in the folder of --out, or in the current one; the last line is its path.
+Installing it makes the user and the folder; it starts nothing, since no unit names an address of the host yet. Removing
+it stops the server and leaves /var/lib/kdcd. It needs Python 3 and dpkg-deb. The status is 1 if a program is refused or
+not there; no package is made then."""
+
+import argparse
+import gzip
+import pathlib
+import re
+import subprocess
+import sys
+import tempfile
+
+from install import MARK, PROGRAMS, TOP, Refused, contents, program_in, version, write
+
+NAME = "plovertrunk"
+# Where Debian's zsh looks for the completion of packages, in place of the folder that `install.py` uses.
+FOR_ZSH = ("/usr/share/zsh/site-functions/", "/usr/share/zsh/vendor-completions/")
+CONTROL = """Package: {name}
+Version: {version}
+Architecture: {architecture}
+Maintainer: those from whom you have it <root@localhost>
+Installed-Size: {size}
+Depends: libc6 (>= {libc})
+Recommends: systemd
+Suggests: libjemalloc2, rsync, krb5-user | heimdal-clients
+Section: net
+Priority: optional
+Description: Kerberos 5 KDC for one realm, with its tools
+ kdcd serves a realm over UDP and TCP, kadm makes and changes its database,
+ and kclient gets tickets. {proof}
+ The pages are in /usr/share/doc/{name}.
+"""
+PROVED, UNPROVED = "Each function is proved to meet its contract.", "NOTHING IS PROVED OF THESE PROGRAMS."
+# Runs after the files are there. A host without systemd gets the same user and folder by other means.
+POSTINST = """#!/bin/sh
+set -e
+[ "$1" = configure ] || exit 0
+if command -v systemd-sysusers > /dev/null; then
+    systemd-sysusers kdcd.conf
+elif ! getent passwd kdcd > /dev/null; then
+    useradd --system --home-dir /nonexistent --no-create-home --shell /usr/sbin/nologin kdcd
+fi
+if command -v systemd-tmpfiles > /dev/null; then
+    systemd-tmpfiles --create kdcd.conf
+else
+    install -d -o kdcd -g kdcd -m 700 /var/lib/kdcd
+fi
+if [ -d /run/systemd/system ]; then
+    systemctl daemon-reload
+fi
+"""
+PRERM = """#!/bin/sh
+set -e
+if [ "$1" = remove ] && [ -d /run/systemd/system ]; then
+    systemctl disable --now kdcd.service kdcd-push.path kdcd-push.service
+fi
+"""
+POSTRM = """#!/bin/sh
+set -e
+if [ -d /run/systemd/system ]; then
+    systemctl daemon-reload
+fi
+"""
+COPYRIGHT = "No licence is chosen yet: README.md says so, and CHANGELOG.md what 1.0 asks for.\n"
+
+
+def packed(files):
+    """The files of `install.py` as Debian has them: manual pages are compressed, and zsh's files in another folder."""
+    found = {}
+    for path, (octets, mode) in files.items():
+        if "/share/man/" in path:
+            path, octets = f"{path}.gz", gzip.compress(octets, 9, mtime=0)
+        found[path.replace(*FOR_ZSH)] = octets, mode
+    for page in sorted([*TOP.glob("*.md"), *(each for each in TOP.glob("docs/*.*") if each.is_file())]):
+        found[f"/usr/share/doc/{NAME}/{page.relative_to(TOP)}"] = page.read_bytes(), 0o644
+    return found | {f"/usr/share/doc/{NAME}/copyright": (COPYRIGHT.encode(), 0o644)}
+
+
+def least_libc(programs):
+    """The least version of the C library that has what the programs take from it."""
+    found = {each for octets in programs for each in re.findall(rb"GLIBC_(\d+)\.(\d+)", octets)}
+    return ".".join(map(str, max((tuple(map(int, each)) for each in found), default=(2, 17))))
+
+
+def control(files, said):
+    """The text of the package's control file, for programs that say this of their version."""
+    number = said.split()[1]
+    is_unproved = MARK in said
+    return CONTROL.format(
+        name=NAME, version=f"{number}{'~unproved' * is_unproved}",
+        size=sum(len(octets) for octets, _ in files.values()) // 1024 + 1, architecture=machine(),
+        libc=least_libc(files[f"/usr/bin/{name}"][0] for name in PROGRAMS), proof=UNPROVED if is_unproved else PROVED
+    )
+
+
+def machine():
+    """Debian's name of this machine's architecture."""
+    return subprocess.run(["dpkg", "--print-architecture"], check=True, capture_output=True, text=True).stdout.strip()
+
+
+def make(out, files, text):
+    """Makes the package in a folder, and returns its path."""
+    with tempfile.TemporaryDirectory() as root:
+        root = pathlib.Path(root)
+        root.chmod(0o755)
+        for path, (octets, mode) in files.items():
+            write(root / path.lstrip("/"), octets, mode)
+        for folder in root.rglob("*"):
+            if folder.is_dir():
+                folder.chmod(0o755)
+        scripts = {"postinst": POSTINST, "prerm": PRERM, "postrm": POSTRM}
+        write(root / "DEBIAN" / "control", text.encode(), 0o644)
+        for name, script in scripts.items():
+            write(root / "DEBIAN" / name, script.encode(), 0o755)
+        (root / "DEBIAN").chmod(0o755)
+        fields = dict(line.split(": ", 1) for line in text.splitlines() if re.match(r"[A-Z][\w-]*: ", line))
+        made = out / f"{NAME}_{fields['Version']}_{fields['Architecture']}.deb"
+        subprocess.run(["dpkg-deb", "--build", "--root-owner-group", root, made], check=True, stdout=subprocess.DEVNULL)
+        return made
+
+
+def main():
+    words = argparse.ArgumentParser(description=__doc__, formatter_class=argparse.RawDescriptionHelpFormatter)
+    words.add_argument("--programs", type=pathlib.Path, default=TOP / "crates")
+    words.add_argument("--out", type=pathlib.Path, default=pathlib.Path("."))
+    words.add_argument("--unproved", action="store_true")
+    given = words.parse_args()
+    try:
+        files = packed(contents(given.programs, "/usr", given.unproved))
+        said = [version(program_in(given.programs, name, True)) for name in PROGRAMS]
+        print(make(given.out, files, control(files, next((each for each in said if MARK in each), said[0]))))
+    except (Refused, OSError, subprocess.SubprocessError) as fault:
+        sys.exit(f"make_deb.py: {fault}")
+
+
+if __name__ == "__main__":
+    main()

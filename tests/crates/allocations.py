@@ -1,0 +1,88 @@
+"""Tests of crates with each allocation of each call that they mark refused, one at a time.
+
+A test marks the beginning and the end of a call (`mark` of `base_tests/src/expect.rt`); after it, the test calls again
+if memory ran out, and asserts what the second call returns and what the first one left. A library that is loaded before
+the C library forks at each allocation of a marked call (`refused_memory.c`): in the child this allocation fails, and
+the rest of the test has to pass. So one run of a test refuses all allocations of its calls.
+
+There is a check for each test with marks: how many calls it made, and how many allocations were refused."""
+
+import os
+import pathlib
+import re
+import subprocess
+import tempfile
+from concurrent.futures import ThreadPoolExecutor
+
+from harness.processes import PATIENCE, processors
+from harness.programs import refused_memory
+from harness.tests import add, Test
+
+# The crates whose tests have marks.
+CRATES = ("base_tests", "kdc_tests", "ticket_tests")
+
+
+class Seen:
+    """What a test did, by the lines of the report."""
+
+    def __init__(self, program, name, library):
+        with tempfile.TemporaryFile("w+", errors="replace") as report, tempfile.TemporaryDirectory() as folder:
+            environment = {"PATH": os.environ["PATH"], "LD_PRELOAD": library, "REPORT": str(report.fileno())}
+            how = {"cwd": folder, "env": environment, "pass_fds": [report.fileno()], "stdin": subprocess.DEVNULL}
+            try:
+                ran = subprocess.run(
+                    [program, name], stdout=subprocess.PIPE, stderr=subprocess.STDOUT, timeout=4 * PATIENCE, **how
+                )
+                self.fault = f"the test itself fails: {ran.stdout[-200:]!r}" if ran.returncode else ""
+            except subprocess.TimeoutExpired:
+                self.fault = "it does not end"
+            report.seek(0)
+            lines = report.read().splitlines()
+        self.name = name
+        self.refusals = [int(found[2]) for found in map(re.compile(r"call (\d+) of (\d+)").fullmatch, lines) if found]
+        self.wrong = [line for line in lines if line.startswith("wrong ")]
+
+    def ends(self):
+        """What is wrong with the test or with its children."""
+        ends = [
+            self.fault, f"{len(self.wrong)} children end otherwise" * bool(self.wrong), *map(self.shown, self.wrong[:3])
+        ]
+        return "; ".join(filter(None, ends))
+
+    @staticmethod
+    def shown(line):
+        _, call, allocation, status, *said = line.split(" ", 4)
+        return f"call {call}, allocation {allocation}, wait status {status}: {''.join(said).strip()[-200:]}"
+
+
+def tests_in(program):
+    ran = subprocess.run([program, "--list"], stdout=subprocess.PIPE, text=True, check=True)
+    return re.findall(r"^(\S+): test$", ran.stdout, re.M)
+
+
+def program_of(programs, crate):
+    """The program of a crate's tests: crates/NAME/out/NAME_tests, which `rt ci` and `rt test` build, or
+    FOLDER/NAME_tests."""
+    places = [pathlib.Path(programs, f"{crate}_tests"), pathlib.Path(programs, crate, "out", f"{crate}_tests")]
+    return next((place for place in places if place.is_file()), places[-1])
+
+
+def known(crate):
+    """Makes the tests of a crate a test here."""
+    def call(trial):
+        program = program_of(trial.given.programs, crate)
+        if not program.is_file():
+            return trial.note(crate, f"{program} is not there")
+        library = refused_memory()
+        with ThreadPoolExecutor(processors()) as pool:
+            found = list(pool.map(lambda name: Seen(program, name, library), tests_in(program)))
+        for seen in filter(lambda seen: seen.refusals or seen.fault, found):
+            trial.note(f"{crate} {seen.name}: {len(seen.refusals)} calls, {sum(seen.refusals)} refusals", seen.ends())
+        if not any(seen.refusals for seen in found):
+            trial.note(f"{crate}: marked calls", "there are none")
+
+    add(Test(f"crates/allocations/{crate}", call, seconds=60))
+
+
+for each in CRATES:
+    known(each)

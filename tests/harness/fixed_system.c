@@ -1,0 +1,209 @@
+/*
+ * A library to preload into a program. It sets what the system shows to the program, lists the program's calls of the system, and lets single
+ * ones fail. `fixed_system` of tests/harness/trial.py makes it with the toolchain's compiler, which has no headers of the C library.
+ *
+ *     LD_PRELOAD=./fixed_system.so CLOCK=1798761600 kadm lint --db database
+ *
+ * A setting is a variable of the environment, or else the first line of the file with its name in the folder STAGE. It is read at each call, so
+ * files can change while the program runs. What has no setting is the system's own.
+ *
+ * CLOCK=SECONDS    the clock shows this many seconds since 1970
+ * BOOT=NAME        the system's name for its boot
+ * DRAWS=NUMBER     each random byte is this number
+ * HELD=NUMBERms    another program has each lock for this many milliseconds; the program's pauses count, and take no time
+ * CALLS=FILE       each call of a function below is added to this file: its name, and its path; output, pauses and other clocks are left out
+ * FAILS=WHICH      of these calls the one with this number fails, or the next one with this name; the setting is then removed
+ */
+
+enum { LONGEST = 4096, STDOUT = 1, STDERR = 2, CREATES = 0100, TIME_OF_DAY = 0, INPUT_OUTPUT_ERROR = 5, WOULD_BLOCK = 11 };
+
+struct stream;
+struct statx;
+struct address;
+struct moment {
+	long seconds, nanoseconds;
+};
+
+extern char *fgets(char *, int, struct stream *), *getenv(const char *);
+extern int *__errno_location(void);
+extern int dprintf(int, const char *, ...), fclose(struct stream *), fprintf(struct stream *, const char *, ...);
+extern int memfd_create(const char *, unsigned), snprintf(char *, unsigned long, const char *, ...), strcmp(const char *, const char *);
+extern int unlink(const char *), unsetenv(const char *);
+extern long lseek(int, long, int), strtol(const char *, char **, int);
+extern struct stream *fopen(const char *, const char *);
+extern unsigned long strcspn(const char *, const char *);
+extern void *dlsym(void *, const char *), *memset(void *, int, unsigned long);
+
+/* The function of the system with this name. */
+#define NEXT(name) ((__typeof__(&name))dlsym((void *)-1, #name))
+
+/* Writes the path of a setting's file. Returns whether there is a folder for it. */
+static int has_place(const char *name, char path[LONGEST])
+{
+	const char *stage = getenv("STAGE");
+
+	return stage && snprintf(path, LONGEST, "%s/%s", stage, name) < LONGEST;
+}
+
+/* Reads a setting, and returns whether it is there. */
+static int is_set(const char *name, char text[LONGEST])
+{
+	const char *given = getenv(name);
+	char path[LONGEST];
+	struct stream *file;
+
+	if (given)
+		return snprintf(text, LONGEST, "%s", given) < LONGEST;
+	file = has_place(name, path) ? fopen(path, "r") : 0;
+	if (!file)
+		return 0;
+	text[0] = 0;
+	fgets(text, LONGEST, file);
+	fclose(file);
+	text[strcspn(text, "\n")] = 0;
+	return 1;
+}
+
+/* Returns the number that a setting begins with; -1 if it is not there. */
+static long number(const char *name)
+{
+	char text[LONGEST];
+
+	return is_set(name, text) ? strtol(text, 0, 10) : -1;
+}
+
+static void remove_setting(const char *name)
+{
+	char path[LONGEST];
+
+	if (getenv(name))
+		unsetenv(name);
+	else if (has_place(name, path))
+		unlink(path);
+}
+
+static void list(const char *call, const char *path)
+{
+	char name[LONGEST];
+	struct stream *file = is_set("CALLS", name) ? fopen(name, "a") : 0;
+
+	if (!file)
+		return;
+	fprintf(file, "%s%s%s\n", call, *path ? " " : "", path);
+	fclose(file);
+}
+
+static int fail(int error)
+{
+	*__errno_location() = error;
+	return -1;
+}
+
+/* Lists and counts a call. Returns whether it fails, with an error that is set. */
+static int fails(const char *call, const char *path)
+{
+	static long calls;
+	char which[LONGEST];
+
+	list(call, path);
+	calls++;
+	if (!is_set("FAILS", which) || (strtol(which, 0, 10) != calls && strcmp(which, call)))
+		return 0;
+	remove_setting("FAILS");
+	return fail(INPUT_OUTPUT_ERROR);
+}
+
+/* Returns a file that holds a line. */
+static int file_of(const char *line)
+{
+	int file = memfd_create("line", 0);
+
+	dprintf(file, "%s\n", line);
+	lseek(file, 0, 0);
+	return file;
+}
+
+/* Lets a call of this kind be listed, and fail. */
+#define FALLIBLE(type, name, path, parameters, arguments)                \
+	type name parameters                                             \
+	{                                                                \
+		return fails(#name, path) ? -1 : NEXT(name) arguments;   \
+	}
+
+FALLIBLE(int, statx, path, (int folder, const char *path, int flags, unsigned mask, struct statx *found), (folder, path, flags, mask, found))
+FALLIBLE(long, read, "", (int file, void *octets, unsigned long count), (file, octets, count))
+FALLIBLE(int, fchmod, "", (int file, unsigned mode), (file, mode))
+FALLIBLE(int, fsync, "", (int file), (file))
+FALLIBLE(int, rename, from, (const char *from, const char *to), (from, to))
+FALLIBLE(int, bind, "", (int socket, const struct address *address, unsigned length), (socket, address, length))
+FALLIBLE(long, send, "", (int socket, const void *octets, unsigned long count, int flags), (socket, octets, count, flags))
+FALLIBLE(long, sendto, "",
+	 (int socket, const void *octets, unsigned long count, int flags, const struct address *address, unsigned length),
+	 (socket, octets, count, flags, address, length))
+
+int open(const char *path, int flags, ...)
+{
+	__builtin_va_list more;
+	unsigned mode = 0;
+	char boot[LONGEST];
+
+	if (flags & CREATES) {
+		__builtin_va_start(more, flags);
+		mode = __builtin_va_arg(more, unsigned);
+		__builtin_va_end(more);
+	}
+	if (fails("open", path))
+		return -1;
+	if (!strcmp(path, "/proc/sys/kernel/random/boot_id") && is_set("BOOT", boot))
+		return file_of(boot);
+	return NEXT(open)(path, flags, mode);
+}
+
+long write(int file, const void *octets, unsigned long count)
+{
+	const int is_output = file == STDOUT || file == STDERR;
+
+	return !is_output && fails("write", "") ? -1 : NEXT(write)(file, octets, count);
+}
+
+static long slept;
+
+int flock(int file, int operation)
+{
+	if (fails("flock", ""))
+		return -1;
+	return slept < number("HELD") ? fail(WOULD_BLOCK) : NEXT(flock)(file, operation);
+}
+
+int nanosleep(const struct moment *time, struct moment *rest)
+{
+	if (number("HELD") < 0)
+		return NEXT(nanosleep)(time, rest);
+	slept += time->seconds * 1000 + time->nanoseconds / 1000000;
+	return 0;
+}
+
+int getentropy(void *octets, unsigned long count)
+{
+	const long drawn = number("DRAWS");
+
+	if (fails("getentropy", ""))
+		return -1;
+	if (drawn < 0)
+		return NEXT(getentropy)(octets, count);
+	memset(octets, (int)drawn, count);
+	return 0;
+}
+
+int clock_gettime(int clock, struct moment *shown)
+{
+	const int is_time_of_day = clock == TIME_OF_DAY;
+	const long seconds = is_time_of_day ? number("CLOCK") : -1;
+
+	if (is_time_of_day && fails("clock_gettime", ""))
+		return -1;
+	if (seconds < 0)
+		return NEXT(clock_gettime)(clock, shown);
+	*shown = (struct moment){ .seconds = seconds };
+	return 0;
+}

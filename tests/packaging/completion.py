@@ -1,0 +1,88 @@
+"""The completion of `kdcd`, `kadm` and `kclient`: docs/completion is what `dev/make_completion.py` makes of the tables;
+bash completes the commands, the options that `--help` of each command has, and values; and zsh reads its files, if it
+is on the path."""
+
+import re
+import shutil
+import subprocess
+
+from make_completion import MADE, made
+
+from harness.tests import test
+
+# Completes the words after the function's file and name, in the folder, and prints each proposal on a line.
+COMPLETE = (
+    'source "$1"; shift; each=$1; shift; COMP_WORDS=("$@"); COMP_CWORD=$(($# - 1)); "_$each"; '
+    'printf "%s\\n" "${COMPREPLY[@]}"'
+)
+# Words before the one that is completed, with what is proposed in a folder with the files `database` and `www.keytab`.
+VALUES = (
+    ("kadm add --db d", "database"), ("kadm add --db = d", "database"), ("kadm add --db =", "database www.keytab"),
+    ("kadm keytab --out ", "database www.keytab"), ("kadm policy --field dis", "disabled"),
+    ("kadm policy --value t", "true"), ("kadm policy --name d", ""), ("kclient kvno --keytab w", "www.keytab"),
+    ("kdcd serve --log-format j", "json"), ("kdcd serve --udp ", ""), ("kadm ad", "add"),
+    ("kclient k", "kinit kvno klist kdestroy"),
+)
+
+
+def differs(found, wanted):
+    return f"{found} and not {wanted}" * (found != wanted)
+
+
+def completed(folder, line):
+    """What bash proposes for the last word of a line."""
+    words = line.split(" ")
+    script = MADE / f"{words[0]}.bash"
+    words = ["bash", "-c", COMPLETE, "bash", script, words[0], *words]
+    ran = subprocess.run(words, capture_output=True, text=True, cwd=folder)
+    return sorted(ran.stdout.split()), ran.stderr
+
+
+@test()
+def files(trial):
+    """The files are what the tables say, and the shells read them."""
+    wanted = made()
+    trial.note("the files of docs/completion", differs(sorted(each.name for each in MADE.iterdir()), sorted(wanted)))
+    for name, text in wanted.items():
+        is_same = (MADE / name).exists() and (MADE / name).read_text() == text
+        older = "it is older than the tables: run dev/make_completion.py"
+        trial.note(f"docs/completion/{name}", "" if is_same else older)
+        shell = "bash" if name.endswith(".bash") else "zsh"
+        if shutil.which(shell):
+            ran = subprocess.run([shell, "-n", MADE / name], capture_output=True, text=True)
+            trial.note(f"{shell} reads {name}", ran.stderr)
+        else:
+            trial.leave(f"{name}: {shell} is not on the path")
+
+
+@test()
+def values(trial):
+    """What completes the value of an option, in a folder with two files."""
+    trial.enter("values")
+    for name in ("database", "www.keytab"):
+        (trial.folder / name).touch()
+    for line, wanted in VALUES:
+        found, said = completed(trial.folder, line)
+        trial.note(f"what completes {line!r}", said or differs(found, sorted(wanted.split())))
+
+
+def helped(program, *words):
+    """The options that the help of a program, or of a command, names at the beginning of a line; and the commands."""
+    text = subprocess.run([program, *words, "--help"], capture_output=True, text=True).stdout
+    options = re.findall(r"^ +(?:-\w, )?(--?[a-z][\w-]*)", text.partition("Options:")[2], re.M)
+    return options, re.findall(r"^  (\w+)", text.partition("Commands:")[2].partition("\n\n")[0], re.M)
+
+
+@test("kadm", "kclient", "kdcd")
+def options(trial):
+    """Each command of each program, with the options of its help."""
+    trial.enter("options")
+    for name, program in trial.programs.items():
+        commands = [each for each in helped(program)[1] if each != "help"]
+        found = [each for each in completed(trial.folder, f"{name} ")[0] if not each.startswith("-")]
+        trial.note(f"the commands of {name}", differs(found, sorted(commands)) or "there is none" * (not commands))
+        for command in commands:
+            wanted = sorted(set(helped(program, command)[0]))
+            found = completed(trial.folder, f"{name} {command} -")[0]
+            fault = differs(found, wanted) or "there is none" * (not wanted)
+            trial.note(f"the options of {name} {command}", fault)

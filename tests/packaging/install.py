@@ -1,0 +1,160 @@
+"""`dev/install.py` in a folder: what it installs, that systemd reads the unit and the lines for its user and folder,
+that a running server is replaced, and that an unproved program is refused. The package of `dev/make_deb.py` likewise:
+its files and its fields."""
+
+import os
+import shutil
+import subprocess
+import sys
+
+from harness.programs import TOP
+from harness.tests import test
+
+# What is installed, below the prefix, with its mode.
+INSTALLED = {
+    "bin/kadm": 0o755, "bin/kclient": 0o755, "bin/kdcd": 0o755, "lib/sysusers.d/kdcd.conf": 0o644,
+    "lib/tmpfiles.d/kdcd.conf": 0o644, "share/man/man1/kclient.1": 0o644, "share/man/man8/kadm.8": 0o644,
+    "share/man/man8/kdcd.8": 0o644,
+    **{f"lib/systemd/system/{unit}": 0o644 for unit in ("kdcd.service", "kdcd-push.path", "kdcd-push.service")},
+    **{f"share/bash-completion/completions/{name}": 0o644 for name in ("kadm", "kclient", "kdcd")},
+    **{f"share/zsh/site-functions/_{name}": 0o644 for name in ("kadm", "kclient", "kdcd")},
+}
+# A program that says of itself what a proved one, and one of `quick_build.py`, says.
+PROVED, UNPROVED = "#!/bin/sh\necho 'kdcd 0.9.0'\n", "#!/bin/sh\necho 'kdcd 0.9.0 (unproved)'\n"
+
+
+def modes(folder):
+    """The files of a folder with their modes."""
+    return {str(each.relative_to(folder)): each.stat().st_mode & 0o777 for each in folder.rglob("*") if each.is_file()}
+
+
+def differs(found, wanted):
+    return f"{found} and not {wanted}" * (found != wanted)
+
+
+def stand_ins(folder, **texts):
+    """A folder with scripts in place of the programs."""
+    folder.mkdir()
+    for name in ("kadm", "kclient", "kdcd"):
+        place = folder / name
+        place.write_text(texts.get(name, PROVED))
+        place.chmod(0o755)
+    return folder
+
+
+INSTALL, PACK = ([sys.executable, str(TOP / "dev" / name)] for name in ("install.py", "make_deb.py"))
+
+
+@test()
+def refusals(trial):
+    """A program that is unproved, or not there, keeps all from being installed."""
+    trial.enter("refusals")
+    install = INSTALL
+    unproved, root = stand_ins(trial.folder / "unproved", kclient=UNPROVED), trial.folder / "refused"
+    trial.expect([*install, "--programs", unproved, "--root", root], 1, what="an unproved kclient is refused")
+    trial.note("nothing is installed then", differs(list(root.rglob("*")), []))
+    trial.expect([*install, "--programs", unproved, "--root", root, "--unproved"], 0, what="--unproved installs it")
+    (unproved / "kadm").unlink()
+    trial.expect([*install, "--programs", unproved, "--root", root], 1, what="a kadm that is not there is an error")
+    trial.expect(
+        [*install, "--programs", unproved, "usr"], 2, what="a prefix that is no absolute path is a usage error"
+    )
+
+
+def built(trial):
+    """The words that install the built programs."""
+    return [*INSTALL, "--programs", trial.given.programs]
+
+
+@test("kadm", "kdcd", "kclient", seconds=10)
+def files(trial):
+    """All files are there, with their modes, and the unit names the installed server. A server that runs goes on."""
+    trial.enter("files")
+    install = built(trial)
+    root, words = trial.folder / "root", [*install, "--unproved", "--root", trial.folder / "root", "/opt/kdc"]
+    trial.expect(words, 0, what="the built programs are installed")
+    trial.note("the files and their modes", differs(modes(root / "opt/kdc"), INSTALLED))
+    unit = (root / "opt/kdc/lib/systemd/system/kdcd.service").read_text()
+    trial.note(
+        "the unit starts the installed server", "it does not" * ("ExecStart=/opt/kdc/bin/kdcd serve" not in unit)
+    )
+    server = root / "opt/kdc/bin/kdcd"
+    trial.expect("kadm init --db database --realm A.B", 0, "=ok")
+    serve = [str(server), "serve", "--rounds", "100", "--udp", "127.0.0.1:0", "--db", "database"]
+    running = trial.start(serve, stdout=subprocess.DEVNULL, stderr=subprocess.DEVNULL)
+    before = server.stat().st_ino
+    trial.expect(words, 0, what="they are installed again while the server runs")
+    trial.note("the server is another file", "it is the same" * (server.stat().st_ino == before))
+    trial.note("the running server ends as it should", differs(running.wait(60), 0))
+    trial.note("no other file is left", differs(modes(root / "opt/kdc"), INSTALLED))
+
+
+@test("kadm", "kdcd", "kclient")
+def systemd(trial):
+    """systemd makes the user and the folder by the installed lines."""
+    trial.enter("systemd")
+    install = built(trial)
+    root = trial.folder / "system"
+    trial.expect([*install, "--unproved", "--root", root], 0, what="the programs are installed in a system of its own")
+    if not shutil.which("systemd-sysusers") or not shutil.which("systemd-tmpfiles") or os.getuid():
+        return trial.leave("systemd-sysusers and systemd-tmpfiles as root")
+    (root / "etc").mkdir()
+    trial.expect(["systemd-sysusers", f"--root={root}"], 0, what="systemd-sysusers")
+    users = [line for line in (root / "etc/passwd").read_text().splitlines() if line.startswith("kdcd:")]
+    homes = [each.split(":")[5:] for each in users]
+    trial.note("there is a user kdcd without home and shell", differs(homes, [["/nonexistent", "/usr/sbin/nologin"]]))
+    trial.expect(["systemd-tmpfiles", "--create", f"--root={root}"], 0, what="systemd-tmpfiles")
+    folder = (root / "var/lib/kdcd").stat()
+    trial.note(
+        "its folder is its own",
+        differs((folder.st_mode & 0o777, str(folder.st_uid)), (0o700, users[0].split(":")[2] if users else ""))
+    )
+
+
+# Where the package has files otherwise than `install.py`, below /usr.
+IN_PACKAGE = (("share/zsh/site-functions/", "share/zsh/vendor-completions/"), (".1", ".1.gz"), (".8", ".8.gz"))
+
+
+def in_package(name):
+    for there, here in IN_PACKAGE:
+        name = name.replace(there, here)
+    return f"usr/{name}"
+
+
+@test()
+def package_refusals(trial):
+    """An unproved program is not packed, or shows in the package's version."""
+    trial.enter("package_refusals")
+    if not shutil.which("dpkg-deb"):
+        return trial.leave("the package for Debian: dpkg-deb is not on the path")
+    proved, unproved = stand_ins(trial.folder / "all_proved"), stand_ins(trial.folder / "one_unproved", kadm=UNPROVED)
+    tool = [*PACK, "--out", trial.folder, "--programs"]
+    trial.expect([*tool, unproved], 1, what="an unproved kadm is not packed")
+    trial.note("no package is made then", differs(list(trial.folder.glob("*.deb")), []))
+    trial.expect([*tool, unproved, "--unproved"], 0, what="--unproved packs it")
+    trial.expect([*tool, proved], 0, what="a package of proved programs")
+    names = sorted(each.name.rsplit("_", 1)[0] for each in trial.folder.glob("*.deb"))
+    trial.note("the names say which is unproved", differs(names, ["plovertrunk_0.9.0", "plovertrunk_0.9.0~unproved"]))
+
+
+@test()
+def package(trial):
+    """The package has the files that are installed, and the pages."""
+    trial.enter("package")
+    if not shutil.which("dpkg-deb"):
+        return trial.leave("the package for Debian: dpkg-deb is not on the path")
+    programs, root = stand_ins(trial.folder / "programs"), trial.folder / "package"
+    trial.expect([*PACK, "--out", trial.folder, "--programs", programs], 0, what="the package is made")
+    made = next(trial.folder.glob("plovertrunk_0.9.0_*.deb"))
+    trial.expect(["dpkg-deb", "-x", made, root], 0, what="the package is unpacked")
+    found = {name: mode for name, mode in modes(root).items() if not name.startswith("usr/share/doc/")}
+    wanted = {in_package(name): mode for name, mode in INSTALLED.items()}
+    trial.note("its files and their modes", differs(found, wanted))
+    pages = {str(each.relative_to(TOP)) for each in [*TOP.glob("*.md"), *TOP.glob("docs/*.md")]}
+    docs = root / "usr/share/doc/plovertrunk"
+    trial.note("its pages", differs({str(each.relative_to(docs)) for each in docs.rglob("*.md")}, pages))
+    unit = (root / "usr/lib/systemd/system/kdcd.service").read_text()
+    trial.note("its unit starts the installed server", "it does not" * ("ExecStart=/usr/bin/kdcd serve" not in unit))
+    scripts = subprocess.run(["dpkg-deb", "--ctrl-tarfile", made], capture_output=True).stdout
+    lacking = [name for name in ("postinst", "prerm", "postrm") if name.encode() not in scripts]
+    trial.note("its scripts are there", differs(lacking, []))

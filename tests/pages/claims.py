@@ -1,0 +1,322 @@
+"""What the pages say of the code is so, as far as sources show it: the tables of rules with their order and codes, the
+rules that lines of the log name, the crates of MAP.md, the numbers of COUNTS, the names of items and files, the
+sections that a link names in words, the names of refusals in the manual pages, and the commands and options of command
+lines."""
+
+import re
+import shlex
+
+from make_completion import TABLES, commands_in
+
+from harness.programs import TOP
+from harness.tests import test
+
+CRATES = TOP / "crates"
+WORDS = (
+    "no", "one", "two", "three", "four", "five", "six", "seven", "eight", "nine", "ten", "eleven", "twelve", "thirteen"
+)
+# The manual pages, and the files with the names of what a program refuses.
+REFUSALS = {
+    "kadm.8": ["kadm_run/src/reason.rt", "file_store/src/faults.rt"], "kclient.1": ["client_files/src/words.rt"],
+    "kdcd.8": ["kdcd_run/src/files.rt", "kdcd_run/src/sealing.rt"],
+}
+# Names that only a program of the library `client_files` meets.
+OF_LIBRARY = {"NoLogin", "NotValid"}
+# Names in the tables of PROMISES.md that no source has.
+NO_NAMES = {"grep", "rn", "NAME", "crates"}
+# Pages whose names of items and files are those of this repository, and names there of other ones.
+OF_CODE = (
+    "CONTRIBUTING.md", "docs/CLIENT_LIBRARY.md", "docs/DECISIONS.md", "docs/FORMATS.md", "docs/MAP.md",
+    "docs/PERFORMANCE.md", "docs/PROMISES.md", "docs/PROTOCOL.md", "docs/SERVICES.md",
+)
+OF_OTHERS = {"array::from_fn", "krb5.h", "krb5_verify_init_creds"}
+# Options that each command has, and those of other programs that a page names alone.
+GENERAL = {"--help", "--version"}
+OTHERS = {"--allow-holes", "--collector"}
+
+
+def read(name):
+    return (TOP / name).read_text()
+
+
+def differs(found, wanted):
+    """What differs between two lists, by the first place."""
+    if found == wanted:
+        return ""
+    at = next((at for at, (one, other) in enumerate(zip(found, wanted)) if one != other), min(len(found), len(wanted)))
+    return f"{len(found)} and not {len(wanted)}: {found[at:at + 1]} and not {wanted[at:at + 1]}"
+
+
+def section(page, title):
+    return read(page).partition(f"\n## {title}\n")[2].partition("\n## ")[0]
+
+
+def rows(text):
+    """The cells of a page's rows."""
+    lines = [line for line in text.splitlines() if line.startswith("|")]
+    found = [[cell.strip() for cell in re.split(r"(?<!\\)\|", line)[1:-1]] for line in lines]
+    return [cells for cells in found if not set(cells[0]) <= set("-")]
+
+
+# The rules of the exchanges.
+
+def codes():
+    """The name and the number of each error code, by its name in the code."""
+    text = read("crates/krb_fields/src/code.rt")
+    named = dict(re.findall(r'Code::(\w+) => "(\w+)"', text))
+    return {name: (named.get(name), int(number)) for name, number in re.findall(r"^    (\w+) = (\d+),$", text, re.M)}
+
+
+def in_words(name):
+    """The name of a rule in words: BadVersion is `bad version`."""
+    return re.sub(r"(?<!^)(?=[A-Z])", " ", name).lower()
+
+
+def logged(kind):
+    """The names of rules in the log, by their names in the code."""
+    return dict(re.findall(rf'{kind}::(\w+) => "([\w-]+)"', read("crates/request_log/src/words.rt")))
+
+
+def coded(kind, file):
+    """The codes of rules, by their names in the code."""
+    arms = re.findall(rf"((?:{kind}::\w+(?: \| )?)+) => Code::(\w+)", read(file))
+    return {name: code for names, code in arms for name in re.findall(r"::(\w+)", names)}
+
+
+def as_rules():
+    names, known, code_of = logged("AsRefusal"), codes(), coded("AsRefusal", "crates/as_exchange/src/refusal.rt")
+    array = read("crates/as_exchange/src/rules.rt").partition("\n    [\n")[2].partition("\n    ]\n")[0]
+    return [(names[rule].replace("-", " "), known[code_of[rule]]) for rule in re.findall(r"AsRefusal::(\w+)", array)]
+
+
+def tgs_rules():
+    names, known = logged("TgsRefusal") | {f"Ap.{name}": word for name, word in logged("ApRefusal").items()}, codes()
+    code_of = coded("TgsRefusal", "crates/tgs_opening/src/refusal.rt")
+    code_of |= {f"Ap.{name}": code for name, code in coded("ApRefusal", "crates/ap_opening/src/refusal.rt").items()}
+    code_of["Ap.ForeignClient"] = "KdcErrPolicy"
+    rule = r"(?:Refuses|Records) \(?tgs\.(?:(Ap) ap_refusals\.)?(\w+)|(Repeats) "
+    listed = re.findall(rule, read("crates/tgs_exchange/specs/Refusals.antt"))
+    rules = [f"{'Ap.' * bool(ap)}{name}" if not repeats else "Ap.Repeated" for ap, name, repeats in listed]
+    return [(names[rule].replace("-", " "), known[code_of[rule]]) for rule in rules if rule in names]
+
+
+def service_rules():
+    known = codes()
+    listed = re.findall(r"refuses \(.*\) (\w+) codes\.(\w+)", read("crates/ap_accept/specs/Rules.antt"))
+    return [(name, known[code]) for name, code in listed]
+
+
+def page_rules(title):
+    """The rules of a table of PROTOCOL.md: the name, and the code's name and number."""
+    found = []
+    for first, *_, code, number in rows(section("docs/PROTOCOL.md", title)):
+        if re.search(r"\d", number):
+            found.append((first.strip("*").lower().replace("-", " "), (code.strip("()`"), int(number.strip("()")))))
+    return found
+
+
+@test()
+def rules(trial):
+    spaced = lambda rules: [(in_words(name), code) for name, code in rules]
+    for title, wanted in (("The rules of an AS-REQ", as_rules()), ("The rules of a TGS-REQ", tgs_rules()),
+                          ("What a service accepts", spaced(service_rules()))):
+        trial.note(f"PROTOCOL.md, {title!r}: the rules, their order and codes", differs(page_rules(title), wanted))
+    found = []
+    for names, numbers, _ in rows(section("docs/SERVICES.md", "Refusals"))[1:]:
+        names, numbers = re.findall(r"`(\w+)`", names), re.findall(r"\d+", numbers)
+        found += [(name, int(numbers[min(at, len(numbers) - 1)])) for at, name in enumerate(names)]
+    wanted = sorted((name, number) for name, (_, number) in service_rules())
+    trial.note("SERVICES.md, 'Refusals': the rules and their codes", differs(sorted(found), wanted))
+    known = {*logged("AsRefusal").values(), *logged("TgsRefusal").values(), *logged("ApRefusal").values()}
+    named = {(page.name, word) for page in pages() for word in re.findall(r"\brule=([a-z-]+)", page.read_text())}
+    unknown = [f"{page}: {word}" for page, word in sorted(named) if word not in known]
+    trial.note(f"the rules of lines of the log, {len(named)}", ", ".join(unknown) or "there is none" * (not named))
+
+
+# What pages count.
+
+def count_edits(pattern):
+    return len(list(CRATES.glob(f"{pattern}/must-fail/*.edit")))
+
+
+def settings():
+    return int(re.search(r"SETTINGS: usize = (\d+)", read("crates/text_fields/src/settings.rt"))[1])
+
+
+def default(option):
+    """The default of an option of `kdcd serve`."""
+    found = re.search(rf'\bargs,\s*"{option}",\s*([\d_]+),', read("crates/kdcd_run/src/args.rt"))
+    return int(found[1].replace("_", ""))
+
+
+def version():
+    return re.search(r'VERSION: &str = "(.*)"', read("crates/command_options/src/lib.rt"))[1]
+
+
+def microseconds(request):
+    """The processor time of `kdcd serve` for a request, by PERFORMANCE.md."""
+    return int(float(re.search(rf"^\| {request}.*?\| ([\d.]+) µs \|", read("docs/PERFORMANCE.md"), re.M)[1]) + 0.5)
+
+
+# A page, how it says a number, and that number.
+COUNTS = (
+    ("README.md", r"of a login \| (\d+) µs", lambda: microseconds("a ticket with a timestamp")),
+    ("README.md", r"of a service ticket \| (\d+) µs", lambda: microseconds("a TGS-REQ, each with")),
+    ("README.md", r"This is version ([\d.]+):", version),
+    ("CHANGELOG.md", r"version of all programs is ([\d.]+) ", version),
+    ("docs/FORMATS.md", r"object with these (\w+) members", lambda: settings() + 1),
+    ("docs/FORMATS.md", r"Rows of version 2 have the other (\w+) members", settings),
+    ("docs/FORMATS.md", r"and `version`, (\d+)\.", lambda: 3),
+    ("CONTRIBUTING.md", r"edits, (\d+) in \w+ crates", lambda: count_edits("*")),
+    ("CONTRIBUTING.md", r"edits, \d+ in (\w+) crates", lambda: len(list(CRATES.glob("*/must-fail")))),
+    ("CONTRIBUTING.md", r"`kdc_core` and `tgs_exchange` (\d+)", lambda: count_edits("kdc_core")),
+    ("CONTRIBUTING.md", r"`kdc_core` and `tgs_exchange` (\d+)", lambda: count_edits("tgs_exchange")),
+    ("CONTRIBUTING.md", r"`kdc_hub` (\d+)\)", lambda: count_edits("kdc_hub")),
+    ("docs/OPERATIONS.md", r"`--remembered`, ([\d,]+);", lambda: default("remembered")),
+    ("docs/OPERATIONS.md", r"limits: remembered (\d+)", lambda: default("remembered")),
+    ("docs/OPERATIONS.md", r"kept (\d+), lock-after", lambda: default("kept")),
+    ("docs/OPERATIONS.md", r"greatest-life (\d+)", lambda: default("greatest-life")),
+    ("docs/OPERATIONS.md", r"greatest-renewable (\d+)", lambda: default("greatest-renewable")),
+    ("docs/PROTOCOL.md", r"\(`Limits::kept`, ([\d,]+)\)", lambda: default("kept")),
+    ("docs/OPERATIONS.md", r"plovertrunk_([\d.]+)_amd64", version),
+)
+
+
+@test()
+def counts(trial):
+    for page, pattern, counted in COUNTS:
+        said, wanted = re.findall(pattern, " ".join(read(page).split())), counted()
+        numbers = [WORDS.index(each) if each in WORDS else each.replace(",", "") for each in said]
+        wrong = [f"it says {each}, and there are {wanted}" for each in numbers if str(each) != str(wanted)]
+        trial.note(f"{page}: {pattern}", ", ".join(wrong) or "it does not say so" * (not said))
+
+
+# What pages name.
+
+def pages():
+    return sorted([*TOP.glob("*.md"), *TOP.glob("docs/*.md")])
+
+
+@test()
+def crates(trial):
+    crates = sorted(each.name for each in CRATES.iterdir() if (each / "src").is_dir())
+    table = re.findall(r"^\| ((?:`\w+`(?:, )?)+) \|", section("docs/MAP.md", "The crates"), re.M)
+    named = sorted(name for cell in table for name in re.findall(r"`(\w+)`", cell))
+    trial.note("MAP.md: the crates of its table", differs(named, crates))
+    picture = read("docs/MAP.md").partition("\n    programs")[2].partition("\n## ")[0]
+    lacking = [name for name in crates if not re.search(rf"\b{name}\b", picture) and not name.endswith("_tests")]
+    trial.note("MAP.md: the crates of its picture", ", ".join(lacking))
+
+
+def sources():
+    """The files of Rattle and of its contracts."""
+    return sorted(file for kind in ("rt", "antt") for file in CRATES.rglob(f"*.{kind}") if "/out/" not in str(file))
+
+
+def scripts():
+    """The files beside the crates that are no pages."""
+    found = (file for name in ("tests", "bench", "dev", "docs") for file in (TOP / name).rglob("*") if file.is_file())
+    return [file for file in found if file.suffix != ".md" and "__pycache__" not in file.parts]
+
+
+@test()
+def items(trial):
+    """Names of items, and of files, between backticks are those of sources and scripts."""
+    files = [*sources(), *scripts()]
+    texts = (f"{file.stem} {file.read_text(errors='ignore')}" for file in files)
+    known = {word for text in texts for word in re.findall(r"\w+", text)} | {each.name for each in CRATES.iterdir()}
+    more = (*CRATES.glob("*/*"), *CRATES.glob("*/*/*.edit"), *TOP.iterdir())
+    there = {file.name for file in (*files, *more)}
+    for page in OF_CODE:
+        spans = re.findall(r"`([^`\n]+)`", re.sub(r"^    .*$", "", read(page), flags=re.M))
+        named = {span for span in spans if re.fullmatch(r"[A-Za-z_]\w*(::\w+)*", span)} - OF_OTHERS
+        unknown = lambda word: re.search(r"_|[a-z][A-Z]", word) and word not in known
+        lacking = {item for item in named if any(map(unknown, item.split("::")))}
+        plain = [span for span in spans if "*" not in span]
+        paths = {path for span in plain for path in re.findall(r"[\w.-]+\.(?:antt|rt|py|c|h|edits|session)\b", span)}
+        lacking |= paths - there - OF_OTHERS
+        trial.note(f"{page}: its names of items and files, {len(named) + len(paths)}", ", ".join(sorted(lacking)))
+
+
+@test()
+def promises(trial):
+    """Each name of the columns 'carried by' and 'in' of PROMISES.md is a word of the sources, and each file is
+    there."""
+    known = {word for file in sources() for word in re.findall(r"\w+", file.read_text())}
+    unknown, files = [], []
+    for cells in rows(read("docs/PROMISES.md").partition("\n## Promises\n")[2].partition("\n## Wrong bodies\n")[0]):
+        if len(cells) != 3:
+            continue
+        names = [each for name in re.findall(r"`([^`]+)`", cells[1]) for each in re.findall(r"\w+", name)]
+        unknown += [name for name in names if name not in known]
+        files += lacking_files(cells[2])
+    trial.note("PROMISES.md: the names that carry promises", ", ".join(sorted(set(unknown) - NO_NAMES)))
+    trial.note("PROMISES.md: their files", ", ".join(sorted(set(files))))
+
+
+def lacking_files(cell):
+    """The files that a row names and that are not there. A file without a crate is one of the crate before it."""
+    crate, found = "", []
+    for file in re.findall(r"`([\w/]+\.(?:rt|antt))`", cell):
+        first, is_whole, rest = file.partition("/")
+        crate, file = (first, rest) if is_whole and (CRATES / first).is_dir() else (crate, file)
+        folder = CRATES / crate / ("" if file.startswith("specs/") else "src")
+        if not (folder / file).exists() and not list(CRATES.glob(f"*/src/{file}")):
+            found.append(f"{crate}/{file}")
+    return found
+
+
+@test()
+def refusals(trial):
+    """The manual page of a program has each name that it prints after `refused`."""
+    for page, sources in REFUSALS.items():
+        names = {name for source in sources for name in re.findall(r'"([A-Z][A-Za-z]+)"', read(f"crates/{source}"))}
+        lacking = names - OF_LIBRARY - set(re.findall(r"\w+", read(f"docs/man/{page}")))
+        fault = ", ".join(sorted(lacking)) or "there is none" * (not names)
+        trial.note(f"{page}: the names of refusals, {len(names)}", fault)
+
+
+@test()
+def sections(trial):
+    """A link to a page with a section in words, as `[CLIENT.md](CLIENT.md), 'Trying it'`."""
+    for page in pages():
+        text = " ".join(page.read_text().split())
+        wrong = []
+        for target, title in re.findall(r"\]\(([\w./]+\.md)\), '([^']+)'", text):
+            heads = re.findall(r"^#+ (.*)$|^\*\*([^*]+?)\.?\*\*", (page.parent / target).read_text(), re.M)
+            if title not in {first or second for first, second in heads}:
+                wrong.append(f"{target} has no section {title!r}")
+        trial.note(f"{page.relative_to(TOP)}: sections that it names", ", ".join(wrong))
+
+
+def command_faults(line, known):
+    """What is wrong with a command line of one of our programs."""
+    try:
+        words = shlex.split(line, comments=True)
+    except ValueError:
+        words = line.split()
+    program, *rest = words
+    command = next((word for word in rest if not word.startswith("-")), None)
+    if command not in known[program]:
+        return [] if command is None and set(rest) <= GENERAL else [f"{program} has no command {command}"]
+    options = {option.word for option in known[program][command][1]} | GENERAL
+    given = {word.partition("=")[0] for word in rest if re.match(r"--?[a-z]", word)}
+    return [f"{program} {command} has no option {word}" for word in sorted(given - options)]
+
+
+@test()
+def commands(trial):
+    """The command lines of the pages, in blocks and between backticks, have commands and options that there are."""
+    known = {program: commands_in(source) for program, source in TABLES.items()}
+    options = {option.word for commands in known.values() for _, row in commands.values() for option in row} | GENERAL
+    own = (file for file in scripts() if file.suffix == ".py")
+    options |= {word for file in own for word in re.findall(r'"(--[a-z][a-z-]+)"', file.read_text())} | OTHERS
+    for page in pages():
+        text = re.sub(r" \\\n\s+", " ", page.read_text())
+        lines = re.findall(r"^    (?:\$ |.*?(?:--|;|\||sh -c|&&) )?((?:kadm|kdcd|kclient) [a-z-].*)$", text, re.M)
+        lines += [" ".join(each.split()) for each in re.findall(r"`((?:kadm|kclient|kdcd) [a-z-][^`]*)`", text)]
+        lines = [re.split(r"[;|)&<>]|\.\.", line)[0] for line in lines]
+        faults = [f"{fault} ({line})" for line in lines for fault in command_faults(line, known)]
+        trial.note(f"{page.relative_to(TOP)}: its command lines, {len(lines)}", "; ".join(faults))
+        unknown = sorted(set(re.findall(r"`(--[a-z][a-z-]+)[^`]*`", text)) - options)
+        trial.note(f"{page.relative_to(TOP)}: its options", ", ".join(unknown))

@@ -1,0 +1,211 @@
+/*
+ * Tries what docs/ap_accept.h says about bad arguments and about accepted AP-REQs. Prints each call that returns something else, and
+ * the number of these calls.
+ *
+ *     cc -g -fsanitize=address,undefined -I docs -o ap_judged tests/services/ap_judged.c crates/ap_accept_c/out/libap_accept_c.a KIT/c/liblibc_c.a
+ *     ./ap_judged KEYTAB [AP-REQ]
+ *
+ * KEYTAB is a keytab's file. AP-REQ is the hexadecimal digits of an AP-REQ for a service of that keytab, made within the last 300
+ * seconds, without a subkey, as tests/services/mk_req.c prints it. Without it nothing here is accepted: tests/services/ap_client.c tries that.
+ */
+#include "ap_accept.h"
+
+#include <stdio.h>
+#include <string.h>
+#include <time.h>
+
+enum { LONGEST = 65536, NOW = 1800000000, TOO_LONG = 1, LONGEST_KEY = 32, UNWRITTEN = 0xa5 };
+
+static int failures;
+
+static void expect(const char *what, long got, long wanted)
+{
+	if (got == wanted)
+		return;
+	printf("%s: %ld, not %ld\n", what, got, wanted);
+	failures++;
+}
+
+static void opens(const uint8_t *keytab, size_t length)
+{
+	struct ap_acceptor acceptor = { 0 };
+	const size_t beyond = (size_t)PTRDIFF_MAX + TOO_LONG;
+
+	expect("no acceptor", ap_open(NULL, keytab, length, 1, true, NOW, 0), AP_BAD_ARGUMENT);
+	expect("no keytab", ap_open(&acceptor, NULL, length, 1, true, NOW, 0), AP_BAD_ARGUMENT);
+	expect("a length too great", ap_open(&acceptor, keytab, beyond, 1, true, NOW, 0), AP_BAD_ARGUMENT);
+	expect("none remembered", ap_open(&acceptor, keytab, length, 0, true, NOW, 0), AP_BAD_ARGUMENT);
+	expect("too many remembered", ap_open(&acceptor, keytab, length, 65537, true, NOW, 0), AP_BAD_ARGUMENT);
+	expect("a second below 0", ap_open(&acceptor, keytab, length, 1, true, -1, 0), AP_BAD_ARGUMENT);
+	expect("a second too great", ap_open(&acceptor, keytab, length, 1, true, 253402300800, 0), AP_BAD_ARGUMENT);
+	expect("a microsecond too great", ap_open(&acceptor, keytab, length, 1, true, NOW, 1000000), AP_BAD_ARGUMENT);
+	expect("an empty keytab", ap_open(&acceptor, keytab, 0, 1, true, NOW, 0), AP_BAD_KEYTAB);
+	expect("a cut keytab", ap_open(&acceptor, keytab, length - 1, 1, true, NOW, 0), AP_BAD_KEYTAB);
+	expect("still closed", ap_close(&acceptor), AP_CLOSED);
+	expect("the least and last", ap_open(&acceptor, keytab, length, 1, true, 253402300799, 999999), AP_DONE);
+	expect("open already", ap_open(&acceptor, keytab, length, 1, true, NOW, 0), AP_BAD_ARGUMENT);
+	expect("closed", ap_close(&acceptor), AP_DONE);
+	expect("closed twice", ap_close(&acceptor), AP_CLOSED);
+	expect("the most", ap_open(&acceptor, keytab, length, 65536, false, 0, 0), AP_DONE);
+	expect("closed again", ap_close(&acceptor), AP_DONE);
+	expect("no acceptor to close", ap_close(NULL), AP_BAD_ARGUMENT);
+}
+
+static void replaces(struct ap_acceptor *acceptor, const uint8_t *keytab, size_t length, int32_t at_best)
+{
+	const size_t beyond = (size_t)PTRDIFF_MAX + TOO_LONG;
+
+	expect("no acceptor", ap_replace_keytab(NULL, keytab, length), AP_BAD_ARGUMENT);
+	expect("no keytab", ap_replace_keytab(acceptor, NULL, length), AP_BAD_ARGUMENT);
+	expect("a length too great", ap_replace_keytab(acceptor, keytab, beyond), AP_BAD_ARGUMENT);
+	expect("an empty keytab", ap_replace_keytab(acceptor, keytab, 0), at_best == AP_DONE ? AP_BAD_KEYTAB : at_best);
+	expect("a cut keytab", ap_replace_keytab(acceptor, keytab, length - 1), at_best == AP_DONE ? AP_BAD_KEYTAB : at_best);
+	expect("a keytab", ap_replace_keytab(acceptor, keytab, length), at_best);
+}
+
+static void accepts(struct ap_acceptor *acceptor, int32_t at_best)
+{
+	static const uint8_t random[16], octets[4] = { 0x6e, 0x02, 0x30, 0x00 };
+	const size_t beyond = (size_t)PTRDIFF_MAX + TOO_LONG;
+	struct ap_accepted accepted = { .authtime = 7 };
+
+	expect("no acceptor", ap_accept(NULL, NOW, 0, random, octets, 4, &accepted), AP_BAD_ARGUMENT);
+	expect("no random octets", ap_accept(acceptor, NOW, 0, NULL, octets, 4, &accepted), AP_BAD_ARGUMENT);
+	expect("no AP-REQ", ap_accept(acceptor, NOW, 0, random, NULL, 4, &accepted), AP_BAD_ARGUMENT);
+	expect("a length too great", ap_accept(acceptor, NOW, 0, random, octets, beyond, &accepted), AP_BAD_ARGUMENT);
+	expect("nowhere to go", ap_accept(acceptor, NOW, 0, random, octets, 4, NULL), AP_BAD_ARGUMENT);
+	expect("nothing written", accepted.authtime, 7);
+	expect("a second below 0", ap_accept(acceptor, -1, 0, random, octets, 4, &accepted), AP_BAD_ARGUMENT);
+	expect("a microsecond too great", ap_accept(acceptor, NOW, 1000000, random, octets, 4, &accepted), AP_BAD_ARGUMENT);
+	expect("no octets", ap_accept(acceptor, NOW, 0, random, octets, 0, &accepted), at_best);
+	expect("no AP-REQ's", ap_accept(acceptor, NOW, 0, random, octets, 4, &accepted), at_best);
+	expect("all zero", accepted.authtime, 0);
+}
+
+static void fetches(struct ap_acceptor *acceptor, int32_t at_best)
+{
+	const size_t beyond = (size_t)PTRDIFF_MAX + TOO_LONG;
+	uint8_t to[4] = { 1, 2, 3, 4 };
+	size_t length = 7;
+
+	expect("no acceptor", ap_octets(NULL, AP_CLIENT_NAME, to, 4, &length), AP_BAD_ARGUMENT);
+	expect("no buffer", ap_octets(acceptor, AP_CLIENT_NAME, NULL, 4, &length), AP_BAD_ARGUMENT);
+	expect("a capacity too great", ap_octets(acceptor, AP_CLIENT_NAME, to, beyond, &length), AP_BAD_ARGUMENT);
+	expect("no length", ap_octets(acceptor, AP_CLIENT_NAME, to, 4, NULL), AP_BAD_ARGUMENT);
+	expect("no part 0", ap_octets(acceptor, (enum ap_part)0, to, 4, &length), AP_BAD_ARGUMENT);
+	expect("no part 7", ap_octets(acceptor, (enum ap_part)7, to, 4, &length), AP_BAD_ARGUMENT);
+	for (int part = AP_CLIENT_REALM; part <= AP_AP_REP; part++)
+		expect("nothing accepted", ap_octets(acceptor, (enum ap_part)part, to, 4, &length), at_best);
+	expect("none", ap_octets(acceptor, AP_CLIENT_NAME, NULL, 0, &length), at_best);
+	expect("no length returned", (long)length, 0);
+	expect("nothing written", memcmp(to, "\1\2\3\4", 4), 0);
+}
+
+/* Counts the bytes of the buffer that are unchanged, from this one on. */
+static size_t unwritten(const uint8_t *to, size_t from, size_t end)
+{
+	size_t count = 0;
+
+	for (size_t at = from; at < end; at++)
+		count += to[at] == UNWRITTEN;
+	return count;
+}
+
+/* An AP-REQ without a subkey is accepted, and its bytes can be read until the next one is accepted. */
+static void keeps(const uint8_t *keytab, size_t keytab_length, const uint8_t *ap_req, size_t ap_req_length)
+{
+	static const uint8_t random[16], no_keys[2] = { 5, 2 };
+	struct ap_acceptor acceptor = { 0 };
+	struct ap_accepted accepted = { .subkey_type = 7 };
+	uint8_t key[LONGEST_KEY + 1], again[LONGEST_KEY + 1];
+	size_t needed = 0, length = 0;
+	int64_t now = (int64_t)time(NULL);
+
+	memset(key, UNWRITTEN, sizeof(key));
+	expect("open for an AP-REQ", ap_open(&acceptor, keytab, keytab_length, 1024, true, now, 0), AP_DONE);
+	expect("accepted", ap_accept(&acceptor, now, 0, random, ap_req, ap_req_length, &accepted), AP_DONE);
+	expect("no type of a subkey", accepted.subkey_type, 0);
+	expect("the key's length is asked for", ap_octets(&acceptor, AP_SESSION_KEY, NULL, 0, &needed), AP_TOO_SMALL);
+	expect("the key's length", needed == 16 || needed == 32, 1);
+	if (needed == 16 || needed == 32) {
+		expect("a buffer an octet too small", ap_octets(&acceptor, AP_SESSION_KEY, key, needed - 1, &length), AP_TOO_SMALL);
+		expect("the length is returned again", (long)length, (long)needed);
+		expect("the buffer is as it was", (long)unwritten(key, 0, sizeof(key)), (long)sizeof(key));
+		expect("the right buffer", ap_octets(&acceptor, AP_SESSION_KEY, key, needed, &length), AP_DONE);
+		expect("no octet behind the key", (long)unwritten(key, needed, sizeof(key)), (long)(sizeof(key) - needed));
+	}
+	expect("no subkey", ap_octets(&acceptor, AP_SUBKEY, again, sizeof(again), &length), AP_ABSENT);
+	expect("no length of a subkey", (long)length, 0);
+	expect("a bad moment", ap_accept(&acceptor, -1, 0, random, ap_req, ap_req_length, &accepted), AP_BAD_ARGUMENT);
+	expect("no numbers after a bad moment", (long)accepted.endtime, 0);
+	length = 7;
+	expect("a bad part", ap_octets(&acceptor, (enum ap_part)7, again, sizeof(again), &length), AP_BAD_ARGUMENT);
+	expect("no length of a bad part", (long)length, 0);
+	expect("the key is still there", ap_octets(&acceptor, AP_SESSION_KEY, again, sizeof(again), &length), AP_DONE);
+	expect("it is the same", (long)length == (long)needed && memcmp(key, again, length) == 0, 1);
+	expect("a keytab without keys", ap_replace_keytab(&acceptor, no_keys, sizeof(no_keys)), AP_DONE);
+	expect("the key stays", ap_octets(&acceptor, AP_SESSION_KEY, again, sizeof(again), &length), AP_DONE);
+	expect("no key for it", ap_accept(&acceptor, now, 0, random, ap_req, ap_req_length, &accepted), AP_NOT_US);
+	expect("no keytab", ap_replace_keytab(&acceptor, keytab, keytab_length - 1), AP_BAD_KEYTAB);
+	expect("still no key", ap_accept(&acceptor, now, 0, random, ap_req, ap_req_length, &accepted), AP_NOT_US);
+	expect("the keys again", ap_replace_keytab(&acceptor, keytab, keytab_length), AP_DONE);
+	expect("a repeat", ap_accept(&acceptor, now, 0, random, ap_req, ap_req_length, &accepted), AP_REPEAT);
+	expect("nothing accepted last", ap_octets(&acceptor, AP_SESSION_KEY, again, sizeof(again), &length), AP_ABSENT);
+	expect("close after it", ap_close(&acceptor), AP_DONE);
+}
+
+/* The bytes for hexadecimal digits, and their number. */
+static size_t octets_of(const char *digits, uint8_t *to)
+{
+	size_t count = 0, end = strlen(digits) / 2;
+	unsigned int octet;
+
+	for (; count < LONGEST && count < end && sscanf(digits + 2 * count, "%2x", &octet) == 1; count++)
+		to[count] = (uint8_t)octet;
+	return count;
+}
+
+static void texts(void)
+{
+	char text[128], cut[5] = "....";
+
+	for (int status = -10; status < 100; status++) {
+		size_t length = ap_text(status, text, sizeof(text));
+		expect("a text", length > 0 && length < sizeof(text) && strlen(text) == length, 1);
+		expect("its length alone", (long)ap_text(status, NULL, 100), (long)length);
+	}
+	expect("done", strcmp((ap_text(AP_DONE, text, sizeof(text)), text), "done"), 0);
+	expect("a text that is cut", (long)ap_text(AP_NO_MEMORY, cut, sizeof(cut)), 13);
+	expect("what is left of it", strcmp(cut, "out "), 0);
+	expect("no room", (long)ap_text(AP_DONE, cut, 1), 4);
+	expect("for more than its end", strcmp(cut, ""), 0);
+	expect("a capacity of 0", (long)ap_text(AP_DONE, text, 0), 4);
+}
+
+int main(int count, char **words)
+{
+	static uint8_t keytab[LONGEST], ap_req[LONGEST];
+	struct ap_acceptor acceptor = { 0 };
+	FILE *file = count == 2 || count == 3 ? fopen(words[1], "rb") : NULL;
+	size_t length;
+
+	if (file == NULL)
+		return 2;
+	length = fread(keytab, 1, LONGEST, file);
+	fclose(file);
+	opens(keytab, length);
+	expect("the version", (long)ap_version(), AP_VERSION);
+	replaces(&acceptor, keytab, length, AP_CLOSED);
+	accepts(&acceptor, AP_CLOSED);
+	fetches(&acceptor, AP_CLOSED);
+	expect("open", ap_open(&acceptor, keytab, length, 1, true, NOW, 0), AP_DONE);
+	replaces(&acceptor, keytab, length, AP_DONE);
+	accepts(&acceptor, AP_NOT_AN_AP_REQ);
+	fetches(&acceptor, AP_ABSENT);
+	expect("close", ap_close(&acceptor), AP_DONE);
+	if (count == 3)
+		keeps(keytab, length, ap_req, octets_of(words[2], ap_req));
+	texts();
+	printf("%d failed\n", failures);
+	return failures != 0;
+}

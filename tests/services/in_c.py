@@ -1,0 +1,242 @@
+"""Services in C (`ap_service.c`) in a realm of this repository, for each encryption type: `kadm` makes the realm and
+the keytab, `kdcd serve` issues the tickets, MIT's `kinit` logs in, and `ap_client.c` presents tickets by MIT's library.
+`ap_judged.c` tries what the header says about bad calls and about accepted AP-REQs, with an AP-REQ from `mk_req.c`.
+These programs are compiled as
+
+    cc -g -fsanitize=address,undefined -I docs -o NAME tests/services/NAME.c \\
+        crates/ap_accept_c/out/libap_accept_c.a KIT/c/liblibc_c.a
+    cc -o NAME tests/services/NAME.c -lkrb5
+
+KIT is the toolchain's folder. A check says `ok`, the first answer that differs, or what a sanitizer found."""
+
+import contextlib
+import os
+import re
+import socket
+import subprocess
+import time
+
+from harness.checks import Differs, expect
+from harness.processes import PATIENCE, SLOWNESS
+from harness.tests import test
+from harness.wire import free_port
+from services.whole_way import OTHER, SERVICE, TYPES, Kdc, Lines, OwnRequest, Place
+
+# The lifetime of a ticket that is presented past its end, and the clock skew that a service allows.
+SHORT_LIFE, LENIENCE = 20, 300
+TAKEN, GOOD, CLOSED = "taken, with no AP-REP", "taken, and the AP-REP is good", "closed"
+REPEAT = "refused 34: KRB_AP_ERR_REPEAT: the authenticator was seen before"
+SKEW = "refused 37: KRB_AP_ERR_SKEW: the clocks differ too much, or the service was just restarted"
+EXPIRED = "refused 32: KRB_AP_ERR_TKT_EXPIRED: the ticket has expired"
+NOT_US = "refused 35: KRB_AP_ERR_NOT_US: the keytab has no key for the ticket's service"
+NO_AP_REQ = "refused -1: the bytes do not encode an AP-REQ"
+
+
+def accepted(subkey=0, rest=""):
+    """The line that the service prints for a client that it accepts, as a pattern for any type of the session key."""
+    return rf"u@A\.B until \d+, key type TYPE, subkey type {subkey}, flags [0-9a-f]{{8}}{rest}"
+
+
+# A number, and the checksum of the text 'checksum', with the type and length for the key's type.
+TOLD = r", number \d+, checksum of type \d+ and \d+ octets"
+# The client's arguments, what it prints for each connection, and what the service prints.
+NEW = (
+    ((), (TAKEN,), (accepted(),)),
+    (("mutual",), (GOOD,), (accepted(rest=", asks for a reply"),)),
+    (("subkey", "number", "checksum"), (TAKEN,), (accepted("TYPE", TOLD),)),
+    (("mutual", "subkey", "number", "checksum"), (GOOD,), (accepted("TYPE", TOLD + ", asks for a reply"),)),
+    (("sendauth",), (TAKEN,), (accepted(rest=r".*"),)),
+    (("sendauth", "mutual", "subkey"), (GOOD,), (accepted("TYPE", r".*, asks for a reply"),)),
+    (("repeat",), (TAKEN, CLOSED), (accepted(), re.escape(REPEAT))),
+    (("repeat", "mutual"), (GOOD, CLOSED), (accepted(rest=", asks for a reply"), re.escape(REPEAT))),
+    (("none",), (CLOSED,), (re.escape(NO_AP_REQ),)),
+    (("cut",), (CLOSED,), (re.escape(NO_AP_REQ),)),
+    (("skew=400",), (CLOSED,), (re.escape(SKEW),)),
+)
+OLD = ((("old", "repeat"), (CLOSED, CLOSED), (re.escape(EXPIRED), re.escape(REPEAT))),)
+FOREIGN = (((), (CLOSED,), (re.escape(NOT_US),)),)
+RESTARTED = (((), (CLOSED,), (re.escape(SKEW),)),)
+
+
+def connections(*lists):
+    return sum(len(says) for tries in lists for _, says, _ in tries)
+
+
+class Way:
+    """A realm of one type, a client that has logged in, and a service."""
+
+    def __init__(self, programs, folder, etype):
+        self.place, self.etype, self.port = Place(programs, folder), etype, None
+        self.place.make_realm(etype)
+        self.kdc = Kdc(self.place)
+        realms = f"[realms]\nA.B = {{\nkdc = {self.kdc.address}\n}}\n"
+        self.place.write("krb5.conf", f"[libdefaults]\ndefault_realm = A.B\nrdns = false\n{realms}".encode())
+
+    def environment(self, cache):
+        return {
+            **os.environ,
+            "KRB5_CONFIG": self.place.path("krb5.conf"),
+            "KRB5CCNAME": "FILE:" + self.place.path(cache),
+        }
+
+    def log_in(self, cache, *words):
+        kinit = [self.place.programs["kinit"], *words, "u@A.B"]
+        ran = subprocess.run(
+            kinit, input="secret\n", capture_output=True, text=True, env=self.environment(cache), timeout=PATIENCE
+        )
+        expect(f"the status of kinit ({ran.stderr})", ran.returncode, 0)
+
+    def start(self, count, *words):
+        self.port = str(free_port())
+        keytab = self.place.path("keytab")
+        self.service = Lines(self.place.programs["ap_service"], keytab, self.port, *words, str(count), errors=True)
+
+    def client(self, cache, service, words):
+        """Runs a client, and returns what it prints. Tries again if the service doesn't listen yet."""
+        command = [self.place.programs["ap_client"], self.port, f"{service}@A.B", *words]
+        for _ in range(100):
+            ran = subprocess.run(command, capture_output=True, text=True, env=self.environment(cache), timeout=PATIENCE)
+            if "no connection" not in ran.stdout:
+                return ran.stdout
+            time.sleep(0.1)
+        return "no connection"
+
+    def present(self, cache, service, tries):
+        for words, says, lines in tries:
+            wanted = f"ticket of type {self.etype}: " + "\n".join(says) + "\n"
+            expect(f"type {self.etype}, the client with {words}", self.client(cache, service, words), wanted)
+            for line in lines:
+                found, pattern = self.service.line(), line.replace("TYPE", str(self.etype))
+                if not re.fullmatch(pattern, found):
+                    expect(f"type {self.etype}, the service with {words}", found, pattern)
+
+    def judge(self):
+        """Tries what the header says about bad calls and about an accepted AP-REQ. A line reports each answer that
+        differs."""
+        environment = {**self.environment("cache"), "KRB5_KTNAME": "FILE:" + self.place.path("keytab")}
+        mk_req = [self.place.programs["mk_req"], f"{SERVICE}@A.B"]
+        made = subprocess.run(
+            mk_req, stdin=subprocess.DEVNULL, capture_output=True, text=True, env=environment, timeout=PATIENCE
+        )
+        digits = re.search(r"^ap-req ([0-9a-f]+)$", made.stdout, re.MULTILINE)
+        if not digits:
+            expect(f"type {self.etype}, what mk_req makes ({made.stderr})", made.stdout, "an AP-REQ")
+        ap_judged = [self.place.programs["ap_judged"], self.place.path("keytab"), digits[1]]
+        ran = subprocess.run(ap_judged, capture_output=True, text=True, timeout=PATIENCE)
+        expect(f"type {self.etype}, ap_judged", (ran.returncode, ran.stdout, ran.stderr), (0, "0 failed\n", ""))
+
+    def begin(self, old):
+        """Starts the service. `old` says how a ticket past its end is presented, if it is."""
+        self.log_in("cache")
+        self.log_in("old", "-l", f"{SHORT_LIFE}s")
+        self.judge()
+        self.start(connections(NEW, FOREIGN, old) + 1, "first")
+        self.present("old", SERVICE, NEW[:1])
+        self.ended = time.time() + SHORT_LIFE + LENIENCE
+        self.present("cache", SERVICE, NEW)
+        self.present("cache", OTHER, FOREIGN)
+
+    def finish(self, old):
+        self.present("old", SERVICE, old)
+        self.service.end()
+        self.start(connections(RESTARTED))
+        self.present("cache", SERVICE, RESTARTED)
+        self.service.end()
+        self.kdc.end()
+
+
+def programs_of(trial):
+    return {**trial.programs, **trial.given.made, "kinit": "kinit"}
+
+
+def go(trial, old):
+    """Tries services of each type, and a ticket past its end if `old` says how it is presented."""
+    ways = []
+    for etype in TYPES:
+        trial.enter(f"type{etype}")
+        begin = lambda: ways.append(begun(programs_of(trial), trial.folder, etype, old))
+        trial.check(f"the service in C with type {etype}: judges, new tickets", begin)
+    time.sleep(max([0, *[way.ended + 2 - time.time() for way in ways if old]]))
+    for way in ways:
+        trial.check(
+            f"the service in C with type {way.etype}: {'a ticket past its end, ' * bool(old)}a restart", way.finish, old
+        )
+
+
+@test("kadm", "kdcd", "kclient", needs=("krb5", "kinit", "services_in_c"), seconds=120)
+def by_mit(trial):
+    """Services of each type, with tickets by MIT's `kinit` and AP-REQs by MIT's library."""
+    go(trial, ())
+
+
+@test("kadm", "kdcd", "kclient", needs=("krb5", "kinit", "services_in_c"), seconds=400, is_slow=True)
+def by_mit_past_its_end(trial):
+    """The same, and a ticket that is past its end, which takes six minutes."""
+    go(trial, OLD)
+
+
+@test("kadm", "kdcd", "kclient", needs=("services_in_c",), seconds=60)
+def by_python(trial):
+    """A service of type 18, with AP-REQs in Python."""
+    trial.enter("realm")
+    trial.check("the service in C with type 18, without MIT's library", without_mit, programs_of(trial), trial.folder)
+
+
+def without_mit(programs, folder):
+    """Tries type 18 only, with tickets by `kclient` and AP-REQs in Python: `ap_judged`, two clients of the service,
+    where one asks for a reply, and the same AP-REQ again."""
+    place = Place({**programs, "mk_req": None}, folder)
+    place.make_realm(18)
+    kdc = Kdc(place)
+    place.get_tickets(kdc.address)
+    kdc.end()
+    words = [programs["ap_judged"], place.path("keytab"), OwnRequest(place, SERVICE, None, ()).digits]
+    judged = subprocess.run(words, capture_output=True, text=True, timeout=PATIENCE)
+    expect("ap_judged", (judged.returncode, judged.stdout, judged.stderr), (0, "0 failed\n", ""))
+    port, requests = free_port(), [OwnRequest(place, SERVICE, None, choice) for choice in ((), ("mutual",))]
+    service = Lines(programs["ap_service"], place.path("keytab"), str(port), "first", "4", errors=True)
+    for request, rest in zip([*requests, requests[0]], ("", ", asks for a reply", None)):
+        reply = asked(port, bytes.fromhex(request.digits))
+        line = service.line()
+        is_said = line == REPEAT if rest is None else re.fullmatch(accepted(rest=rest).replace("TYPE", "18"), line)
+        expect(f"what the service says, {line!r}", bool(is_said), True)
+        if rest:
+            request.take(reply.hex())
+        else:
+            expect("the reply", reply, b"")
+    took = dripped(port)
+    expect("what the service says of a peer that sends a byte every half second", service.line(), "no message")
+    expect(f"{took:.1f} seconds of such a peer, where 10 are due", 9.9 <= took <= 11 + 2 * SLOWNESS, True)
+    service.end()
+
+
+def asked(port, request):
+    """The reply to a message, or nothing if the connection is closed. Tries again if the service doesn't listen yet."""
+    for _ in range(100):
+        try:
+            with socket.create_connection(("127.0.0.1", port), 10) as peer, peer.makefile("rb") as stream:
+                peer.sendall(len(request).to_bytes(4, "big") + request)
+                return stream.read(int.from_bytes(stream.read(4), "big"))
+        except ConnectionRefusedError:
+            time.sleep(0.1)
+    raise Differs("the service does not listen")
+
+
+def dripped(port):
+    """The seconds until the service closes a connection whose peer sends a byte every half second."""
+    begun = time.monotonic()
+    with contextlib.suppress(ConnectionError), socket.create_connection(("127.0.0.1", port), 10) as peer:
+        peer.settimeout(0.5)
+        peer.sendall((1000).to_bytes(4, "big"))
+        is_open = True
+        while is_open and time.monotonic() < begun + PATIENCE:
+            peer.sendall(b"n")
+            with contextlib.suppress(TimeoutError):
+                is_open = peer.recv(1) != b""
+    return time.monotonic() - begun
+
+
+def begun(programs, folder, etype, old):
+    way = Way(programs, folder, etype)
+    way.begin(old)
+    return way
