@@ -1,5 +1,5 @@
 -- What a process started with, and what it has recorded since, cover its state.
-use Rattle.std.proofs.Common.{◌≡◌, ℤ, pos, ◌-ℤ◌, ◌≤ℤ◌, Bool, true, false, cond, if◌then◌else◌, List, [], ◌∷◌, ◌++◌, Option, Some, None, is_eq, refl, sym, ap, subst, ◌∙◌, append_assoc, arith}
+use Rattle.std.proofs.Common.{◌≡◌, ℤ, pos, ◌-ℤ◌, ◌≤ℤ◌, Bool, true, false, cond, List, [], ◌∷◌, Option, Some, None, is_eq, refl, sym, ap, subst, ◌∙◌, append_assoc, arith}
 use Rattle.std.specs.Prelude.{IfSome, nat_eq}
 use Rattle.std.specs.Int.{int_max}
 use Rattle.std.specs.Cmp.Lexicographic.{pointwise}
@@ -13,19 +13,15 @@ use Rattle.as_exchange.specs.Answer.{as_answer}
 use Rattle.kdc_replies.specs.Incoming.{Incoming}
 use Rattle.krb_fields.specs.Name.{Components, name_cmp, name_total, same_name}
 use Rattle.krb_fields.specs.Skew.{skew}
-use Rattle.krb_fields.specs.declared.moment.Moment.{Moment}
-use Rattle.principals.specs.Change.{changed, refusal}
-use Rattle.principals.specs.Database.{Principals}
-use Rattle.principals.specs.declared.change.Change.{Change as PrincipalChange}
-use Rattle.principals.specs.declared.change.ChangeFault.{ChangeFault}
-use Rattle.replay.proofs.Holding.{extended, extended_holds, last_spent, recorded_held, tidied_held}
+use Rattle.principals.specs.Change.{refusal}
+use Rattle.replay.proofs.Holding.{extended_holds, last_spent, recorded_held, tidied_held}
 use Rattle.replay.proofs.Stamps.{stamp_total}
 use Rattle.replay.specs.ReplayCache.{floor_at, recorded}
 use Rattle.replay.specs.Opening.{opening_floor}
 use Rattle.replay.specs.Resumed.{Holds, is_spent, resumed_cache, stamp_seen}
 use Rattle.replay.specs.Run.{with_any}
 use Rattle.replay.specs.Stamp.{is_from}
-use Rattle.replay.specs.Tidied.{empty_cache, tidied}
+use Rattle.replay.specs.Tidied.{empty_cache}
 use Rattle.replay.specs.declared.failures.Failures.{Failures}
 use Rattle.replay.specs.declared.keep.Kept.{Kept}
 use Rattle.replay.specs.declared.cache.ReplayCache.{ReplayCache}
@@ -36,16 +32,16 @@ use Rattle.tgs_exchange.specs.Decision.{stamp_of}
 use Rattle.tgs_opening.specs.declared.presented.Presented.{Presented}
 use Rattle.kdc_state.proofs.CachesSeen.{cache_resumed}
 use Rattle.kdc_state.proofs.Tidied.{cache_tidied}
-use Rattle.kdc_state.specs.State.{cache_of, tidied_state}
+use Rattle.kdc_state.specs.State.{cache_of}
 use Rattle.kdc_state.specs.declared.state.State.{State}
 use Rattle.kdc_core.proofs.Tickets.{cache_kept, named_cache, replaced_cache, unless_memory}
 use Rattle.kdc_core.specs.Answer.{after_incoming, answer_of, counted, keep, stamped}
 use Rattle.kdc_core.specs.Contents.{contents, names_answered}
 use Rattle.kdc_core.specs.ContentsLaws.{AreNamesOf, are_names_of, nothing_kept}
-use Rattle.kdc_core.specs.NewlySeen.{AreUpTo, CanBeResumed, Covers, CoversOn, CoversOpened, CoversResumed, HoldsNewlySeen, IsUpTo, event_sees, newly_seen_of, newly_seen_to, resumption_at, run_sees, seen_of}
+use Rattle.kdc_core.specs.NewlySeen.{CanBeResumed, Covers, CoversOn, CoversOpened, CoversResumed, HoldsNewlySeen, IsUpTo, event_sees, newly_seen_of, newly_seen_to, resumption_at, run_sees, seen_of}
 use Rattle.kdc_core.specs.Request.{request_of}
 use Rattle.kdc_core.specs.Run.{after_event, run}
-use Rattle.kdc_core.specs.View.{Named, View, as_view, components_of, named, presented_view, tgs_view, view, view_of}
+use Rattle.kdc_core.specs.View.{Named, as_view, components_of, named, presented_view, tgs_view, view, view_of}
 use Rattle.kdc_core.specs.declared.contents.Contents.{Contents}
 use Rattle.kdc_core.specs.declared.contents.Contents.TheVariants.{NoRequest, AsReq, RefusedTgsReq, TgsReq}
 use Rattle.kdc_core.specs.declared.run.Event.{Event}

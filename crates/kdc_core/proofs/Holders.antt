@@ -1,5 +1,5 @@
 -- Only who shows a ticket of a client changes what its replay cache has seen.
-use Rattle.std.proofs.Common.{◌≡◌, Bool, true, false, cond, List, ℕ, Option, Some, None, Result, Ok, Err, IfSome}
+use Rattle.std.proofs.Common.{◌≡◌, Bool, true, false, cond, Option, Some, None, Result, Ok, Err, IfSome}
 use Rattle.std.proofs.Common.{OnOk, OnErr, refl, ap, sym, subst, ◌∙◌}
 use Rattle.std.specs.FinMap as map
 use Rattle.std.specs.FinMap.{get-insert}
@@ -16,7 +16,7 @@ use Rattle.replay.specs.declared.failures.Failures.{Failures}
 use Rattle.replay.specs.declared.keep.Kept.{Kept}
 use Rattle.as_exchange.specs.Answer.{as_answer}
 use Rattle.tgs_exchange.specs.Answer.{tgs_answer}
-use Rattle.tgs_opening.specs.Opening.{opened_ticket, presented}
+use Rattle.tgs_opening.specs.Opening.{presented}
 use Rattle.tgs_opening.specs.ShownLaws.{presented_shown}
 use Rattle.tgs_opening.specs.declared.presented.Presented.{Presented}
 use Rattle.tgs_opening.specs.declared.rejection.Rejection.{Rejection}
@@ -29,7 +29,7 @@ use Rattle.kdc_core.specs.ContentsLaws.{nothing_kept, presented_client}
 use Rattle.kdc_core.specs.NewlySeen.{newly_seen_of, newly_seen_to, seen_of}
 use Rattle.kdc_core.specs.Request.{Request, request_of}
 use Rattle.kdc_core.specs.Shown.{IsSeenAlike, ShowsTicket}
-use Rattle.kdc_core.specs.View.{View, as_view, cache_named, client_in, client_of, components_of, named_by, named_in}
+use Rattle.kdc_core.specs.View.{View, as_view, cache_named, client_in, components_of, named_by, named_in}
 use Rattle.kdc_core.specs.View.{tgs_view, ticket_view, view, view_of}
 
 seen_same : (old new : ReplayCache Kept) → new ≡ old → IsSeenAlike old new

@@ -3,6 +3,7 @@ pub mod Holders
 pub mod Promised
 pub mod Known
 pub mod Reading
+pub mod Replied
 pub mod Runs
 pub mod Changes
 pub mod Isolation

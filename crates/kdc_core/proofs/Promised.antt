@@ -1,8 +1,7 @@
 -- What is promised of an answer, from what the answer is.
-use Rattle.std.proofs.Common.{◌≡◌, ◌≤◌, ◌<◌, ℕ, Bool, List, length, get_or, Option, Some, Result, Ok, Err, IfOk, IfSome, OnOk, OnErr}
+use Rattle.std.proofs.Common.{◌≡◌, ◌≤◌, ◌<◌, ℕ, Bool, List, length, get_or, Option, Result, Ok, Err, IfOk, IfSome, OnOk, OnErr}
 use Rattle.std.proofs.Common.{refl, ap, sym, subst, ◌∙◌, option_map}
 use Rattle.kdc_replies.specs.Incoming.{Incoming}
-use Rattle.krb_fields.specs.Name.{Components}
 use Rattle.kdc_state.specs.State.{cache_of}
 use Rattle.kdc_state.specs.declared.state.State.{State}
 use Rattle.kdc_core.proofs.Frame.{database_kept, limits_kept, other_kept}
@@ -13,7 +12,6 @@ use Rattle.kdc_core.specs.AgreementLaws.{after_agrees, names_agree, view_agrees}
 use Rattle.kdc_core.specs.Answer.{IsReply, OneTicketTwoKeys, ReplyOpens, after_incoming, answer_to}
 use Rattle.kdc_core.specs.Answered.{IsAnswered}
 use Rattle.kdc_core.specs.Contents.{contents}
-use Rattle.kdc_core.specs.Issued.{IsReplyOf, issued}
 use Rattle.kdc_core.specs.IssuedLaws.{replies_issued, replies_sent}
 use Rattle.kdc_core.specs.NewlySeen.{newly_seen_to}
 use Rattle.kdc_core.specs.ReplyIn.{IsReplyIn}

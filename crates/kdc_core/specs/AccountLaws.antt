@@ -7,7 +7,6 @@ use Rattle.tgs_exchange.specs.OutcomeLaws as tgs_exchange
 use Rattle.tgs_exchange.specs.Answer.{tgs_error}
 use Rattle.tgs_exchange.specs.Outcome.{tgs_outcome}
 use Rattle.kdc_replies.specs.Incoming.{Incoming}
-use Rattle.krb_fields.specs.PrincipalName.{Name}
 use Rattle.krb_messages.specs.declared.kdc_req.Exchange.{Exchange}
 use Rattle.krb_messages.specs.declared.kdc_req.Exchange.TheVariants.{As as OfAs, Tgs as OfTgs}
 use Rattle.krb_messages.specs.KdcReq.{Received}
@@ -18,7 +17,7 @@ use Rattle.tgs_opening.specs.declared.presented.Presented.{Presented}
 use Rattle.tgs_opening.specs.declared.refusal.TgsRefusal.{TgsRefusal}
 use Rattle.tgs_opening.specs.declared.rejection.Rejection.{Rejection}
 use Rattle.kdc_state.specs.declared.state.State.{State}
-use Rattle.kdc_core.specs.Account.{Account, AccountHolds, AccountSpelled, AccountHoldsOf, AccountSpelledOf, account_of, account_to, kept_for}
+use Rattle.kdc_core.specs.Account.{Account, AccountHolds, AccountSpelled, AccountHoldsOf, account_of, account_to, kept_for}
 use Rattle.kdc_core.specs.Account.{account_exchange, account_names, exchange_in}
 use Rattle.kdc_core.specs.Answer.{OpensOf, ReplyOpens, answer_of, answer_to}
 use Rattle.kdc_core.specs.Contents.{contents, contents_in, names_answered, tgs_contents}

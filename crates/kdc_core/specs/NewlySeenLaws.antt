@@ -1,5 +1,5 @@
 -- The authenticator that a request records, by the names that its contents give.
-use Rattle.std.proofs.Common.{◌≡◌, List, Option, None, Result, IfOk, refl, sym, subst}
+use Rattle.std.proofs.Common.{◌≡◌, Option, None, Result, IfOk, refl, sym, subst}
 use Rattle.kdc_replies.specs.Incoming.{Incoming}
 use Rattle.replay.specs.declared.seen.Seen.{Seen}
 use Rattle.kdc_state.specs.declared.state.State.{State}

@@ -1,6 +1,6 @@
 -- The answer to a TGS-REQ follows the one list of its rules.
-use Rattle.std.proofs.Common.{◌≡◌, ℕ, Bool, true, false, List, Option, Some, None, Result, Ok, Err, refl, sym, ap, subst}
-use Rattle.std.specs.Prelude.{⊤, ◌&&◌, nat_eq, nat_lt, length, if◌then◌else◌}
+use Rattle.std.proofs.Common.{◌≡◌, Bool, true, false, Option, Some, None, Result, Ok, Err, refl, sym, ap, subst}
+use Rattle.std.specs.Prelude.{◌&&◌, nat_eq, nat_lt, length, if◌then◌else◌}
 use Rattle.std.specs.Cmp.Lexicographic.{pointwise}
 use Rattle.kdc_replies.specs.Incoming.{Incoming}
 use Rattle.krb_messages.specs.KdcReq.{Received}

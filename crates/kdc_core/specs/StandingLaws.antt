@@ -1,5 +1,5 @@
 -- The KDC issues tickets only to clients, and for services, in good standing.
-use Rattle.std.proofs.Common.{ℕ, List, Option, IfSome, subst, sym}
+use Rattle.std.proofs.Common.{ℕ, List, IfSome, subst, sym}
 use Rattle.as_exchange.specs.StandingLaws as as_exchange
 use Rattle.tgs_exchange.specs.StandingLaws as tgs_exchange
 use Rattle.kdc_replies.specs.GoodStanding.{AreInGoodStanding}

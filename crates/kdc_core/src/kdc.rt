@@ -27,10 +27,13 @@ ghost use Rattle.replay.specs.Tidied.{tidied};
 ghost use Rattle.kdc_state.specs.declared.state.State as states;
 ghost use Rattle.principals.specs.Change.{refusal, changed};
 
-use crate::account::{Answer, reply_alone};
-use crate::answering::answer;
+use crate::account::{Account, Answer, account_if, reply_alone};
+use crate::answering::reply_to;
+use crate::contents::contents_of;
+use crate::mark::keep_mark;
 use kdc_replies::{Incoming, error_reply};
 use kdc_state::{CacheSizes, Opening, State};
+use krb_elements::Octets;
 use krb_fields::{Code, Moment, Name};
 use principal_rows::{Limits, Row};
 use principals::{Change, ChangeFault, Database};
@@ -193,7 +196,8 @@ impl Kdc {
     }
 
     /// Answers as [`Kdc::handle`] does, with an account of the request, if it is wanted, and with the authenticator that
-    /// is recorded for it. A call that runs out of memory changes nothing.
+    /// is recorded for it. The names of an account are copied before anything changes. A call that runs out of memory
+    /// changes nothing.
     pub fn answer(
         &mut self,
         alloc: Global,
@@ -214,7 +218,20 @@ impl Kdc {
             octets: request,
             ready: &self.ready,
         };
-        answer(&mut self.state, alloc, &incoming, request, wants_account)
+        let held = contents_of(&self.state, alloc, incoming.ready, request)?;
+        let Some(answered) = reply_to(&self.state, alloc, &incoming, held)? else {
+            return Ok(Answer {
+                reply: None,
+                account: account_if(alloc, wants_account, Account::NoRequest)?,
+                newly_seen: None,
+            });
+        };
+        let account = account_if(alloc, wants_account, answered.account)?;
+        Ok(Answer {
+            reply: Some(Octets::new(answered.octets)),
+            account,
+            newly_seen: keep_mark(&mut self.state, alloc, answered.mark)?,
+        })
     }
 
     /// Changes the database. A refused change leaves everything unchanged.

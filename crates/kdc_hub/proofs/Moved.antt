@@ -16,15 +16,14 @@ use Rattle.kdc_core.proofs.Unseen.{tidies_unseen}
 use Rattle.kdc_core.specs.AgreementLaws.{names_agree, same_names}
 use Rattle.kdc_core.specs.Answer.{answer}
 use Rattle.kdc_core.specs.Request.{request_of}
-use Rattle.kdc_core.specs.Run.{after_change, after_event, event_reply, replaced, unless_faulty}
+use Rattle.kdc_core.specs.Run.{after_change, after_event, replaced, unless_faulty}
 use Rattle.kdc_core.specs.Struck.{AgreesFor, Names, NamesWithin, ServicesWithin, is_client, is_left, is_request, is_request_of, replies_to, strike}
-use Rattle.kdc_core.specs.Unaffected.{AreAlike, IsAlike}
-use Rattle.kdc_core.specs.Unseen.{RequestsFollow, untidied}
+use Rattle.kdc_core.specs.Unaffected.{AreAlike}
+use Rattle.kdc_core.specs.Unseen.{untidied}
 use Rattle.kdc_core.specs.View.{named, named_by, row_of, view}
 use Rattle.kdc_core.specs.declared.run.Event.{Event as KdcEvent}
 use Rattle.kdc_core.specs.declared.run.Event.TheVariants.{Request, Change, Replace, Tidy, Restart, Reopen, Resume}
-use Rattle.kdc_hub.specs.History.{Turn, chosen, events_in, replies_in, sent_to}
-use Rattle.kdc_hub.specs.Hub.{Standing}
+use Rattle.kdc_hub.specs.History.{chosen, events_in}
 use Rattle.kdc_hub.specs.Moved.{MovesNothingElse, concerning}
 use Rattle.kdc_hub.proofs.Histories.{chosen_of_run, one_run}
 

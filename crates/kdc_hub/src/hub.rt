@@ -133,16 +133,6 @@ impl<R: Rng> Hub<R> {
         // The end of a connection allocates nothing.
         ensures closed { (conn : ℕ) → event ≡ Closed conn → IsOk result }
     {
-        self.take(alloc, at, event)
-    }
-
-    /// Does the step, without the clause on the log. It is apart from `step` for the proof alone.
-    fn take(&mut self, alloc: Global, at: Moment, event: Event) -> Result<Vec<Action>, HubFault>
-        ensures step { Steps (standing R.stream self.old) at event result (standing R.stream self.new) }
-        ensures draws { IfErr result AreDraws }
-        ensures accounts { AccountsHold (standing R.stream self.old) at event result }
-        ensures closed { (conn : ℕ) → event ≡ Closed conn → IsOk result }
-    {
         match event {
             Event::Datagram { peer, request } => {
                 self.answer_datagram(alloc, at, peer, request.as_slice())

@@ -7,8 +7,7 @@ mod sealing;
 mod serving;
 
 use crate::sealing::seal;
-use crate::serving::serve_realm;
-use clap::ArgMatches;
+use crate::serving::{report, serve_realm};
 use clap::error::ErrorKind;
 use kdc_script::{FAILED, run_script};
 use kdcd_run::{ArgsFault, path_beside, read_args, serve_options};
@@ -33,32 +32,27 @@ fn main(rt: HostRuntime) -> ExitCode {
 /// Runs the program and returns its status. Fails if a write fails or memory runs out.
 fn run(rt: &HostRuntime) -> io::Result<u8> {
     let alloc = rt.alloc();
-    let args: Vec<String> = match env::args(rt) {
-        Ok(args) => args.collect(alloc)?,
-        Err(error) if error.kind() == io::ErrorKind::InvalidData => {
-            println!(rt; "error: a word is not UTF-8")?;
-            return Ok(USAGE);
-        }
-        Err(error) => return Err(error),
+    let Some(args) = words(rt)? else {
+        return Ok(USAGE);
     };
     let beside = path_beside(alloc, &args)?;
-    match read_args(alloc, &args, &beside) {
-        Ok(matches) => run_subcommand(rt, &matches),
+    let matches = match read_args(alloc, &args, &beside) {
+        Ok(matches) => matches,
         Err(error) if error.kind() == ErrorKind::OutOfMemory => {
-            Err(io::Error::from(io::ErrorKind::OutOfMemory))
+            return Err(io::Error::from(io::ErrorKind::OutOfMemory));
         }
         Err(error) => {
             print!(rt; "{error}")?;
-            Ok(if error.exit_code() == 0 { 0 } else { USAGE })
+            return Ok(if error.exit_code() == 0 { 0 } else { USAGE });
         }
-    }
-}
-
-fn run_subcommand(rt: &HostRuntime, matches: &ArgMatches<'_>) -> io::Result<u8> {
+    };
     match matches.subcommand() {
-        Some(("script", _)) => Ok(run_script(rt.alloc(), rt.stdin(), &mut rt.stdout())),
-        Some(("serve", args)) => match serve_options(rt.alloc(), args) {
-            Ok(options) => serve_realm(rt, &options),
+        Some(("script", _)) => Ok(run_script(alloc, rt.stdin(), &mut rt.stdout())),
+        Some(("serve", args)) => match serve_options(alloc, args) {
+            Ok(options) => match serve_realm(rt, &options) {
+                Ok(status) => status,
+                Err(fault) => report(rt, &fault),
+            },
             Err(ArgsFault::BadUsage(fault)) => {
                 println!(rt; "error: {fault}")?;
                 Ok(USAGE)
@@ -67,5 +61,17 @@ fn run_subcommand(rt: &HostRuntime, matches: &ArgMatches<'_>) -> io::Result<u8> 
         },
         Some(("seal", args)) => seal(rt, args.get_str("journal")),
         _ => Ok(USAGE),
+    }
+}
+
+/// Returns the words of the command line. If one is not UTF-8, it says so and returns nothing.
+fn words(rt: &HostRuntime) -> io::Result<Option<Vec<String>>> {
+    match env::args(rt) {
+        Ok(args) => Ok(Some(args.collect(rt.alloc())?)),
+        Err(error) if error.kind() == io::ErrorKind::InvalidData => {
+            println!(rt; "error: a word is not UTF-8")?;
+            Ok(None)
+        }
+        Err(error) => Err(error),
     }
 }

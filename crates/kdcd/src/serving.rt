@@ -19,7 +19,7 @@ const REFUSED: u8 = 1;
 const FAILED: u8 = 3;
 
 /// Why a server did not start.
-type StartFault<'a> = kdcd_run::StartFault<'a, BindFault>;
+pub type StartFault<'a> = kdcd_run::StartFault<'a, BindFault>;
 
 /// A server that has served all its rounds.
 type SystemRan<'a> = Ran<
@@ -32,16 +32,8 @@ type SystemRan<'a> = Ran<
     <SystemHost<'a> as Host>::Metrics,
 >;
 
-/// Serves as the options say, and gives the status. An error is a failed write.
-pub fn serve_realm(rt: &HostRuntime, options: &ServeOptions<'_>) -> io::Result<u8> {
-    match run(rt, options) {
-        Ok(status) => status,
-        Err(fault) => report(rt, &fault),
-    }
-}
-
-/// Runs a server that writes its lines to standard error.
-fn run<'a>(
+/// Serves as the options say, with lines on standard error, and gives the status. The inner error is a failed write.
+pub fn serve_realm<'a>(
     rt: &'a HostRuntime,
     options: &ServeOptions<'a>,
 ) -> Result<io::Result<u8>, StartFault<'a>> {
@@ -77,8 +69,8 @@ fn say_served(rt: &HostRuntime, errors: &mut Errors, ran: &SystemRan<'_>) -> io:
     Ok(DONE)
 }
 
-/// Says why a server did not start.
-fn report(rt: &HostRuntime, fault: &StartFault<'_>) -> io::Result<u8> {
+/// Says why a server did not start, and gives the status.
+pub fn report(rt: &HostRuntime, fault: &StartFault<'_>) -> io::Result<u8> {
     let _ = eprintln!(rt; "kdcd: {fault}");
     match fault.refusal() {
         Some(name) => {

@@ -1,15 +1,15 @@
-use Rattle.std.proofs.Common.{◌≡◌, Option, IfSome, refl, ap, arith}
+use Rattle.std.proofs.Common.{◌≡◌, IfSome, refl, ap, arith}
 use Rattle.kdc_state.specs.State.{cache_of}
 use Rattle.kdc_state.specs.declared.state.State.{State}
 use Rattle.kdc_core.proofs.Promised.{after_either, if_answered, of_reply, on_error, on_reply}
 use Rattle.kdc_core.specs.AgreementLaws.{after_agrees, names_agree, view_agrees}
-use Rattle.kdc_core.specs.Answer.{IsReply, OneTicketTwoKeys, after_incoming, answer, answer_to}
-use Rattle.kdc_core.specs.Answered.{IsAnswered, asked}
+use Rattle.kdc_core.specs.Answer.{IsReply, OneTicketTwoKeys, answer, answer_to}
+use Rattle.kdc_core.specs.Answered.{asked}
 use Rattle.kdc_core.specs.Issued.{IsReplyOf, issued}
 use Rattle.kdc_core.specs.Request.{request_of}
 use Rattle.kdc_core.specs.RequestLaws.{request_is}
 use Rattle.kdc_core.specs.RulingLaws.{is_ruled}
-use Rattle.kdc_core.specs.Shown.{IsSeenAlike, ShowsTicket}
+use Rattle.kdc_core.specs.Shown.{IsSeenAlike}
 use Rattle.kdc_core.specs.StandingLaws.{issued_standing}
 use Rattle.kdc_core.specs.View.{view}
 use Rattle.kdc_core.proofs.kdc.Kdc.handle.Goals as goal
