@@ -9,3 +9,4 @@ mod Recent
 mod Starts
 mod Heads
 mod Seals
+mod Life

@@ -8,3 +8,4 @@ pub mod Appending
 pub mod Sealing
 pub mod MemoryWorld
 pub mod Head
+pub mod Life

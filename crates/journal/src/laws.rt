@@ -1,6 +1,7 @@
 //! Laws of a journal's files.
 ghost use Rattle.journal.specs.Head.{FrontsMayBe};
 ghost use Rattle.journal.specs.Holding.{HoldsOn};
+ghost use Rattle.journal.specs.Life.{LivesHold};
 ghost use Rattle.journal.specs.Sealing.{SealsHold};
 
 /// Whatever the files of a journal go through, no start resumes with them without what was kept: after each call of a
@@ -18,4 +19,10 @@ pub fn every_seal()
 /// A journal that was cut anywhere is not taken for a file of another kind.
 pub fn every_front()
     ensures { FrontsMayBe }
+{}
+
+/// The life of a journal: whichever processes have its files one after the other, and however they end, no start resumes
+/// with these files without what each of them said to have kept.
+pub fn every_journal_life()
+    ensures { LivesHold }
 {}

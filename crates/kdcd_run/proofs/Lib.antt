@@ -3,4 +3,5 @@ pub mod Serving
 mod Handings
 mod Decided
 mod Restarts
+mod Journaled
 mod Counted

@@ -11,6 +11,7 @@ pub mod Served
 pub mod Handing
 pub mod Resuming
 pub mod Processes
+pub mod Journaled
 pub mod Server
 pub mod LogLaws
 pub mod InMemory

@@ -1,8 +1,9 @@
 //! Laws over the life of a server with a journal, and over its processes.
 ghost use Rattle.kdcd_run.specs.Handing.{HandsAllInLife, HandsAllInRounds};
+ghost use Rattle.kdcd_run.specs.Journaled.{OneTicketThroughJournals};
 ghost use Rattle.kdcd_run.specs.Processes.{OneTicketThroughRestarts};
 
-use journal::every_journal;
+use journal::{every_journal, every_journal_life};
 use kdc_core::any_run;
 use kdc_hub::one_run;
 
@@ -22,4 +23,13 @@ pub fn every_restart()
     one_run();
     every_life();
     every_journal();
+}
+
+/// The same, where nothing is asked of what the files of the journal hold: each process does with them what a `JournalFile`
+/// promises, and the next start finds what that left, or refuses to resume.
+pub fn every_journaled_restart()
+    ensures one_ticket { OneTicketThroughJournals }
+{
+    every_journal_life();
+    every_restart();
 }

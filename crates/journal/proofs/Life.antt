@@ -1,0 +1,547 @@
+-- No start resumes without what the processes of a life kept.
+use Rattle.std.proofs.Common.{◌≡◌, ◌⊎◌, inl, inr, ℤ, pos, ◌-ℤ◌, ◌≤ℤ◌, ◌<ℤ◌, Bool, true, false, cond, ◌||◌, if◌then◌else◌, List, [], ◌∷◌, ◌++◌, Option, Some, None, Result, Ok, Err, refl, sym, ap, subst, ◌∙◌, append_assoc, arith, ℕ, zero, suc, ◌+ℤ◌, ◌+◌, is_eq, length, take, ◌<◌}
+use Rattle.std.specs.Prelude.{All, Contains, IfSome, get_or, int_lt, is_ok}
+use Rattle.std.specs.Int.{int_max}
+use Rattle.std.specs.Cmp.{Equal-is, tied_itself}
+use Rattle.std.specs.FinMap as finmap
+use Rattle.std.specs.FinMap.{get-empty, get-insert}
+use Rattle.std.specs.Option.{is_some}
+use Rattle.std.specs.Ordering.{eq_by_cmp}
+use Rattle.std.proofs.lemmas.Bool.{false≢true}
+use Rattle.std.proofs.lemmas.Int.{ints, clamps}
+use Rattle.std.proofs.lemmas.List.{append-nil, length-take-le, take_more}
+use Rattle.std.proofs.lemmas.List.Elements.{All-head, All-tail}
+use Rattle.krb_fields.specs.Name.{Components, name_cmp, name_total}
+use Rattle.krb_fields.specs.Skew.{skew}
+use Rattle.krb_fields.specs.declared.moment.Moment.{Moment}
+use Rattle.replay.proofs.Holding.{extended_holds, last_spent}
+use Rattle.replay.proofs.Stamps.{stamp_exact, stamp_total}
+use Rattle.replay.specs.Kept.{nothing_kept}
+use Rattle.replay.specs.Resumed.{Holds, is_spent, resumed_cache, stamp_seen, with_all_seen, with_seen}
+use Rattle.replay.specs.Stamp.{Stamp, stamp_cmp}
+use Rattle.replay.specs.declared.keep.Kept.{Kept}
+use Rattle.replay.specs.declared.seen.Resumption.{Resumption}
+use Rattle.replay.specs.declared.seen.Seen.{Seen}
+use Rattle.sha2.proofs.Facts256.{length-sha256}
+use Rattle.sha2.specs.Sha256.{sha256}
+use Rattle.krb_elements.specs.Codec.{written}
+use Rattle.journal.specs.Appending.{kept_by}
+use Rattle.journal.specs.Decision.{Place, doubt_of, floor_behind, goes_on_behind, is_early, resumption_of, start_by, start_of}
+use Rattle.journal.specs.Forms.{Entry, entry, header}
+use Rattle.journal.specs.Texts.{check_of, header_check, last_check}
+use Rattle.journal.specs.Holding.{IsAbove, IsFound, IsKept, IsSafe, IsSpelled, IsStart, known_by}
+use Rattle.replay.specs.Run.{with_any}
+use Rattle.journal.specs.declared.process.Asked.{Asked}
+use Rattle.journal.specs.Life.{AllIsKept, AreCalls, Call, Follows, IsBegun, IsCall, IsKeptIn, IsLater, IsProcess, IsSafeAfter, IsStage, JournalState, KeptIsRefused, LeavesNoSeal, LivesHold, NextBootRefuses, Past, Process, ProcessIsSafe, Serves, Stage, StagesFollow, StartsAreLater, StaysSafe}
+use Rattle.journal.specs.Life.{all_after, kept_by_process, kept_in, past_after, past_after_all, past_of, result_of, seen_asked, seen_in}
+use Rattle.journal.specs.Life.Call.{Keep, Mend}
+use Rattle.journal.specs.Life.Stage.{Ran, Sealed, Lost}
+use Rattle.journal.specs.Sealing.{HasSealed}
+use Rattle.journal.specs.World.{World}
+use Rattle.journal.specs.declared.decision.Doubt.{Doubt}
+use Rattle.journal.specs.declared.decision.Doubt.TheVariants.{Absent, Damaged}
+use Rattle.journal.specs.declared.decision.Found.{Found}
+use Rattle.journal.specs.declared.decision.Found.TheVariants.{Nothing, Broken, Whole}
+use Rattle.journal.specs.declared.reading.Journal.{Journal}
+use Rattle.journal.specs.declared.sealing.NotSealed.{NotSealed}
+use Rattle.journal.specs.declared.sealing.NotSealed.TheVariants.{Doubted, Failed}
+use Rattle.journal.specs.declared.decision.Start.{Start}
+use Rattle.journal.specs.declared.decision.Start.TheVariants.{Resumes, Refuses}
+use Rattle.journal.specs.declared.journal_file.NotKept.{NotKept}
+use Rattle.journal.proofs.Seals.{seals_hold, sealed_safe, stays_broken}
+use Rattle.journal.proofs.Worlds.{kept_is_safe}
+
+-- ---- numbers and tests
+
+same_le : (a : ℤ) → a ≤ℤ a
+same_le a = grind (arith, ints)
+
+max_first : (a b : ℤ) → a ≤ℤ int_max a b
+max_first a b = grind (arith, ints, clamps)
+
+under_max : (a b t : ℤ) → int_lt t (int_max a b) ≡ true → (int_lt t a ≡ true) ⊎ (int_lt t b ≡ true)
+under_max a b t h = by_test (int_lt t a) refl
+  where
+    by_test : (c : Bool) → int_lt t a ≡ c → (int_lt t a ≡ true) ⊎ (int_lt t b ≡ true)
+    by_test true e = inl e
+    by_test false e = inr (grind (arith, ints, clamps))
+
+above_max : (a b t : ℤ) → int_lt t b ≡ true → int_lt t (int_max a b) ≡ true
+above_max a b t h = grind (arith, ints, clamps)
+
+lt_test : (a b : ℤ) → a <ℤ b → int_lt a b ≡ true
+lt_test a b x = grind (arith, ints)
+
+test_le : (a b c : ℤ) → int_lt a b ≡ true → b ≤ℤ c → int_lt a c ≡ true
+test_le a b c x y = grind (arith, ints)
+
+either_of : (a b : Bool) → (a || b) ≡ true → (a ≡ true) ⊎ (b ≡ true)
+either_of true b e = inl refl
+either_of false b e = inr e
+
+by_first : (a b : Bool) → a ≡ true → (a || b) ≡ true
+by_first true b e = refl
+by_first false b e = absurd cc
+
+by_second : (a b : Bool) → b ≡ true → (a || b) ≡ true
+by_second true b e = refl
+by_second false b e = e
+
+-- ---- one resumption refuses all that another one refuses
+
+abbrev IsWithin : Resumption → Resumption → Type 0
+IsWithin r k = (c : Components) → Holds {T = Kept} (resumed_cache r c) (resumed_cache k c)
+
+same_within : (r : Resumption) → IsWithin r r
+same_within r c s is = is
+
+within_both : (r k l : Resumption) → IsWithin r k → IsWithin k l → IsWithin r l
+within_both r k l a b c s is = b c s (a c s is)
+
+abbrev raised : Resumption → ℤ → Resumption
+raised r below = record { floor = int_max r.floor below; seen = r.seen }
+
+raised_within : (r : Resumption) (below : ℤ) → IsWithin r (raised r below)
+raised_within r below c s is = by_part (either_of (int_lt s.0 r.floor) (is_some (finmap.get (resumed_cache r c).pairs s)) is)
+  where
+    by_part : (int_lt s.0 r.floor ≡ true) ⊎ (is_some (finmap.get (resumed_cache r c).pairs s) ≡ true) → is_spent (resumed_cache (raised r below) c) s ≡ true
+    by_part (inl low) =
+        by_first (int_lt s.0 (int_max r.floor below)) (is_some (finmap.get (resumed_cache r c).pairs s))
+        (test_le s.0 r.floor (int_max r.floor below) low (max_first r.floor below))
+    by_part (inr there) = by_second (int_lt s.0 (int_max r.floor below)) (is_some (finmap.get (resumed_cache r c).pairs s)) there
+
+raised_both : (r k : Resumption) (below : ℤ) → IsWithin r k → IsWithin (raised r below) (raised k below)
+raised_both r k below within c s is =
+    by_part (either_of (int_lt s.0 (int_max r.floor below)) (is_some (finmap.get (resumed_cache r c).pairs s)) is)
+  where
+    own : is_spent (resumed_cache r c) s ≡ true → is_spent (resumed_cache (raised k below) c) s ≡ true
+    own is = raised_within k below c s (within c s is)
+
+    by_floor : (int_lt s.0 r.floor ≡ true) ⊎ (int_lt s.0 below ≡ true) → is_spent (resumed_cache (raised k below) c) s ≡ true
+    by_floor (inl low) = own (by_first (int_lt s.0 r.floor) (is_some (finmap.get (resumed_cache r c).pairs s)) low)
+    by_floor (inr low) =
+        by_first (int_lt s.0 (int_max k.floor below)) (is_some (finmap.get (resumed_cache k c).pairs s)) (above_max k.floor below s.0 low)
+
+    by_part : (int_lt s.0 (int_max r.floor below) ≡ true) ⊎ (is_some (finmap.get (resumed_cache r c).pairs s) ≡ true)
+        → is_spent (resumed_cache (raised k below) c) s ≡ true
+    by_part (inl low) = by_floor (under_max r.floor below s.0 low)
+    by_part (inr there) = own (by_second (int_lt s.0 r.floor) (is_some (finmap.get (resumed_cache r c).pairs s)) there)
+
+-- files that are safe for one are safe for the other
+within_safe : (low : ℤ) (r k : Resumption) → IsWithin r k → (w : World) → IsSafe low k w → IsSafe low r w
+within_safe low r k within w safe = record {
+  knows = λ place older newer found check o n starts late below under c s is.
+      safe.knows place older newer found check o n starts late below under c s (raised_both r k below within c s is);
+}
+
+-- ---- a floor above all
+
+module _ (c : Components) (s : Stamp) (floor : ℤ) where
+  abbrev Pairs : Type 0
+  Pairs = finmap.FinMap stamp_cmp Kept
+
+  some_of : (b : Bool) (o : Option Kept) → is_some (cond b (Some nothing_kept) o) ≡ true → (b ≡ true) ⊎ (is_some o ≡ true)
+  some_of true o e = inl refl
+  some_of false o e = inr e
+
+  one_below : (pairs : Pairs) (x : Seen) → x.ctime <ℤ floor → (own : Bool)
+      → is_some (finmap.get (if own then finmap.insert pairs (stamp_seen x) nothing_kept else pairs) s) ≡ true
+      → (int_lt s.0 floor ≡ true) ⊎ (is_some (finmap.get pairs s) ≡ true)
+  one_below pairs x lt false there = inr there
+  one_below pairs x lt true there =
+      by_key (some_of (eq_by_cmp stamp_cmp s (stamp_seen x)) (finmap.get pairs s)
+      (sym (ap is_some (get-insert stamp_total pairs (stamp_seen x) nothing_kept s)) ∙ there))
+    where
+      by_key : (eq_by_cmp stamp_cmp s (stamp_seen x) ≡ true) ⊎ (is_some (finmap.get pairs s) ≡ true)
+          → (int_lt s.0 floor ≡ true) ⊎ (is_some (finmap.get pairs s) ≡ true)
+      by_key (inl same) =
+          inl (subst (λ (t : Stamp). int_lt t.0 floor ≡ true) (sym (stamp_exact s (stamp_seen x) ((Equal-is (stamp_cmp s (stamp_seen x))).0 same)))
+          (lt_test x.ctime floor lt))
+      by_key (inr before) = inr before
+
+  all_below : (pairs : Pairs) (xs : List Seen) → All (λ (x : Seen). x.ctime <ℤ floor) xs → is_some (finmap.get (with_all_seen c pairs xs) s) ≡ true
+      → (int_lt s.0 floor ≡ true) ⊎ (is_some (finmap.get pairs s) ≡ true)
+  all_below pairs [] all there = inr there
+  all_below pairs (x ∷ xs) all there =
+      by_rest (all_below (with_seen c pairs x) xs (All-tail (λ (x : Seen). x.ctime <ℤ floor) x xs all) there)
+    where
+      by_rest : (int_lt s.0 floor ≡ true) ⊎ (is_some (finmap.get (with_seen c pairs x) s) ≡ true)
+          → (int_lt s.0 floor ≡ true) ⊎ (is_some (finmap.get pairs s) ≡ true)
+      by_rest (inl low) = inl low
+      by_rest (inr there) =
+          one_below pairs x (All-head (λ (x : Seen). x.ctime <ℤ floor) x xs all) (eq_by_cmp name_cmp c x.client.components) there
+
+abbrev none_yet : finmap.FinMap stamp_cmp Kept
+none_yet = finmap.empty
+
+none_there : (s : Stamp) → is_some (finmap.get none_yet s) ≡ true → ⊥
+none_there s there = absurd (false≢true (sym (ap is_some (get-empty stamp_cmp s)) ∙ there))
+
+abbrev only_floor : ℤ → Resumption
+only_floor floor = record { floor = floor; seen = [] }
+
+above_within : (floor : ℤ) (r : Resumption) → IsAbove floor r → IsWithin r (only_floor floor)
+above_within floor r a c s is = by_part (either_of (int_lt s.0 r.floor) (is_some (finmap.get (resumed_cache r c).pairs s)) is)
+  where
+    low_spent : int_lt s.0 floor ≡ true → is_spent (resumed_cache (only_floor floor) c) s ≡ true
+    low_spent low = by_first (int_lt s.0 floor) (is_some (finmap.get (resumed_cache (only_floor floor) c).pairs s)) low
+
+    by_times : (int_lt s.0 floor ≡ true) ⊎ (is_some (finmap.get none_yet s) ≡ true) → is_spent (resumed_cache (only_floor floor) c) s ≡ true
+    by_times (inl low) = low_spent low
+    by_times (inr none) = absurd (none_there s none)
+
+    by_part : (int_lt s.0 r.floor ≡ true) ⊎ (is_some (finmap.get (resumed_cache r c).pairs s) ≡ true) → is_spent (resumed_cache (only_floor floor) c) s ≡ true
+    by_part (inl low) = low_spent (test_le s.0 r.floor floor low a.floor_above)
+    by_part (inr there) = by_times (all_below c s floor none_yet r.seen a.times_above there)
+
+-- ---- the calls of one process
+
+calls_kept : (low : ℤ) (kept all : Resumption) (calls : List Call) (old new : JournalState) → AreCalls calls old new → IsKeptIn low kept all old
+    → (more : Resumption) × IsKeptIn low (kept_in kept all calls) more new
+unfolding kept_in
+calls_kept low kept all [] old new same is = (all, subst (IsKeptIn low kept all) (sym same) is)
+calls_kept low kept all (call ∷ calls) old new (next, step, rest) is =
+    calls_kept low (kept_by (result_of call) kept (all_after all call)) (all_after all call) calls next new rest (step.kept low kept all is)
+
+one_more : (all : Resumption) (call : Call) → IsWithin all (all_after all call)
+one_more all (Keep seen result) c = extended_holds c all all.floor (seen ∷ []) (same_le all.floor)
+one_more all (Mend result) c = same_within all c
+
+by_result : (result : Result Unit NotKept) (kept all : Resumption) → IsWithin kept all → IsWithin kept (kept_by result kept all) × IsWithin (kept_by result kept all) all
+by_result (Ok done) kept all within = (within, same_within all)
+by_result (Err fault) kept all within = (same_within kept, within)
+
+calls_within : (kept all : Resumption) (calls : List Call) → IsWithin kept all → IsWithin kept (kept_in kept all calls)
+unfolding kept_in
+calls_within kept all [] within = same_within kept
+calls_within kept all (call ∷ calls) within =
+    let more = all_after all call in
+    let parts = by_result (result_of call) kept more (within_both kept all more within (one_more all call)) in
+    let next = kept_by (result_of call) kept more in
+    within_both kept next (kept_in next more calls) parts.0 (calls_within next more calls parts.1)
+
+state_safe : (low : ℤ) (kept all : Resumption) (s : JournalState) → IsKeptIn low kept all s → IfSome s.files (IsSafe low kept)
+state_safe low kept all s is = by_files s.files is
+  where
+    by_files : (files : Option World) → IfSome files (λ w. IsKept low kept all w s.tail s.floor) → IfSome files (IsSafe low kept)
+    by_files None is = tt
+    by_files (Some w) is = kept_is_safe low kept all w s.tail s.floor is
+
+calls_unsealed : (calls : List Call) (old new : JournalState) → AreCalls calls old new → IfSome old.files (λ w. w.seal ≡ [])
+    → IfSome new.files (λ w. w.seal ≡ [])
+calls_unsealed [] old new same none = subst (λ (s : JournalState). IfSome s.files (λ w. w.seal ≡ [])) (sym same) none
+calls_unsealed (call ∷ calls) old new (next, step, rest) none =
+    calls_unsealed calls next new rest (stays_broken old.files next.files step.seal none)
+
+-- ---- what a process begins with refuses all that was kept before it
+
+begins_within : (past : Past) (r : Resumption) (p : Process) (w : World) → IsSafeAfter r past w
+    → IsStart p.at p.floor p.newer p.start w → IsLater r past p.floor p.start → IsWithin r (known_by p.floor p.start)
+begins_within past r p w safe starts later = by_start p.start refl later
+  where
+    by_start : (made : Start) → p.start ≡ made → IsLater r past p.floor made → IsWithin r (known_by p.floor made)
+    by_start (Refuses doubt) is above = above_within p.floor r above
+    by_start (Resumes found check) is late =
+        within_both r (raised r found.floor) found (raised_within r found.floor)
+        ((safe late.0).knows starts.place starts.older p.newer found check starts.older_found starts.newer_found (sym starts.decided ∙ is) late.1 found.floor
+        (same_le found.floor))
+
+module _ (p : Process) (old new : World) (is : IsProcess p old new) where
+  abbrev known : Resumption
+  known = known_by p.floor p.start
+
+  abbrev low : ℤ
+  low = (past_of p).low
+
+  -- its journal began
+  module _ (begun : p.has_begun ≡ true) where
+    made : AreCalls p.calls is.begun is.last
+    made = subst (λ b. Serves b p.calls is.begun is.last) begun is.serves
+
+    process_safe : IsSafe low (kept_by_process p) new
+    process_safe =
+        let begins = is.begins.kept begun p.floor is.floor (subst (λ w. IfSome w (IsStart p.at p.floor p.newer p.start)) (sym is.found) is.start) in
+        let (all, kept) = calls_kept low known known p.calls is.begun is.last made begins in
+        subst (λ w. IfSome w (IsSafe low (kept_by_process p))) is.left (state_safe low (kept_by_process p) all is.last kept)
+
+    before_safe : (past : Past) (r : Resumption) → IsSafeAfter r past old → IsLater r past p.floor p.start → IsSafe low r new
+    before_safe past r safe later =
+        within_safe low r (kept_by_process p)
+        (within_both r known (kept_by_process p) (begins_within past r p old safe is.start later) (calls_within known known p.calls (same_within known)))
+        new process_safe
+
+    no_seal : new.seal ≡ []
+    no_seal = subst (λ w. IfSome w (λ w. w.seal ≡ [])) is.left (calls_unsealed p.calls is.begun is.last made (is.begins.broken begun))
+
+  -- or it failed to begin
+  failed_safe : p.has_begun ≡ false → (before : ℤ) (r : Resumption) → IsSafe before r old → IsSafe before r new
+  failed_safe failed before r safe =
+      let same : is.last ≡ is.begun = subst (λ b. Serves b p.calls is.begun is.last) failed is.serves in
+      subst (λ w. IfSome w (IsSafe before r)) is.left
+      (subst (λ (s : JournalState). IfSome s.files (IsSafe before r)) (sym same)
+      (is.begins.safe before r (subst (λ w. IfSome w (IsSafe before r)) (sym is.found) safe) failed))
+
+  safe_after : (r : Resumption) (past : Past) → IsSafeAfter r past old → Follows r past (Ran p) → (b : Bool) → p.has_begun ≡ b
+      → IsSafeAfter r (if b then past_of p else past) new
+  safe_after r past safe later true begun here = before_safe begun past r safe (later begun)
+  safe_after r past safe later false failed here = failed_safe failed past.low r (safe here)
+
+-- ---- a life
+
+process_is_safe : ProcessIsSafe
+process_is_safe p old new begun is = process_safe p old new is begun
+
+stage_safe : (r : Resumption) (past : Past) (stage : Stage) (old new : World) → IsSafeAfter r past old → IsStage stage old new → Follows r past stage
+    → IsSafeAfter r (past_after past stage) new
+stage_safe r past (Ran p) old new safe is follows here = safe_after p old new is r past safe follows p.has_begun refl here
+stage_safe r past Sealed old new safe (seal, same) follows here = subst (IsSafe past.low r) (sym same) (sealed_safe past.low r old seal (safe here))
+stage_safe r past Lost old new safe is follows here = absurd (false≢true (sym here))
+
+stays_safe : StaysSafe
+unfolding past_after_all StagesFollow
+stays_safe r past [] old new safe same follows = subst (IsSafeAfter r past) (sym same) safe
+stays_safe r past (stage ∷ life) old new safe (next, is, rest) follows =
+    stays_safe r (past_after past stage) life next new (stage_safe r past stage old next safe is follows.0) rest follows.1
+
+leaves_no_seal : LeavesNoSeal
+leaves_no_seal p old new begun is = no_seal p old new is begun
+
+-- ---- each authenticator that was kept is refused
+
+cut_at : (xs : List Seen) (x : Seen) → Contains xs x → (before after : List Seen) × (xs ≡ before ++ x ∷ after)
+cut_at [] x (k, lt, is) = absurd (omega (arith, lt))
+cut_at (y ∷ ys) x (zero, lt, is) = ([], ys, ap (λ z. z ∷ ys) is)
+cut_at (y ∷ ys) x (suc k, lt, is) =
+    let (before, after, rest) = cut_at ys x (k, omega (arith, lt), is) in
+    (y ∷ before, after, ap (λ l. y ∷ l) rest)
+
+own_name : (seen : Seen) → eq_by_cmp name_cmp seen.client.components seen.client.components ≡ true
+own_name seen = ap is_eq (tied_itself name_total seen.client.components)
+
+spent_itself : (r : Resumption) (seen : Seen) → Contains r.seen seen → is_spent (resumed_cache r seen.client.components) (stamp_seen seen) ≡ true
+spent_itself r seen has =
+    let c = seen.client.components in
+    let (before, after, is) = cut_at r.seen seen has in
+    let first : Resumption = record { floor = r.floor; seen = before } in
+    let upto : Resumption = record { floor = r.floor; seen = before ++ seen ∷ [] } in
+    subst (λ l. is_spent (resumed_cache (record { floor = r.floor; seen = l }) c) (stamp_seen seen) ≡ true) (append_assoc before (seen ∷ []) after ∙ sym is)
+    (extended_holds c upto r.floor after (same_le r.floor) (stamp_seen seen) (last_spent c first r.floor seen (own_name seen)))
+
+kept_is_refused : KeptIsRefused
+kept_is_refused p life before after new begun is lives follows place older newer found check o n starts late seen has =
+    let kept = kept_by_process p in
+    let safe = stays_safe kept (past_of p) life after new (λ here. process_is_safe p before after begun is) lives follows late.0 in
+    safe.knows place older newer found check o n starts late.1 found.floor (same_le found.floor) seen.client.components (stamp_seen seen)
+    (raised_within kept found.floor seen.client.components (stamp_seen seen) (spent_itself kept seen has))
+
+-- ---- what is kept if the last call succeeded
+
+-- with these authenticators behind its own
+abbrev with_all : Resumption → List Seen → Resumption
+with_all r seen = record { floor = r.floor; seen = r.seen ++ seen }
+
+one_more_seen : (all : Resumption) (call : Call) (others : List Seen) → with_all (all_after all call) others ≡ with_all all (seen_in (call ∷ []) ++ others)
+one_more_seen all (Keep seen result) others = ap (λ l. record { floor = all.floor; seen = l }) (append_assoc all.seen (seen ∷ []) others)
+one_more_seen all (Mend result) others = refl
+
+first_seen : (call : Call) (calls : List Call) → seen_in (call ∷ calls) ≡ seen_in (call ∷ []) ++ seen_in calls
+first_seen (Keep seen result) calls = refl
+first_seen (Mend result) calls = refl
+
+kept_last : (result : Result Unit NotKept) (kept all : Resumption) → is_ok result ≡ true → kept_by result kept all ≡ all
+kept_last (Ok done) kept all ok = refl
+kept_last (Err fault) kept all ok = absurd cc
+
+all_in : (kept all : Resumption) (calls : List Call) (last : Call) → is_ok (result_of last) ≡ true
+    → kept_in kept all (calls ++ last ∷ []) ≡ with_all all (seen_in (calls ++ last ∷ []))
+unfolding kept_in
+all_in kept all [] last ok =
+    kept_last (result_of last) kept (all_after all last) ok
+    ∙ ap (λ l. record { floor = (all_after all last).floor; seen = l }) (sym (append-nil (all_after all last).seen))
+    ∙ one_more_seen all last []
+    ∙ ap (with_all all) (sym (first_seen last []))
+all_in kept all (call ∷ calls) last ok =
+    all_in (kept_by (result_of call) kept (all_after all call)) (all_after all call) calls last ok
+    ∙ one_more_seen all call (seen_in (calls ++ last ∷ []))
+    ∙ ap (with_all all) (sym (first_seen call (calls ++ last ∷ [])))
+
+all_is_kept : AllIsKept
+all_is_kept r calls last ok = all_in r r calls last ok
+
+-- ---- starts
+
+abbrev resumption_or : Resumption → Start → Resumption
+resumption_or otherwise (Resumes found check) = found
+resumption_or otherwise (Refuses doubt) = otherwise
+
+not_below : (at floor high : ℤ) (early : Bool)
+    → (at -ℤ pos skew) ≤ℤ (if early then int_max (at +ℤ pos (skew + 1)) high else int_max floor (at -ℤ pos skew))
+not_below at floor high true = grind (arith, ints, clamps)
+not_below at floor high false = grind (arith, ints, clamps)
+
+starts_are_later : StartsAreLater
+starts_are_later place older Nothing found check is = absurd cc
+starts_are_later place older Broken found check is = absurd cc
+starts_are_later place older (Whole j) found check is = by_doubt (doubt_of place older j) is
+  where
+    by_doubt : (doubt : Option Doubt) → start_by place older j doubt ≡ Resumes found check → (place.at.sec -ℤ pos skew) ≤ℤ found.floor
+    by_doubt (Some doubt) is = absurd cc
+    by_doubt None is =
+        subst (λ (r : Resumption). (place.at.sec -ℤ pos skew) ≤ℤ r.floor) (ap (resumption_or found) is)
+        (not_below place.at.sec (floor_behind j older) j.high (is_early place j older))
+
+check_len : (check : List ℕ) (e : List ℕ) → length (check_of check e) ≡ 16
+check_len check e = length-take-le 16 (sha256 (check ++ e)) (omega (arith, length-sha256 (check ++ e)))
+
+last_len : (check : List ℕ) (es : List Entry) → length check ≡ 16 → length (last_check check es) ≡ 16
+unfolding last_check
+last_len check [] len = len
+last_len check (e ∷ es) len = last_len (check_of check (written entry e)) es (check_len check (written entry e))
+
+spelled_len : (file : Option (List ℕ)) (j : Journal) → IsSpelled file (Whole j) → length j.check ≡ 16
+spelled_len None j s = absurd s
+spelled_len (Some text) j s = ap length s.check_is ∙ last_len (header_check j.header) j.entries (check_len j.header.link (written header j.header))
+
+abbrev check_or : List ℕ → Found → List ℕ
+check_or otherwise Nothing = otherwise
+check_or otherwise Broken = otherwise
+check_or otherwise (Whole j) = j.check
+
+found_len : (file : Option (List ℕ)) (j : Journal) → IsFound file (Whole j) → length j.check ≡ 16
+found_len file j (Nothing, s, is) = absurd cc
+found_len file j (Broken, s, is) = absurd cc
+found_len file j (Whole all, s, is) = ap (λ f. length (check_or [] f)) is ∙ spelled_len file all s
+
+next_boot_refuses : NextBootRefuses
+next_boot_refuses w place older Nothing o n none other = (Absent, refl)
+next_boot_refuses w place older Broken o n none other = (Damaged, refl)
+next_boot_refuses w place older (Whole j) o n none other = by_doubt (doubt_of place older j) refl
+  where
+    by_boot : (k : Journal) → Whole j ≡ Whole k → (k.header.boot ≡ place.boot.now) ⊎ (place.seal.now ≡ k.check) → ⊥
+    by_boot k same (inl boot) = other k same boot
+    by_boot k same (inr seal) =
+        let len = found_len w.newer k (subst (IsFound w.newer) same n) in
+        let empty : length k.check ≡ 0 = ap length (sym seal ∙ none) in
+        absurd (omega (arith, len, empty))
+
+    by_doubt : (doubt : Option Doubt) → doubt_of place older j ≡ doubt → (d : Doubt) × (start_by place older j (doubt_of place older j) ≡ Refuses d)
+    by_doubt (Some doubt) is = (doubt, ap (start_by place older j) is)
+    by_doubt None is =
+        let (k, same, either) = seals_hold.needed place older (Whole j) (resumption_of place older j) (goes_on_behind place older j) (ap (start_by place older j) is) in
+        absurd (by_boot k same either)
+
+-- ---- what is promised of a seal and of a start
+
+abbrev world_or : World → Option World → World
+world_or w (Some other) = other
+world_or w None = w
+
+one_world : (old new : World) → Some new ≡ Some old → new ≡ old
+one_world old new same = ap (world_or old) same
+
+pub sealing_left : {E : Type 0} (place : Place) (older newer : Found) (result : Result Unit (NotSealed E)) (old new : World)
+    → HasSealed place older newer (Some old) result (Some new) → IsStage Sealed old new
+sealing_left place older newer (Ok done) old new (check, sealed, left) = (check, left)
+sealing_left place older newer (Err (Doubted doubt)) old new (doubted, same) = (old.seal, one_world old new same)
+sealing_left place older newer (Err (Failed fault)) old new (check, sealed, (part, rest, whole, left)) = (part, left)
+
+-- one more call is made
+one_more_call : (calls : List Call) (call : Call) (old next new : JournalState) → AreCalls calls old next → IsCall call next new
+    → AreCalls (calls ++ call ∷ []) old new
+one_more_call [] call old next new same step = (new, subst (λ s. IsCall call s new) same step, refl)
+one_more_call (first ∷ calls) call old next new (mid, is, rest) step = (mid, is, one_more_call calls call mid next new rest step)
+
+seen_both : (calls others : List Call) → seen_in (calls ++ others) ≡ seen_in calls ++ seen_in others
+seen_both [] others = refl
+seen_both (Keep seen result ∷ calls) others = ap (λ l. seen ∷ l) (seen_both calls others)
+seen_both (Mend result ∷ calls) others = seen_both calls others
+
+with_any_both : (seen : Option Seen) (others more : List Seen) → with_any seen others ++ more ≡ with_any seen (others ++ more)
+with_any_both None others more = refl
+with_any_both (Some seen) others more = refl
+
+asked_both : (asked others : List Asked) → seen_asked (asked ++ others) ≡ seen_asked asked ++ seen_asked others
+asked_both [] others = refl
+asked_both (one ∷ asked) others =
+    ap (with_any one.seen) (asked_both asked others) ∙ sym (with_any_both one.seen (seen_asked asked) (seen_asked others))
+
+-- the calls that were made for what was asked
+abbrev pub AreMade : List Asked → JournalState → JournalState → Type 0
+AreMade asked old new = (calls : List Call) × (seen_in calls ≡ seen_asked asked) × AreCalls calls old new
+
+pub none_made : (s : JournalState) → AreMade [] s s
+none_made s = ([], refl, refl)
+
+pub one_made : (asked more : List Asked) (one : Asked) (old next new : JournalState) → more ≡ asked ++ one ∷ [] → AreMade asked old next
+    → (call : Call) × (seen_in (call ∷ []) ≡ with_any one.seen []) × IsCall call next new → AreMade more old new
+one_made asked more one old next new is (calls, same, are) (call, seen, step) = (
+  calls ++ call ∷ [],
+  seen_both calls (call ∷ []) ∙ ap (λ l. l ++ seen_in (call ∷ [])) same ∙ ap (λ l. seen_asked asked ++ l) seen
+      ∙ sym (asked_both asked (one ∷ [])) ∙ ap seen_asked (sym is),
+  one_more_call calls call old next new are step,
+)
+
+pub made_more : (all : List Asked) (i : ℕ) (one : Asked) → one ≡ get_or all i one → i < length all → (old next new : JournalState)
+    → AreMade (take i all) old next → (call : Call) × (seen_in (call ∷ []) ≡ with_any one.seen []) × IsCall call next new
+    → AreMade (take (i + 1) all) old new
+made_more all i one is lt old next new made step =
+    one_made (take i all) (take (i + 1) all) one old next new (take_more all i one lt ∙ ap (λ (a : Asked). take i all ++ a ∷ []) (sym is)) made step
+
+-- ---- a process that is run
+
+pub known_again : (start : Start) (otherwise floor : ℤ) → floor ≡ (known_by otherwise start).floor → floor ≡ (known_by floor start).floor
+known_again (Resumes found check) otherwise floor is = is
+known_again (Refuses doubt) otherwise floor is = refl
+
+-- a journal began, or failed to, and then made the calls that were asked for
+abbrev pub HasServed : Moment → Found → Start → List Asked → JournalState → JournalState → Type 0
+HasServed at newer start asked first last =
+    (ok : Bool) × (begun : JournalState) × (calls : List Call) × IsBegun at newer start ok first begun × Serves ok calls begun last
+    × (ok ≡ true → seen_in calls ≡ seen_asked asked)
+
+pub process_run : (at : Moment) (floor : ℤ) (newer : Found) (start : Start) (asked : List Asked) (first last : JournalState) (old new : World)
+    → first.files ≡ Some old → first.floor ≡ Some floor → IsStart at floor newer start old → HasServed at newer start asked first last
+    → last.files ≡ Some new
+    → (p : Process) × (p.at ≡ at) × (p.has_begun ≡ true → seen_in p.calls ≡ seen_asked asked) × IsProcess p old new
+process_run at floor newer start asked first last old new found floor_is starts (ok, begun, calls, begins, serves, all) left = (
+  record { at = at; newer = newer; start = start; floor = floor; has_begun = ok; calls = calls },
+  refl,
+  all,
+  record {
+    first = first;
+    begun = begun;
+    last = last;
+    found = found;
+    floor = floor_is;
+    start = starts;
+    begins = begins;
+    serves = serves;
+    left = left;
+  },
+)
+
+pub start_made : (place : Place) (older newer : Found) (start : Start) (w : Option World) → IfSome w (λ w. IsFound w.older older)
+    → IfSome w (λ w. IsFound w.newer newer) → start ≡ start_of place older newer
+    → IfSome w (λ w. (floor : ℤ) → floor ≡ (known_by floor start).floor → IsStart place.at floor newer start w)
+start_made place older newer start None o n decided = tt
+start_made place older newer start (Some w) o n decided = λ floor is.
+    record {
+      place = place;
+      moment = refl;
+      older = older;
+      older_found = o;
+      newer_found = n;
+      decided = decided;
+      floor = is;
+    }
+
+pub lives_hold : LivesHold
+lives_hold = record {
+  safe = process_is_safe;
+  stays = stays_safe;
+  refused = kept_is_refused;
+  all_kept = all_is_kept;
+  later = starts_are_later;
+  no_seal = leaves_no_seal;
+  next_boot = next_boot_refuses;
+}

@@ -1,0 +1,23 @@
+use Rattle.std.proofs.Common.{rules, ◌≡◌, ◌∙◌, inr, ℤ, SFits, w64, ap, subst, sym}
+use Rattle.std.proofs.lemmas.Int.{to_z-of_z}
+use Rattle.std.specs.Prelude.{IfSome}
+use Rattle.journal.specs.Holding.{IsStart, known_by}
+use Rattle.journal.specs.Life.{state_of}
+use Rattle.journal.proofs.Life.{known_again, process_run}
+use Rattle.journal.proofs.process.run_process.Goals as goal
+
+pub returns : goal.returns
+returns g c =
+    λ old new was is.
+    let world = g.F.JournalFiles.world in
+    let at = c.args.place.now.at in
+    let newer = c.in-Some.beginning.newer in
+    let start = c.in-Some.beginning.start in
+    let floor = c.floor_of-floor.result in
+    let fits : SFits w64 floor = search rules in
+    inr
+    (process_run at floor newer start c.args.asked.now (state_of world c.new-journal.result) (state_of world c.begins_and_serves.new.journal) old new
+    (ap world c.new-journal.ensures.files ∙ (c.in-Some.ensures.world ∙ was)) (simp to_z-of_z at c.new-journal.ensures.floor)
+    ((subst (λ w. IfSome w (λ w. (f : ℤ) → f ≡ (known_by f start).floor → IsStart at f newer start w)) was c.in-Some.ensures.start) floor
+    (known_again start _ floor c.floor_of-floor.ensures))
+    c.begins_and_serves.ensures (ap world (sym c.into_files.ensures) ∙ is))

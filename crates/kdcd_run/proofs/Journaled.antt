@@ -1,0 +1,55 @@
+-- What processes did with the files of their journal is all that the law of restarts asks of these files.
+use Rattle.std.proofs.Common.{List, [], ◌∷◌, Option, ℕ, subst}
+use Rattle.krb_fields.specs.declared.moment.Moment.{Moment}
+use Rattle.replay.specs.declared.seen.Resumption.{Resumption}
+use Rattle.kdc_hub.specs.Hub.{Standing}
+use Rattle.kdc_hub.specs.Life.{Period}
+use Rattle.journal.specs.Holding.{IsSafe}
+use Rattle.journal.specs.Life.{IsLife, LivesHold, Stage, StagesFollow, past_after_all, past_of}
+use Rattle.journal.specs.World.{World}
+use Rattle.journal.specs.declared.decision.Start.{Start}
+use Rattle.journal.specs.declared.decision.Start.TheVariants.{Resumes, Refuses}
+use Rattle.kdcd_run.specs.Journaled.{AreJournaled, Journaled, KeepsAll, MayResume, OnJournal, OneTicketThroughJournals, ResumesWith, processes_in}
+use Rattle.kdcd_run.specs.Processes.{AreProcesses, FindsAll, MayStart, OneTicketThroughRestarts, known_after}
+
+module _ (laws : LivesHold) where
+  module _ (at : Moment) (r : Resumption) (periods : List Period) (did : OnJournal) (w left found : World) (before : List Stage)
+      (keeps : KeepsAll at r periods did w left) (life : IsLife before left found)
+      (follows : StagesFollow (known_after at r periods) (past_of did) before) where
+    finds_all : (next : Moment) (resumed : Resumption) (check : Option (List ℕ))
+        → ResumesWith (past_after_all (past_of did) before) found next resumed check → FindsAll (known_after at r periods) next (Resumes resumed check)
+    finds_all next resumed check finds =
+        let left_safe : IsSafe (past_of did).low (known_after at r periods) left =
+        subst (λ k. IsSafe (past_of did).low k left) keeps.kept (laws.safe did w left keeps.has_begun keeps.calls) in
+        record {
+          world = found;
+          low = (past_after_all (past_of did) before).low;
+          safe = laws.stays (known_after at r periods) (past_of did) before left found (λ here. left_safe) life follows finds.there;
+          late = finds.late;
+          place = finds.start.place;
+          moment = finds.start.moment;
+          older = finds.start.older;
+          newer = finds.newer;
+          older_found = finds.start.older_found;
+          newer_found = finds.start.newer_found;
+          decided = finds.start.decided;
+        }
+
+    may_start : (next : Moment) (start : Start) → MayResume (past_after_all (past_of did) before) found next start
+        → MayStart (known_after at r periods) next start
+    may_start next (Refuses doubt) may = tt
+    may_start next (Resumes resumed check) may = finds_all next resumed check may
+
+  are_processes : (at : Moment) (hub : Standing) (r : Resumption) (periods : List Period) (did : OnJournal) (w : World) (ns : List Journaled)
+      → AreJournaled at hub r periods did w ns → AreProcesses at hub r periods (processes_in ns)
+  are_processes at hub r periods did w [] are = are
+  are_processes at hub r periods did w (n ∷ ns) (left, found, lived, keeps, life, follows, may, late, rest) = (
+    lived,
+    late,
+    may_start at r periods did w left found n.before keeps life follows n.process.at n.process.start may,
+    are_processes n.process.at _ _ n.process.periods n.did found ns rest,
+  )
+
+  pub one_ticket_through_journals : OneTicketThroughRestarts → OneTicketThroughJournals
+  one_ticket_through_journals one database limits opening at hub periods did w ns opened are follows =
+      one database limits opening at hub periods (processes_in ns) opened (are_processes at hub _ periods did w ns are) follows
