@@ -1,1 +1,3 @@
 pub mod Table
+pub mod Queue
+pub mod Unsent

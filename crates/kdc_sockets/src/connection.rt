@@ -1,6 +1,9 @@
 //! A TCP connection and its unsent bytes.
-ghost use Rattle.std.specs.Prelude.{◌≡◌, true, false};
+ghost use Rattle.std.specs.Prelude.{◌≡◌, ◌++◌, true, false, OnOk};
 ghost use Rattle.std.specs.Io.{ReadsAtMost};
+ghost use Rattle.framing.specs.Stream.{framed};
+ghost use Rattle.kdc_sockets.specs.Table.{has_waited};
+ghost use Rattle.kdc_sockets.specs.Unsent.{IsLeftOf};
 
 use framing::prefix;
 use mio::net::TcpStream;
@@ -37,6 +40,7 @@ impl Connection {
     pub fn new(alloc: Global, stream: TcpStream, peer: SocketAddr, at: Instant) -> Connection
         ensures open { result.is_closing ≡ false }
         ensures peer { result.peer ≡ peer }
+        ensures idle { result.idle_since ≡ at }
     {
         Connection {
             stream,
@@ -64,12 +68,16 @@ impl Connection {
     }
 
     /// Returns when it became idle.
-    pub fn idle_since(&self) -> Instant {
+    pub fn idle_since(&self) -> Instant
+        ensures { result ≡ self.now.idle_since }
+    {
         self.idle_since
     }
 
     /// Checks whether it has been idle for too long.
-    pub fn is_idle(&self, at: Instant) -> bool {
+    pub fn is_idle(&self, at: Instant) -> bool
+        ensures { result ≡ has_waited at self.now }
+    {
         at.duration_since(self.idle_since).as_secs() >= LONGEST_IDLE
     }
 
@@ -80,10 +88,11 @@ impl Connection {
     }
 
     /// Reads what has arrived into the buffer. Returns how many bytes: 0 at the end of the stream.
-    pub fn read(&mut self, buffer: &mut [u8]) -> Result<usize>
+    pub fn read(&self, buffer: &mut [u8]) -> Result<usize>
         ensures { ReadsAtMost result buffer.new }
     {
-        self.stream.read(buffer)
+        let mut stream = &self.stream;
+        stream.read(buffer)
     }
 
     /// Writes the reply to a complete request after its length prefix, as far as it fits, and keeps the rest. Fails if
@@ -91,6 +100,8 @@ impl Connection {
     pub fn write(&mut self, message: &[u8], at: Instant) -> Result<()>
         ensures closing { self.new.is_closing ≡ self.old.is_closing }
         ensures peer { self.new.peer ≡ self.old.peer }
+        ensures idle { self.new.idle_since ≡ at }
+        ensures written { OnOk result (IsLeftOf (self.old.unsent.items ++ framed message.now) self.new.unsent.items) }
     {
         self.idle_since = at;
         if message.len() > MOST_UNSENT {
@@ -132,18 +143,36 @@ impl Connection {
     pub fn flush(&mut self, at: Instant) -> Result<()>
         ensures closing { self.new.is_closing ≡ self.old.is_closing }
         ensures peer { self.new.peer ≡ self.old.peer }
+        ensures idle { self.old.is_closing ≡ false → self.new.idle_since ≡ self.old.idle_since }
+        ensures idle_at { self.old.idle_since ≡ at → self.new.idle_since ≡ at }
+        ensures left { IsLeftOf self.old.unsent.items self.new.unsent.items }
+    {
+        self.send(at)?;
+        if self.is_closing && self.unsent.is_empty() && !self.is_shut_down {
+            self.is_shut_down = true;
+            self.stream.shutdown(Shutdown::Write)?;
+        }
+        Ok(())
+    }
+
+    /// Writes until nothing is left, or no more fits.
+    fn send(&mut self, at: Instant) -> Result<()>
+        ensures closing { self.new.is_closing ≡ self.old.is_closing }
+        ensures peer { self.new.peer ≡ self.old.peer }
+        ensures idle { self.old.is_closing ≡ false → self.new.idle_since ≡ self.old.idle_since }
+        ensures idle_at { self.old.idle_since ≡ at → self.new.idle_since ≡ at }
+        ensures left { IsLeftOf self.old.unsent.items self.new.unsent.items }
     {
         for _ in 0..self.unsent.len() {
-            if self.unsent.is_empty() || !self.write_once()? {
-                break;
+            if self.unsent.is_empty() {
+                return Ok(());
+            }
+            if !self.write_once()? {
+                return Ok(());
             }
             if self.is_closing {
                 self.idle_since = at;
             }
-        }
-        if self.is_closing && self.unsent.is_empty() && !self.is_shut_down {
-            self.is_shut_down = true;
-            self.stream.shutdown(Shutdown::Write)?;
         }
         Ok(())
     }
@@ -152,6 +181,8 @@ impl Connection {
     fn write_once(&mut self) -> Result<bool>
         ensures closing { self.new.is_closing ≡ self.old.is_closing }
         ensures peer { self.new.peer ≡ self.old.peer }
+        ensures idle { self.new.idle_since ≡ self.old.idle_since }
+        ensures left { IsLeftOf self.old.unsent.items self.new.unsent.items }
     {
         match self.stream.write(&self.unsent) {
             Ok(0) => Err(Error::from(ErrorKind::WriteZero)),

@@ -1,6 +1,12 @@
 //! The open and closing connections, each under a number that is never reused.
-ghost use Rattle.std.specs.Prelude.{◌≡◌, ◌≤◌, ◌<◌, ℕ, true, Some, None, IfOk, IfNone, IfSome, OnErr, OnOk, option_map};
-ghost use Rattle.kdc_sockets.specs.Table.{AreUnused, EndsOne, HasEnded, KeepsOthers, OpensAlike, closed_if, held_at, is_open};
+ghost use Rattle.std.specs.Prelude.{◌≡◌, ◌≤◌, ◌<◌, ◌+◌, ◌*◌, ℕ, true, false, not, Some, None, length};
+ghost use Rattle.std.specs.Prelude.{IfOk, IfNone, IfSome, OnErr, OnOk, option_copied, option_map};
+ghost use Rattle.kdc_hub.specs.Hub.{most_connections};
+ghost use Rattle.kdc_sockets.specs.declared.connection.Connection.{Connection};
+ghost use Rattle.kdc_sockets.specs.Table.{AddsNone, AreAll, AreFew, AreUnused, EndsOne, EndsWaiting};
+ghost use Rattle.kdc_sockets.specs.Table.{FitsHub, HasEnded, NoneWaits, Waits};
+ghost use Rattle.kdc_sockets.specs.Table.{IsIdleSince, IsLongestIdle, IsWritten, KeepsOpen, KeepsOthers};
+ghost use Rattle.kdc_sockets.specs.Table.{OpensAlike, TakesIn, closed_if, count_if, held_at, is_open, open_count};
 
 use crate::connection::Connection;
 use kdc_hub::Event;
@@ -27,6 +33,17 @@ pub struct Connections {
     next: u64,
     // No connection has a number from there on.
     ghost unused: { AreUnused held.entries next },
+    // The hub has a place for each that is open.
+    ghost bounded: { FitsHub held.entries },
+    // With those that are closing there are at most twice as many.
+    ghost few: { AreFew held.entries },
+}
+
+/// A connection that was accepted, and the end of the one that was closed for it.
+#[derive(Drop)]
+pub struct Accepted {
+    pub conn: u64,
+    pub closed: Option<Event>,
 }
 
 impl Connections {
@@ -51,14 +68,14 @@ impl Connections {
     }
 
     /// Returns the connection with this number.
-    pub fn get_mut(&mut self, conn: u64) -> Option<&mut Connection> {
-        match self.held.get_mut(&conn) {
-            Some(connection) => Some(connection),
-            None => None,
-        }
+    pub fn get(&self, conn: u64) -> Option<&Connection>
+        ensures { option_copied result ≡ held_at self.now.held.entries conn }
+    {
+        self.held.get(&conn)
     }
 
-    /// Adds a new connection and registers it with the poll.
+    /// Adds a new connection and registers it with the poll. If the hub has no place for it, closes the open one that
+    /// has been idle longest. Of those that became idle at the same moment, it closes the one that was accepted first.
     pub fn hold(
         &mut self,
         alloc: Global,
@@ -66,16 +83,15 @@ impl Connections {
         mut stream: TcpStream,
         peer: SocketAddr,
         at: Instant,
-    ) -> io::Result<u64>
-        ensures new { IfOk result (λ conn. held_at self.old.held.entries conn ≡ None) }
-        ensures opened { IfOk result (λ conn. is_open self.new.held.entries conn ≡ true) }
-        ensures others { IfOk result (λ conn.
-            (other : ℕ) → (other ≡ conn → ⊥) → is_open self.new.held.entries other ≡ is_open self.old.held.entries other) }
+    ) -> io::Result<Accepted>
+        ensures new { IfOk result (λ accepted. held_at self.old.held.entries accepted.conn ≡ None) }
+        ensures opened { IfOk result (λ accepted. is_open self.new.held.entries accepted.conn ≡ true) }
+        ensures idle { IfOk result (λ accepted. IsIdleSince self.new.held.entries accepted.conn at) }
+        ensures taken { IfOk result (λ accepted.
+            TakesIn self.old.held.entries accepted.conn accepted.closed self.new.held.entries) }
         ensures failed { OnErr result (OpensAlike self.old.held.entries self.new.held.entries) }
     {
-        if self.held.len() >= MOST_CONNECTIONS {
-            self.drop_oldest_closing();
-        }
+        self.drop_oldest_closing();
         let conn = self.next;
         let Some(next) = conn.checked_add(1) else {
             return Err(ErrorKind::Other.into());
@@ -84,27 +100,69 @@ impl Connections {
         stream.set_nodelay(true)?;
         let both = Interest::READABLE | Interest::WRITABLE;
         registry.register(&mut stream, Token(conn as usize), both)?;
-        self.insert(conn, Connection::new(alloc, stream, peer, at))?;
-        Ok(conn)
+        let closed = self.insert(conn, Connection::new(alloc, stream, peer, at), at)?;
+        Ok(Accepted { conn, closed })
     }
 
-    /// Puts a new connection into the table, under a number that is not used.
-    fn insert(&mut self, conn: u64, connection: Connection) -> Result<(), AllocError>
-        requires { conn < self.now.next }
+    /// Puts a new connection into the table, under a number that is not used. If the hub has no place for it, closes
+    /// the open one that has been idle longest, and reports its end.
+    fn insert(
+        &mut self,
+        conn: u64,
+        connection: Connection,
+        at: Instant,
+    ) -> Result<Option<Event>, AllocError>
+        requires number { conn < self.now.next }
+        requires unused { held_at self.now.held.entries conn ≡ None }
+        requires open { connection.is_closing ≡ false }
+        requires room { length self.now.held.entries < 2 * most_connections }
         ensures ok { OnOk result (held_at self.new.held.entries conn ≡ Some connection) }
-        ensures others { KeepsOthers self.old.held.entries conn self.new.held.entries }
+        ensures taken { IfOk result (λ closed. TakesIn self.old.held.entries conn closed self.new.held.entries) }
         ensures err { OnErr result (OpensAlike self.old.held.entries self.new.held.entries) }
-        ensures next { self.new.next ≡ self.old.next }
     {
+        let oldest = self.to_evict();
         self.held.insert(conn, connection)?;
-        Ok(())
+        let Some(oldest) = oldest else {
+            return Ok(None);
+        };
+        close_in(&mut self.held, oldest, at);
+        Ok(Some(Event::Closed { conn: oldest }))
     }
 
-    /// Drops the closing connection whose peer has taken nothing for the longest time.
+    /// Returns the open connection that has been idle longest, if the hub has no place for another one.
+    fn to_evict(&self) -> Option<u64>
+        ensures full { IfSome result (λ conn. open_count self.now.held.entries ≡ most_connections) }
+        ensures longest { IfSome result (IsLongestIdle false self.now.held.entries) }
+        ensures none { IfNone result (open_count self.now.held.entries < most_connections) }
+    {
+        if self.count_open() < MOST_OPEN {
+            return None;
+        }
+        self.longest_idle(false)
+    }
+
+    /// Returns how many connections are open.
+    fn count_open(&self) -> usize
+        ensures { result ≡ open_count self.now.held.entries }
+    {
+        self.held
+            .values()
+            .filter(|connection| !connection.is_closing())
+            .count()
+    }
+
+    /// If the table is full, drops the closing connection whose peer has taken nothing for the longest time.
     fn drop_oldest_closing(&mut self)
         ensures alike { OpensAlike self.old.held.entries self.new.held.entries }
+        ensures kept { KeepsOpen self.old.held.entries self.new.held.entries }
+        ensures none_new { AddsNone self.old.held.entries self.new.held.entries }
+        ensures counted { open_count self.new.held.entries ≡ open_count self.old.held.entries }
         ensures next { self.new.next ≡ self.old.next }
+        ensures room { length self.new.held.entries < 2 * most_connections }
     {
+        if self.held.len() < MOST_CONNECTIONS {
+            return;
+        }
         if let Some(conn) = self.longest_idle(true) {
             self.drop_closing(conn);
         }
@@ -113,7 +171,12 @@ impl Connections {
     /// Drops a connection if it is closing.
     fn drop_closing(&mut self, conn: u64)
         ensures alike { OpensAlike self.old.held.entries self.new.held.entries }
+        ensures kept { KeepsOpen self.old.held.entries self.new.held.entries }
+        ensures none_new { AddsNone self.old.held.entries self.new.held.entries }
+        ensures counted { open_count self.new.held.entries ≡ open_count self.old.held.entries }
         ensures next { self.new.next ≡ self.old.next }
+        ensures fewer { (connection : Connection) → held_at self.old.held.entries conn ≡ Some connection →
+            connection.is_closing ≡ true → length self.new.held.entries < length self.old.held.entries }
     {
         match self.held.get(&conn) {
             Some(connection) if connection.is_closing() => {
@@ -124,25 +187,16 @@ impl Connections {
     }
 
     /// Returns the connection that has been idle longest, among the closing ones or among the open ones.
-    fn longest_idle(&self, is_closing: bool) -> Option<u64> {
-        self.held
+    fn longest_idle(&self, is_closing: bool) -> Option<u64>
+        ensures longest { IfSome result (IsLongestIdle is_closing self.now.held.entries) }
+        ensures none { IfNone result (AreAll (not is_closing) self.now.held.entries) }
+    {
+        let (conn, _) = self
+            .held
             .iter()
             .filter(|(_, connection)| connection.is_closing() == is_closing)
-            .min_by_key(|(_, connection)| connection.idle_since())
-            .map(|(conn, _)| *conn)
-    }
-
-    /// Closes the connection that has been idle longest, if more are open than the hub has places for.
-    pub fn evict(&mut self, at: Instant) -> Option<Event>
-        ensures ended { IfSome result (λ event. EndsOne self.old.held.entries event self.new.held.entries) }
-        ensures none { IfNone result (OpensAlike self.old.held.entries self.new.held.entries) }
-    {
-        let is_open = |(_, connection): &(&u64, &Connection)| !connection.is_closing();
-        if self.held.iter().filter(is_open).count() <= MOST_OPEN {
-            return None;
-        }
-        let conn = self.longest_idle(false)?;
-        self.close_open(conn, at)
+            .min_by_key(|(conn, connection)| (connection.idle_since(), **conn))?;
+        Some(*conn)
     }
 
     /// Closes a connection if it is open, and reports its end.
@@ -165,7 +219,9 @@ impl Connections {
     /// their peers take nothing any more.
     pub fn close_idle(&mut self, at: Instant) -> Option<Event>
         ensures ended { IfSome result (λ event. EndsOne self.old.held.entries event self.new.held.entries) }
+        ensures waited { IfSome result (EndsWaiting at self.old.held.entries) }
         ensures none { IfNone result (OpensAlike self.old.held.entries self.new.held.entries) }
+        ensures all { IfNone result (NoneWaits false at self.new.held.entries) }
     {
         self.drop_idle(at);
         self.close_one_idle(at)
@@ -173,7 +229,8 @@ impl Connections {
 
     /// Drops the closing connections that have been idle for too long.
     fn drop_idle(&mut self, at: Instant)
-        ensures { OpensAlike self.old.held.entries self.new.held.entries }
+        ensures alike { OpensAlike self.old.held.entries self.new.held.entries }
+        ensures kept { KeepsOpen self.old.held.entries self.new.held.entries }
     {
         for _ in 0..self.held.len() {
             match self.idle(true, at) {
@@ -186,18 +243,23 @@ impl Connections {
     /// Closes one of the open connections that have been idle for too long.
     fn close_one_idle(&mut self, at: Instant) -> Option<Event>
         ensures ended { IfSome result (λ event. EndsOne self.old.held.entries event self.new.held.entries) }
+        ensures waited { IfSome result (EndsWaiting at self.old.held.entries) }
         ensures none { IfNone result (OpensAlike self.old.held.entries self.new.held.entries) }
+        ensures all { IfNone result (NoneWaits false at self.new.held.entries) }
     {
         let conn = self.idle(false, at)?;
         self.close_open(conn, at)
     }
 
     /// Returns one of the closing connections, or of the open ones, that have been idle for too long.
-    fn idle(&self, is_closing: bool, at: Instant) -> Option<u64> {
-        self.held
-            .iter()
-            .find(|(_, connection)| connection.is_closing() == is_closing && connection.is_idle(at))
-            .map(|(conn, _)| *conn)
+    fn idle(&self, is_closing: bool, at: Instant) -> Option<u64>
+        ensures waits { IfSome result (Waits is_closing at self.now.held.entries) }
+        ensures none { IfNone result (NoneWaits is_closing at self.now.held.entries) }
+    {
+        let (conn, _) = self.held.iter().find(|(_, connection)| {
+            connection.is_closing() == is_closing && connection.is_idle(at)
+        })?;
+        Some(*conn)
     }
 
     /// Marks that the peer sends nothing more. The unsent bytes are still written.
@@ -231,14 +293,15 @@ impl Connections {
 
     /// Writes a message after its length prefix. Drops the connection if that fails.
     pub fn write(&mut self, conn: u64, message: &[u8], at: Instant) -> io::Result<()>
-        ensures written { OnOk result (is_open self.new.held.entries conn ≡ is_open self.old.held.entries conn) }
+        ensures alike { OnOk result (is_open self.new.held.entries conn ≡ is_open self.old.held.entries conn) }
+        ensures written { OnOk result (IsWritten self.old.held.entries conn message.now at self.new.held.entries) }
         ensures failed { OnErr result (held_at self.new.held.entries conn ≡ None) }
         ensures others { KeepsOthers self.old.held.entries conn self.new.held.entries }
     {
-        let written = match self.held.get_mut(&conn) {
-            Some(connection) => connection.write(message, at),
-            None => Err(ErrorKind::NotConnected.into()),
+        let Some(connection) = self.held.get_mut(&conn) else {
+            return Err(ErrorKind::NotConnected.into());
         };
+        let written = connection.write(message, at);
         if written.is_err() {
             self.held.remove(&conn);
         }
@@ -249,18 +312,15 @@ impl Connections {
     pub fn close(&mut self, conn: u64, at: Instant)
         ensures { HasEnded self.old.held.entries conn self.new.held.entries }
     {
-        let Some(connection) = self.held.get_mut(&conn) else {
-            return;
-        };
-        if connection.close(at).is_err() || connection.is_over() {
-            self.held.remove(&conn);
-        }
+        close_in(&mut self.held, conn, at);
     }
 
     /// Writes what is left of a connection's replies. Drops a closing connection if that fails or if both sides are
     /// done.
     pub fn flush(&mut self, conn: u64, at: Instant)
         ensures flushed { is_open self.new.held.entries conn ≡ is_open self.old.held.entries conn }
+        ensures idle { (connection : Connection) → held_at self.old.held.entries conn ≡ Some connection →
+            connection.is_closing ≡ false → IsIdleSince self.new.held.entries conn connection.idle_since }
         ensures others { KeepsOthers self.old.held.entries conn self.new.held.entries }
     {
         let Some(connection) = self.held.get_mut(&conn) else {
@@ -270,5 +330,21 @@ impl Connections {
         if connection.is_closing() && (connection.is_over() || flushed.is_err()) {
             self.held.remove(&conn);
         }
+    }
+}
+
+/// Closes a connection of the table.
+fn close_in(held: &mut BTreeMap<u64, Connection>, conn: u64, at: Instant)
+    ensures ended { HasEnded held.old.entries conn held.new.entries }
+    ensures none_new { AddsNone held.old.entries held.new.entries }
+    ensures no_more { length held.new.entries ≤ length held.old.entries }
+    ensures counted { open_count held.new.entries + count_if (is_open held.old.entries conn) ≡
+        open_count held.old.entries }
+{
+    let Some(connection) = held.get_mut(&conn) else {
+        return;
+    };
+    if connection.close(at).is_err() || connection.is_over() {
+        held.remove(&conn);
     }
 }

@@ -1,8 +1,15 @@
 //! The KDC's wire over sockets (RFC 4120, section 7.2): UDP sockets and TCP listeners, all served in one thread.
 //!
 //! No contract can say what a socket receives or sends. It is proved that each call is safe, returns and counts its
-//! errors; that a new connection's number is not in use; that each end of a connection is reported once; and that an action
-//! changes its own connection and no other. The rest is tested, on the loopback interface.
+//! errors. It is proved of the connections, whatever the sockets do:
+//! - A new connection's number is not in use, and each end of a connection is reported once.
+//! - At most 256 connections are open. For one more, the open one that has been idle longest ends.
+//! - A search for idle connections ends those that have been idle for 30 seconds, one a call, and no other.
+//! - An action changes its own connection and no other. A reply is kept behind the connection's unsent bytes until the
+//!   socket takes it, in order and with no byte left out.
+//! - No socket stands twice among those that wait to be read.
+//!
+//! The rest is tested, on the loopback interface.
 #![tactic(auto)]
 
 mod bind_fault;
@@ -10,6 +17,7 @@ mod connection;
 mod connections;
 mod moment;
 mod ports;
+mod ready;
 mod sockets;
 mod wire;
 

@@ -1,17 +1,18 @@
 //! The sockets of a wire, which take turns.
-ghost use Rattle.std.specs.Prelude.{◌≡◌, option_map};
+ghost use Rattle.std.specs.Prelude.{◌≡◌, false, OnErr, OnOk, option_map};
 ghost use Rattle.kdc_hub.specs.Rounds.{action_connection};
-ghost use Rattle.kdc_sockets.specs.Table.{HasEnded, KeepsOthersOf, held_at};
+ghost use Rattle.kdc_sockets.specs.Queue.{has};
+ghost use Rattle.kdc_sockets.specs.Table.{HasEnded, IsDone, IsLost, KeepsOthersOf, held_at};
 
 use crate::bind_fault::BindFault;
-use crate::connections::{Connections, MOST_CONNECTIONS};
+use crate::connections::Connections;
 use crate::moment::now;
 use crate::ports::Ports;
+use crate::ready::Ready;
 use kdc_hub::{Action, Event, Peer};
 use krb_elements::Octets;
 use krb_fields::Moment;
 use std::alloc::{AllocError, Global};
-use std::collections::VecDeque;
 use std::io;
 use std::io::ErrorKind;
 use std::net::{Net, SocketAddr};
@@ -65,41 +66,6 @@ pub struct Sockets<C> {
     /// How many datagrams and pieces were lost because memory ran out. The count stops at the greatest `u64`.
     lost: u64,
     buffers: Buffers,
-}
-
-/// The ports and connections that may be ready, in the order in which they are read. None stands there twice.
-#[derive(Drop)]
-struct Ready {
-    datagrams: VecDeque<u64>,
-    newcomers: VecDeque<u64>,
-    connections: VecDeque<u64>,
-}
-
-impl Ready {
-    /// Returns empty queues with room for this many ports of each kind.
-    fn new(alloc: Global, datagrams: usize, newcomers: usize) -> Result<Ready, AllocError> {
-        Ok(Ready {
-            datagrams: VecDeque::with_capacity(alloc, datagrams)?,
-            newcomers: VecDeque::with_capacity(alloc, newcomers)?,
-            connections: VecDeque::with_capacity(alloc, 2 * MOST_CONNECTIONS)?,
-        })
-    }
-
-    fn is_empty(&self) -> bool {
-        self.datagrams.is_empty() && self.newcomers.is_empty() && self.connections.is_empty()
-    }
-
-    /// Queues the socket that has this poll token. The UDP sockets come first, then the listeners, then the
-    /// connections.
-    fn note(&mut self, token: u64, first_newcomers: u64, first_connection: u64) -> io::Result<()> {
-        if token < first_newcomers {
-            note(&mut self.datagrams, token)
-        } else if token < first_connection {
-            note(&mut self.newcomers, token - first_newcomers)
-        } else {
-            note(&mut self.connections, token)
-        }
-    }
 }
 
 /// The buffers that bytes are read into.
@@ -243,7 +209,7 @@ impl<C: Clock + Drop> Sockets<C> {
         if self.refused_at.is_some_and(|sec| sec != at.sec) {
             self.refused_at = None;
             for place in 0..self.ports.newcomers.len() as u64 {
-                note(&mut self.ready.newcomers, place)?;
+                self.ready.newcomers.note(place)?;
             }
         }
         Ok(())
@@ -307,10 +273,11 @@ impl<C: Clock + Drop> Sockets<C> {
             Ok((stream, peer)) => {
                 self.ready.newcomers.push_back(place)?;
                 let registry = self.ports.poll.registry();
-                let conn = self
+                let accepted = self
                     .connections
                     .hold(alloc, registry, stream, peer, self.at)?;
-                match self.connections.evict(self.at) {
+                let conn = accepted.conn;
+                match accepted.closed {
                     Some(closed) => {
                         self.newcomer = Some(conn);
                         Ok(Some(closed))
@@ -327,8 +294,10 @@ impl<C: Clock + Drop> Sockets<C> {
     }
 
     /// Reads the next piece of a connection's stream, or its end, if there is either.
-    fn read(&mut self, alloc: Global, conn: u64) -> io::Result<Option<Event>> {
-        let Some(connection) = self.connections.get_mut(conn) else {
+    fn read(&mut self, alloc: Global, conn: u64) -> io::Result<Option<Event>>
+        requires { has self.old.ready.connections.numbers.items conn ≡ false }
+    {
+        let Some(connection) = self.connections.get(conn) else {
             return Ok(None);
         };
         let is_closing = connection.is_closing();
@@ -367,8 +336,11 @@ impl<C: Clock + Drop> Sockets<C> {
 
     /// Performs an action. The reply to a datagram is sent from the socket that received the datagram.
     pub fn act(&mut self, action: &Action) -> io::Result<()>
-        ensures { KeepsOthersOf (action_connection action.now) self.old.connections.held.entries
+        ensures others { KeepsOthersOf (action_connection action.now) self.old.connections.held.entries
             self.new.connections.held.entries }
+        ensures done { OnOk result (IsDone action.now self.old.at self.old.connections.held.entries
+            self.new.connections.held.entries) }
+        ensures failed { OnErr result (IsLost (action_connection action.now) self.new.connections.held.entries) }
     {
         match action {
             Action::SendTo { peer, reply } => {
@@ -387,14 +359,6 @@ impl<C: Clock + Drop> Sockets<C> {
             }
         }
     }
-}
-
-/// Appends a socket to its queue, unless it is there already.
-fn note(ready: &mut VecDeque<u64>, token: u64) -> io::Result<()> {
-    if !ready.iter().any(|other| *other == token) {
-        ready.push_back(token)?;
-    }
-    Ok(())
 }
 
 /// Checks whether nothing more is there for now.

@@ -1,0 +1,20 @@
+use Rattle.std.proofs.Common.{rules, ◌≡◌, Some}
+use Rattle.kdc_sockets.specs.Table.{held_at}
+use Rattle.kdc_sockets.proofs.Counts.{fits_same, fits_removed}
+use Rattle.kdc_sockets.proofs.connections.Connections.flush.Goals as goal
+
+pub invariant_of-self-else-is_err-clause-bounded : goal.invariant_of-self-else-is_err-clause-bounded
+invariant_of-self-else-is_err-clause-bounded c =
+    let held : held_at c.args.self.now.held.entries c.args.conn ≡ Some c.in-Some.connection.now = search rules in
+    fits_same c.args.self.now.held (c.get_mut.follows.lender c.flush-flushed.new.self) c.args.conn c.in-Some.connection.now c.flush-flushed.new.self held (c.get_mut.follows.holds c.flush-flushed.new.self) c.flush-flushed.ensures.closing c.args.self.now.bounded
+
+pub invariant_of-self-else-is_closing-clause-bounded : goal.invariant_of-self-else-is_closing-clause-bounded
+invariant_of-self-else-is_closing-clause-bounded c =
+    let held : held_at c.args.self.now.held.entries c.args.conn ≡ Some c.in-Some.connection.now = search rules in
+    fits_same c.args.self.now.held (c.get_mut.follows.lender c.flush-flushed.new.self) c.args.conn c.in-Some.connection.now c.flush-flushed.new.self held (c.get_mut.follows.holds c.flush-flushed.new.self) c.flush-flushed.ensures.closing c.args.self.now.bounded
+
+pub invariant_of-self-then-is_err-clause-bounded : goal.invariant_of-self-then-is_err-clause-bounded
+invariant_of-self-then-is_err-clause-bounded c =
+    let held : held_at c.args.self.now.held.entries c.args.conn ≡ Some c.in-Some.connection.now = search rules in
+    let fits = fits_same c.args.self.now.held (c.get_mut.follows.lender c.flush-flushed.new.self) c.args.conn c.in-Some.connection.now c.flush-flushed.new.self held (c.get_mut.follows.holds c.flush-flushed.new.self) c.flush-flushed.ensures.closing c.args.self.now.bounded in
+    fits_removed (c.get_mut.follows.lender c.flush-flushed.new.self).entries c.remove.new.self.entries c.args.conn c.remove.ensures.entries fits

@@ -1,0 +1,5 @@
+use Rattle.kdc_sockets.proofs.Counts.{fits_removed}
+use Rattle.kdc_sockets.proofs.connections.Connections.lose.Goals as goal
+
+pub invariant_of-self-clause-bounded : goal.invariant_of-self-clause-bounded
+invariant_of-self-clause-bounded c = fits_removed c.args.self.now.held.entries c.remove.new.self.entries c.args.conn c.remove.ensures.entries c.args.self.now.bounded

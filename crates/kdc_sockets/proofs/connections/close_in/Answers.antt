@@ -1,0 +1,22 @@
+use Rattle.std.proofs.Common.{rules, ◌≡◌, Some, ap, ◌∙◌}
+use Rattle.std.specs.BTreeMap.{is_at}
+use Rattle.std.specs.Map.{remove_entry}
+use Rattle.std.specs.Ordering.{nat_cmp}
+use Rattle.kdc_sockets.specs.Table.{held_at}
+use Rattle.kdc_sockets.proofs.Counts.{count_closed, count_dropped}
+use Rattle.kdc_sockets.proofs.connections.close_in.Goals.{then-is_err-via-then-is_err, then-is_err-via-else-is_err+then-is_over}
+use Rattle.kdc_sockets.proofs.connections.close_in.Goals as goal
+
+pub returns-then-is_err-clause-counted : goal.returns-then-is_err-clause-counted
+returns-then-is_err-clause-counted c =
+    let held : held_at c.args.held.now.entries c.args.conn ≡ Some c.in-Some.connection.now = search rules in
+    let lent = c.get_mut.follows.holds c.close.new.self in
+    let same : c.then-is_err.held ≡ c.get_mut.follows.lender c.close.new.self =
+    elim c.then-is_err.branch [ then-is_err-via-then-is_err w ↦ w.held-is | then-is_err-via-else-is_err+then-is_over w ↦ w.held-is ] in
+    count_dropped c.args.held.now (c.get_mut.follows.lender c.close.new.self) c.remove.new.self.entries c.args.conn c.in-Some.connection.now c.close.new.self held lent c.close.ensures.closing
+    (c.remove.ensures.entries ∙ ap (λ m. remove_entry (is_at (nat_cmp c.args.conn)) m.entries) same)
+
+pub returns-else-is_over-clause-counted : goal.returns-else-is_over-clause-counted
+returns-else-is_over-clause-counted c =
+    let held : held_at c.args.held.now.entries c.args.conn ≡ Some c.in-Some.connection.now = search rules in
+    count_closed c.args.held.now (c.get_mut.follows.lender c.close.new.self) c.args.conn c.in-Some.connection.now c.close.new.self held (c.get_mut.follows.holds c.close.new.self) c.close.ensures.closing
