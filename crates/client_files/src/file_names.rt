@@ -18,11 +18,11 @@ impl NameOf {
     /// Returns the text after `error:` if there is no path.
     fn no_path(self) -> &'static str {
         match self {
-            NameOf::Cache => "--cache takes a file: no path stands behind FILE:",
-            NameOf::CacheVariable => "KRB5CCNAME names no file: no path stands behind FILE:",
+            NameOf::Cache => "--cache takes a file: no path follows FILE:",
+            NameOf::CacheVariable => "KRB5CCNAME names no file: no path follows FILE:",
             NameOf::CacheSetting =>
-                "default_ccache_name of the krb5.conf names no file: no path stands behind FILE:",
-            NameOf::Keytab => "--keytab takes a file: no path stands behind FILE:",
+                "default_ccache_name of the krb5.conf names no file: no path follows FILE:",
+            NameOf::Keytab => "--keytab takes a file: no path follows FILE:",
         }
     }
 

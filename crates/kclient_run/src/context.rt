@@ -63,12 +63,15 @@ impl<T, X> Context<T, X> {
         )
     }
 
-    /// Notes which of several names ended the command.
+    /// Notes at which of several names the command stopped.
     pub(crate) fn note_name(&mut self, name: &str) -> Result<(), AllocError>
         ensures store { self.new.store ≡ self.old.store }
     {
         let word = if name.is_empty() { NO_WORD } else { name };
-        writeln!(self.notes, "kclient: {word}: this name ended the command")
+        writeln!(
+            self.notes,
+            "kclient: {word}: the command stopped at this name"
+        )
     }
 
     /// Takes the time of a KDC that refuses because the clocks differ, once. Otherwise the fault ends the command;
