@@ -19,7 +19,7 @@ ITEM = re.compile(r"^\s*pub (?:const |unsafe |ghost )*(fn|struct|enum|trait|cons
 FIELD = re.compile(r"^\s+pub (\w+): ")
 VARIANT = re.compile(r"^    ([A-Z]\w*)(?: \{|\(|,|$)")
 # A crate that no other one uses: a program, or tests.
-PRIVATE = re.compile(r"_tests$|^(kdcd|kadm|kclient|example_service|example_login|krb_end_to_end)$")
+PRIVATE = re.compile(r"_tests$|^(kdcd|kadm|kclient|example_service|example_login|krb_joined)$")
 
 
 class Item(typing.NamedTuple):

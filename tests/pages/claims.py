@@ -17,7 +17,7 @@ WORDS = (
 )
 # The manual pages, and the files with the names of what a program refuses.
 REFUSALS = {
-    "kadm.8": ["kadm_run/src/reason.rt", "file_store/src/faults.rt"], "kclient.1": ["client_files/src/words.rt"],
+    "kadm.8": ["kadm_run/src/reason.rt", "program/src/faults.rt"], "kclient.1": ["client_files/src/words.rt"],
     "kdcd.8": ["kdcd_run/src/files.rt", "kdcd_run/src/sealing.rt"],
 }
 # Names that only a program of the library `client_files` meets.
@@ -150,7 +150,7 @@ def default(option):
 
 
 def version():
-    return re.search(r'VERSION: &str = "(.*)"', read("crates/command_options/src/lib.rt"))[1]
+    return re.search(r'VERSION: &str = "(.*)"', read("crates/program/src/command_options.rt"))[1]
 
 
 def microseconds(request):

@@ -6,7 +6,7 @@ use Rattle.std.specs.Option.{unwrap_or}
 use Rattle.std.specs.Ordering.{eq_by_cmp}
 use Rattle.std.specs.Prelude.{⊤, int_lt, option_and_then}
 use Rattle.std.proofs.lemmas.Int.{ints}
-use Rattle.krb_ap.specs.ApReq.{ApReq}
+use Rattle.krb_types.specs.ApReq.{ApReq}
 use Rattle.krb_fields.specs.Name.{Components, name_cmp, name_total, same_name}
 use Rattle.krb_fields.specs.declared.moment.Moment.{Moment}
 use Rattle.replay.specs.ReplayCache.{recorded}

@@ -4,9 +4,9 @@ use Rattle.std.specs.Prelude.{⊤, IfSome, option_and_then}
 use Rattle.std.specs.Cmp.{Equal-is, tied_itself}
 use Rattle.std.specs.List.{AllByRecursion}
 use Rattle.std.specs.Ordering.{eq_by_cmp}
-use Rattle.krb_ap.specs.ApReq.{ApReq}
+use Rattle.krb_types.specs.ApReq.{ApReq}
 use Rattle.krb_fields.specs.Name.{Components, name_cmp, same_name}
-use Rattle.refusals.specs.Refusals.{first_holding}
+use Rattle.lists.specs.Refusals.{first_holding}
 use Rattle.replay.specs.ReplayCache.{recorded, verdict}
 use Rattle.replay.specs.Run.{collected, with_any, EachOnce}
 use Rattle.replay.specs.Stamp.{Stamp, stamp_cmp}

@@ -2,7 +2,7 @@
 -- one.
 use Rattle.std.proofs.Common.{◌≡◌, ◌↔◌, ℕ, Bool, List, Option, Some, None, Result, Ok, Err, refl, ap, sym, subst, ◌∙◌}
 use Rattle.std.specs.Prelude.{IfOk, IfSome, option_and_then}
-use Rattle.krb_ap.specs.ApReq.{ApReq, ap_req}
+use Rattle.krb_types.specs.ApReq.{ApReq, ap_req}
 use Rattle.krb_der.specs.Spelling.{IsBytes}
 use Rattle.krb_der.specs.declared.fault.DerFault.{DerFault}
 use Rattle.krb_elements.specs.Format.{whole}

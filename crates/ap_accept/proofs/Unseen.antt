@@ -5,11 +5,11 @@ use Rattle.std.specs.Prelude.{⊤, option_and_then, option_map}
 use Rattle.std.specs.Int.{int_max}
 use Rattle.std.specs.List.{AllByRecursion}
 use Rattle.std.proofs.lemmas.Int.{ints, clamps}
-use Rattle.krb_ap.specs.ApReq.{ApReq}
+use Rattle.krb_types.specs.ApReq.{ApReq}
 use Rattle.krb_fields.specs.Name.{Components}
 use Rattle.krb_fields.specs.Skew.{skew}
-use Rattle.krb_sealed.specs.Authenticator.{Authenticator}
-use Rattle.krb_sealed.specs.EncTicketPart.{EncTicketPart}
+use Rattle.krb_types.specs.Authenticator.{Authenticator}
+use Rattle.krb_types.specs.EncTicketPart.{EncTicketPart}
 use Rattle.cred_files.specs.declared.keytab_entry.KeytabEntry.{KeytabEntry}
 use Rattle.replay.specs.ReplayCache.{recorded, verdict}
 use Rattle.replay.specs.Stamp.{Stamp}

@@ -2,12 +2,12 @@
 -- the table that holds refuses; if none holds, the request is accepted.
 use Rattle.std.specs.Prelude.{◌≡◌, ℕ, ℤ, ⊤, Bool, if◌then◌else◌, List, Option, Some, None, Result, Ok, Err, option_map}
 use Rattle.std.specs.Prelude.{option_and_then}
-use Rattle.krb_ap.specs.ApReq.{ApReq, ap_req}
+use Rattle.krb_types.specs.ApReq.{ApReq, ap_req}
 use Rattle.krb_elements.specs.Format.{whole}
 use Rattle.krb_fields.specs.Name.{Components}
 use Rattle.krb_fields.specs.declared.code.Code.{Code}
 use Rattle.krb_fields.specs.declared.moment.Moment.{Moment}
-use Rattle.krb_sealed.specs.EncTicketPart.{EncTicketPart}
+use Rattle.krb_types.specs.EncTicketPart.{EncTicketPart}
 use Rattle.sealed_parts.specs.Parts.{ok_of}
 use Rattle.replay.specs.ReplayCache.{recorded}
 use Rattle.replay.specs.Stamp.{Stamp}

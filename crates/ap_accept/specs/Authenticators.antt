@@ -1,9 +1,9 @@
 -- The authenticator of an AP-REQ (RFC 4120, section 3.2.3).
 use Rattle.std.specs.Prelude.{List, [], ◌∷◌, Option, Result}
-use Rattle.refusals.specs.Refusals.{Rule, decided}
+use Rattle.lists.specs.Refusals.{Rule, decided}
 use Rattle.enctypes.specs.declared.key.Key.{Key}
-use Rattle.krb_sealed.specs.Authenticator.{Authenticator}
-use Rattle.krb_sealed.specs.EncTicketPart.{EncTicketPart}
+use Rattle.krb_types.specs.Authenticator.{Authenticator}
+use Rattle.krb_types.specs.EncTicketPart.{EncTicketPart}
 use Rattle.ap_opening.specs.Authenticators.{is_mismatched, subkey_in}
 use Rattle.ap_opening.specs.declared.refusal.ApRefusal.{ApRefusal}
 use Rattle.ap_opening.specs.declared.refusal.ApRefusal.TheVariants.{BadMatch, BadSubkey}

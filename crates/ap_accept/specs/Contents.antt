@@ -8,11 +8,11 @@ use Rattle.enctypes.specs.Etype.{number}
 use Rattle.enctypes.specs.KeyUsage.{usage_number}
 use Rattle.enctypes.specs.declared.key.Key.{Key}
 use Rattle.enctypes.specs.declared.key_usage.KeyUsage.TheVariants.{ApReqAuthenticator, Ticket as TicketUsage}
-use Rattle.krb_ap.specs.ApReq.{ApReq}
+use Rattle.krb_types.specs.ApReq.{ApReq}
 use Rattle.krb_fields.specs.Name.{Components}
 use Rattle.krb_fields.specs.Typed.{Typed}
-use Rattle.krb_sealed.specs.Authenticator.{Authenticator, authenticator}
-use Rattle.krb_sealed.specs.EncTicketPart.{EncTicketPart, enc_ticket_part}
+use Rattle.krb_types.specs.Authenticator.{Authenticator, authenticator}
+use Rattle.krb_types.specs.EncTicketPart.{EncTicketPart, enc_ticket_part}
 use Rattle.replay.specs.ReplayCache.{verdict}
 use Rattle.replay.specs.declared.verdict.Verdict.{Verdict}
 use Rattle.sealed_parts.specs.Encrypted.{decrypted}

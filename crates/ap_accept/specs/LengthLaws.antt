@@ -1,10 +1,10 @@
 -- An AP-REP is short enough to encode.
 use Rattle.std.proofs.Common.{ℕ, ℤ, ◌^◌, ◌<◌, ◌≤◌, List, length, None, arith}
-use Rattle.krb_ap.specs.ApRep.{ap_rep, ap_rep_form}
+use Rattle.krb_types.specs.ApRep.{ap_rep, ap_rep_form}
 use Rattle.krb_fields.specs.EncryptedData.{encrypted_data_form}
 use Rattle.krb_fields.specs.Typed.{typed_form}
-use Rattle.krb_sealed.specs.Authenticator.{Authenticator}
-use Rattle.krb_sealed.specs.EncApRepPart.{enc_ap_rep_part, enc_ap_rep_part_form}
+use Rattle.krb_types.specs.Authenticator.{Authenticator}
+use Rattle.krb_types.specs.EncApRepPart.{enc_ap_rep_part, enc_ap_rep_part_form}
 use Rattle.ap_accept.specs.Reply.{reply_part}
 
 pub part_short : (auth : Authenticator) → length (enc_ap_rep_part.text (reply_part auth)) ≤ 100

@@ -2,11 +2,11 @@
 use Rattle.std.proofs.Common.{◌≡◌, List, Option, Result, Ok, ap, ◌∙◌}
 use Rattle.enctypes.specs.declared.key.Key.{Key}
 use Rattle.enctypes.specs.declared.key_usage.KeyUsage.TheVariants.{ApReqAuthenticator}
-use Rattle.krb_ap.specs.ApReq.{ApReq}
-use Rattle.krb_sealed.specs.Authenticator.{Authenticator}
-use Rattle.krb_sealed.specs.EncTicketPart.{EncTicketPart}
+use Rattle.krb_types.specs.ApReq.{ApReq}
+use Rattle.krb_types.specs.Authenticator.{Authenticator}
+use Rattle.krb_types.specs.EncTicketPart.{EncTicketPart}
 use Rattle.cred_files.specs.declared.keytab_entry.KeytabEntry.{KeytabEntry}
-use Rattle.refusals.specs.Stages.{◌>>=◌}
+use Rattle.lists.specs.Stages.{◌>>=◌}
 use Rattle.ap_opening.specs.Authenticators.{authenticator_of, session_key_of}
 use Rattle.ap_opening.specs.Keytab.{held_in}
 use Rattle.ap_opening.specs.Tickets.{shown_ticket}

@@ -3,14 +3,14 @@ use Rattle.std.specs.Prelude.{◌≡◌, ℕ, Bool, true, false, List, Option, S
 use Rattle.enctypes.specs.KeyUsage.{usage_number}
 use Rattle.enctypes.specs.declared.key.Key.{Key}
 use Rattle.enctypes.specs.declared.key_usage.KeyUsage.TheVariants.{ApRepEncPart}
-use Rattle.krb_ap.specs.ApRep.{ApRep, ap_rep}
-use Rattle.krb_ap.specs.ApReq.{ApReq}
+use Rattle.krb_types.specs.ApRep.{ApRep, ap_rep}
+use Rattle.krb_types.specs.ApReq.{ApReq}
 use Rattle.krb_elements.specs.Codec.{written}
 use Rattle.krb_fields.specs.ApOption.{ap_option_number}
 use Rattle.krb_fields.specs.Flags.{has_bit}
 use Rattle.krb_fields.specs.declared.ap_option.ApOption.TheVariants.{MutualRequired}
-use Rattle.krb_sealed.specs.Authenticator.{Authenticator}
-use Rattle.krb_sealed.specs.EncApRepPart.{EncApRepPart, enc_ap_rep_part}
+use Rattle.krb_types.specs.Authenticator.{Authenticator}
+use Rattle.krb_types.specs.EncApRepPart.{EncApRepPart, enc_ap_rep_part}
 use Rattle.sealed_parts.specs.Encrypted.{encrypted, decrypted}
 
 -- the authenticator's time and nothing else

@@ -14,7 +14,7 @@ use Rattle.ap_opening.specs.declared.refusal.ApRefusal.TheVariants.{Authenticato
 use Rattle.ap_opening.specs.declared.refusal.ApRefusal.TheVariants.{Skewed, Repeated, Full, NotYetValid, TicketExpired}
 use Rattle.cred_files.specs.Keytab.{entry_for, newest, passes}
 use Rattle.cred_files.specs.declared.keytab_entry.KeytabEntry.{KeytabEntry}
-use Rattle.krb_ap.specs.ApReq.{ApReq}
+use Rattle.krb_types.specs.ApReq.{ApReq}
 use Rattle.krb_fields.specs.ApOption.{ap_option_number}
 use Rattle.krb_fields.specs.Flags.{has_bit}
 use Rattle.krb_fields.specs.Name.{name_cmp}
@@ -24,9 +24,9 @@ use Rattle.krb_fields.specs.declared.ap_option.ApOption.TheVariants.{UseSessionK
 use Rattle.krb_fields.specs.declared.code.Code.{Code}
 use Rattle.krb_fields.specs.declared.code.Code.TheVariants as codes
 use Rattle.krb_fields.specs.declared.ticket_flag.TicketFlag.TheVariants.{Invalid}
-use Rattle.krb_sealed.specs.Authenticator.{Authenticator}
-use Rattle.krb_sealed.specs.EncTicketPart.{EncTicketPart}
-use Rattle.refusals.specs.Optional.{holds_of}
+use Rattle.krb_types.specs.Authenticator.{Authenticator}
+use Rattle.krb_types.specs.EncTicketPart.{EncTicketPart}
+use Rattle.lists.specs.Optional.{holds_of}
 use Rattle.replay.specs.declared.verdict.Verdict.{Verdict}
 use Rattle.replay.specs.declared.verdict.Verdict.TheVariants as verdicts
 use Rattle.sealed_parts.specs.Keys.{type_numbered}

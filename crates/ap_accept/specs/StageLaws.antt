@@ -3,8 +3,8 @@ use Rattle.std.proofs.Common.{◌≡◌, ℕ, ℤ, ◌++◌, Bool, true, false, 
 use Rattle.std.proofs.Common.{None, Result, Ok, Err, is_some, is_none, refl, ap, sym, ◌∙◌}
 use Rattle.std.specs.Prelude.{⊤, IfSome, IfErr, if◌then◌else◌, drop, map, take, option_map, option_and_then}
 use Rattle.std.specs.List.{AllByRecursion}
-use Rattle.refusals.specs.Refusals.{Rule, decided, first_holding, unless_found, unless_refused}
-use Rattle.refusals.specs.Stages.{◌>>=◌}
+use Rattle.lists.specs.Refusals.{Rule, decided, first_holding, unless_found, unless_refused}
+use Rattle.lists.specs.Stages.{◌>>=◌}
 use Rattle.ap_opening.specs.Authenticators.{subkey_in}
 use Rattle.ap_opening.specs.Keytab.{held_in}
 use Rattle.ap_opening.specs.Refusal.{code_of}
@@ -21,13 +21,13 @@ use Rattle.cred_files.specs.declared.keytab_entry.KeytabEntry.{KeytabEntry}
 use Rattle.enctypes.specs.KeyUsage.{usage_number}
 use Rattle.enctypes.specs.declared.key.Key.{Key}
 use Rattle.enctypes.specs.declared.key_usage.KeyUsage.TheVariants.{Ticket as TicketUsage}
-use Rattle.krb_ap.specs.ApReq.{ApReq}
+use Rattle.krb_types.specs.ApReq.{ApReq}
 use Rattle.krb_fields.specs.Typed.{Typed}
 use Rattle.krb_fields.specs.declared.code.Code.{Code}
 use Rattle.krb_fields.specs.declared.code.Code.TheVariants as codes
 use Rattle.krb_fields.specs.declared.moment.Moment.{Moment}
-use Rattle.krb_sealed.specs.Authenticator.{Authenticator}
-use Rattle.krb_sealed.specs.EncTicketPart.{EncTicketPart, enc_ticket_part}
+use Rattle.krb_types.specs.Authenticator.{Authenticator}
+use Rattle.krb_types.specs.EncTicketPart.{EncTicketPart, enc_ticket_part}
 use Rattle.replay.specs.ReplayCache.{verdict}
 use Rattle.replay.specs.declared.verdict.Verdict.{Verdict}
 use Rattle.replay.specs.declared.verdict.Verdict.TheVariants as verdicts

@@ -1,8 +1,8 @@
 -- The stages in which the code decides on an AP-REQ, by the rules of `ap_opening`. They decide as the table does
 -- (`accepts_staged` of `StageLaws`).
 use Rattle.std.specs.Prelude.{ℕ, ℤ, ⊤, Bool, List, Option, Some, None, Result, Ok, Err}
-use Rattle.refusals.specs.Refusals.{first_holding}
-use Rattle.krb_ap.specs.ApReq.{ApReq}
+use Rattle.lists.specs.Refusals.{first_holding}
+use Rattle.krb_types.specs.ApReq.{ApReq}
 use Rattle.krb_fields.specs.declared.moment.Moment.{Moment}
 use Rattle.replay.specs.ReplayCache.{verdict}
 use Rattle.replay.specs.declared.verdict.Verdict.{Verdict}

@@ -1,6 +1,6 @@
 -- Whether a ticket is valid (RFC 4120, section 3.2.3).
 use Rattle.std.specs.Prelude.{ℤ, Bool, ◌||◌, List, [], ◌∷◌}
-use Rattle.refusals.specs.Refusals.{Rule}
+use Rattle.lists.specs.Refusals.{Rule}
 use Rattle.krb_fields.specs.declared.ticket_flag.TicketFlag.TheVariants.{Invalid}
 use Rattle.ticket_times.specs.TicketTerms.{has_flag}
 use Rattle.ticket_times.specs.declared.ticket_terms.TicketTerms.{TicketTerms}

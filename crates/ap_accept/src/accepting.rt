@@ -18,10 +18,9 @@ use crate::state::State;
 use crate::validity::ticket_refusal;
 use ap_opening::{ApRefusal, ticket_terms};
 use cred_files::Principal;
-use krb_ap::read_ap_req;
 use krb_elements::Octets;
 use krb_fields::{ApOption, Moment};
-use krb_sealed::{Authenticator, EncTicketPart};
+use krb_types::{Authenticator, EncTicketPart, read_ap_req};
 use replay::Verdict;
 use std::alloc::{AllocError, Global};
 

@@ -1,6 +1,6 @@
 //! An acceptor of AP-REQ messages.
 ghost use Rattle.std.specs.Prelude.{◌≡◌, ◌↔◌, ◌-ℤ◌, pos, Some, IfOk, IfErr, IfSome};
-ghost use Rattle.krb_ap.specs.ApReq as trees;
+ghost use Rattle.krb_types.specs.ApReq as trees;
 ghost use Rattle.krb_fields.specs.Name.{Components};
 ghost use Rattle.ap_accept.specs.Accepts.{accepts, code_by, recorded_by, request_of, IsAfter, IsAnswer, IsCoded};
 ghost use Rattle.ap_accept.specs.Accepts.{IsParty, IsService};

@@ -4,8 +4,8 @@ ghost use Rattle.ap_accept.specs.Authenticators.{authenticator_rules, subkey_of}
 
 use ap_opening::{ApRefusal, is_mismatched, subkey_in};
 use enctypes::Key;
-use krb_sealed::{Authenticator, EncTicketPart};
-use refusals::decide;
+use krb_types::{Authenticator, EncTicketPart};
+use lists::decide;
 
 /// Returns the subkey of an authenticator, after checking that the authenticator matches the ticket.
 pub fn subkey_of(

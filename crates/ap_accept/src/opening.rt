@@ -11,11 +11,10 @@ use crate::presented::Presented;
 use ap_opening::{ApRefusal, Authenticated, authenticator_of, held_in, session_key_of};
 use cred_files::Keytab;
 use enctypes::KeyUsage;
-use krb_ap::ApReqRef;
 use krb_elements::{KerberosString, Seq};
 use krb_fields::{Name, NameRef};
-use krb_sealed::EncTicketPart;
-use refusals::Attempt;
+use krb_types::{ApReqRef, EncTicketPart};
+use lists::Attempt;
 use std::alloc::{AllocError, Global};
 
 /// Decrypts and checks what an AP-REQ presents, or returns the first rule that refuses it.

@@ -1,7 +1,7 @@
 //! The decrypted contents of an AP-REQ.
 use enctypes::Key;
 use krb_fields::Name;
-use krb_sealed::{Authenticator, EncTicketPart};
+use krb_types::{Authenticator, EncTicketPart};
 
 /// A ticket and an authenticator that match.
 #[derive(Drop)]

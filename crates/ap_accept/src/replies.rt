@@ -1,16 +1,15 @@
 //! The AP-REP, by which a service proves that it has the session key (RFC 4120, sections 3.2.4 and 5.5.2).
 ghost use Rattle.std.specs.Prelude.{◌≡◌, ◌<◌, ◌≤◌, ◌^◌, length, Some, IfOk, IfSome};
 ghost use Rattle.enctypes.specs.KeyUsage.{usage_number};
-ghost use Rattle.krb_ap.specs.ApRep.{ap_rep};
-ghost use Rattle.krb_sealed.specs.EncApRepPart.{enc_ap_rep_part};
+ghost use Rattle.krb_types.specs.ApRep.{ap_rep};
+ghost use Rattle.krb_types.specs.EncApRepPart.{enc_ap_rep_part};
 ghost use Rattle.sealed_parts.specs.Encrypted.{decrypted};
 ghost use Rattle.ap_accept.specs.Reply.{IsApReply, reply_if, reply_of, reply_part};
 
 use enctypes::{Key, KeyUsage};
-use krb_ap::{ApRep, encode_ap_rep};
 use krb_elements::Octets;
 use krb_fields::EncryptedData;
-use krb_sealed::{Authenticator, EncApRepPart};
+use krb_types::{ApRep, Authenticator, EncApRepPart, encode_ap_rep};
 use sealed_parts::seal_part;
 use std::alloc::{AllocError, Global};
 

@@ -4,7 +4,7 @@ use Rattle.std.specs.Prelude.{ℕ, Bool, not, ◌||◌, nat_eq, if◌then◌else
 use Rattle.std.specs.Prelude.{Result, option_map}
 use Rattle.std.specs.Ordering.{int_eq, eq_by_cmp}
 use Rattle.std.specs.Cmp.Lexicographic.{pointwise}
-use Rattle.refusals.specs.Refusals.{Rule, decided}
+use Rattle.lists.specs.Refusals.{Rule, decided}
 use Rattle.enctypes.specs.Etype.{number}
 use Rattle.enctypes.specs.KeyUsage.{usage_number}
 use Rattle.enctypes.specs.declared.key.Key.{Key}
@@ -13,8 +13,8 @@ use Rattle.krb_fields.specs.EncryptedData.{EncryptedData}
 use Rattle.krb_fields.specs.Name.{name_cmp}
 use Rattle.krb_fields.specs.PrincipalName.{Name}
 use Rattle.krb_fields.specs.Typed.{Typed}
-use Rattle.krb_sealed.specs.Authenticator.{Authenticator, authenticator}
-use Rattle.krb_sealed.specs.EncTicketPart.{EncTicketPart}
+use Rattle.krb_types.specs.Authenticator.{Authenticator, authenticator}
+use Rattle.krb_types.specs.EncTicketPart.{EncTicketPart}
 use Rattle.sealed_parts.specs.Keys.{key_of}
 use Rattle.sealed_parts.specs.Parts.{opened_as}
 use Rattle.ap_opening.specs.declared.refusal.ApRefusal.{ApRefusal}

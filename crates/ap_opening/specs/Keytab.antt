@@ -4,7 +4,7 @@ use Rattle.cred_files.specs.Keytab.{entry_for, newest, passes}
 use Rattle.cred_files.specs.declared.keytab_entry.KeytabEntry.{KeytabEntry}
 use Rattle.enctypes.specs.declared.key.Key.{Key}
 use Rattle.krb_fields.specs.Name.{Components}
-use Rattle.krb_messages.specs.Ticket.{Ticket}
+use Rattle.krb_types.specs.Ticket.{Ticket}
 use Rattle.sealed_parts.specs.Keys.{type_numbered}
 use Rattle.ap_opening.specs.HeldKey.{HeldKey}
 

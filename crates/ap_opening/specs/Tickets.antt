@@ -1,14 +1,14 @@
 -- The ticket of an AP-REQ (RFC 4120, section 3.2.3). Each rule has its section beside it.
 use Rattle.std.specs.Prelude.{ℕ, pos, Bool, not, ◌||◌, List, [], ◌∷◌, Option, Some, None, Result}
 use Rattle.std.specs.Ordering.{int_eq}
-use Rattle.refusals.specs.Refusals.{Rule, decided}
+use Rattle.lists.specs.Refusals.{Rule, decided}
 use Rattle.krb_elements.specs.Codec.{Codec}
 use Rattle.krb_fields.specs.ApOption.{ap_option_number}
 use Rattle.krb_fields.specs.EncryptedData.{EncryptedData}
 use Rattle.krb_fields.specs.Flags.{has_bit}
 use Rattle.krb_fields.specs.declared.ap_option.ApOption.TheVariants.{UseSessionKey}
-use Rattle.krb_ap.specs.ApReq.{ApReq}
-use Rattle.krb_sealed.specs.EncTicketPart.{EncTicketPart, enc_ticket_part}
+use Rattle.krb_types.specs.ApReq.{ApReq}
+use Rattle.krb_types.specs.EncTicketPart.{EncTicketPart, enc_ticket_part}
 use Rattle.enctypes.specs.KeyUsage.{usage_number}
 use Rattle.enctypes.specs.declared.key.Key.{Key}
 use Rattle.enctypes.specs.declared.key_usage.KeyUsage.TheVariants.{Ticket as TicketUsage}

@@ -1,7 +1,7 @@
 -- Whether a ticket is valid at a second, by its times (RFC 4120, section 3.2.3).
 use Rattle.std.specs.Prelude.{ℤ, pos, ◌+ℤ◌, ◌-ℤ◌, Bool, int_lt}
 use Rattle.krb_fields.specs.Skew.{skew}
-use Rattle.krb_sealed.specs.EncTicketPart.{EncTicketPart}
+use Rattle.krb_types.specs.EncTicketPart.{EncTicketPart}
 use Rattle.ticket_times.specs.TicketTerms.{start_of_ticket}
 use Rattle.ticket_times.specs.declared.ticket_terms.TicketTerms.{TicketTerms}
 

@@ -1,6 +1,6 @@
 //! The proof that comes with a ticket.
 use enctypes::Key;
-use krb_sealed::Authenticator;
+use krb_types::Authenticator;
 
 /// The proof that the sender of a ticket has its session key.
 #[derive(Debug, Drop)]

@@ -8,7 +8,7 @@ use crate::held_key::HeldKey;
 use cred_files::Keytab;
 use enctypes::Key;
 use krb_fields::Name;
-use krb_messages::TicketRef;
+use krb_types::TicketRef;
 use sealed_parts::type_numbered;
 
 /// Returns what the keytab holds for a ticket with this service.

@@ -4,8 +4,8 @@ ghost use Rattle.ap_opening.specs.Authenticators.{part_rules, session_key_of};
 
 use crate::refusal::ApRefusal;
 use enctypes::Key;
-use krb_sealed::EncTicketPart;
-use refusals::decide;
+use krb_types::EncTicketPart;
+use lists::decide;
 use sealed_parts::key_of;
 
 /// Returns the session key, after checking that the client is of this realm and that the ticket is bound to no address.

@@ -1,7 +1,7 @@
 //! The ticket of an AP-REQ (RFC 4120, section 3.2.3).
 ghost use Rattle.std.specs.Prelude.{◌≡◌, IfOk, IfSome, option_copied};
 ghost use Rattle.enctypes.specs.KeyUsage.{usage_number};
-ghost use Rattle.krb_sealed.specs.EncTicketPart.{enc_ticket_part};
+ghost use Rattle.krb_types.specs.EncTicketPart.{enc_ticket_part};
 ghost use Rattle.sealed_parts.specs.Parts.{IsSpelledWithin};
 ghost use Rattle.ap_opening.specs.Tickets.{is_other_version, opened_with, shown_ticket, ticket_rules};
 
@@ -9,11 +9,9 @@ use crate::held_key::{HeldKey, lacks_key, lacks_version};
 use crate::opening::open_by;
 use crate::refusal::ApRefusal;
 use enctypes::{Key, KeyUsage};
-use krb_ap::{AP_REQ, ApReqRef};
 use krb_fields::{ApOption, EncryptedDataRef};
-use krb_messages::PVNO;
-use krb_sealed::EncTicketPart;
-use refusals::{Attempt, decide};
+use krb_types::{AP_REQ, ApReqRef, EncTicketPart, PVNO};
+use lists::{Attempt, decide};
 use sealed_parts::ReadyKeys;
 use std::alloc::{AllocError, Global};
 

@@ -3,7 +3,7 @@ ghost use Rattle.std.specs.Prelude.{◌≡◌};
 ghost use Rattle.ap_opening.specs.Validity.{has_ended, has_not_started, ticket_terms};
 
 use krb_fields::{Moment, SKEW};
-use krb_sealed::EncTicketPart;
+use krb_types::EncTicketPart;
 use ticket_times::TicketTerms;
 
 /// Returns the flags and times of a ticket.

@@ -6,12 +6,12 @@ use Rattle.krb_elements.specs.Codec.{written}
 use Rattle.krb_fields.specs.PrincipalName.{Name}
 use Rattle.krb_fields.specs.Salt.{default_salt}
 use Rattle.krb_fields.specs.declared.moment.Moment.{Moment}
-use Rattle.krb_replies.specs.KdcRep.{KdcRep, kdc_rep}
-use Rattle.krb_sealed.specs.EncKdcRepPart.{EncKdcRepPart}
-use Rattle.krb_sealed.specs.EncTicketPart.{EncTicketPart}
-use Rattle.krb_messages.specs.KdcReq.{Received}
-use Rattle.krb_messages.specs.KrbError.{KrbError, krb_error}
-use Rattle.krb_messages.specs.ReqBody.{ReqBody}
+use Rattle.krb_types.specs.KdcRep.{KdcRep, kdc_rep}
+use Rattle.krb_types.specs.EncKdcRepPart.{EncKdcRepPart}
+use Rattle.krb_types.specs.EncTicketPart.{EncTicketPart}
+use Rattle.krb_types.specs.KdcReq.{Received}
+use Rattle.krb_types.specs.KrbError.{KrbError, krb_error}
+use Rattle.krb_types.specs.ReqBody.{ReqBody}
 use Rattle.kdc_replies.specs.ErrorReply.{error_reply, too_big}
 use Rattle.kdc_replies.specs.Grant.{reply_part, ticket_part}
 use Rattle.kdc_replies.specs.Incoming.{Incoming}
@@ -38,9 +38,9 @@ use Rattle.as_exchange.specs.declared.refusal.AsRefusal.TheVariants.{ServiceRevo
 use Rattle.as_exchange.specs.declared.refusal.AsRefusal.TheVariants.{NoCommonType}
 use Rattle.as_exchange.specs.declared.refusal.AsRefusal.TheVariants.{PreauthFailed, TimestampSkewed, PreauthRequired}
 use Rattle.as_exchange.specs.declared.refusal.AsRefusal.TheVariants.{PostdatingRefused, StartsTooLate, NeverValid}
-use Rattle.as_exchange.specs.declared.refusal.Sequel.{Sequel}
-use Rattle.as_exchange.specs.declared.refusal.Sequel.TheVariants.{Nothing, CountsFailure, SendsMethods}
-use Rattle.as_exchange.specs.declared.refusal.Sequel.TheVariants.{FollowsTimestamp}
+use Rattle.as_exchange.specs.declared.refusal.Effect.{Effect}
+use Rattle.as_exchange.specs.declared.refusal.Effect.TheVariants.{Nothing, CountsFailure, SendsMethods}
+use Rattle.as_exchange.specs.declared.refusal.Effect.TheVariants.{FollowsTimestamp}
 use Rattle.as_exchange.specs.declared.terms.Admission.{Admission}
 
 -- the bytes of the reply, and the client's failures afterwards; none if they don't change
@@ -49,7 +49,7 @@ pub record AsAnswer : Type 0 where
   pub failures : Option Failures
 
 -- what a refusal causes beside its error code
-abbrev pub sequel_of : AsRefusal → Sequel
+abbrev pub sequel_of : AsRefusal → Effect
 sequel_of BadVersion = Nothing
 sequel_of BadMessageType = Nothing
 sequel_of ClientUnknown = Nothing
@@ -76,7 +76,7 @@ abbrev pub after_timestamp : Failures → Outcome → Option Failures
 after_timestamp failures timestamp = if is_good timestamp then Some (after_success failures) else None
 
 -- a failure is counted; a good timestamp ends the count, even if a later rule refuses the request
-abbrev pub after_sequel : Failures → Moment → Outcome → Sequel → Option Failures
+abbrev pub after_sequel : Failures → Moment → Outcome → Effect → Option Failures
 after_sequel failures at timestamp Nothing = None
 after_sequel failures at timestamp CountsFailure = Some (after_failure failures at)
 after_sequel failures at timestamp SendsMethods = None
@@ -92,7 +92,7 @@ methods_for realm body (Some row) (Some name) =
 methods_for realm body (Some row) None = None
 methods_for realm body None name = None
 
-abbrev pub e_data_of : AsView → ReqBody → Sequel → Option (List ℕ)
+abbrev pub e_data_of : AsView → ReqBody → Effect → Option (List ℕ)
 e_data_of v body Nothing = None
 e_data_of v body CountsFailure = None
 e_data_of v body SendsMethods = methods_for v.realm body v.client body.cname

@@ -4,13 +4,13 @@ use Rattle.std.specs.Prelude.{IfOk}
 use Rattle.kdc_replies.specs.ServiceTerms.{current_keys, service_terms}
 use Rattle.kdc_replies.specs.ServiceTermsLaws.{found_terms}
 use Rattle.krb_fields.specs.PrincipalName.{Name}
-use Rattle.krb_messages.specs.KdcReq.{Received}
-use Rattle.krb_messages.specs.ReqBody.{ReqBody}
+use Rattle.krb_types.specs.KdcReq.{Received}
+use Rattle.krb_types.specs.ReqBody.{ReqBody}
 use Rattle.preauth.specs.Keys.{first_key}
 use Rattle.preauth.specs.declared.timestamp.Outcome.{Outcome}
 use Rattle.principal_rows.specs.declared.row.Row.{Row}
-use Rattle.refusals.specs.RefusalLaws.{decided_found}
-use Rattle.refusals.specs.Refusals.{Rule, decided}
+use Rattle.lists.specs.RefusalLaws.{decided_found}
+use Rattle.lists.specs.Refusals.{Rule, decided}
 use Rattle.ticket_times.specs.declared.times.Times.{Times}
 use Rattle.as_exchange.specs.View.{AsView}
 use Rattle.as_exchange.specs.Terms.{admission_of, terms, terms_if, terms_of, times_of}

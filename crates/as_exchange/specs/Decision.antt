@@ -1,7 +1,7 @@
 -- The decision about an AS-REQ. The reply, its encoding, the client's failures afterwards and the issued ticket all
 -- follow from it.
 use Rattle.std.specs.Prelude.{ℤ, ⊤, Result, Ok, Err}
-use Rattle.krb_messages.specs.KdcReq.{Received}
+use Rattle.krb_types.specs.KdcReq.{Received}
 use Rattle.preauth.specs.declared.timestamp.Outcome.{Outcome}
 use Rattle.as_exchange.specs.View.{AsView}
 use Rattle.as_exchange.specs.Rules.{timestamp_of, admitted}

@@ -1,6 +1,6 @@
 -- Tickets are issued only to names that have rows.
 use Rattle.std.proofs.Common.{◌≡◌, ℤ, Result, Ok, Err, IfOk, refl, sym, subst}
-use Rattle.krb_messages.specs.KdcReq.{Received}
+use Rattle.krb_types.specs.KdcReq.{Received}
 use Rattle.preauth.specs.declared.timestamp.Outcome.{Outcome}
 use Rattle.as_exchange.specs.View.{AsView}
 use Rattle.as_exchange.specs.Known.{IsKnown}

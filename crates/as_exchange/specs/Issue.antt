@@ -9,8 +9,8 @@ use Rattle.kdc_replies.specs.declared.replies.ReplyKey.{ReplyKey}
 use Rattle.krb_fields.specs.PaData.{PaData}
 use Rattle.krb_fields.specs.Salt.{default_salt}
 use Rattle.krb_fields.specs.declared.moment.Moment.{Moment}
-use Rattle.krb_replies.specs.KdcRep.{KdcRep}
-use Rattle.krb_messages.specs.ReqBody.{ReqBody}
+use Rattle.krb_types.specs.KdcRep.{KdcRep}
+use Rattle.krb_types.specs.ReqBody.{ReqBody}
 use Rattle.preauth.specs.MethodData.{etype_info2}
 use Rattle.ticket_times.specs.Flags.{as_flags}
 use Rattle.as_exchange.specs.View.{AsView}

@@ -2,9 +2,9 @@
 use Rattle.std.specs.Prelude.{ℕ, List, [], ◌∷◌, Option, Some, None}
 use Rattle.kdc_replies.specs.Issue.{Issue}
 use Rattle.krb_fields.specs.declared.moment.Moment.{Moment}
-use Rattle.krb_messages.specs.KdcReq.{Received}
-use Rattle.krb_messages.specs.ReqBody.{ReqBody}
-use Rattle.krb_messages.specs.declared.kdc_req.Exchange.TheVariants.{As}
+use Rattle.krb_types.specs.KdcReq.{Received}
+use Rattle.krb_types.specs.ReqBody.{ReqBody}
+use Rattle.krb_types.specs.declared.kdc_req.Exchange.TheVariants.{As}
 use Rattle.as_exchange.specs.View.{AsView}
 use Rattle.as_exchange.specs.Issue.{grant_by, reply_info, reply_key_of}
 use Rattle.as_exchange.specs.Decision.{decision}

@@ -4,8 +4,8 @@ use Rattle.std.specs.Option.{unwrap_or}
 use Rattle.kdc_replies.specs.GrantLaws.{session_key_size}
 use Rattle.kdc_replies.specs.Issue.{Issue, IsIssuedOrError}
 use Rattle.krb_fields.specs.declared.moment.Moment.{Moment}
-use Rattle.krb_messages.specs.KdcReq.{Received}
-use Rattle.krb_messages.specs.ReqBody.{ReqBody}
+use Rattle.krb_types.specs.KdcReq.{Received}
+use Rattle.krb_types.specs.ReqBody.{ReqBody}
 use Rattle.as_exchange.specs.View.{AsView}
 use Rattle.as_exchange.specs.Answer.{Opens, OpensBy, Sent, SentBy, Spelled, SpelledBy}
 use Rattle.as_exchange.specs.Decision.{decision}

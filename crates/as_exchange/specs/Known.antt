@@ -9,7 +9,7 @@ use Rattle.krb_fields.specs.NameLimits.{IsComponent, IsWithinLimits}
 use Rattle.krb_fields.specs.NameLimitsLaws.{component_facts, name_facts}
 use Rattle.krb_fields.specs.PrincipalName.{name}
 use Rattle.krb_fields.specs.Salt.{default_salt}
-use Rattle.krb_messages.specs.ReqBody.{ReqBody}
+use Rattle.krb_types.specs.ReqBody.{ReqBody}
 use Rattle.as_exchange.specs.View.{AsView}
 
 -- the realm is short, names that have rows are within the limits, and so is the text of the service's name

@@ -12,14 +12,14 @@ use Rattle.krb_elements.specs.Codec.{list_of}
 use Rattle.krb_fields.specs.NameLimits.{IsWithinLimits}
 use Rattle.krb_fields.specs.PaData.{PaData, pa_data, pa_data_form}
 use Rattle.krb_fields.specs.PrincipalName.{Name}
-use Rattle.krb_messages.specs.ReqBody.{ReqBody}
+use Rattle.krb_types.specs.ReqBody.{ReqBody}
 use Rattle.preauth.specs.KeyLaws.{current_found, first_found}
 use Rattle.preauth.specs.Keys.{first_key, key_by, key_named}
 use Rattle.preauth.specs.declared.timestamp.Outcome.{Outcome}
 use Rattle.principal_rows.specs.Versions.{current}
 use Rattle.principal_rows.specs.declared.row.Row.{Row}
-use Rattle.refusals.specs.RefusalLaws.{decided_found}
-use Rattle.refusals.specs.Refusals.{Rule, decided}
+use Rattle.lists.specs.RefusalLaws.{decided_found}
+use Rattle.lists.specs.Refusals.{Rule, decided}
 use Rattle.ticket_times.specs.declared.times.Times.{Times}
 use Rattle.as_exchange.specs.View.{AsView}
 use Rattle.as_exchange.specs.Known.{IsKnown}

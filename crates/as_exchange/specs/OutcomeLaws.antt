@@ -3,8 +3,8 @@ use Rattle.std.proofs.Common.{◌≤◌, ℕ, List, length, refl}
 use Rattle.kdc_replies.specs.ErrorReply.{too_big}
 use Rattle.kdc_replies.specs.GrantLaws.{session_key_size}
 use Rattle.krb_fields.specs.declared.moment.Moment.{Moment}
-use Rattle.krb_messages.specs.KdcReq.{Received}
-use Rattle.krb_messages.specs.ReqBody.{ReqBody}
+use Rattle.krb_types.specs.KdcReq.{Received}
+use Rattle.krb_types.specs.ReqBody.{ReqBody}
 use Rattle.as_exchange.specs.View.{AsView}
 use Rattle.as_exchange.specs.Answer.{Opens, OpensBy, as_error}
 use Rattle.as_exchange.specs.Decision.{IfIssued, decision}

@@ -4,15 +4,15 @@ use Rattle.std.specs.Prelude.{ℤ, pos, Bool, true, false, not, ◌&&◌, ◌||�
 use Rattle.std.specs.Prelude.{Some, None, Result, option_map}
 use Rattle.std.specs.Ordering.{int_eq}
 use Rattle.std.specs.Cmp.Lexicographic.{pointwise}
-use Rattle.refusals.specs.Optional.{holds_of}
-use Rattle.refusals.specs.Refusals.{Rule, decided}
+use Rattle.lists.specs.Optional.{holds_of}
+use Rattle.lists.specs.Refusals.{Rule, decided}
 use Rattle.kdc_replies.specs.Standing.{denies_tickets, has_come, is_disabled, is_expired}
 use Rattle.krb_fields.specs.declared.code.Code.{Code}
 use Rattle.krb_fields.specs.declared.code.Code as codes
 use Rattle.krb_fields.specs.declared.kdc_option.KdcOption.TheVariants.{Forwarded, Proxy, AllowPostdate, Postdated}
 use Rattle.krb_fields.specs.declared.kdc_option.KdcOption.TheVariants.{EncTktInSkey, Renew, Validate}
-use Rattle.krb_messages.specs.KdcReq.{Received}
-use Rattle.krb_messages.specs.ReqBody.{ReqBody}
+use Rattle.krb_types.specs.KdcReq.{Received}
+use Rattle.krb_types.specs.ReqBody.{ReqBody}
 use Rattle.preauth.specs.Lock.{is_locked}
 use Rattle.preauth.specs.Timestamp.{outcome}
 use Rattle.preauth.specs.declared.timestamp.Outcome.{Outcome}

@@ -7,9 +7,9 @@ use Rattle.kdc_replies.specs.GoodStanding.{AreInGoodStanding}
 use Rattle.kdc_replies.specs.GoodStandingLaws.{in_good_standing}
 use Rattle.krb_fields.specs.Name.{Components}
 use Rattle.krb_fields.specs.declared.moment.Moment.{Moment}
-use Rattle.krb_messages.specs.KdcReq.{Received}
+use Rattle.krb_types.specs.KdcReq.{Received}
 use Rattle.preauth.specs.declared.timestamp.Outcome.{Outcome}
-use Rattle.refusals.specs.ClearLaws.{AreClear, decided_clear}
+use Rattle.lists.specs.ClearLaws.{AreClear, decided_clear}
 use Rattle.ticket_times.specs.declared.times.Times.{Times}
 use Rattle.as_exchange.specs.View.{AsView}
 use Rattle.as_exchange.specs.Terms.{admission_of, terms, times_of}

@@ -4,7 +4,7 @@ use Rattle.enctypes.specs.declared.key.Key.{Key}
 use Rattle.kdc_replies.specs.ServiceTerms.{current_keys, service_terms}
 use Rattle.kdc_replies.specs.declared.services.ServiceTerms.{ServiceTerms}
 use Rattle.krb_fields.specs.PrincipalName.{Name}
-use Rattle.krb_messages.specs.ReqBody.{ReqBody}
+use Rattle.krb_types.specs.ReqBody.{ReqBody}
 use Rattle.preauth.specs.Keys.{first_key}
 use Rattle.preauth.specs.declared.timestamp.Outcome.{Outcome}
 use Rattle.principal_rows.specs.Versions.{current}

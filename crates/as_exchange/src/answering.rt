@@ -1,7 +1,7 @@
 //! Answers an AS-REQ: the reply, the outcome, and the client's failures afterwards.
 ghost use Rattle.std.specs.Prelude.{◌≡◌, ℕ, List, None, IfOk};
 ghost use Rattle.kdc_replies.specs.ErrorReply.{too_big};
-ghost use Rattle.krb_messages.specs.KrbError.{krb_error};
+ghost use Rattle.krb_types.specs.KrbError.{krb_error};
 ghost use Rattle.as_exchange.specs.Answer.{after_timestamp, after_sequel, answer_by, as_answer, as_error, refused};
 ghost use Rattle.as_exchange.specs.Answer.{refused_room};
 ghost use Rattle.as_exchange.specs.Answer.{Opens, OpensBy, Spelled, SpelledBy};
@@ -17,13 +17,13 @@ use crate::decision::Decision;
 use crate::errors::as_error;
 use crate::issuing::{as_rep, granted_of};
 use crate::outcome::AsOutcome;
-use crate::refusal::{AsRefusal, Sequel};
+use crate::refusal::{AsRefusal, Effect};
 use crate::rules::is_good;
 use crate::terms::Admission;
 use crate::view::AsView;
 use kdc_replies::{Incoming, too_big};
 use krb_fields::Moment;
-use krb_messages::{KdcReqRef, ReqBodyRef};
+use krb_types::{KdcReqRef, ReqBodyRef};
 use preauth::{Outcome, after_failure, after_success};
 use replay::Failures;
 use std::alloc::{AllocError, Global};
@@ -118,7 +118,7 @@ fn refused(
     Ok(AsAnswer {
         reply: as_error(alloc, view, at, body, refusal)?,
         outcome: AsOutcome::Refused(refusal),
-        failures: after_sequel(view.current_failures(), at, timestamp, refusal.sequel()),
+        failures: after_sequel(view.current_failures(), at, timestamp, refusal.effect()),
     })
 }
 
@@ -185,14 +185,14 @@ fn after_sequel(
     failures: Failures,
     at: Moment,
     timestamp: Outcome,
-    sequel: Sequel,
+    effect: Effect,
 ) -> Option<Failures>
-    ensures { result ≡ after_sequel failures at timestamp sequel }
+    ensures { result ≡ after_sequel failures at timestamp effect }
 {
-    match sequel {
-        Sequel::CountsFailure => Some(after_failure(failures, at)),
-        Sequel::FollowsTimestamp => after_timestamp(failures, timestamp),
-        Sequel::Nothing | Sequel::SendsMethods => None,
+    match effect {
+        Effect::CountsFailure => Some(after_failure(failures, at)),
+        Effect::FollowsTimestamp => after_timestamp(failures, timestamp),
+        Effect::Nothing | Effect::SendsMethods => None,
     }
 }
 

@@ -8,7 +8,7 @@ use crate::rules::{admitted, timestamp_of};
 use crate::terms::{Admission, terms_for};
 use crate::view::AsView;
 use kdc_replies::Incoming;
-use krb_messages::KdcReqRef;
+use krb_types::KdcReqRef;
 use preauth::Outcome;
 use std::alloc::{AllocError, Global};
 

@@ -3,16 +3,16 @@ ghost use Rattle.std.specs.Prelude.{◌≡◌, ◌<◌, ◌≤◌, length, None,
 ghost use Rattle.krb_elements.specs.Codec.{written};
 ghost use Rattle.krb_fields.specs.NameLimits.{IsWithinLimits};
 ghost use Rattle.krb_fields.specs.Salt.{default_salt};
-ghost use Rattle.krb_messages.specs.KrbError.{krb_error};
+ghost use Rattle.krb_types.specs.KrbError.{krb_error};
 ghost use Rattle.as_exchange.specs.Answer.{as_error, e_data_of, methods_for};
 ghost use Rattle.as_exchange.specs.Known.{IsKnown};
 
-use crate::refusal::{AsRefusal, Sequel};
+use crate::refusal::{AsRefusal, Effect};
 use crate::view::AsView;
 use kdc_replies::error_reply;
 use krb_elements::{KerberosString, Octets};
 use krb_fields::{Moment, NameRef};
-use krb_messages::ReqBodyRef;
+use krb_types::ReqBodyRef;
 use preauth::{method_data, types_of};
 use principal_rows::Row;
 use std::alloc::{AllocError, Global};
@@ -29,7 +29,7 @@ pub fn as_error(
     ensures written { IfOk result (λ octets. octets.items ≡ written krb_error (as_error view.now at body.now refusal)) }
     ensures spelled { IfOk result (λ octets. krb_error.Spells (as_error view.now at body.now refusal) octets.items) }
 {
-    let e_data = e_data_of(alloc, view, body, refusal.sequel())?;
+    let e_data = e_data_of(alloc, view, body, refusal.effect())?;
     error_reply(
         alloc,
         view.realm,
@@ -44,14 +44,14 @@ fn e_data_of(
     alloc: Global,
     view: &AsView<'_>,
     body: &ReqBodyRef<'_>,
-    sequel: Sequel,
+    effect: Effect,
 ) -> Result<Option<Octets>, AllocError>
     requires { IsKnown view.now body.now }
-    ensures value { IfOk result (λ found. found ≡ e_data_of view.now body.now sequel) }
+    ensures value { IfOk result (λ found. found ≡ e_data_of view.now body.now effect) }
     ensures short { IfOk result (λ found. IfSome found (λ octets. length octets ≤ 65535)) }
 {
-    match sequel {
-        Sequel::SendsMethods => methods_for(alloc, view, body),
+    match effect {
+        Effect::SendsMethods => methods_for(alloc, view, body),
         _ => Ok(None),
     }
 }

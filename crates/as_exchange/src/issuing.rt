@@ -3,7 +3,7 @@ ghost use Rattle.std.specs.Prelude.{◌≡◌, ◌≤◌, ◌∷◌, [], length,
 ghost use Rattle.krb_elements.specs.Codec.{list_of, written};
 ghost use Rattle.krb_fields.specs.NameLimits.{IsWithinLimits};
 ghost use Rattle.krb_fields.specs.PaData.{pa_data};
-ghost use Rattle.krb_replies.specs.KdcRep.{kdc_rep};
+ghost use Rattle.krb_types.specs.KdcRep.{kdc_rep};
 ghost use Rattle.kdc_replies.specs.Grant.{IsShort};
 ghost use Rattle.ticket_times.specs.Flags.{as_flags};
 ghost use Rattle.as_exchange.specs.Answer.{OpensFor};
@@ -21,8 +21,7 @@ use kdc_replies::{
 };
 use krb_elements::{KerberosStringRef, Lent, Seq};
 use krb_fields::{Flags, Moment, PaData};
-use krb_messages::ReqBodyRef;
-use krb_replies::{AS_REP, ENC_AS_REP_PART};
+use krb_types::{AS_REP, ENC_AS_REP_PART, ReqBodyRef};
 use preauth::etype_info2;
 use std::alloc::{AllocError, Global};
 use ticket_times::as_flags;

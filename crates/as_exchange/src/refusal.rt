@@ -31,7 +31,7 @@ pub enum AsRefusal {
 
 /// What a refusal causes beside its error code.
 #[derive(Clone, Copy, PartialEq, Eq)]
-pub enum Sequel {
+pub enum Effect {
     Nothing,
     /// Counts a failure of the client.
     CountsFailure,
@@ -69,16 +69,16 @@ impl AsRefusal {
     }
 
     /// Returns what it causes beside its error code.
-    pub fn sequel(self) -> Sequel
+    pub fn effect(self) -> Effect
         ensures { result ≡ sequel_of self }
     {
         match self {
-            AsRefusal::PreauthFailed => Sequel::CountsFailure,
-            AsRefusal::PreauthRequired => Sequel::SendsMethods,
+            AsRefusal::PreauthFailed => Effect::CountsFailure,
+            AsRefusal::PreauthRequired => Effect::SendsMethods,
             AsRefusal::PostdatingRefused | AsRefusal::StartsTooLate | AsRefusal::NeverValid => {
-                Sequel::FollowsTimestamp
+                Effect::FollowsTimestamp
             }
-            _ => Sequel::Nothing,
+            _ => Effect::Nothing,
         }
     }
 }

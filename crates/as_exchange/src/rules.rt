@@ -12,10 +12,10 @@ use crate::terms::{Admission, Terms, admission_of, times_of};
 use crate::view::AsView;
 use kdc_replies::{Incoming, denies_tickets, has_come, is_disabled, is_expired};
 use krb_fields::{KdcOption, Moment};
-use krb_messages::{AS_REQ, KdcReqRef, PVNO, ReqBodyRef};
+use krb_types::{AS_REQ, KdcReqRef, PVNO, ReqBodyRef};
+use lists::decide;
 use preauth::{Outcome, check_timestamp, is_locked};
 use principal_rows::Row;
-use refusals::decide;
 use std::alloc::{AllocError, Global};
 use ticket_times::{Times, asks, starts_too_late};
 

@@ -7,7 +7,7 @@ use enctypes::Key;
 use kdc_replies::{ServiceTerms, service_terms};
 use krb_elements::SeqRef;
 use krb_fields::{Moment, Name, NameRef};
-use krb_messages::ReqBodyRef;
+use krb_types::ReqBodyRef;
 use preauth::{Outcome, first_key};
 use principal_rows::{Limits, Policy, Row};
 use std::alloc::{AllocError, Global};

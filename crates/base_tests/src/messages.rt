@@ -1,4 +1,4 @@
-//! Tests of the crates of messages, `krb_der` to `krb_ap`. The values come from elsewhere, such as the standards or
+//! Tests of the crates of messages, `krb_der` to `krb_types`. The values come from elsewhere, such as the standards or
 //! another encoder.
 
 mod der;

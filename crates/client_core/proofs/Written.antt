@@ -4,16 +4,16 @@ use Rattle.cred_files.specs.declared.principal.Principal.{Principal}
 use Rattle.enctypes.specs.KeyUsage.{usage_number}
 use Rattle.enctypes.specs.declared.key.Key.{Key}
 use Rattle.enctypes.specs.declared.key_usage.KeyUsage.TheVariants.{ApReqAuthenticator}
-use Rattle.krb_ap.specs.ApReq.{ApReq, ap_req}
+use Rattle.krb_types.specs.ApReq.{ApReq, ap_req}
 use Rattle.krb_elements.specs.Codec.{written}
 use Rattle.krb_fields.specs.PaData.{PaData}
 use Rattle.krb_fields.specs.PrincipalName.{Name}
 use Rattle.krb_fields.specs.declared.moment.Moment.{Moment}
-use Rattle.krb_sealed.specs.Authenticator.{Authenticator}
-use Rattle.krb_messages.specs.KdcReq.{KdcReq, request_type}
-use Rattle.krb_messages.specs.ReqBody.{ReqBody}
-use Rattle.krb_messages.specs.declared.kdc_req.Exchange.{Exchange}
-use Rattle.krb_messages.specs.declared.kdc_req.Exchange.TheVariants.{As, Tgs}
+use Rattle.krb_types.specs.Authenticator.{Authenticator}
+use Rattle.krb_types.specs.KdcReq.{KdcReq, request_type}
+use Rattle.krb_types.specs.ReqBody.{ReqBody}
+use Rattle.krb_types.specs.declared.kdc_req.Exchange.{Exchange}
+use Rattle.krb_types.specs.declared.kdc_req.Exchange.TheVariants.{As, Tgs}
 use Rattle.client_core.proofs.Results.{respelled}
 use Rattle.client_core.specs.Presenting.{presents}
 use Rattle.client_core.specs.Requests.{asks_as, asks_tgs, body_of, request_of, tgs_data}

@@ -11,9 +11,9 @@ use Rattle.cred_files.specs.declared.credential.Times.{Times}
 use Rattle.cred_files.specs.declared.credential.TypedOctets.{TypedOctets}
 use Rattle.krb_elements.specs.Codec.{written}
 use Rattle.krb_fields.specs.Typed.{Typed}
-use Rattle.krb_sealed.specs.EncKdcRepPart.{EncKdcRepPart}
-use Rattle.krb_replies.specs.KdcRep.{KdcRep}
-use Rattle.krb_messages.specs.Ticket.{ticket}
+use Rattle.krb_types.specs.EncKdcRepPart.{EncKdcRepPart}
+use Rattle.krb_types.specs.KdcRep.{KdcRep}
+use Rattle.krb_types.specs.Ticket.{ticket}
 
 -- ---- the type of a key or of an address, for which a credential has 16 bits
 

@@ -2,10 +2,10 @@
 use Rattle.std.specs.Prelude.{ℕ, ℤ, pos, ◌≤◌, IfSome, List, length, Option, Some, None}
 use Rattle.cred_files.specs.declared.principal.Principal.{Principal}
 use Rattle.enctypes.specs.declared.key.Key.{Key}
-use Rattle.krb_ap.specs.ApReq.{ApReq}
+use Rattle.krb_types.specs.ApReq.{ApReq}
 use Rattle.krb_fields.specs.Typed.{Typed}
 use Rattle.krb_fields.specs.declared.moment.Moment.{Moment}
-use Rattle.krb_sealed.specs.Authenticator.{Authenticator, authenticator}
+use Rattle.krb_types.specs.Authenticator.{Authenticator, authenticator}
 use Rattle.sealed_parts.specs.Encrypted.{encrypted}
 use Rattle.sealed_parts.specs.Keys.{key_part}
 use Rattle.client_core.specs.declared.sessions.Session.{Session}

@@ -3,8 +3,8 @@ use Rattle.std.specs.Prelude.{ℕ, ℤ, pos, ◌-ℤ◌, unsigned_abs, int_lt, n
 use Rattle.std.specs.Prelude.{if◌then◌else◌, List, [], ◌∷◌, Option, Some, None, Result, Ok, Err}
 use Rattle.std.specs.Ordering.{int_eq, eq_by_cmp}
 use Rattle.std.specs.Cmp.Lexicographic.{pointwise}
-use Rattle.refusals.specs.Optional.{holds_of}
-use Rattle.refusals.specs.Refusals.{Rule, decided, unless_found}
+use Rattle.lists.specs.Optional.{holds_of}
+use Rattle.lists.specs.Refusals.{Rule, decided, unless_found}
 use Rattle.cred_files.specs.declared.credential.Credential.{Credential}
 use Rattle.enctypes.specs.Etype.{number}
 use Rattle.enctypes.specs.KeyUsage.{usage_number}
@@ -20,11 +20,11 @@ use Rattle.krb_fields.specs.declared.kdc_option.KdcOption.TheVariants.{Postdated
 use Rattle.krb_fields.specs.Name.{name_cmp}
 use Rattle.krb_fields.specs.PrincipalName.{Name}
 use Rattle.krb_fields.specs.Skew.{skew}
-use Rattle.krb_sealed.specs.EncKdcRepPart.{EncKdcRepPart, enc_kdc_rep_part}
-use Rattle.krb_replies.specs.KdcRep.{KdcRep, kdc_rep}
-use Rattle.krb_replies.specs.Under.{under}
-use Rattle.krb_messages.specs.KrbError.{KrbError, krb_error}
-use Rattle.krb_messages.specs.Ticket.{Ticket}
+use Rattle.krb_types.specs.EncKdcRepPart.{EncKdcRepPart, enc_kdc_rep_part}
+use Rattle.krb_types.specs.KdcRep.{KdcRep, kdc_rep}
+use Rattle.krb_types.specs.Under.{under}
+use Rattle.krb_types.specs.KrbError.{KrbError, krb_error}
+use Rattle.krb_types.specs.Ticket.{Ticket}
 use Rattle.sealed_parts.specs.Encrypted.{decrypted}
 use Rattle.sealed_parts.specs.Parts.{ok_of}
 use Rattle.client_core.specs.declared.asked.Asked.{Asked}

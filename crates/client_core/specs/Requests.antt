@@ -7,19 +7,19 @@ use Rattle.enctypes.specs.declared.key_usage.KeyUsage.TheVariants.{TgsReqAuthent
 use Rattle.enctypes.specs.Etype.{number, checksum_type}
 use Rattle.enctypes.specs.KeyUsage.{usage_number}
 use Rattle.enctypes.specs.Sealing.{mac}
-use Rattle.krb_ap.specs.ApReq.{ApReq, ap_req}
+use Rattle.krb_types.specs.ApReq.{ApReq, ap_req}
 use Rattle.krb_elements.specs.Codec.{written}
 use Rattle.krb_fields.specs.EncryptedData.{EncryptedData, encrypted_data}
 use Rattle.krb_fields.specs.PaData.{PaData}
 use Rattle.krb_fields.specs.PrincipalName.{Name}
 use Rattle.krb_fields.specs.Typed.{Typed}
 use Rattle.krb_fields.specs.declared.moment.Moment.{Moment}
-use Rattle.krb_sealed.specs.Authenticator.{Authenticator}
-use Rattle.krb_sealed.specs.PaEncTsEnc.{PaEncTsEnc, pa_enc_ts_enc}
-use Rattle.krb_messages.specs.KdcReq.{KdcReq, request_type}
-use Rattle.krb_messages.specs.ReqBody.{ReqBody, req_body}
-use Rattle.krb_messages.specs.declared.kdc_req.Exchange.{Exchange}
-use Rattle.krb_messages.specs.declared.kdc_req.Exchange.TheVariants.{As, Tgs}
+use Rattle.krb_types.specs.Authenticator.{Authenticator}
+use Rattle.krb_types.specs.PaEncTsEnc.{PaEncTsEnc, pa_enc_ts_enc}
+use Rattle.krb_types.specs.KdcReq.{KdcReq, request_type}
+use Rattle.krb_types.specs.ReqBody.{ReqBody, req_body}
+use Rattle.krb_types.specs.declared.kdc_req.Exchange.{Exchange}
+use Rattle.krb_types.specs.declared.kdc_req.Exchange.TheVariants.{As, Tgs}
 use Rattle.sealed_parts.specs.Encrypted.{encrypted}
 use Rattle.client_core.specs.declared.asked.Asked.{Asked}
 use Rattle.client_core.specs.Presenting.{authenticator_of, presents}

@@ -3,12 +3,12 @@ use Rattle.std.specs.Prelude.{ℕ, Bool, if◌then◌else◌, List}
 use Rattle.cred_files.specs.declared.principal.Principal.{Principal}
 use Rattle.enctypes.specs.KeyUsage.{usage_number}
 use Rattle.enctypes.specs.declared.key_usage.KeyUsage.TheVariants.{ApReqAuthenticator}
-use Rattle.krb_ap.specs.ApReq.{ApReq}
+use Rattle.krb_types.specs.ApReq.{ApReq}
 use Rattle.krb_fields.specs.ApOption.{ap_option_number}
 use Rattle.krb_fields.specs.declared.ap_option.ApOption.TheVariants.{MutualRequired}
 use Rattle.krb_fields.specs.Flags.{with_bit}
 use Rattle.krb_fields.specs.declared.moment.Moment.{Moment}
-use Rattle.krb_sealed.specs.Authenticator.{Authenticator}
+use Rattle.krb_types.specs.Authenticator.{Authenticator}
 use Rattle.client_core.specs.declared.service_asked.ServiceAsked.{ServiceAsked}
 use Rattle.client_core.specs.Presenting.{authenticator_of, presents}
 use Rattle.client_core.specs.declared.sessions.Session.{Session}

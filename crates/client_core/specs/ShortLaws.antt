@@ -6,7 +6,7 @@ use Rattle.std.proofs.lemmas.Bool.{leb-true}
 use Rattle.cred_files.specs.declared.credential.Credential.{Credential}
 use Rattle.enctypes.specs.Etype.{number}
 use Rattle.enctypes.specs.declared.etype.Etype.{Etype}
-use Rattle.krb_ap.specs.ApReq.{ApReq, ap_req, ap_req_of, ap_req_form}
+use Rattle.krb_types.specs.ApReq.{ApReq, ap_req, ap_req_of, ap_req_form}
 use Rattle.krb_elements.specs.Codec.{list_of, measured, written}
 use Rattle.krb_elements.specs.ShortTextLaws.{tlv_short}
 use Rattle.krb_elements.specs.TextLengthLaws.{most_items, most_maybe}
@@ -17,12 +17,12 @@ use Rattle.krb_fields.specs.NameLimitsLaws.{component_facts}
 use Rattle.krb_fields.specs.PaData.{PaData, pa_data, pa_data_form}
 use Rattle.krb_fields.specs.PrincipalName.{Name, name}
 use Rattle.krb_fields.specs.Typed.{Typed, typed, typed_form}
-use Rattle.krb_sealed.specs.Authenticator.{Authenticator, authenticator, authenticator_form}
-use Rattle.krb_sealed.specs.PaEncTsEnc.{PaEncTsEnc, pa_enc_ts_enc, pa_enc_ts_enc_form}
-use Rattle.krb_messages.specs.KdcReq.{kdc_req_form, message}
-use Rattle.krb_messages.specs.ReqBody.{ReqBody, req_body, req_body_form}
-use Rattle.krb_messages.specs.Ticket.{ticket}
-use Rattle.krb_messages.specs.declared.kdc_req.Exchange.{Exchange}
+use Rattle.krb_types.specs.Authenticator.{Authenticator, authenticator, authenticator_form}
+use Rattle.krb_types.specs.PaEncTsEnc.{PaEncTsEnc, pa_enc_ts_enc, pa_enc_ts_enc_form}
+use Rattle.krb_types.specs.KdcReq.{kdc_req_form, message}
+use Rattle.krb_types.specs.ReqBody.{ReqBody, req_body, req_body_form}
+use Rattle.krb_types.specs.Ticket.{ticket}
+use Rattle.krb_types.specs.declared.kdc_req.Exchange.{Exchange}
 use Rattle.client_core.specs.declared.asked.Asked.{Asked}
 use Rattle.client_core.specs.Asked.{IsAskable}
 use Rattle.client_core.specs.Presenting.{IsShortChecksum}

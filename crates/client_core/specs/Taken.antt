@@ -5,8 +5,8 @@ use Rattle.cred_files.specs.declared.credential.Credential.{Credential}
 use Rattle.enctypes.specs.declared.key.Key.{Key}
 use Rattle.krb_elements.specs.Format.{whole}
 use Rattle.krb_fields.specs.PrincipalName.{Name}
-use Rattle.krb_sealed.specs.EncKdcRepPart.{EncKdcRepPart}
-use Rattle.krb_replies.specs.KdcRep.{KdcRep, kdc_rep}
+use Rattle.krb_types.specs.EncKdcRepPart.{EncKdcRepPart}
+use Rattle.krb_types.specs.KdcRep.{KdcRep, kdc_rep}
 use Rattle.client_core.specs.declared.asked.Asked.{Asked}
 use Rattle.client_core.specs.declared.key_role.KeyRole.{KeyRole}
 use Rattle.client_core.specs.Credentials.{credential_of}

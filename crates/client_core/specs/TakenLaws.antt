@@ -12,11 +12,11 @@ use Rattle.krb_der.specs.declared.fault.DerFault.{DerFault}
 use Rattle.krb_elements.specs.Format.{whole}
 use Rattle.krb_fields.specs.Name.{name_cmp, same_name}
 use Rattle.krb_fields.specs.PrincipalName.{Name}
-use Rattle.krb_sealed.specs.EncKdcRepPart.{EncKdcRepPart}
-use Rattle.krb_replies.specs.KdcRep.{KdcRep, kdc_rep}
-use Rattle.refusals.specs.ClearLaws.{decided_clear}
-use Rattle.refusals.specs.RefusalLaws.{decided_found}
-use Rattle.refusals.specs.Refusals.{unless_found}
+use Rattle.krb_types.specs.EncKdcRepPart.{EncKdcRepPart}
+use Rattle.krb_types.specs.KdcRep.{KdcRep, kdc_rep}
+use Rattle.lists.specs.ClearLaws.{decided_clear}
+use Rattle.lists.specs.RefusalLaws.{decided_found}
+use Rattle.lists.specs.Refusals.{unless_found}
 use Rattle.sealed_parts.specs.Parts.{ok_of}
 use Rattle.client_core.specs.declared.asked.Asked.{Asked}
 use Rattle.client_core.specs.declared.fault.ClientFault.{ClientFault}

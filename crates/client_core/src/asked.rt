@@ -1,7 +1,7 @@
 //! What a client requests from a KDC (RFC 4120, section 5.4.1).
 ghost use Rattle.std.specs.Prelude.{◌≡◌, ◌≤◌, IfOk, map};
 ghost use Rattle.enctypes.specs.Etype.{number};
-ghost use Rattle.krb_messages.specs.ReqBody.{req_body};
+ghost use Rattle.krb_types.specs.ReqBody.{req_body};
 ghost use Rattle.client_core.specs.Asked.{IsAskable, is_askable};
 ghost use Rattle.client_core.specs.Requests.{body_of};
 ghost use Rattle.client_core.specs.ShortLaws.{IsShortName};
@@ -10,7 +10,7 @@ use enctypes::Etype;
 use krb_der::KTime;
 use krb_elements::{KerberosString, Seq, UInt32};
 use krb_fields::{Flags, Name, is_component};
-use krb_messages::ReqBody;
+use krb_types::ReqBody;
 use std::alloc::{AllocError, Global};
 
 /// The most encryption types in a request.

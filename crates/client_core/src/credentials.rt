@@ -2,7 +2,7 @@
 ghost use Rattle.std.specs.Prelude.{◌≡◌, ◌<◌, ◌^◌, length, IfOk, map};
 ghost use Rattle.std.specs.List.{list_all};
 ghost use Rattle.krb_elements.specs.Codec.{written};
-ghost use Rattle.krb_messages.specs.Ticket.{ticket};
+ghost use Rattle.krb_types.specs.Ticket.{ticket};
 ghost use Rattle.client_core.specs.Credentials.{address_of, addresses_of, are_short_types, credential_in};
 ghost use Rattle.client_core.specs.Credentials.{credential_of, has_16_bits, has_room, in_16_bits, is_short_type};
 ghost use Rattle.client_core.specs.Credentials.{key_of, parties_of, times_of};
@@ -11,9 +11,7 @@ use cred_files::{Credential, Principal, SessionKey, Times, TypedOctets};
 use krb_der::KTime;
 use krb_elements::{KerberosString, Octets, Seq, write};
 use krb_fields::Typed;
-use krb_messages::TicketRef;
-use krb_replies::KdcRepRef;
-use krb_sealed::EncKdcRepPart;
+use krb_types::{EncKdcRepPart, KdcRepRef, TicketRef};
 use std::alloc::{AllocError, Global};
 
 /// Returns the credential; `None` if its key or an address has a type of more than 16 bits, for which it has no room.

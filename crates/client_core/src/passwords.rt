@@ -8,8 +8,8 @@ use crate::fault::{ClientFault, given};
 use enctypes::{Etype, Key, string_to_key};
 use krb_elements::{KerberosString, Octets, Seq};
 use krb_fields::Name;
-use krb_sealed::EtypeInfo2Entry;
-use refusals::Attempt;
+use krb_types::EtypeInfo2Entry;
+use lists::Attempt;
 use sealed_parts::type_numbered;
 use std::alloc::{AllocError, Global};
 

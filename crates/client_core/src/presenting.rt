@@ -1,22 +1,20 @@
 //! How a client presents a ticket: AP-REQ, and the authenticator in it (RFC 4120, section 5.5.1).
 ghost use Rattle.std.specs.Prelude.{◌≡◌, ◌≤◌, ◌<◌, length, IfOk, Some, option_map, pos};
 ghost use Rattle.enctypes.specs.KeyUsage.{usage_number};
-ghost use Rattle.krb_ap.specs.ApReq.{ap_req};
+ghost use Rattle.krb_types.specs.ApReq.{ap_req};
 ghost use Rattle.krb_elements.specs.Codec.{written};
 ghost use Rattle.krb_fields.specs.NameLimits.{IsComponent, IsWithinLimits};
-ghost use Rattle.krb_sealed.specs.Authenticator as parts;
-ghost use Rattle.krb_messages.specs.Ticket.{ticket};
+ghost use Rattle.krb_types.specs.Authenticator as parts;
+ghost use Rattle.krb_types.specs.Ticket.{ticket};
 ghost use Rattle.sealed_parts.specs.Encrypted.{decrypted};
 ghost use Rattle.client_core.specs.Presenting.{IsShortChecksum, authenticator_of, number_part, presents, subkey_part};
 
 use crate::sessions::Session;
 use cred_files::Principal;
 use enctypes::{Key, KeyUsage};
-use krb_ap::{AP_REQ, ApReq, encode_ap_req};
 use krb_elements::UInt32;
 use krb_fields::{Flags, Moment, Typed};
-use krb_messages::PVNO;
-use krb_sealed::Authenticator;
+use krb_types::{AP_REQ, ApReq, Authenticator, PVNO, encode_ap_req};
 use sealed_parts::{encrypted, key_part};
 use std::alloc::{AllocError, Global};
 

@@ -1,8 +1,8 @@
 //! Reads a KDC's reply (RFC 4120, sections 3.1.5 and 3.3.4).
 ghost use Rattle.std.specs.Prelude.{◌≡◌, ◌<◌, ◌^◌, ◌||◌, not, length, IfOk, IfSome, option_copied};
 ghost use Rattle.enctypes.specs.KeyUsage.{usage_number};
-ghost use Rattle.krb_messages.specs.Ticket.{ticket};
-ghost use Rattle.refusals.specs.Optional.{holds_of};
+ghost use Rattle.krb_types.specs.Ticket.{ticket};
+ghost use Rattle.lists.specs.Optional.{holds_of};
 ghost use Rattle.client_core.specs.Faults.{Gives};
 ghost use Rattle.client_core.specs.Replies.{as_part, ends_too_late, if_part, if_reply, is_other_service, is_principal};
 ghost use Rattle.client_core.specs.Replies.{is_skewed, judged, may_start_elsewhere, ticket_reply_in};
@@ -23,12 +23,11 @@ use enctypes::{Key, KeyUsage};
 use krb_der::KTime;
 use krb_elements::{Octets, OctetsRef, read};
 use krb_fields::{EncryptedDataRef, KdcOption, Moment, SKEW};
-use krb_messages::{KrbErrorRef, PVNO, TicketRef};
-use krb_replies::{
-    AS_REP, ENC_AS_REP_PART, ENC_TGS_REP_PART, KdcRepRef, TGS_REP, Under, read_kdc_rep,
+use krb_types::{
+    AS_REP, ENC_AS_REP_PART, ENC_TGS_REP_PART, EncKdcRepPart, KdcRepRef, KrbErrorRef, PVNO,
+    TGS_REP, TicketRef, Under, read_kdc_rep,
 };
-use krb_sealed::EncKdcRepPart;
-use refusals::{Attempt, decide};
+use lists::{Attempt, decide};
 use sealed_parts::open_part;
 use std::alloc::{AllocError, Global};
 use std::cmp::Ordering;

@@ -5,10 +5,10 @@ ghost use Rattle.enctypes.specs.declared.key_usage.KeyUsage.TheVariants as usage
 ghost use Rattle.krb_elements.specs.Codec.{list_of, written};
 ghost use Rattle.krb_elements.specs.TextLengthLaws.{most_maybe};
 ghost use Rattle.krb_fields.specs.PaData.{pa_data};
-ghost use Rattle.krb_sealed.specs.PaEncTsEnc as parts;
-ghost use Rattle.krb_messages.specs.KdcReq.{SpellsKdcReq, message};
-ghost use Rattle.krb_messages.specs.ReqBody.{req_body};
-ghost use Rattle.krb_messages.specs.declared.kdc_req.Exchange.TheVariants.{As};
+ghost use Rattle.krb_types.specs.PaEncTsEnc as parts;
+ghost use Rattle.krb_types.specs.KdcReq.{SpellsKdcReq, message};
+ghost use Rattle.krb_types.specs.ReqBody.{req_body};
+ghost use Rattle.krb_types.specs.declared.kdc_req.Exchange.TheVariants.{As};
 ghost use Rattle.sealed_parts.specs.Encrypted.{decrypted};
 ghost use Rattle.client_core.specs.Asked.{IsAskable};
 ghost use Rattle.client_core.specs.Requests.{asks_as, asks_with_timestamp, request_of, sealed_timestamp};
@@ -19,8 +19,7 @@ use crate::asked::Asked;
 use enctypes::{Key, KeyUsage};
 use krb_elements::{Octets, Seq, write};
 use krb_fields::{Moment, PA_ENC_TIMESTAMP, PaData};
-use krb_messages::{Exchange, KdcReq, PVNO, ReqBody, encode_kdc_req};
-use krb_sealed::PaEncTsEnc;
+use krb_types::{Exchange, KdcReq, PVNO, PaEncTsEnc, ReqBody, encode_kdc_req};
 use sealed_parts::encrypted;
 use std::alloc::{AllocError, Global};
 

@@ -1,6 +1,6 @@
 //! Reads a service's reply: AP-REP (RFC 4120, sections 3.2.5 and 5.5.2).
 ghost use Rattle.std.specs.Prelude.{◌≡◌, IfOk};
-ghost use Rattle.krb_sealed.specs.EncApRepPart.{enc_ap_rep_part};
+ghost use Rattle.krb_types.specs.EncApRepPart.{enc_ap_rep_part};
 ghost use Rattle.sealed_parts.specs.Encrypted.{decrypted};
 ghost use Rattle.client_core.specs.Faults.{Gives};
 ghost use Rattle.client_core.specs.ServiceReplies.{ap_part, ap_part_rules, ap_reply_in, ap_rules, if_ap_part};
@@ -9,11 +9,10 @@ ghost use Rattle.client_core.specs.ServiceReplies.{if_ap_reply, reads_ap, repeat
 use crate::fault::{ClientFault, Mismatch, Rejection, given, unless_rejected};
 use crate::replies::refusal_in;
 use enctypes::{Key, KeyUsage};
-use krb_ap::ApRepRef;
 use krb_elements::read;
 use krb_fields::Moment;
-use krb_sealed::EncApRepPart;
-use refusals::{Attempt, decide};
+use krb_types::{ApRepRef, EncApRepPart};
+use lists::{Attempt, decide};
 use sealed_parts::open_part;
 use std::alloc::Global;
 

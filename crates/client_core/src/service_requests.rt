@@ -2,11 +2,11 @@
 ghost use Rattle.std.specs.Prelude.{◌≡◌, ◌≤◌, ◌<◌, length, IfOk, IfSome, Some};
 ghost use Rattle.enctypes.specs.KeyUsage.{usage_number};
 ghost use Rattle.enctypes.specs.declared.key_usage.KeyUsage.TheVariants.{ApReqAuthenticator};
-ghost use Rattle.krb_ap.specs.ApReq.{ap_req};
+ghost use Rattle.krb_types.specs.ApReq.{ap_req};
 ghost use Rattle.krb_elements.specs.Codec.{written};
 ghost use Rattle.krb_fields.specs.NameLimits.{IsComponent, IsWithinLimits};
-ghost use Rattle.krb_sealed.specs.Authenticator as parts;
-ghost use Rattle.krb_messages.specs.Ticket.{ticket};
+ghost use Rattle.krb_types.specs.Authenticator as parts;
+ghost use Rattle.krb_types.specs.Ticket.{ticket};
 ghost use Rattle.sealed_parts.specs.Encrypted.{decrypted};
 ghost use Rattle.client_core.specs.Presenting.{IsShortChecksum};
 ghost use Rattle.client_core.specs.ServiceRequests.{ap_authenticator, ap_options, asks_ap};
@@ -18,7 +18,7 @@ use crate::sessions::{Session, session_of};
 use cred_files::{Credential, Principal};
 use enctypes::KeyUsage;
 use krb_fields::{ApOption, Flags, Moment, Typed};
-use krb_sealed::Authenticator;
+use krb_types::Authenticator;
 use std::alloc::{AllocError, Global};
 
 /// Returns the bytes of an AP-REQ that presents the credential's ticket. `confounder` is 16 random bytes.

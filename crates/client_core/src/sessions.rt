@@ -1,6 +1,6 @@
 //! The session of a credential: a ticket, and its session key.
 ghost use Rattle.std.specs.Prelude.{◌≡◌, ◌<◌, length, IfOk, IfSome, is_some};
-ghost use Rattle.krb_messages.specs.Ticket.{ticket};
+ghost use Rattle.krb_types.specs.Ticket.{ticket};
 ghost use Rattle.client_core.specs.Sessions.{IsPresentable, is_presentable, session, session_key, ticket_in};
 ghost use Rattle.client_core.specs.Sessions as definitions;
 
@@ -8,7 +8,7 @@ use cred_files::Credential;
 use enctypes::Key;
 use krb_elements::read;
 use krb_fields::is_component;
-use krb_messages::{Ticket, TicketRef};
+use krb_types::{Ticket, TicketRef};
 use sealed_parts::key_of;
 use std::alloc::{AllocError, Global};
 

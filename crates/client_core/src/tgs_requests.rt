@@ -4,10 +4,10 @@ ghost use Rattle.enctypes.specs.KeyUsage.{usage_number};
 ghost use Rattle.enctypes.specs.declared.key_usage.KeyUsage.TheVariants.{TgsReqAuthenticator};
 ghost use Rattle.krb_elements.specs.Codec.{written};
 ghost use Rattle.krb_fields.specs.NameLimits.{IsComponent, IsWithinLimits};
-ghost use Rattle.krb_sealed.specs.Authenticator as parts;
-ghost use Rattle.krb_messages.specs.KdcReq.{SpellsKdcReq, message};
-ghost use Rattle.krb_messages.specs.ReqBody.{req_body};
-ghost use Rattle.krb_messages.specs.declared.kdc_req.Exchange.TheVariants.{Tgs};
+ghost use Rattle.krb_types.specs.Authenticator as parts;
+ghost use Rattle.krb_types.specs.KdcReq.{SpellsKdcReq, message};
+ghost use Rattle.krb_types.specs.ReqBody.{req_body};
+ghost use Rattle.krb_types.specs.declared.kdc_req.Exchange.TheVariants.{Tgs};
 ghost use Rattle.sealed_parts.specs.Encrypted.{decrypted};
 ghost use Rattle.client_core.specs.Asked.{IsAskable};
 ghost use Rattle.client_core.specs.Requests.{asks_tgs, body_checksum, body_of, tgs_authenticator, tgs_data};
@@ -22,8 +22,7 @@ use cred_files::{Credential, Principal};
 use enctypes::{Key, KeyUsage, checksum};
 use krb_elements::{Octets, write};
 use krb_fields::{Flags, Moment, PA_TGS_REQ, PaData, Typed};
-use krb_messages::{Exchange, ReqBody};
-use krb_sealed::Authenticator;
+use krb_types::{Authenticator, Exchange, ReqBody};
 use std::alloc::{AllocError, Global};
 
 /// Returns the bytes of a TGS-REQ that presents the credential's ticket, with the subkey for the reply, if one is

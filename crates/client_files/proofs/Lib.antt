@@ -1,2 +1,5 @@
 mod HeldCaches
 mod NewCaches
+mod FirstLaws
+mod LineLaws
+mod TextLaws

@@ -3,12 +3,12 @@
 ghost use Rattle.std.specs.Prelude.{◌≡◌, IfOk, OnErr, OnOk, option_map};
 ghost use Rattle.cred_files.specs.Cache.{cache_text, put_first};
 ghost use Rattle.client_files.specs.Caches.{HasCache, new_cache};
-ghost use Rattle.file_store.specs.World.{with_file, without_file};
+ghost use Rattle.program.specs.World.{with_file, without_file};
 
-use crate::client_store::{ClientStore, Standing};
+use crate::client_store::{ClientStore, PathKind};
 use crate::faults::{Cause, Fault, at, at_file};
 use cred_files::{Cache, Credential, FileFault, Keytab};
-use file_store::{FileCause, read_file, write_file};
+use program::{FileCause, read_file, write_file};
 use std::alloc::Global;
 use std::io;
 use std::io::{Error, ErrorKind};
@@ -48,26 +48,26 @@ pub fn read_keytab<T: ClientStore>(
 }
 
 /// Checks whether the path has a file, or nothing.
-fn check_plain(found: io::Result<Standing>) -> Result<(), Cause> {
+fn check_plain(found: io::Result<PathKind>) -> Result<(), Cause> {
     match found {
-        Ok(Standing::NoFile) => Err(Cause::File(FileCause::Failed(no_file()))),
+        Ok(PathKind::NoFile) => Err(Cause::File(FileCause::Failed(no_file()))),
         Ok(_) => Ok(()),
         Err(error) => Err(Cause::File(FileCause::Failed(error))),
     }
 }
 
 /// Checks whether the path has a cache, and whether it is the user's own.
-fn check_cache(found: io::Result<Standing>) -> Result<(), Cause> {
+fn check_cache(found: io::Result<PathKind>) -> Result<(), Cause> {
     match found {
-        Ok(Standing::Free) => Err(Cause::NoCache),
+        Ok(PathKind::Free) => Err(Cause::NoCache),
         found => check_ours(found),
     }
 }
 
 /// Checks whether the cache at the path is the user's own, or there is none.
-fn check_ours(found: io::Result<Standing>) -> Result<(), Cause> {
+fn check_ours(found: io::Result<PathKind>) -> Result<(), Cause> {
     match found {
-        Ok(Standing::Others) => Err(Cause::NotOurs),
+        Ok(PathKind::Others) => Err(Cause::NotOurs),
         found => check_plain(found),
     }
 }

@@ -1,9 +1,9 @@
 //! What a client requires of its files beyond a [`Store`]: who owns them, what a folder contains, and how to remove a
 //! file.
 ghost use Rattle.std.specs.Prelude.{◌≡◌, OnErr, OnOk, option_map};
-ghost use Rattle.file_store.specs.World.{without_file};
+ghost use Rattle.program.specs.World.{without_file};
 
-use file_store::{FileStore, MemoryStore, Store};
+use program::{FileStore, MemoryStore, Store};
 use std::alloc::{AllocError, Global};
 use std::fs::File;
 use std::io::{Error, ErrorKind, IsTerminal};
@@ -14,7 +14,7 @@ use std::{fs, io};
 
 /// What a path has.
 #[derive(Clone, Copy, PartialEq, Eq)]
-pub enum Standing {
+pub enum PathKind {
     /// Nothing.
     Free,
     /// A file that the user owns, and that no other user may write.
@@ -28,7 +28,7 @@ pub enum Standing {
 /// A store that knows who owns its files.
 pub trait ClientStore: Store {
     /// Checks what a path has, without opening it.
-    fn standing(&mut self, path: &str) -> io::Result<Standing>
+    fn standing(&mut self, path: &str) -> io::Result<PathKind>
         ensures kept { Self.world self.new ≡ Self.world self.old };
 
     /// Returns the number of the user whose rights the program has.
@@ -59,7 +59,7 @@ impl<
 where
     R::Reader: IsTerminal,
 {
-    fn standing(&mut self, path: &str) -> io::Result<Standing> {
+    fn standing(&mut self, path: &str) -> io::Result<PathKind> {
         standing_of(self.files(), path)
     }
 
@@ -94,19 +94,19 @@ fn push_name(alloc: Global, names: &mut Vec<String>, name: &str) -> Result<(), A
     Ok(names.push(String::from_str(alloc, name)?)?)
 }
 
-fn standing_of(files: &impl Files, path: &str) -> io::Result<Standing> {
+fn standing_of(files: &impl Files, path: &str) -> io::Result<PathKind> {
     let there = match fs::metadata(files, path) {
         Ok(there) => there,
-        Err(error) if error.kind() == ErrorKind::NotFound => return Ok(Standing::Free),
+        Err(error) if error.kind() == ErrorKind::NotFound => return Ok(PathKind::Free),
         Err(error) => return Err(error),
     };
     if !there.is_file() {
-        return Ok(Standing::NoFile);
+        return Ok(PathKind::NoFile);
     }
     if there.uid() == user_of(files)? && there.mode() & OTHERS_WRITE == 0 {
-        return Ok(Standing::Ours);
+        return Ok(PathKind::Ours);
     }
-    Ok(Standing::Others)
+    Ok(PathKind::Others)
 }
 
 fn user_of(files: &impl Files) -> io::Result<u32> {
@@ -117,10 +117,10 @@ fn user_of(files: &impl Files) -> io::Result<u32> {
 const MEMORY_USER: u32 = 1000;
 
 impl ClientStore for MemoryStore {
-    fn standing(&mut self, path: &str) -> io::Result<Standing> {
+    fn standing(&mut self, path: &str) -> io::Result<PathKind> {
         match self.get(path) {
-            Some(_) => Ok(Standing::Ours),
-            None => Ok(Standing::Free),
+            Some(_) => Ok(PathKind::Ours),
+            None => Ok(PathKind::Free),
         }
     }
 

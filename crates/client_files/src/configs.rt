@@ -1,16 +1,17 @@
 //! A `krb5.conf`: its text with the files that it includes, its default realm, and the KDCs of a realm.
 ghost use Rattle.std.specs.Prelude.{◌≡◌};
 
-use crate::client_store::{ClientStore, Standing};
+use crate::client_store::{ClientStore, PathKind};
+use crate::defaults::{default_realm, kdcs, library_settings};
 use crate::environment::Defaults;
 use crate::faults::{Cause, Fault, at_file};
+use crate::kdc::kdc_address;
 use crate::principals::{name_of, principal_of};
 use client_login::KdcPlace;
 use cred_files::Principal;
-use file_store::{FileCause, LONGEST_FILE, read_file};
 use krb_elements::KerberosString;
 use krb_fields::{component_to_text, is_component};
-use krb5_conf::{default_realm, kdc_address, kdcs, library_settings};
+use program::{FileCause, LONGEST_FILE, read_file};
 use std::alloc::{AllocError, Global};
 
 /// A `krb5.conf`.
@@ -72,7 +73,7 @@ impl Config {
         let Ok(path) = defaults.config_path() else {
             return Ok(None);
         };
-        if let Ok(Standing::Free) = store.standing(path) {
+        if let Ok(PathKind::Free) = store.standing(path) {
             return Ok(None);
         }
         Ok(Some(Config::read(alloc, store, defaults)?))
@@ -269,7 +270,7 @@ fn push_file<T: ClientStore>(
 ) -> Result<(), Fault>
     ensures kept { T.world store.new ≡ T.world store.old }
 {
-    if let Ok(Standing::NoFile) = store.standing(path) {
+    if let Ok(PathKind::NoFile) = store.standing(path) {
         let notes = &mut whole.notes;
         writeln!(
             notes,

@@ -5,7 +5,7 @@ use crate::client_store::ClientStore;
 use crate::configs::Config;
 use crate::faults::{Cause, Fault};
 use crate::file_names::{NameOf, path_in};
-use file_store::FileCause;
+use program::FileCause;
 use std::alloc::{AllocError, Global};
 use std::env::VarError;
 use std::io;

@@ -3,8 +3,8 @@ ghost use Rattle.std.specs.Prelude.{◌≡◌, IfOk, Ok};
 
 use client_login::{KdcPlace, Kdcs, LoginError, LoginFault};
 use cred_files::FileFault;
-use file_store::FileCause;
 use krb_fields::{NameFault, component_to_text};
+use program::FileCause;
 use std::alloc::{AllocError, AllocFailed, Global};
 use std::net::SocketAddr;
 use std::{fmt, io};
@@ -97,7 +97,7 @@ impl Fault {
     }
 
     /// Returns the fault for a file that could not be read or written, or is refused.
-    pub fn of_file(alloc: Global, fault: file_store::FileFault<'_>) -> Fault {
+    pub fn of_file(alloc: Global, fault: program::FileFault<'_>) -> Fault {
         Fault::new(alloc, fault.path, Cause::File(fault.cause))
     }
 
@@ -124,7 +124,7 @@ pub fn at<T: Drop>(alloc: Global, subject: &str, found: Result<T, Cause>) -> Res
 /// Returns what was read or written, or the fault of the file.
 pub fn at_file<T: Drop>(
     alloc: Global,
-    done: Result<T, file_store::FileFault<'_>>,
+    done: Result<T, program::FileFault<'_>>,
 ) -> Result<T, Fault> {
     match done {
         Ok(value) => Ok(value),

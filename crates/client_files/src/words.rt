@@ -2,8 +2,8 @@
 use crate::faults::Cause;
 use client_login::{Doubt, LoginError};
 use cred_files::FileFault;
-use file_store::FileCause;
 use krb_fields::Second;
+use program::FileCause;
 use std::fmt;
 use text_fields::UtcDate;
 

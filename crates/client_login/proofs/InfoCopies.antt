@@ -2,7 +2,7 @@
 use Rattle.std.proofs.Common.{◌≡◌, ℕ, List, map, refl}
 use Rattle.std.specs.Prelude.{option_map}
 use Rattle.krb_elements.specs.CopyLaws.{map_all, option_all}
-use Rattle.krb_sealed.specs.EtypeInfo2Entry.{EtypeInfo2Entry}
+use Rattle.krb_types.specs.EtypeInfo2Entry.{EtypeInfo2Entry}
 
 abbrev same_entry : EtypeInfo2Entry → EtypeInfo2Entry
 same_entry x = record {

@@ -7,7 +7,7 @@ use Rattle.cred_files.specs.declared.keytab_entry.KeytabEntry.{KeytabEntry}
 use Rattle.enctypes.specs.declared.key.Key.{Key}
 use Rattle.krb_fields.specs.Name.{Components}
 use Rattle.krb_fields.specs.PrincipalName.{Name}
-use Rattle.krb_sealed.specs.EtypeInfo2Entry.{EtypeInfo2Entry}
+use Rattle.krb_types.specs.EtypeInfo2Entry.{EtypeInfo2Entry}
 use Rattle.client_login.specs.Keys.{IsKeytabKey, IsPasswordKey, is_weak, key_named, key_numbered, or_later}
 use Rattle.client_login.specs.Faults.{IsNoKeytabKey}
 use Rattle.client_login.specs.Infos.{default_info}

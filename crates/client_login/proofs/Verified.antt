@@ -15,9 +15,9 @@ use Rattle.cred_files.specs.declared.credential.Credential.{Credential}
 use Rattle.cred_files.specs.declared.keytab_entry.KeytabEntry.{KeytabEntry}
 use Rattle.enctypes.specs.declared.key.Key.{Key}
 use Rattle.krb_fields.specs.Name.{name_cmp, same_name}
-use Rattle.krb_messages.specs.Ticket.{Ticket}
-use Rattle.krb_sealed.specs.EncTicketPart.{EncTicketPart}
-use Rattle.refusals.specs.Refusals.{unless_found}
+use Rattle.krb_types.specs.Ticket.{Ticket}
+use Rattle.krb_types.specs.EncTicketPart.{EncTicketPart}
+use Rattle.lists.specs.Refusals.{unless_found}
 use Rattle.client_login.specs.Faults.{IsFurtherFault}
 use Rattle.client_login.specs.Logins.{IsFurther}
 use Rattle.client_login.specs.Verifying.{IsTicketOf, IsUnverified, IsValidAt, if_of, if_valid, is_of}

@@ -14,8 +14,8 @@ use Rattle.cred_files.specs.declared.keytab_entry.KeytabEntry.{KeytabEntry}
 use Rattle.enctypes.specs.declared.key.Key.{Key}
 use Rattle.krb_fields.specs.Name.{Components}
 use Rattle.krb_fields.specs.PrincipalName.{Name}
-use Rattle.krb_sealed.specs.EtypeInfo2Entry.{EtypeInfo2Entry}
-use Rattle.krb_replies.specs.KdcRep.{KdcRep}
+use Rattle.krb_types.specs.EtypeInfo2Entry.{EtypeInfo2Entry}
+use Rattle.krb_types.specs.KdcRep.{KdcRep}
 use Rattle.client_login.specs.Replies.{IsAnswered, IsError}
 use Rattle.client_login.specs.Infos.{default_info, info_in_reply, info_of_refusal}
 use Rattle.client_login.specs.Keys.{IsOwnKey, is_weak, key_named}

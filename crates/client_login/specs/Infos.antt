@@ -5,8 +5,8 @@ use Rattle.std.specs.Ordering.{int_eq}
 use Rattle.krb_elements.specs.Codec.{list_of}
 use Rattle.krb_elements.specs.Format.{whole}
 use Rattle.krb_fields.specs.PaData.{PaData, pa_data}
-use Rattle.krb_sealed.specs.EtypeInfo2Entry.{EtypeInfo2Entry, etype_info2_entry}
-use Rattle.krb_replies.specs.KdcRep.{KdcRep}
+use Rattle.krb_types.specs.EtypeInfo2Entry.{EtypeInfo2Entry, etype_info2_entry}
+use Rattle.krb_types.specs.KdcRep.{KdcRep}
 use Rattle.sealed_parts.specs.Parts.{ok_of}
 
 -- the list that the bytes encode, or an empty one

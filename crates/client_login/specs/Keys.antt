@@ -12,7 +12,7 @@ use Rattle.enctypes.specs.declared.etype.Etype.TheVariants.{Aes128CtsHmacSha256_
 use Rattle.enctypes.specs.declared.key.Key.{Key}
 use Rattle.krb_fields.specs.Name.{Components}
 use Rattle.krb_fields.specs.PrincipalName.{Name}
-use Rattle.krb_sealed.specs.EtypeInfo2Entry.{EtypeInfo2Entry}
+use Rattle.krb_types.specs.EtypeInfo2Entry.{EtypeInfo2Entry}
 use Rattle.client_login.specs.declared.secrets.Secret.{Secret}
 use Rattle.client_login.specs.declared.secrets.Secret.TheVariants as secrets
 use Rattle.client_login.specs.declared.secrets.Password.{Password}

@@ -11,8 +11,8 @@ use Rattle.cred_files.specs.declared.credential.Credential.{Credential}
 use Rattle.enctypes.specs.declared.key.Key.{Key}
 use Rattle.krb_elements.specs.Codec.{written}
 use Rattle.krb_fields.specs.declared.moment.Moment.{Moment}
-use Rattle.krb_messages.specs.KdcReq.{message}
-use Rattle.krb_messages.specs.declared.kdc_req.Exchange.TheVariants.{As, Tgs}
+use Rattle.krb_types.specs.KdcReq.{message}
+use Rattle.krb_types.specs.declared.kdc_req.Exchange.TheVariants.{As, Tgs}
 use Rattle.rand_core.specs.Stream.{Stream}
 use Rattle.client_login.specs.Replies.{IsAnswered}
 use Rattle.client_login.specs.Asking.{first_asked}

@@ -19,9 +19,9 @@ use Rattle.enctypes.specs.declared.key.Key.{Key}
 use Rattle.enctypes.specs.declared.key_usage.KeyUsage.TheVariants as usages
 use Rattle.krb_fields.specs.Typed.{Typed}
 use Rattle.krb_fields.specs.declared.ticket_flag.TicketFlag.TheVariants.{Invalid}
-use Rattle.krb_messages.specs.Ticket.{Ticket}
-use Rattle.krb_sealed.specs.EncTicketPart.{EncTicketPart, enc_ticket_part}
-use Rattle.refusals.specs.Refusals.{unless_found}
+use Rattle.krb_types.specs.Ticket.{Ticket}
+use Rattle.krb_types.specs.EncTicketPart.{EncTicketPart, enc_ticket_part}
+use Rattle.lists.specs.Refusals.{unless_found}
 use Rattle.sealed_parts.specs.Parts.{opened_as}
 use Rattle.ticket_times.specs.TicketTerms.{has_flag}
 use Rattle.client_login.specs.Faults.{IsFurtherFault}

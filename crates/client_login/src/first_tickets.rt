@@ -5,7 +5,7 @@ ghost use Rattle.client_core.specs.Replies as replies;
 ghost use Rattle.client_core.specs.Taken.{AreSame};
 ghost use Rattle.client_core.specs.declared.fault.ClientFault.TheVariants as found;
 ghost use Rattle.client_core.specs.declared.key_role.KeyRole.TheVariants as roles;
-ghost use Rattle.krb_messages.specs.Ticket as tickets;
+ghost use Rattle.krb_types.specs.Ticket as tickets;
 ghost use Rattle.client_login.specs.Draws.{after_confounder, after_nonce, drawn_confounder, drawn_nonce};
 ghost use Rattle.client_login.specs.Faults.{IsFirstFault, IsRejection, IsUnheard, SaysFirst, SaysRefused};
 ghost use Rattle.client_login.specs.Keys.{IsOwnKey};
@@ -28,7 +28,7 @@ use client_core::{
 use cred_files::Credential;
 use enctypes::Key;
 use krb_fields::{Code, Moment};
-use krb_replies::KdcRepRef;
+use krb_types::KdcRepRef;
 use rand_core::Rng;
 use std::alloc::Global;
 

@@ -6,7 +6,7 @@ ghost use Rattle.client_core.specs.Sessions as sessions;
 ghost use Rattle.client_core.specs.Taken.{IsTaken};
 ghost use Rattle.client_core.specs.declared.key_role.KeyRole.TheVariants as roles;
 ghost use Rattle.client_core.specs.declared.sessions.Session as session;
-ghost use Rattle.krb_messages.specs.Ticket as tickets;
+ghost use Rattle.krb_types.specs.Ticket as tickets;
 ghost use Rattle.client_login.specs.Asking.{renewal_options, further_asked};
 ghost use Rattle.client_login.specs.Draws.{after_confounder, after_nonce, drawn_confounder, drawn_nonce};
 ghost use Rattle.client_login.specs.Faults.{IsFurtherFault, IsTgsRejection, IsUnheard, SaysTgs};
@@ -27,7 +27,7 @@ use client_core::{
 use cred_files::Credential;
 use enctypes::Key;
 use krb_fields::{Code, Flags, Moment, Name};
-use krb_replies::KdcRepRef;
+use krb_types::KdcRepRef;
 use rand_core::Rng;
 use std::alloc::Global;
 

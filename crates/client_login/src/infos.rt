@@ -7,8 +7,7 @@ ghost use Rattle.client_login.specs.Infos.{info_of_method_data};
 use client_core::EtypeInfo2;
 use krb_elements::{MakeOwned, Octets, OctetsRef, Seq, SeqRef, read};
 use krb_fields::{PA_ETYPE_INFO2, PaDataRef};
-use krb_replies::KdcRepRef;
-use krb_sealed::{EtypeInfo2Entry, EtypeInfo2EntryRef};
+use krb_types::{EtypeInfo2Entry, EtypeInfo2EntryRef, KdcRepRef};
 use std::alloc::{AllocError, Global};
 
 /// Returns the information in an AS-REP. Without any, the key of the type that the reply is encrypted with has the

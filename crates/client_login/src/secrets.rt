@@ -16,8 +16,7 @@ use cred_files::{Keytab, Principal};
 use enctypes::{Etype, Key};
 use krb_elements::{Octets, Seq};
 use krb_fields::Name;
-use krb_replies::KdcRepRef;
-use krb_sealed::EtypeInfo2Entry;
+use krb_types::{EtypeInfo2Entry, KdcRepRef};
 use sealed_parts::type_numbered;
 use std::alloc::{AllocError, Global};
 

@@ -12,9 +12,9 @@ use client_login::{
     KdcClient, Kdcs, Login, LoginFault, Password, Secret, Transports, granting_service,
 };
 use cred_files::{Credential, Keytab, Principal};
-use file_store::{FileCause, FileStore, ask_password, draw_seed};
 use krb_elements::Octets;
 use krb_fields::{Moment, Name, component_to_text};
+use program::{FileCause, FileStore, ask_password, draw_seed};
 use rand_chacha::ChaCha20Rng;
 use rand_core::SeedableRng;
 use std::alloc::Global;

@@ -29,7 +29,7 @@ use Rattle.krb_fields.specs.declared.moment.Moment.{Moment}
 use Rattle.journal.specs.Decision.{Place, above, above_all, entries_behind, floor_behind, floor_on, is_above, is_behind, is_early, is_first, is_linked, latest_of, recent, resumed_floor, resumption_of, seen_of}
 use Rattle.journal.proofs.Chains.{chained-one, have_none, have_one_more, last-one}
 use Rattle.journal.specs.Forms.{Entry, entry, header}
-use Rattle.journal.specs.Keeping.{Begins, Keeps, begun}
+use Rattle.journal.specs.Keeping.{BeginsJournal, KeepsEntry, begun}
 use Rattle.journal.specs.Texts.{chained, check_of, checked, header_check, last_check}
 use Rattle.journal.specs.Holding.{HasSums, HoldAll, IsAbove, IsHeld, Knows, Spells, cut, cut_found, held_in, with_one}
 use Rattle.journal.specs.declared.decision.Found.{Found}
@@ -654,7 +654,7 @@ none_last : (check : List ℕ) → last_check check [] ≡ check
 unfolding last_check
 none_last check = refl
 
-pub spells_fresh : (place : Place) (floor : ℤ) (link text check : List ℕ) → Begins (begun place floor link) text check
+pub spells_fresh : (place : Place) (floor : ℤ) (link text check : List ℕ) → BeginsJournal (begun place floor link) text check
     → Spells text (fresh place floor link)
 spells_fresh place floor link text check begins =
     let h = begun place floor link in
@@ -667,7 +667,7 @@ spells_fresh place floor link text check begins =
     }
 
 pub spells_one : (text more : List ℕ) (j : Journal) (at : Moment) (seen : Seen) (check : List ℕ) → Spells text j
-    → (keeps : Keeps j.check at seen more check) → Spells (text ++ more) (with_entries j (keeps.entry_kept ∷ []) check)
+    → (keeps : KeepsEntry j.check at seen more check) → Spells (text ++ more) (with_entries j (keeps.entry_kept ∷ []) check)
 spells_one text more j at seen check is keeps =
     let e = keeps.entry_kept in
     let first = checked j.header.link (written header j.header) in

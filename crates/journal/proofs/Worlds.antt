@@ -11,7 +11,7 @@ use Rattle.replay.specs.declared.seen.Seen.{Seen}
 use Rattle.journal.specs.Decision.{Place, above, doubt_of, entries_behind, floor_behind, floor_on, goes_on_behind, is_early, is_first, is_foreign, is_linked, is_other_boot, is_other_realm, is_unlinked, resumed_floor, resumption_of, seen_of, start_by, start_of}
 use Rattle.journal.specs.Forms.{Entry}
 use Rattle.journal.specs.Holding.{HasSums, HoldAll, HoldsOn, IsAbove, IsFound, IsHeld, IsSafe, IsSpelled, IsWhole, KeptIsSafe, Knows, Spells, TornIsSafe, cut, cut_found, held_in, with_one}
-use Rattle.journal.specs.Keeping.{Begins, Keeps, begun}
+use Rattle.journal.specs.Keeping.{BeginsJournal, KeepsEntry, begun}
 use Rattle.journal.specs.World.{World, with_file, with_more}
 use Rattle.journal.specs.declared.decision.Doubt.{Doubt}
 use Rattle.journal.specs.declared.decision.Found.{Found}
@@ -187,10 +187,10 @@ module _ (low : ℤ) (all : Resumption) (w : World) (check : List ℕ) (floor : 
           subst (λ (x : Journal). HoldAll older x low all) same (hold_more j on.others k.check older low all (whole.hold older o is))
 
   -- with one more entry
-  module _ (at : Moment) (seen : Seen) (more next : List ℕ) (keeps : Keeps check at seen more next) (raised : Option ℤ)
+  module _ (at : Moment) (seen : Seen) (more next : List ℕ) (keeps : KeepsEntry check at seen more next) (raised : Option ℤ)
       (rises : IfSome raised (λ f. (g : ℤ) × (floor ≡ Some g) × (f ≡ above g seen.ctime))) where
-    kept_here : Keeps j.check at seen more next
-    kept_here = subst (λ c. Keeps c at seen more next) whole.check_is keeps
+    kept_here : KeepsEntry j.check at seen more next
+    kept_here = subst (λ c. KeepsEntry c at seen more next) whole.check_is keeps
 
     abbrev e : Entry
     e = kept_here.entry_kept
@@ -220,7 +220,7 @@ module _ (low : ℤ) (all : Resumption) (w : World) (check : List ℕ) (floor : 
     }
 
   -- the files take turns
-  module _ (place : Place) (f : ℤ) (floor_is : floor ≡ Some f) (text next : List ℕ) (begins : Begins (begun place f check) text next) where
+  module _ (place : Place) (f : ℤ) (floor_is : floor ≡ Some f) (text next : List ℕ) (begins : BeginsJournal (begun place f check) text next) where
     above_new : IsAbove f (held_in j)
     above_new = subst (λ o. IfSome o (λ f. IsAbove f (held_in j))) floor_is whole.above_newer
 
@@ -280,7 +280,7 @@ module _ (low : ℤ) (all : Resumption) (w : World) (check : List ℕ) (floor : 
 
 -- ---- a file in place of both
 
-pub whole_anew : (low : ℤ) (all : Resumption) (w : World) (place : Place) (f : ℤ) (text next : List ℕ) → IsAbove f all → Begins (begun place f []) text next
+pub whole_anew : (low : ℤ) (all : Resumption) (w : World) (place : Place) (f : ℤ) (text next : List ℕ) → IsAbove f all → BeginsJournal (begun place f []) text next
     → IsWhole low all (with_file Anew text w) next (Some f)
 whole_anew low all w place f text next above_it begins = record {
   newer = fresh place f [];

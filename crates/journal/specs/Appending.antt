@@ -5,7 +5,7 @@ use Rattle.replay.specs.declared.seen.Resumption.{Resumption}
 use Rattle.replay.specs.declared.seen.Seen.{Seen}
 use Rattle.journal.specs.Decision.{Place, floor_on}
 use Rattle.journal.specs.Holding.{Spells, cut}
-use Rattle.journal.specs.Keeping.{Begins, Keeps, begun}
+use Rattle.journal.specs.Keeping.{BeginsJournal, KeepsEntry, begun}
 use Rattle.journal.specs.World.{HasPart, IsTorn, Leaves, World, with_file, with_more}
 use Rattle.journal.specs.declared.decision.Found.{Found}
 use Rattle.journal.specs.declared.decision.Found.TheVariants.{Nothing, Broken, Whole}
@@ -29,7 +29,7 @@ pub record BeginsFile (place : Place) (floor : Option ℤ) (link : List ℕ) (ho
   pub at_floor : ℤ
   pub text : List ℕ
   pub floor_is : floor ≡ Some at_floor
-  pub begins : Begins (begun place at_floor link) text check
+  pub begins : BeginsJournal (begun place at_floor link) text check
   pub leaves : Leaves (λ o n. n ≡ with_file how text o) old new
 
 -- or it was not
@@ -45,7 +45,7 @@ HasBegun place floor link how old (Err fault) new = IsLeft fault old new
 -- an authenticator's entry was appended behind a check, and the next check is this
 pub record AppendsOne (check : List ℕ) (at : Moment) (seen : Seen) (next : List ℕ) (old new : Option World) : Type 0 where
   pub more : List ℕ
-  pub keeps : Keeps check at seen more next
+  pub keeps : KeepsEntry check at seen more next
   pub leaves : Leaves (λ o n. n ≡ with_more o more) old new
 
 -- or a part of some text

@@ -8,7 +8,7 @@ use Rattle.journal.specs.Forms.{Entry, Header, entry, header}
 use Rattle.journal.specs.Texts.{HasElement, HasHeader, check_of, checked, header_check}
 
 -- an entry of this authenticator and of no other, whose request came in the second of this moment
-pub record Keeps (before : List ℕ) (at : Moment) (seen : Seen) (text check : List ℕ) : Type 0 where
+pub record KeepsEntry (before : List ℕ) (at : Moment) (seen : Seen) (text check : List ℕ) : Type 0 where
   pub entry_kept : Entry
   pub is : seen_of entry_kept ≡ seen
   pub came_at : came entry_kept ≡ at.sec
@@ -26,7 +26,7 @@ begun place floor link = record {
   link = link;
 }
 
-pub record Begins (h : Header) (text check : List ℕ) : Type 0 where
+pub record BeginsJournal (h : Header) (text check : List ℕ) : Type 0 where
   pub text_is : text ≡ checked h.link (written header h)
   pub check_is : check ≡ header_check h
   pub has : HasHeader h

@@ -12,7 +12,7 @@ use crate::keeping::floor_on;
 use crate::reading::Journal;
 use krb_elements::Seq;
 use krb_fields::{Moment, SKEW};
-use refusals::first_holding;
+use lists::first_holding;
 use replay::{Opening, Resumption, Seen};
 use std::alloc::{AllocError, Global};
 use std::fmt;

@@ -6,7 +6,7 @@ ghost use Rattle.replay.specs.declared.seen.Resumption.{Resumption};
 ghost use Rattle.journal.specs.Appending.{FoundBy, HasAppended, HasBegun, HasMended, HasTail, MayKeep, MayTurn};
 ghost use Rattle.journal.specs.Appending.{FoundIn, HasKeptOne, HasTurned, kept_by};
 ghost use Rattle.journal.specs.Holding.{HasKept, IsFound, IsRaised, IsSafe, IsStart, is_whole, known_by, with_one};
-ghost use Rattle.journal.specs.Keeping.{Begins, begun};
+ghost use Rattle.journal.specs.Keeping.{BeginsJournal, begun};
 ghost use Rattle.journal.specs.World.{IsRead, Leaves, SameSeal, file_in};
 
 use crate::decision::{Found, Place, Start};
@@ -286,7 +286,7 @@ fn beginning(
     floor: Option<i64>,
     link: &[u8],
 ) -> Result<Written, WriteFault>
-    ensures { IfOk result (λ w. (f : ℤ) × (floor ≡ Some f) × Begins (begun place.now f link.now) w.text.items w.check) }
+    ensures { IfOk result (λ w. (f : ℤ) × (floor ≡ Some f) × BeginsJournal (begun place.now f link.now) w.text.items w.check) }
 {
     match floor {
         Some(floor) => write_beginning(alloc, place, floor, link),

@@ -3,7 +3,7 @@ ghost use Rattle.std.specs.Prelude.{◌≡◌, ◌<◌, ◌+ℤ◌, ◌^◌, len
 ghost use Rattle.krb_elements.specs.Codec.{written};
 ghost use Rattle.journal.specs.Decision.{above, came, floor_on, seen_of};
 ghost use Rattle.journal.specs.Forms as forms;
-ghost use Rattle.journal.specs.Keeping.{Begins, Keeps, begun};
+ghost use Rattle.journal.specs.Keeping.{BeginsJournal, KeepsEntry, begun};
 
 use crate::decision::Place;
 use crate::entry::Entry;
@@ -27,7 +27,7 @@ pub fn write_seen(
     at: Moment,
     seen: &Seen,
 ) -> Result<Written, WriteFault>
-    ensures { IfOk result (λ w. Keeps check.now at seen.now w.text.items w.check) }
+    ensures { IfOk result (λ w. KeepsEntry check.now at seen.now w.text.items w.check) }
 {
     let entry = entry_of(alloc, at, seen)?;
     Ok(write_entry(alloc, check, &entry)?)
@@ -68,7 +68,7 @@ pub fn write_beginning(
     floor: i64,
     link: &[u8],
 ) -> Result<Written, WriteFault>
-    ensures { IfOk result (λ w. Begins (begun place.now floor link.now) w.text.items w.check) }
+    ensures { IfOk result (λ w. BeginsJournal (begun place.now floor link.now) w.text.items w.check) }
 {
     let header = header_of(alloc, place, floor, link)?;
     Ok(write_header(alloc, &header)?)

@@ -1,8 +1,8 @@
 //! The administration tool: `kadm COMMAND --db FILE ..`. `kadm --help` lists the commands.
 #![tactic(auto)]
 
-use file_store::FileStore;
 use kadm_run::{CommandLine, Status, kadm_run};
+use program::FileStore;
 use std::alloc::AllocError;
 use std::env::VarError;
 use std::io::IsTerminal;

@@ -1,9 +1,9 @@
 -- How an order ends, and how the words end that spell it.
 use Rattle.std.proofs.Common.{◌≡◌, ◌∙◌, List, Bool, true, false, Option, Result, Ok, Err, IfErr, IfOk, OnErr, ap, subst, sym, inl, inr}
 use Rattle.std.specs.Result.{result_unwrap_or}
-use Rattle.file_store.specs.World.{World}
-use Rattle.file_store.specs.declared.faults.FileCause.{FileCause}
-use Rattle.file_store.specs.declared.faults.FileCause.TheVariants.{LongFile, ShortSeed, LongPassword, Failed}
+use Rattle.program.specs.World.{World}
+use Rattle.program.specs.declared.faults.FileCause.{FileCause}
+use Rattle.program.specs.declared.faults.FileCause.TheVariants.{LongFile, ShortSeed, LongPassword, Failed}
 use Rattle.kadm_run.specs.Batches.{IsBatchDone}
 use Rattle.kadm_run.specs.Ends.{IsEnd, IsFailed, IsFailure, IsFileCauseStatus, IsOrderEnd, IsOrderStopped, IsStatusOf, IsStopped, IsTaskDone, IsWorkDone, IsWorkEnd, IsWorkStopped}
 use Rattle.kadm_run.specs.Words.{Spells, Text}

@@ -1,6 +1,6 @@
 -- The lines of a batch.
 use Rattle.std.specs.Prelude.{◌≡◌, Bool, true, false, List, map, Option, string_bytes}
-use Rattle.file_store.specs.World.{World}
+use Rattle.program.specs.World.{World}
 use Rattle.kadm_run.specs.Words.{Text}
 use Rattle.kadm_run.specs.Worlds.{Batched, Tried}
 use Rattle.kadm_run.specs.declared.batch.BatchLine.{BatchLine}

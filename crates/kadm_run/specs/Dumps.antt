@@ -3,7 +3,7 @@ use Rattle.std.specs.Prelude.{◌≡◌, ◌⊎◌, ◌++◌, ℕ, Bool, true, f
 use Rattle.std.specs.FinMap.{from_entries}
 use Rattle.cred_files.specs.Keytab.{IsKeytab}
 use Rattle.cred_files.specs.declared.keytab_entry.KeytabEntry.{KeytabEntry}
-use Rattle.file_store.specs.World.{World, IsRead}
+use Rattle.program.specs.World.{World, IsRead}
 use Rattle.mit_dump.specs.Dump.{IsDump}
 use Rattle.mit_dump.specs.Entries.{AreEntries, preference}
 use Rattle.mit_dump.specs.Losses.{losses}

@@ -1,9 +1,9 @@
 -- How a command line ends, and what it leaves.
 use Rattle.std.specs.Prelude.{◌≡◌, ◌⊎◌, ℕ, Bool, true, false, List, Option}
 use Rattle.enctypes.specs.declared.etype.Etype.{Etype}
-use Rattle.file_store.specs.World.{World}
-use Rattle.file_store.specs.declared.faults.FileCause.{FileCause}
-use Rattle.file_store.specs.declared.faults.FileCause.TheVariants.{LongFile, ShortSeed, LongPassword, Failed}
+use Rattle.program.specs.World.{World}
+use Rattle.program.specs.declared.faults.FileCause.{FileCause}
+use Rattle.program.specs.declared.faults.FileCause.TheVariants.{LongFile, ShortSeed, LongPassword, Failed}
 use Rattle.kadm_run.specs.Words.{Spells, Text, asks_help}
 use Rattle.kadm_run.specs.Worlds.{Did, Tried}
 use Rattle.kadm_run.specs.declared.order.Order.{Order}

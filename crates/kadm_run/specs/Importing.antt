@@ -7,7 +7,7 @@ use Rattle.enctypes.specs.declared.etype.Etype.{Etype}
 use Rattle.enctypes.specs.Key.{ProtocolKey}
 use Rattle.cred_files.specs.Keytab.{IsKeytab, is_of, newest, passes}
 use Rattle.cred_files.specs.declared.keytab_entry.KeytabEntry.{KeytabEntry}
-use Rattle.file_store.specs.World.{World, IsRead}
+use Rattle.program.specs.World.{World, IsRead}
 use Rattle.krb_fields.specs.Name.{Components}
 use Rattle.principal_rows.specs.Versions.{IsVersions}
 use Rattle.principal_rows.specs.declared.row.KeyVersion.{KeyVersion}

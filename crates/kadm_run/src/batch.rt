@@ -15,8 +15,8 @@ use crate::usage::{report_fault, report_order_fault};
 use crate::words::{has_flag, in_batch};
 use clap::ArgMatches;
 use clap::error::Error;
-use file_store::{FileCause, FileFault, Store};
 use principals::Database;
+use program::{FileCause, FileFault, Store};
 use std::alloc::{AllocError, Global};
 use std::io::{ErrorKind, Write};
 

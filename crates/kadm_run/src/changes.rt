@@ -17,14 +17,13 @@ use crate::reason::Reason;
 use crate::stop::{Stop, of_realm};
 use crate::values::{setting_from, setting_of};
 use crate::words::value_at;
-use file_store::{Store, has_file, read_clock, read_or_draw_seed};
 use krb_elements::KerberosString;
 use krb_fields::{Name, component_from_text};
-use principal_keys::random_keys;
 use principals::{ChangeFault, Database, RowChange, tgs_name};
+use program::{Store, has_file, read_clock, read_or_draw_seed};
 use std::alloc::{AllocError, Global};
 use std::io::Write;
-use text_fields::{FlagField, Setting};
+use text_fields::{FlagField, Setting, random_keys};
 
 /// The option that names a principal.
 const NAME: &str = "--name";

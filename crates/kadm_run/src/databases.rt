@@ -1,15 +1,15 @@
 //! The database and its file.
 ghost use Rattle.std.specs.Prelude.{◌≡◌, IfOk, OnOk, OnErr, option_map};
-ghost use Rattle.file_store.specs.World.{with_file};
+ghost use Rattle.program.specs.World.{with_file};
 ghost use Rattle.kadm_run.specs.Granting.{Makes};
 ghost use Rattle.kadm_run.specs.Worlds.{HoldsDatabase, with_database};
 
 use crate::reason::Reason;
 use crate::stop::Stop;
-use file_store::{Store, lock_file, read_at_most, update_file, update_private_file};
 use krb_fields::Name;
 use principals::{Change, ChangeFault, Database, RowChange};
 use principals_text::{LONGEST_TEXT, ReadFault, fault_place};
+use program::{Store, lock_file, read_at_most, update_file, update_private_file};
 use std::alloc::Global;
 use std::io::Write;
 use std::str;

@@ -20,13 +20,13 @@ use crate::order::{DumpOrder, Order};
 use crate::reason::Reason;
 use crate::stop::Stop;
 use cred_files::{Keytab, KeytabEntry};
-use file_store::{Store, has_file, read_at_most, read_file};
 use krb_elements::KerberosString;
 use krb_fields::is_component;
 use mit_dump::{DumpedPrincipal, read_dump};
 use principal_rows::{Entry, NameMap, Row};
 use principals::Database;
 use principals_text::LONGEST_TEXT;
+use program::{Store, has_file, read_at_most, read_file};
 use std::alloc::{AllocError, Global};
 use std::io::Write;
 

@@ -2,7 +2,7 @@
 ghost use Rattle.std.specs.Prelude.{◌≡◌, IfNone, IfOk, IfSome, None, OnOk, OnErr, Some, is_some, map};
 ghost use Rattle.std.specs.FinMap as finite;
 ghost use Rattle.krb_fields.specs.Salt.{default_salt};
-ghost use Rattle.principal_keys.specs.Keys.{password_key};
+ghost use Rattle.text_fields.specs.Keys.{password_key};
 ghost use Rattle.principal_rows.specs.declared.row.Row as rows;
 ghost use Rattle.principals.specs.declared.change.RowChange.TheVariants as row_changes;
 ghost use Rattle.kadm_run.specs.Granting.{IsCleared, IsGiven, IsGranted, IsOlderDropped, IsReplaced, IsUserAdded};
@@ -16,12 +16,12 @@ use crate::order::{Grant, KeyChange, RandomGrant};
 use crate::stop::Stop;
 use crate::values::is_past;
 use enctypes::Etype;
-use file_store::{Store, read_clock, read_or_draw_seed};
 use krb_fields::{Name, Second};
-use principal_keys::{password_keys, random_keys};
 use principal_rows::{KeyList, KeyVersion, Policy};
 use principals::{ChangeFault, Database, RowChange};
+use program::{Store, read_clock, read_or_draw_seed};
 use std::alloc::{AllocError, Global};
+use text_fields::{password_keys, random_keys};
 
 /// Gives a principal the keys of a password.
 pub(crate) fn give_password<'p, T: Store>(

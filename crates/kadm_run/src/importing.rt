@@ -9,10 +9,10 @@ use crate::reason::Reason;
 use crate::stop::Stop;
 use cred_files::{Keytab, KeytabEntry};
 use enctypes::{Etype, Key};
-use file_store::{Store, read_file};
 use krb_fields::Name;
 use principal_rows::{KeyList, KeyVersion, Versions};
 use principals::{ChangeFault, Database};
+use program::{Store, read_file};
 use std::alloc::{AllocError, Global};
 
 /// Adds a principal with its keys from a keytab.

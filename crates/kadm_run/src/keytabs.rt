@@ -1,6 +1,6 @@
 //! The command that writes a keytab.
 ghost use Rattle.std.specs.Prelude.{◌≡◌, IfOk, IsFalse, OnOk, OnErr, map, option_map};
-ghost use Rattle.file_store.specs.World.{IsRead, IsThere, with_file};
+ghost use Rattle.program.specs.World.{IsRead, IsThere, with_file};
 ghost use Rattle.kadm_run.specs.Keytabs.{IsBehind, IsFreePath, IsKeytabFor, IsKeytabStart, IsNewKeytab, IsOldKeytab, entry_of, lock_of};
 ghost use Rattle.kadm_run.specs.Worlds.{WroteKeytab};
 
@@ -11,10 +11,10 @@ use crate::reason::Reason;
 use crate::stop::Stop;
 use cred_files::{Keytab, KeytabEntry};
 use enctypes::Key;
-use file_store::{FileCause, FileFault, Store, first_octet, has_file, read_file, write_file};
 use krb_elements::KerberosString;
 use krb_fields::Name;
 use principals::{ChangeFault, Database};
+use program::{FileCause, FileFault, Store, first_octet, has_file, read_file, write_file};
 use std::alloc::{AllocError, Global};
 use std::io::Write;
 

@@ -11,12 +11,11 @@ use crate::values::accepted_by;
 use crate::words::{DB, command_of, has_flag, is_given, value_of};
 use clap::error::Error;
 use clap::{ArgMatches, Command};
-use command_options::{FlagRow, OptionRow, SubcommandRow, Times, with_subcommands};
 use enctypes::Etype;
-use principal_keys::{EtypesFault, offered, read_etypes};
+use program::{FlagRow, OptionRow, SubcommandRow, Times, with_subcommands};
 use std::alloc::Global;
 use std::convert::AsStr;
-use text_fields::number_u32;
+use text_fields::{EtypesFault, number_u32, offered, read_etypes};
 
 /// The order that one command line gives.
 #[derive(Drop)]

@@ -7,8 +7,8 @@ use crate::databases::read_database;
 use crate::order::{Order, PasswordArgs, RowUpdate};
 use crate::reason::Reason;
 use crate::stop::Stop;
-use file_store::{Store, ask_password, read_password};
 use krb_fields::component_to_text;
+use program::{Store, ask_password, read_password};
 use std::alloc::Global;
 use std::io::Write;
 

@@ -18,7 +18,7 @@ use crate::usage::{print_help, report_order_fault};
 use crate::words::{with_db, words_of};
 use clap::ArgMatches;
 use clap::error::Error;
-use file_store::Store;
+use program::Store;
 use std::alloc::{AllocError, Global};
 use std::io;
 use std::io::{BufWriter, Write};

@@ -6,11 +6,11 @@ ghost use Rattle.kadm_run.specs.declared.status.Status.TheVariants.{Failed, Refu
 use crate::reason::{KEYTAB, Reason};
 use crate::status::Status;
 use crate::words::value_of;
-use file_store::{FileCause, FileFault};
 use krb_fields::NameFault;
 use principal_rows::KeyListFault;
 use principals::{ChangeFault, FirstFault};
 use principals_text::ReadFault;
+use program::{FileCause, FileFault};
 use std::alloc::{AllocError, AllocFailed};
 use std::io;
 use std::io::Write;

@@ -14,9 +14,9 @@ use crate::order::{ChangeArgs, Grant, Order, RowOrder, RowUpdate, Update};
 use crate::passwords::{batch_password, new_password};
 use crate::stop::{Stop, Subject, begin_line};
 use enctypes::Etype;
-use file_store::Store;
 use krb_fields::Name;
 use principals::Database;
+use program::Store;
 use std::alloc::Global;
 use std::io::Write;
 

@@ -2,12 +2,24 @@
 //! lists them.
 #![tactic(auto)]
 
+mod context;
+mod kinit;
+mod klist;
+mod kvno;
+mod listing;
+mod options;
+mod places;
+mod renewing;
+mod run;
+mod words;
+
+use crate::context::Context;
+use crate::run::{FAILED, USAGE, kclient_run};
 use client_files::{Defaults, Variable};
 use client_login::{KdcClient, Kdcs, Transports};
 use client_sockets::{SocketNetwork, now};
-use file_store::FileStore;
-use kclient_run::{Context, FAILED, USAGE, kclient_run};
 use krb_fields::Moment;
+use program::FileStore;
 use std::alloc::AllocError;
 use std::env::VarError;
 use std::process::ExitCode;

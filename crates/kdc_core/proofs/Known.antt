@@ -10,8 +10,8 @@ use Rattle.krb_fields.specs.Typed.{typed}
 use Rattle.krb_fields.specs.NameLimits.{IsWithinLimits}
 use Rattle.krb_fields.specs.NameLimitsLaws.{component_facts}
 use Rattle.krb_fields.specs.PrincipalName.{Name, name}
-use Rattle.krb_messages.specs.declared.kdc_req.Exchange.TheVariants.{As}
-use Rattle.krb_messages.specs.KdcReq.{Received}
+use Rattle.krb_types.specs.declared.kdc_req.Exchange.TheVariants.{As}
+use Rattle.krb_types.specs.KdcReq.{Received}
 use Rattle.principal_rows.specs.declared.row.Row.{Row}
 use Rattle.principals.specs.Database.{IsDatabase}
 use Rattle.kdc_state.specs.declared.state.State.{State}

@@ -12,9 +12,9 @@ use Rattle.kdc_replies.specs.Incoming.{Incoming}
 use Rattle.krb_der.specs.Spelling.{tlv}
 use Rattle.krb_elements.specs.Codec.{written}
 use Rattle.krb_fields.specs.Name.{Components, name_cmp, name_total}
-use Rattle.krb_replies.specs.KdcRep.{KdcRep, kdc_rep}
-use Rattle.krb_messages.specs.KrbError.{KrbError, krb_error}
-use Rattle.krb_messages.specs.ReqBody.{ReqBody}
+use Rattle.krb_types.specs.KdcRep.{KdcRep, kdc_rep}
+use Rattle.krb_types.specs.KrbError.{KrbError, krb_error}
+use Rattle.krb_types.specs.ReqBody.{ReqBody}
 use Rattle.kdc_state.proofs.CachesSeen.{cache_resumed}
 use Rattle.kdc_state.proofs.Tidied.{cache_tidied}
 use Rattle.kdc_state.specs.State.{cache_of, opened_state}

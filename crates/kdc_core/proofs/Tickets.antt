@@ -13,8 +13,8 @@ use Rattle.kdc_replies.specs.Incoming.{Incoming}
 use Rattle.krb_elements.specs.Codec.{written}
 use Rattle.krb_fields.specs.Name.{Components, name_cmp, name_total, same_name}
 use Rattle.krb_fields.specs.declared.moment.Moment.{Moment}
-use Rattle.krb_messages.specs.KrbError.{KrbError, krb_error}
-use Rattle.krb_messages.specs.ReqBody.{ReqBody}
+use Rattle.krb_types.specs.KrbError.{KrbError, krb_error}
+use Rattle.krb_types.specs.ReqBody.{ReqBody}
 use Rattle.replay.proofs.Resumed.{resumed_are}
 use Rattle.replay.proofs.Runs.{GivesOf, one_for_each}
 use Rattle.replay.specs.Kept.{nothing_kept}

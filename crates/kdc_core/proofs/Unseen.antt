@@ -11,12 +11,12 @@ use Rattle.as_exchange.specs.Answer.{as_answer}
 use Rattle.kdc_replies.specs.Incoming.{Incoming}
 use Rattle.krb_fields.specs.Name.{Components, name_cmp}
 use Rattle.krb_fields.specs.declared.moment.Moment.{Moment}
-use Rattle.krb_messages.specs.ReqBody.{ReqBody}
+use Rattle.krb_types.specs.ReqBody.{ReqBody}
 use Rattle.principals.specs.Change.{changed, refusal}
 use Rattle.principals.specs.Database.{Principals}
 use Rattle.principals.specs.declared.change.Change.{Change as PrincipalChange}
 use Rattle.principals.specs.declared.change.ChangeFault.{ChangeFault}
-use Rattle.refusals.specs.Refusals.{first_holding}
+use Rattle.lists.specs.Refusals.{first_holding}
 use Rattle.replay.proofs.Unseen.{recorded_tidied, tidied_says, tidied_twice}
 use Rattle.replay.specs.ReplayCache.{recorded, verdict}
 use Rattle.replay.specs.Stamp.{Stamp}

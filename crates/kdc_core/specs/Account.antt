@@ -6,9 +6,9 @@ use Rattle.kdc_replies.specs.Incoming.{Incoming}
 use Rattle.kdc_replies.specs.Issue.{Issue}
 use Rattle.krb_fields.specs.PrincipalName.{Name}
 use Rattle.krb_fields.specs.declared.moment.Moment.{Moment}
-use Rattle.krb_messages.specs.KrbError.{krb_error}
-use Rattle.krb_messages.specs.declared.kdc_req.Exchange.{Exchange}
-use Rattle.krb_messages.specs.declared.kdc_req.Exchange.TheVariants.{As as OfAs, Tgs as OfTgs}
+use Rattle.krb_types.specs.KrbError.{krb_error}
+use Rattle.krb_types.specs.declared.kdc_req.Exchange.{Exchange}
+use Rattle.krb_types.specs.declared.kdc_req.Exchange.TheVariants.{As as OfAs, Tgs as OfTgs}
 use Rattle.replay.specs.declared.keep.Kept.{Kept}
 use Rattle.tgs_exchange.specs.Answer.{tgs_error}
 use Rattle.tgs_exchange.specs.Decision.{stamp_of}

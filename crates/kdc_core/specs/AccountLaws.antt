@@ -7,9 +7,9 @@ use Rattle.tgs_exchange.specs.OutcomeLaws as tgs_exchange
 use Rattle.tgs_exchange.specs.Answer.{tgs_error}
 use Rattle.tgs_exchange.specs.Outcome.{tgs_outcome}
 use Rattle.kdc_replies.specs.Incoming.{Incoming}
-use Rattle.krb_messages.specs.declared.kdc_req.Exchange.{Exchange}
-use Rattle.krb_messages.specs.declared.kdc_req.Exchange.TheVariants.{As as OfAs, Tgs as OfTgs}
-use Rattle.krb_messages.specs.KdcReq.{Received}
+use Rattle.krb_types.specs.declared.kdc_req.Exchange.{Exchange}
+use Rattle.krb_types.specs.declared.kdc_req.Exchange.TheVariants.{As as OfAs, Tgs as OfTgs}
+use Rattle.krb_types.specs.KdcReq.{Received}
 use Rattle.tgs_opening.specs.Opening.{opened_ticket, presented}
 use Rattle.tgs_opening.specs.OpeningLaws.{client_of as opened_client, rejected_client}
 use Rattle.tgs_opening.specs.declared.opened.OpenedTicket.{OpenedTicket}

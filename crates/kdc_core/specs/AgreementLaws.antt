@@ -7,9 +7,9 @@ use Rattle.std.specs.Option.{unwrap_or}
 use Rattle.std.specs.Ordering.{eq_by_cmp}
 use Rattle.kdc_replies.specs.Incoming.{Incoming}
 use Rattle.krb_fields.specs.Name.{Components, name_cmp, name_total}
-use Rattle.krb_messages.specs.declared.kdc_req.Exchange.{Exchange}
-use Rattle.krb_messages.specs.declared.kdc_req.Exchange.TheVariants.{As, Tgs}
-use Rattle.krb_messages.specs.KdcReq.{Received}
+use Rattle.krb_types.specs.declared.kdc_req.Exchange.{Exchange}
+use Rattle.krb_types.specs.declared.kdc_req.Exchange.TheVariants.{As, Tgs}
+use Rattle.krb_types.specs.KdcReq.{Received}
 use Rattle.principals.specs.Database.{tgs_principal}
 use Rattle.replay.specs.declared.keep.Kept.{Kept}
 use Rattle.replay.specs.declared.cache.ReplayCache.{ReplayCache}

@@ -13,8 +13,8 @@ use Rattle.krb_elements.specs.Codec.{written}
 use Rattle.krb_fields.specs.declared.code.Code.{Code}
 use Rattle.krb_fields.specs.declared.moment.Moment.{Moment}
 use Rattle.krb_fields.specs.Name.{Components}
-use Rattle.krb_messages.specs.KdcReq.{Received}
-use Rattle.krb_messages.specs.KrbError.{krb_error}
+use Rattle.krb_types.specs.KdcReq.{Received}
+use Rattle.krb_types.specs.KrbError.{krb_error}
 use Rattle.replay.specs.declared.failures.Failures.{Failures}
 use Rattle.replay.specs.declared.keep.Kept.{Kept}
 use Rattle.replay.specs.ReplayCache.{recorded}

@@ -5,9 +5,9 @@ use Rattle.std.specs.Prelude.{◌<◌, ⊤, IfSome, length, Option, Some, None, 
 use Rattle.krb_elements.specs.Codec.{list_of}
 use Rattle.krb_fields.specs.PrincipalName.{name}
 use Rattle.krb_fields.specs.Typed.{typed}
-use Rattle.krb_messages.specs.KdcReq.{Received}
-use Rattle.krb_messages.specs.declared.kdc_req.Exchange.{Exchange}
-use Rattle.krb_messages.specs.declared.kdc_req.Exchange.TheVariants.{As, Tgs}
+use Rattle.krb_types.specs.KdcReq.{Received}
+use Rattle.krb_types.specs.declared.kdc_req.Exchange.{Exchange}
+use Rattle.krb_types.specs.declared.kdc_req.Exchange.TheVariants.{As, Tgs}
 use Rattle.tgs_opening.specs.Opening.{presented}
 use Rattle.tgs_opening.specs.declared.presented.Presented.{Presented}
 use Rattle.tgs_opening.specs.declared.rejection.Rejection.{Rejection}

@@ -2,11 +2,11 @@
 use Rattle.std.proofs.Common.{◌≡◌, ℕ, List, Option, Some, None, Result, Ok, Err, refl, sym, ap, subst, ◌∙◌}
 use Rattle.std.specs.Prelude.{⊤, IfOk}
 use Rattle.krb_fields.specs.Name.{Components}
-use Rattle.krb_sealed.specs.EncTicketPart.{EncTicketPart}
+use Rattle.krb_types.specs.EncTicketPart.{EncTicketPart}
 use Rattle.krb_fields.specs.declared.moment.Moment.{Moment}
-use Rattle.krb_messages.specs.declared.kdc_req.Exchange.{Exchange}
-use Rattle.krb_messages.specs.declared.kdc_req.Exchange.TheVariants.{As, Tgs}
-use Rattle.krb_messages.specs.KdcReq.{Received}
+use Rattle.krb_types.specs.declared.kdc_req.Exchange.{Exchange}
+use Rattle.krb_types.specs.declared.kdc_req.Exchange.TheVariants.{As, Tgs}
+use Rattle.krb_types.specs.KdcReq.{Received}
 use Rattle.replay.specs.declared.keep.Kept.{Kept}
 use Rattle.kdc_replies.specs.Incoming.{Incoming}
 use Rattle.tgs_opening.specs.Opening.{opened_ticket, presented}

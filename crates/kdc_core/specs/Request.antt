@@ -2,8 +2,8 @@
 use Rattle.std.specs.Prelude.{ℕ, List, length, nat_lt, Option, Some, None, Result, Ok, Err, if◌then◌else◌}
 use Rattle.krb_der.specs.declared.fault.DerFault.{DerFault}
 use Rattle.krb_elements.specs.Format.{whole}
-use Rattle.krb_messages.specs.declared.kdc_req.Exchange.{Exchange}
-use Rattle.krb_messages.specs.KdcReq.{Received, SpellsReceived, received_at}
+use Rattle.krb_types.specs.declared.kdc_req.Exchange.{Exchange}
+use Rattle.krb_types.specs.KdcReq.{Received, SpellsReceived, received_at}
 
 -- an AS-REQ or a TGS-REQ, with the bytes of its body
 pub record Request : Type 0 where

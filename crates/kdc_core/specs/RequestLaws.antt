@@ -7,8 +7,8 @@ use Rattle.krb_der.specs.declared.fault.DerFault.{DerFault}
 use Rattle.krb_der.specs.Spelling.{IsBytes}
 use Rattle.krb_elements.specs.Format.{whole}
 use Rattle.krb_elements.specs.Laws.{IsWhole, whole_ok}
-use Rattle.krb_messages.specs.declared.kdc_req.Exchange.{Exchange}
-use Rattle.krb_messages.specs.KdcReq.{Received, SpellsReceived, received_at, received_ok}
+use Rattle.krb_types.specs.declared.kdc_req.Exchange.{Exchange}
+use Rattle.krb_types.specs.KdcReq.{Received, SpellsReceived, received_at, received_ok}
 use Rattle.kdc_core.specs.Request.{Request, SpellsRequest, if_read, request_of}
 
 -- a request that was read was short enough

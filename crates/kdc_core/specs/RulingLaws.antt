@@ -3,10 +3,10 @@ use Rattle.std.proofs.Common.{◌≡◌, Bool, true, false, Option, Some, None, 
 use Rattle.std.specs.Prelude.{◌&&◌, nat_eq, nat_lt, length, if◌then◌else◌}
 use Rattle.std.specs.Cmp.Lexicographic.{pointwise}
 use Rattle.kdc_replies.specs.Incoming.{Incoming}
-use Rattle.krb_messages.specs.KdcReq.{Received}
-use Rattle.krb_messages.specs.ReqBody.{ReqBody}
-use Rattle.krb_messages.specs.declared.kdc_req.Exchange.{Exchange}
-use Rattle.krb_messages.specs.declared.kdc_req.Exchange.TheVariants.{As as OfAs, Tgs as OfTgs}
+use Rattle.krb_types.specs.KdcReq.{Received}
+use Rattle.krb_types.specs.ReqBody.{ReqBody}
+use Rattle.krb_types.specs.declared.kdc_req.Exchange.{Exchange}
+use Rattle.krb_types.specs.declared.kdc_req.Exchange.TheVariants.{As as OfAs, Tgs as OfTgs}
 use Rattle.replay.specs.declared.keep.Kept.{Kept}
 use Rattle.tgs_exchange.specs.Answer.{TgsAnswer, answer_by, is_ticket, kept_reply, refused, refused_room, repeated}
 use Rattle.tgs_exchange.specs.Decision.{decision}

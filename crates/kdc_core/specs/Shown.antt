@@ -1,8 +1,8 @@
 -- The ticket that a request shows. Only who shows one changes the replay cache of its client.
 use Rattle.std.specs.Prelude.{◌≡◌, ℕ, List, Some, Ok}
 use Rattle.krb_fields.specs.Name.{Components}
-use Rattle.krb_messages.specs.KdcReq.{Received}
-use Rattle.krb_messages.specs.declared.kdc_req.Exchange.TheVariants.{Tgs}
+use Rattle.krb_types.specs.KdcReq.{Received}
+use Rattle.krb_types.specs.declared.kdc_req.Exchange.TheVariants.{Tgs}
 use Rattle.replay.specs.declared.cache.ReplayCache.{ReplayCache}
 use Rattle.replay.specs.declared.keep.Kept.{Kept}
 use Rattle.tgs_opening.specs.Opening.{presented}

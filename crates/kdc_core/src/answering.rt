@@ -1,7 +1,7 @@
 //! The reply to the contents of a request, with its account and the change of the client's replay cache.
 ghost use Rattle.std.specs.Prelude.{◌≡◌, None, IfOk, IfSome, option_map};
 ghost use Rattle.std.specs.Option.{unwrap_or};
-ghost use Rattle.krb_messages.specs.KrbError.{krb_error};
+ghost use Rattle.krb_types.specs.KrbError.{krb_error};
 ghost use Rattle.tgs_exchange.specs.Answer.{tgs_error};
 ghost use Rattle.krb_elements.specs.Codec.{written};
 ghost use Rattle.kdc_core.specs.Account.{account_of, AccountSpelled};
@@ -21,7 +21,7 @@ use crate::tgs_replies::tgs_reply;
 use kdc_replies::Incoming;
 use kdc_state::State;
 use krb_fields::NameRef;
-use krb_messages::KdcReqRef;
+use krb_types::KdcReqRef;
 use std::alloc::{AllocError, Global};
 use tgs_exchange::{TgsOutcome, tgs_error};
 use tgs_opening::Rejection;

@@ -1,7 +1,7 @@
 //! The AS exchange of a KDC.
 ghost use Rattle.std.specs.Prelude.{◌≡◌, None, Some, IfOk, IfSome, option_copied};
 ghost use Rattle.as_exchange.specs.Known.{IsKnown};
-ghost use Rattle.krb_messages.specs.declared.kdc_req.Exchange.TheVariants.{As};
+ghost use Rattle.krb_types.specs.declared.kdc_req.Exchange.TheVariants.{As};
 ghost use Rattle.kdc_core.specs.Account.{account_of, AccountSpelledOf};
 ghost use Rattle.kdc_core.specs.After.{after, counted_of, seen_in, MayStay};
 ghost use Rattle.kdc_core.specs.Answer.{answer_of, keep, OpensOf, SpelledOf};
@@ -18,7 +18,7 @@ use as_exchange::{AsAnswer, AsView, as_answer};
 use kdc_replies::Incoming;
 use kdc_state::State;
 use krb_fields::NameRef;
-use krb_messages::KdcReqRef;
+use krb_types::KdcReqRef;
 use replay::Failures;
 use std::alloc::{AllocError, Global};
 

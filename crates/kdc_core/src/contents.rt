@@ -11,9 +11,9 @@ ghost use Rattle.kdc_core.specs.View.{components_of, row_of, ticket_view, view, 
 
 use kdc_state::State;
 use krb_fields::NameRef;
-use krb_messages::{Exchange, KdcReqRef, read_kdc_req};
+use krb_types::{Exchange, KdcReqRef, read_kdc_req};
+use lists::Attempt;
 use principal_rows::Row;
-use refusals::Attempt;
 use sealed_parts::ReadyKeys;
 use std::alloc::{AllocError, Global};
 use tgs_opening::{Presented, Rejection, TicketView, tgs_open};

@@ -20,7 +20,7 @@ use crate::mark::Mark;
 use kdc_replies::Incoming;
 use kdc_state::State;
 use krb_fields::{Moment, Name};
-use krb_messages::KdcReqRef;
+use krb_types::KdcReqRef;
 use replay::{Kept, ReplayCache};
 use std::alloc::{AllocError, Global};
 use tgs_exchange::{TgsAnswer, TgsView, tgs_answer};

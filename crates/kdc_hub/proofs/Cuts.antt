@@ -14,7 +14,7 @@ use Rattle.kdc_hub.specs.declared.event.Event.TheVariants.{Bytes}
 use Rattle.kdc_hub.specs.declared.reply.Reply.{Reply}
 use Rattle.kdc_hub.specs.Issuing.{Issuing, after, reply_of}
 use Rattle.kdc_hub.specs.StreamStep.{StreamStep, reply_then, messages_step, stream_step, stream_room}
-use Rattle.kdc_hub.specs.Hub.{Standing, Step, brings, brought, kept, hub_step}
+use Rattle.kdc_hub.specs.Hub.{HubState, Step, brings, brought, kept, hub_step}
 use Rattle.kdc_hub.specs.Logged.{Entry, logged, step_of}
 use Rattle.kdc_hub.specs.Cutting.{SameRun, piece_at}
 use Rattle.kdc_hub.proofs.Streams.{before}
@@ -58,7 +58,7 @@ fault_alone : (o : Option FrameFault) (g : ℕ) (b q : List ℕ) (fault : FrameF
 fault_alone None g b q fault e = absurd cc
 fault_alone (Some other) g b q fault e = ap (only_rest b) e
 
-module _ (hub : Standing) (at : Moment) (conn : ℕ) (s : Splitting) (p q : List ℕ) (two : IsSameInTwo s p q) where
+module _ (hub : HubState) (at : Moment) (conn : ℕ) (s : Splitting) (p q : List ℕ) (two : IsSameInTwo s p q) where
   first : StreamStep
   first = stream_step hub.issuing at conn (fed s p)
 
@@ -113,8 +113,8 @@ module _ (hub : Standing) (at : Moment) (conn : ℕ) (s : Splitting) (p q : List
   second table i o e = ap (brings (record { issuing = i; connections = table }) at conn q) e
 
   kept_anew : (b : Bool) (x y z : Splitting) (i j : Issuing) → y ≡ z → kept b hub conn y i ≡ kept b (record { issuing = j; connections = map.insert hub.connections conn x }) conn z i
-  kept_anew true x y z i j e = ap (λ (m : map.FinMap nat_cmp Splitting). let h : Standing = record { issuing = i; connections = m } in h) (ap (map.insert hub.connections conn) e ∙ sym (set_anew hub.connections conn x z))
-  kept_anew false x y z i j e = ap (λ (m : map.FinMap nat_cmp Splitting). let h : Standing = record { issuing = i; connections = m } in h) (sym (taken_out hub.connections conn x))
+  kept_anew true x y z i j e = ap (λ (m : map.FinMap nat_cmp Splitting). let h : HubState = record { issuing = i; connections = m } in h) (ap (map.insert hub.connections conn) e ∙ sym (set_anew hub.connections conn x z))
+  kept_anew false x y z i j e = ap (λ (m : map.FinMap nat_cmp Splitting). let h : HubState = record { issuing = i; connections = m } in h) (sym (taken_out hub.connections conn x))
 
   by_stays : (b : Bool) → first.stays ≡ b → IsBoth b → Both (brought hub conn (fed s (p ++ q)) (stream_step hub.issuing at conn (fed s (p ++ q)))) (record { actions = first.actions; hub = kept b hub conn (left (fed s p)) first.issuing })
   unfolding Both
@@ -139,28 +139,28 @@ module _ (hub : Standing) (at : Moment) (conn : ℕ) (s : Splitting) (p q : List
   brought_both = by_stays first.stays refl (is_both (handed_out (fed s p)).fault refl)
 
 -- a piece whose connection is open, or isn't
-in_two : ((s : Splitting) (first second : List ℕ) → IsSameInTwo s first second) → (hub : Standing) (at : Moment) (conn : ℕ) (p q : List ℕ) (o : Option Splitting) → map.get hub.connections conn ≡ o
+in_two : ((s : Splitting) (first second : List ℕ) → IsSameInTwo s first second) → (hub : HubState) (at : Moment) (conn : ℕ) (p q : List ℕ) (o : Option Splitting) → map.get hub.connections conn ≡ o
     → ((brings hub at conn (p ++ q) o).actions ≡ (brings hub at conn p o).actions ++ (hub_step (brings hub at conn p o).hub at (Bytes conn q)).actions)
     × ((brings hub at conn (p ++ q) o).hub ≡ (hub_step (brings hub at conn p o).hub at (Bytes conn q)).hub)
 unfolding Both
 in_two law hub at conn p q None e = rw e (refl, refl)
 in_two law hub at conn p q (Some s) e = brought_both hub at conn s p q (law s p q)
 
-pub two_steps : ((s : Splitting) (first second : List ℕ) → IsSameInTwo s first second) → (hub : Standing) (at : Moment) (conn : ℕ) (p q : List ℕ)
+pub two_steps : ((s : Splitting) (first second : List ℕ) → IsSameInTwo s first second) → (hub : HubState) (at : Moment) (conn : ℕ) (p q : List ℕ)
     → ((hub_step hub at (Bytes conn (p ++ q))).actions ≡ (hub_step hub at (Bytes conn p)).actions ++ (hub_step (hub_step hub at (Bytes conn p)).hub at (Bytes conn q)).actions)
     × ((hub_step hub at (Bytes conn (p ++ q))).hub ≡ (hub_step (hub_step hub at (Bytes conn p)).hub at (Bytes conn q)).hub)
 two_steps law hub at conn p q = in_two law hub at conn p q (map.get hub.connections conn) refl
 
 -- anywhere in a run
-pub same_run : ((s : Splitting) (first second : List ℕ) → IsSameInTwo s first second) → (start : Standing) (earlier later : List Entry) (at : Moment) (conn : ℕ) (p q : List ℕ)
+pub same_run : ((s : Splitting) (first second : List ℕ) → IsSameInTwo s first second) → (start : HubState) (earlier later : List Entry) (at : Moment) (conn : ℕ) (p q : List ℕ)
     → SameRun (logged start (earlier ++ piece_at at conn (p ++ q) ∷ later)) (logged start (earlier ++ piece_at at conn p ∷ piece_at at conn q ∷ later))
 same_run law start [] later at conn p q =
     let two = two_steps law start at conn p q in record {
       actions =
           ap (λ (a : List Action). a ++ flat_map (λ (l : List Action). l) (logged (hub_step start at (Bytes conn (p ++ q))).hub later).actions) two.0
-          ∙ ap (λ (h : Standing). ((hub_step start at (Bytes conn p)).actions ++ (hub_step (hub_step start at (Bytes conn p)).hub at (Bytes conn q)).actions) ++ flat_map (λ (l : List Action). l) (logged h later).actions) two.1
+          ∙ ap (λ (h : HubState). ((hub_step start at (Bytes conn p)).actions ++ (hub_step (hub_step start at (Bytes conn p)).hub at (Bytes conn q)).actions) ++ flat_map (λ (l : List Action). l) (logged h later).actions) two.1
           ∙ append_assoc (hub_step start at (Bytes conn p)).actions _ _;
-      hub = ap (λ (h : Standing). (logged h later).hub) two.1;
+      hub = ap (λ (h : HubState). (logged h later).hub) two.1;
     }
 same_run law start (entry ∷ earlier) later at conn p q =
     let others = same_run law (step_of start entry).hub earlier later at conn p q in record {

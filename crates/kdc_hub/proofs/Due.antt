@@ -18,10 +18,10 @@ use Rattle.kdc_hub.specs.declared.event.Event.{Event}
 use Rattle.kdc_hub.specs.declared.event.Event.TheVariants.{Datagram, Opened, Bytes, Closed}
 use Rattle.kdc_hub.specs.declared.event.Peer.{Peer}
 use Rattle.kdc_hub.specs.declared.reply.Reply.{Reply}
-use Rattle.kdc_hub.specs.declared.wires.Did.{Did}
+use Rattle.kdc_hub.specs.declared.wires.WireCall.{WireCall}
 use Rattle.kdc_hub.specs.Issuing.{Issuing, after, reply_of, too_long}
 use Rattle.kdc_hub.specs.StreamStep.{StreamStep, messages_step, reply_then, stream_room}
-use Rattle.kdc_hub.specs.Hub.{Standing, Step, brings, datagram_room, greatest_request, hub_step, most_connections, nothing, sent}
+use Rattle.kdc_hub.specs.Hub.{HubState, Step, brings, datagram_room, greatest_request, hub_step, most_connections, nothing, sent}
 use Rattle.kdc_hub.specs.Logged.{Entry, Stop, logged, step_by, step_of}
 use Rattle.kdc_hub.specs.Rounds.{AreRounds, IsRound, PollFailed, NothingCame, Round, Took, Tries, closing, did_in, ending, entries_of}
 use Rattle.kdc_hub.specs.History.{Turn, Stepped, Replaced, Tidied, Reopened, Resumed, after_turn, asked, octets_of, others_after, piece_requests, stream_requests}
@@ -127,7 +127,7 @@ datagram_for : (peer : Peer) (reply : Option Reply) → AreFor (AtPeer peer) (se
 datagram_for peer (Some reply) = (refl, tt)
 datagram_for peer None = (refl, tt)
 
-module _ (hub : Standing) where
+module _ (hub : HubState) where
   abbrev opened_by : ℕ → Bool → Bool → Step
   opened_by conn there place =
       if there then nothing hub
@@ -181,14 +181,14 @@ module _ (hub : Standing) where
     step_for (Some stop) (Bytes conn piece) = some_for (OnConnection conn) stop.done (hub_step hub at (Bytes conn piece)).actions (event_for (Bytes conn piece))
     step_for (Some stop) (Closed conn) = tt
 
-entry_gets : (these : Parties) (hub : Standing) (entry : Entry) → gets these (step_of hub entry).actions ≡ due_to_entry these hub.issuing.kdc hub entry
+entry_gets : (these : Parties) (hub : HubState) (entry : Entry) → gets these (step_of hub entry).actions ≡ due_to_entry these hub.issuing.kdc hub entry
 entry_gets these hub entry =
     gets_all these (sender entry.event) (step_of hub entry).actions (step_for hub entry.at entry.stop entry.event)
     ∙ ap (λ l. if these (sender entry.event) then l else []) (step_due hub entry.at entry.stop entry.event)
 
 -- ---- histories
 
-turn_gets : (these : Parties) (hub : Standing) (turn : Turn) → gets these (turn_actions hub turn) ≡ due_to_turn these hub.issuing.kdc hub turn
+turn_gets : (these : Parties) (hub : HubState) (turn : Turn) → gets these (turn_actions hub turn) ≡ due_to_turn these hub.issuing.kdc hub turn
 turn_gets these hub (Stepped entry) = entry_gets these hub entry
 turn_gets these hub (Replaced database) = refl
 turn_gets these hub (Tidied at) = refl
@@ -204,7 +204,7 @@ gets_its_own these start (turn ∷ turns) =
 
 -- ---- the record of a Wire
 
-tried_are : (xs : List Action) (did : List Did) → Tries xs did → tried did ≡ xs
+tried_are : (xs : List Action) (did : List WireCall) → Tries xs did → tried did ≡ xs
 unfolding Tries
 tried_are [] did t = ap tried t
 tried_are (x ∷ xs) did t = elim t.1 [
@@ -212,7 +212,7 @@ tried_are (x ∷ xs) did t = elim t.1 [
   | inr e ↦ ap tried e ∙ ap (λ l. x ∷ l) (tried_are xs t.0 t.2)
 ]
 
-round_gets : (these : Parties) (hub : Standing) (round : Round) → IsRound hub round → gets these (tried (did_in round)) ≡ due_to_round these hub.issuing.kdc hub round
+round_gets : (these : Parties) (hub : HubState) (round : Round) → IsRound hub round → gets these (tried (did_in round)) ≡ due_to_round these hub.issuing.kdc hub round
 round_gets these hub PollFailed is = refl
 round_gets these hub (NothingCame at) is = refl
 round_gets these hub (Took entry acts close) is =
@@ -221,13 +221,13 @@ round_gets these hub (Took entry acts close) is =
     ∙ ap (λ l. l ++ gets these (closing entry.stop entry.event)) (entry_gets these hub entry)
 
 -- the end of a lost connection asks nothing
-still : (hub : Standing) (at : Moment) (a b : Option ℕ) → (logged hub (ending at a ++ ending at b)).hub.issuing.kdc ≡ hub.issuing.kdc
+still : (hub : HubState) (at : Moment) (a b : Option ℕ) → (logged hub (ending at a ++ ending at b)).hub.issuing.kdc ≡ hub.issuing.kdc
 still hub at (Some a) (Some b) = refl
 still hub at (Some a) None = refl
 still hub at None (Some b) = refl
 still hub at None None = refl
 
-round_kdc : (hub : Standing) (round : Round) → (logged hub (entries_of round)).hub.issuing.kdc ≡ after_round hub.issuing.kdc hub round
+round_kdc : (hub : HubState) (round : Round) → (logged hub (entries_of round)).hub.issuing.kdc ≡ after_round hub.issuing.kdc hub round
 round_kdc hub PollFailed = refl
 round_kdc hub (NothingCame at) = refl
 round_kdc hub (Took entry acts close) = still (step_of hub entry).hub entry.at _ _ ∙ turned_kdc hub (Stepped entry)

@@ -36,9 +36,9 @@ use Rattle.kdc_hub.specs.declared.event.Peer.{Peer}
 use Rattle.kdc_hub.specs.declared.reply.Reply.{Reply}
 use Rattle.kdc_hub.specs.Issuing.{Issuing, after, reply_by, reply_of, too_long}
 use Rattle.kdc_hub.specs.StreamStep.{StreamStep, action_for, after_reply, after_some, messages_step, reply_then, stream_room, stream_step}
-use Rattle.kdc_hub.specs.Hub.{Standing, Step, brings, datagram_room, greatest_request, hub_step, kept, most_connections, nothing, opened, messages_in, sent, stopped}
+use Rattle.kdc_hub.specs.Hub.{HubState, Step, brings, datagram_room, greatest_request, hub_step, kept, most_connections, nothing, opened, messages_in, sent, stopped}
 use Rattle.kdc_hub.specs.Logged.{Entry, Stop, logged, step_by, step_of}
-use Rattle.kdc_hub.specs.History.{AnswersWhoAsked, Begins, CanBeResumed, IsOfOneProcess, IsOneRun, KeepsAccounts, account_in, accounts, event_accounts, octets_of, turn_accounts, OneTicketInProcess, OneTicketSent, ServesAlike, TidiesUnseen, Turn, Unaffected, Stepped, Replaced, Tidied, Reopened, Resumed, after_turn, all_seen_by, seen_by, turn_sees, after_turns, answers, asked, chosen, event_requests, events_in, others_after, piece_requests, newly_seen_in, replies_by, reply_in, requests_by, stopped_requests, stream_requests, tickets_among, turn_events, turn_replies}
+use Rattle.kdc_hub.specs.History.{AnswersWhoAsked, IsPrefix, CanBeResumed, IsOfOneProcess, IsOneRun, KeepsAccounts, account_in, accounts, event_accounts, octets_of, turn_accounts, OneTicketInProcess, OneTicketSent, ServesAlike, TidiesUnseen, Turn, Unaffected, Stepped, Replaced, Tidied, Reopened, Resumed, after_turn, all_seen_by, seen_by, turn_sees, after_turns, answers, asked, chosen, event_requests, events_in, others_after, piece_requests, newly_seen_in, replies_by, reply_of_action, requests_by, stopped_requests, stream_requests, tickets_among, turn_events, turn_replies}
 
 -- ---- one request
 
@@ -159,7 +159,7 @@ first_replies (suc n) (request ∷ requests) [] = ap (λ l. None ∷ l) (first_r
     first_replies_none zero requests = refl
     first_replies_none (suc n) [] = refl
     first_replies_none (suc n) (request ∷ requests) = ap (λ l. None ∷ l) (first_replies_none n requests)
-first_replies (suc n) (request ∷ requests) (action ∷ actions) = ap (λ l. reply_in action ∷ l) (first_replies n requests actions)
+first_replies (suc n) (request ∷ requests) (action ∷ actions) = ap (λ l. reply_of_action action ∷ l) (first_replies n requests actions)
 
 first_of_run : (n : ℕ) (kept : Bool) (state : State) (events : List KdcEvent) → take n (given kept state events) ≡ given kept state (take n events)
 first_of_run zero kept state events = refl
@@ -173,7 +173,7 @@ module _ (at : Moment) (conn : ℕ) (fault : Option FrameFault) where
     pub sent : replies_by (length requests) r.actions ≡ given i.accounts i.kdc requests
     pub kdc : r.issuing.kdc ≡ run i.kdc requests
     pub accounts : r.issuing.accounts ≡ i.accounts
-    pub begins : Begins (map_list (action_for conn) (replies_by (length requests) r.actions)) r.actions
+    pub begins : IsPrefix (map_list (action_for conn) (replies_by (length requests) r.actions)) r.actions
 
   none_left : (i : Issuing) (fault : Option FrameFault) → AreStepped i [] (messages_step i at conn fault [])
   unfolding messages_step replies_by
@@ -228,12 +228,12 @@ nobody_before (suc n) i at = refl
 
 -- ---- one entry
 
-record IsStepped (hub : Standing) (requests : List KdcEvent) (actions : List Action) (new : Issuing) : Type 0 where
+record IsStepped (hub : HubState) (requests : List KdcEvent) (actions : List Action) (new : Issuing) : Type 0 where
   pub sent : replies_by (length requests) actions ≡ given hub.issuing.accounts hub.issuing.kdc requests
   pub kdc : new.kdc ≡ run hub.issuing.kdc requests
   pub accounts : new.accounts ≡ hub.issuing.accounts
 
-module _ (hub : Standing) where
+module _ (hub : HubState) where
   abbrev opened_by : ℕ → Bool → Bool → Step
   opened_by conn there place =
       if there then nothing hub
@@ -298,35 +298,35 @@ module _ (hub : Standing) where
 
 -- ---- who gets the answers
 
-sent_begins : (peer : Peer) (reply : Option Reply) → Begins (flat_map (sent peer) (replies_by 1 (sent peer reply))) (sent peer reply)
+sent_begins : (peer : Peer) (reply : Option Reply) → IsPrefix (flat_map (sent peer) (replies_by 1 (sent peer reply))) (sent peer reply)
 unfolding replies_by
 sent_begins peer (Some reply) = record { others = []; is = refl }
 sent_begins peer None = record { others = []; is = refl }
 
-nothing_begins : (conn : ℕ) (actions : List Action) → Begins (map_list (action_for conn) (replies_by 0 actions)) actions
+nothing_begins : (conn : ℕ) (actions : List Action) → IsPrefix (map_list (action_for conn) (replies_by 0 actions)) actions
 unfolding replies_by
 nothing_begins conn actions = record { others = actions; is = refl }
 
-nobody_begins : (peer : Peer) → Begins (flat_map (sent peer) (replies_by 0 [])) []
+nobody_begins : (peer : Peer) → IsPrefix (flat_map (sent peer) (replies_by 0 [])) []
 unfolding replies_by
 nobody_begins peer = record { others = []; is = refl }
 
-begins_take : {X : Type 0} (n : ℕ) (front others : List X) → Begins (take n front) (take n (front ++ others))
+begins_take : {X : Type 0} (n : ℕ) (front others : List X) → IsPrefix (take n front) (take n (front ++ others))
 begins_take zero front others = record { others = []; is = refl }
 begins_take (suc n) [] others = record { others = take (suc n) others; is = refl }
 begins_take (suc n) (x ∷ front) others =
     let rest = begins_take n front others in
     record { others = rest.others; is = ap (λ l. x ∷ l) rest.is }
 
-module _ (hub : Standing) (at : Moment) where
+module _ (hub : HubState) (at : Moment) where
   piece_begins : (conn : ℕ) (piece : List ℕ) (o : Option Splitting)
-      → Begins (map_list (action_for conn) (replies_by (length (piece_requests hub.issuing at piece o)) (brings hub at conn piece o).actions)) (brings hub at conn piece o).actions
+      → IsPrefix (map_list (action_for conn) (replies_by (length (piece_requests hub.issuing at piece o)) (brings hub at conn piece o).actions)) (brings hub at conn piece o).actions
   piece_begins conn piece (Some s) = (messages_stepped at conn (handed_out (fed s piece)).fault hub.issuing (handed_out (fed s piece)).messages).begins
   piece_begins conn piece None = nothing_begins conn []
 
   -- of the completed actions
-  done_begins : (conn : ℕ) (requests : List KdcEvent) (actions : List Action) (done : ℕ) → Begins (map_list (action_for conn) (replies_by (length requests) actions)) actions
-      → Begins (map_list (action_for conn) (replies_by (length (take done requests)) (take done actions))) (take done actions)
+  done_begins : (conn : ℕ) (requests : List KdcEvent) (actions : List Action) (done : ℕ) → IsPrefix (map_list (action_for conn) (replies_by (length requests) actions)) actions
+      → IsPrefix (map_list (action_for conn) (replies_by (length (take done requests)) (take done actions))) (take done actions)
   done_begins conn requests actions done begins =
       let front = map_list (action_for conn) (replies_by (length requests) actions) in
       let first = begins_take done front begins.others in
@@ -337,7 +337,7 @@ module _ (hub : Standing) (at : Moment) where
             ∙ ap (λ l. l ++ first.others) (take-map (action_for conn) done (replies_by (length requests) actions) ∙ ap (map_list (action_for conn)) (sym (first_replies done requests actions)));
       }
 
-  answers_who_asked : (stop : Option Stop) (event : Event) → Begins (answers event (replies_by (length (requests_by stop hub at event)) (step_by stop hub at event).actions)) (step_by stop hub at event).actions
+  answers_who_asked : (stop : Option Stop) (event : Event) → IsPrefix (answers event (replies_by (length (requests_by stop hub at event)) (step_by stop hub at event).actions)) (step_by stop hub at event).actions
   answers_who_asked None (Datagram peer request) = sent_begins peer (reply_of hub.issuing at datagram_room request)
   answers_who_asked None (Opened conn) = record { others = (opened hub conn).actions; is = refl }
   answers_who_asked None (Bytes conn piece) = piece_begins conn piece (map.get hub.connections conn)
@@ -385,7 +385,7 @@ piece_asks : (i : Issuing) (at : Moment) (piece : List ℕ) (o : Option Splittin
 piece_asks i at piece (Some s) = stream_asks i at (handed_out (fed s piece)).messages
 piece_asks i at piece None = tt
 
-pub entry_asks : (hub : Standing) (at : Moment) (stop : Option Stop) (event : Event) → AreAsked (requests_by stop hub at event)
+pub entry_asks : (hub : HubState) (at : Moment) (stop : Option Stop) (event : Event) → AreAsked (requests_by stop hub at event)
 entry_asks hub at None (Datagram peer request) = (tt, tt)
 entry_asks hub at None (Opened conn) = tt
 entry_asks hub at None (Bytes conn piece) = piece_asks hub.issuing at piece (map.get hub.connections conn)
@@ -419,14 +419,14 @@ accounts_append state (event ∷ events) others =
 
 -- ---- histories
 
-record IsTurned (hub : Standing) (turn : Turn) : Type 0 where
+record IsTurned (hub : HubState) (turn : Turn) : Type 0 where
   pub sent : turn_replies hub turn ≡ replies hub.issuing.kdc (turn_events hub turn)
   pub accounts_are : IsTrue hub.issuing.accounts → turn_accounts hub turn ≡ accounts hub.issuing.kdc (turn_events hub turn)
   pub keeps : IsTrue hub.issuing.accounts → KeepsAccounts turn → IsTrue (after_turn hub turn).issuing.accounts
   pub seen : turn_sees hub turn ≡ run_sees hub.issuing.kdc (turn_events hub turn)
   pub kdc : (after_turn hub turn).issuing.kdc ≡ run hub.issuing.kdc (turn_events hub turn)
 
-turned : (hub : Standing) (turn : Turn) → IsTurned hub turn
+turned : (hub : HubState) (turn : Turn) → IsTurned hub turn
 turned hub (Stepped entry) =
     let step = entry_stepped hub entry.at entry.stop entry.event in
     let requests = requests_by entry.stop hub entry.at entry.event in
@@ -443,10 +443,10 @@ turned hub (Tidied at) = record { sent = refl; accounts_are = λ kept. refl; kee
 turned hub (Reopened database limits at random kept) = record { sent = refl; accounts_are = λ before. refl; keeps = λ before all. all; seen = refl; kdc = refl }
 turned hub (Resumed database limits resumption random kept) = record { sent = refl; accounts_are = λ before. refl; keeps = λ before all. all; seen = refl; kdc = refl }
 
-pub turned_kdc : (hub : Standing) (turn : Turn) → (after_turn hub turn).issuing.kdc ≡ run hub.issuing.kdc (turn_events hub turn)
+pub turned_kdc : (hub : HubState) (turn : Turn) → (after_turn hub turn).issuing.kdc ≡ run hub.issuing.kdc (turn_events hub turn)
 turned_kdc hub turn = (turned hub turn).kdc
 
-pub one_run : (start : Standing) (turns : List Turn) → IsOneRun start turns
+pub one_run : (start : HubState) (turns : List Turn) → IsOneRun start turns
 one_run start [] = record { replies_are = refl; accounts_are = λ kept all. refl; newly_seen_are = refl; kdc_is = refl }
 one_run start (turn ∷ turns) =
     let first = turned start turn in
@@ -462,11 +462,11 @@ one_run start (turn ∷ turns) =
       kdc_is = rest.kdc_is ∙ ap (λ s. run s later) first.kdc ∙ sym (run_append start.issuing.kdc (turn_events start turn) later);
     }
 
-pub goes_on : (start : Standing) (turns later : List Turn) → after_turns start (turns ++ later) ≡ after_turns (after_turns start turns) later
+pub goes_on : (start : HubState) (turns later : List Turn) → after_turns start (turns ++ later) ≡ after_turns (after_turns start turns) later
 goes_on start [] later = refl
 goes_on start (turn ∷ turns) later = goes_on (after_turn start turn) turns later
 
-pub log_stands : (start : Standing) (entries : List Entry) → after_turns start (map_list Stepped entries) ≡ (logged start entries).hub
+pub log_stands : (start : HubState) (entries : List Entry) → after_turns start (map_list Stepped entries) ≡ (logged start entries).hub
 log_stands start [] = refl
 log_stands start (entry ∷ entries) = log_stands (step_of start entry).hub entries
 
@@ -567,14 +567,14 @@ all_go_on : (events : List KdcEvent) → AreAsked events → AllGoOn events
 all_go_on [] a = tt
 all_go_on (event ∷ events) a = (goes_on_asked event a.0, all_go_on events a.1)
 
-turn_asks : (hub : Standing) (turn : Turn) → IsOfOneProcess turn → AllGoOn (turn_events hub turn)
+turn_asks : (hub : HubState) (turn : Turn) → IsOfOneProcess turn → AllGoOn (turn_events hub turn)
 turn_asks hub (Stepped entry) one = all_go_on _ (entry_asks hub entry.at entry.stop entry.event)
 turn_asks hub (Replaced database) one = (tt, tt)
 turn_asks hub (Tidied at) one = (tt, tt)
 turn_asks hub (Reopened database limits at random kept) one = absurd one
 turn_asks hub (Resumed database limits resumption random kept) one = absurd one
 
-turns_ask : (start : Standing) (turns : List Turn) → AllByRecursion IsOfOneProcess turns → AllGoOn (events_in start turns)
+turns_ask : (start : HubState) (turns : List Turn) → AllByRecursion IsOfOneProcess turns → AllGoOn (events_in start turns)
 turns_ask start [] one = tt
 turns_ask start (turn ∷ turns) one = both_go_on (turn_events start turn) _ (turn_asks start turn one.0) (turns_ask (after_turn start turn) turns one.1)
 

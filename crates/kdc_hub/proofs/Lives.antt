@@ -9,8 +9,8 @@ use Rattle.std.proofs.lemmas.List.Sums.{sum_by-append}
 use Rattle.std.proofs.lemmas.Grind.{flat_map-append}
 use Rattle.krb_fields.specs.declared.moment.Moment.{Moment}
 use Rattle.kdc_hub.specs.declared.server.Served.{Served}
-use Rattle.kdc_hub.specs.declared.wires.Did.{Did}
-use Rattle.kdc_hub.specs.Hub.{Standing}
+use Rattle.kdc_hub.specs.declared.wires.WireCall.{WireCall}
+use Rattle.kdc_hub.specs.Hub.{HubState}
 use Rattle.kdc_hub.specs.History.{CanBeResumed, IsOfOneProcess, IsOneRun, OneTicketInProcess, ServesAlike, Stepped, TidiesUnseen, Turn, Unaffected, after_turns}
 use Rattle.kdc_hub.specs.Logged.{Entry, logged}
 use Rattle.kdc_hub.specs.Moved.{MovesNothingElse}
@@ -29,7 +29,7 @@ count_on : {X : Type 0} (p : X → Bool) (xs ys : List X) → count_by p (xs ++ 
 count_on p xs ys = sum_by-append (λ x. cond (p x) 1 0) xs ys
 
 -- the life so far, and when the last tidying was
-pub record LivesOn (wire : Option (List Did)) (source : Option (List Look)) (start : Standing) (lengths : List ℕ) (totals : Totals) (wire_after : Option (List Did)) (source_after : Option (List Look)) (new : Standing) (tidied : Option Moment) : Type 0 where
+pub record LivesOn (wire : Option (List WireCall)) (source : Option (List Look)) (start : HubState) (lengths : List ℕ) (totals : Totals) (wire_after : Option (List WireCall)) (source_after : Option (List Look)) (new : HubState) (tidied : Option Moment) : Type 0 where
   pub lived : IsLived wire source start lengths totals wire_after source_after new
   pub last : tidied ≡ tidied_by None lived.periods
 
@@ -37,7 +37,7 @@ tidied_on : (tidied : Option Moment) (ps : List Period) (p : Period) → tidied_
 tidied_on tidied [] p = refl
 tidied_on tidied (q ∷ ps) p = tidied_on (option_or q.tidied tidied) ps p
 
-pub none_lived : (wire : Option (List Did)) (source : Option (List Look)) (start : Standing) (totals : Totals) → totals.events ≡ 0 → totals.faults ≡ 0 → totals.refused ≡ 0
+pub none_lived : (wire : Option (List WireCall)) (source : Option (List Look)) (start : HubState) (totals : Totals) → totals.events ≡ 0 → totals.faults ≡ 0 → totals.refused ≡ 0
     → LivesOn wire source start [] totals wire source start None
 unfolding ArePeriods
 none_lived wire source start totals events faults refused = record {
@@ -56,9 +56,9 @@ none_lived wire source start totals events faults refused = record {
 }
 
 -- a history continues from the hub that it left, and a log is a history
-module _ (goes_on : (start : Standing) (turns later : List Turn) → after_turns start (turns ++ later) ≡ after_turns (after_turns start turns) later)
-    (log : (start : Standing) (entries : List Entry) → after_turns start (map Stepped entries) ≡ (logged start entries).hub) where
-  periods_on : (tidied : Option Moment) (hub : Standing) (ps : List Period) (p : Period) → ArePeriods tidied hub ps → AreRounds (after_turns (after_turns hub (flat_map turns_of ps)) (replacement p.look)) p.rounds
+module _ (goes_on : (start : HubState) (turns later : List Turn) → after_turns start (turns ++ later) ≡ after_turns (after_turns start turns) later)
+    (log : (start : HubState) (entries : List Entry) → after_turns start (map Stepped entries) ≡ (logged start entries).hub) where
+  periods_on : (tidied : Option Moment) (hub : HubState) (ps : List Period) (p : Period) → ArePeriods tidied hub ps → AreRounds (after_turns (after_turns hub (flat_map turns_of ps)) (replacement p.look)) p.rounds
       → p.tidied ≡ due (tidied_by tidied ps) (last_moment p.rounds) → ArePeriods tidied hub (ps ++ p ∷ [])
   unfolding ArePeriods
   periods_on tidied hub [] p t r d = (r, d, tt)
@@ -66,12 +66,12 @@ module _ (goes_on : (start : Standing) (turns later : List Turn) → after_turns
     t.0,
     t.1,
     periods_on (option_or q.tidied tidied) (after_turns hub (turns_of q)) ps p t.2
-        (subst (λ (h : Standing). AreRounds (after_turns h (replacement p.look)) p.rounds) (ap (after_turns hub) (flat_map-cons turns_of q ps) ∙ goes_on hub (turns_of q) (flat_map turns_of ps)) r) d,
+        (subst (λ (h : HubState). AreRounds (after_turns h (replacement p.look)) p.rounds) (ap (after_turns hub) (flat_map-cons turns_of q ps) ∙ goes_on hub (turns_of q) (flat_map turns_of ps)) r) d,
   )
 
-  module _ (wire : Option (List Did)) (source : Option (List Look)) (start : Standing) (lengths : List ℕ) (totals : Totals) (wire_then : Option (List Did)) (source_then : Option (List Look)) (hub : Standing) (tidied : Option Moment)
+  module _ (wire : Option (List WireCall)) (source : Option (List Look)) (start : HubState) (lengths : List ℕ) (totals : Totals) (wire_then : Option (List WireCall)) (source_then : Option (List Look)) (hub : HubState) (tidied : Option Moment)
       (so_far : LivesOn wire source start lengths totals wire_then source_then hub tidied)
-      (n : ℕ) (served : Served) (wire_after : Option (List Did)) (source_after : Option (List Look)) (new : Standing) (tidied_after : Option Moment) (b : IsPeriod wire_then source_then hub tidied n served wire_after source_after new tidied_after) where
+      (n : ℕ) (served : Served) (wire_after : Option (List WireCall)) (source_after : Option (List Look)) (new : HubState) (tidied_after : Option Moment) (b : IsPeriod wire_then source_then hub tidied n served wire_after source_after new tidied_after) where
     abbrev a : IsLived wire source start lengths totals wire_then source_then hub
     a = so_far.lived
 
@@ -104,10 +104,10 @@ module _ (goes_on : (start : Standing) (turns later : List Turn) → after_turns
         let looked = after_turns hub (replacement b.look) in
         let steps = map Stepped (flat_map entries_of b.run.rounds) in
         b.tidies.hub
-        ∙ ap (λ (h : Standing). after_turns h (tidying (due tidied served.last))) (b.run.hub ∙ sym (log looked (flat_map entries_of b.run.rounds)))
+        ∙ ap (λ (h : HubState). after_turns h (tidying (due tidied served.last))) (b.run.hub ∙ sym (log looked (flat_map entries_of b.run.rounds)))
         ∙ sym (goes_on looked steps (tidying (due tidied served.last)))
         ∙ sym (goes_on hub (replacement b.look) (steps ++ tidying (due tidied served.last)))
-        ∙ ap (λ (h : Standing). after_turns h (turns_of last)) a.hub
+        ∙ ap (λ (h : HubState). after_turns h (turns_of last)) a.hub
         ∙ sym (goes_on start (flat_map turns_of a.periods) (turns_of last))
         ∙ ap (after_turns start) (sym (flat_map-one turns_of a.periods last))
 
@@ -116,7 +116,7 @@ module _ (goes_on : (start : Standing) (turns later : List Turn) → after_turns
     one_more u events faults refused = record {
       lived = record {
         periods = a.periods ++ last ∷ [];
-        each = periods_on None start a.periods last a.each (subst (λ (h : Standing). AreRounds (after_turns h (replacement b.look)) b.run.rounds) a.hub b.run.each) is_due;
+        each = periods_on None start a.periods last a.each (subst (λ (h : HubState). AreRounds (after_turns h (replacement b.look)) b.run.rounds) a.hub b.run.each) is_due;
         many = map-append (λ period. length period.rounds) a.periods (last ∷ []) ∙ (λ i. a.many i ++ b.run.many i ∷ []);
         did = subst (λ l. Records wire l wire_after) (sym more_did) (records_on wire _ wire_then _ wire_after a.did b.run.recorded);
         found = subst (λ l. Records source l source_after) (sym (map-append (λ period. period.look) a.periods (last ∷ []))) (records_on source _ source_then _ source_after a.found b.found);
@@ -164,8 +164,8 @@ periods_go_on (p ∷ ps) =
     (periods_go_on ps))
 
 -- with the laws of all histories
-pub is_life : ((start : Standing) (turns : List Turn) → IsOneRun start turns) → ServesAlike → Unaffected → MovesNothingElse → TidiesUnseen → CanBeResumed → OneTicketInProcess
-    → (wire : Option (List Did)) (source : Option (List Look)) (start : Standing) (lengths : List ℕ) (totals : Totals) (wire_after : Option (List Did)) (source_after : Option (List Look)) (new : Standing)
+pub is_life : ((start : HubState) (turns : List Turn) → IsOneRun start turns) → ServesAlike → Unaffected → MovesNothingElse → TidiesUnseen → CanBeResumed → OneTicketInProcess
+    → (wire : Option (List WireCall)) (source : Option (List Look)) (start : HubState) (lengths : List ℕ) (totals : Totals) (wire_after : Option (List WireCall)) (source_after : Option (List Look)) (new : HubState)
     → IsLived wire source start lengths totals wire_after source_after new → IsLife wire source start lengths totals wire_after source_after new
 is_life one_run alike unaffected moved unseen resumable one_ticket wire source start lengths totals wire_after source_after new lived =
     let turns = flat_map turns_of lived.periods in

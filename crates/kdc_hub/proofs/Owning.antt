@@ -24,24 +24,24 @@ use Rattle.kdc_hub.specs.declared.event.CloseReason.TheVariants.{Full}
 use Rattle.kdc_hub.specs.declared.reply.Reply.{Reply}
 use Rattle.kdc_hub.specs.Issuing.{Issuing, after, reply_of}
 use Rattle.kdc_hub.specs.StreamStep.{StreamStep, messages_step, reply_then, stream_room, stream_step}
-use Rattle.kdc_hub.specs.Hub.{Standing, Step, brings, greatest_request, hub_step, kept, most_connections, nothing}
+use Rattle.kdc_hub.specs.Hub.{HubState, Step, brings, greatest_request, hub_step, kept, most_connections, nothing}
 use Rattle.kdc_hub.specs.Logged.{Entry, Stop, logged, step_by, step_of}
-use Rattle.kdc_hub.specs.History.{Begins, asked, others_after, piece_requests, requests_by, requests_of, stream_requests}
+use Rattle.kdc_hub.specs.History.{IsPrefix, asked, others_after, piece_requests, requests_by, requests_of, stream_requests}
 use Rattle.kdc_hub.specs.OwnBytes.{AsksItsOwn, IsNoOpening, asked_by, brought_on, bytes_on, is_on, requests_on}
 use Rattle.kdc_hub.proofs.Tables.{is_gone, is_there}
 
 -- ---- a list at the beginning of another
 
-none_begins : {X : Type 0} (whole : List X) → Begins [] whole
+none_begins : {X : Type 0} (whole : List X) → IsPrefix [] whole
 none_begins whole = record { others = whole; is = refl }
 
-begins_before : {X : Type 0} (front whole more : List X) → Begins front whole → Begins front (whole ++ more)
+begins_before : {X : Type 0} (front whole more : List X) → IsPrefix front whole → IsPrefix front (whole ++ more)
 begins_before front whole more b = record { others = b.others ++ more; is = ap (λ l. l ++ more) b.is ∙ append_assoc front b.others more }
 
-begins_after : {X : Type 0} (first front whole : List X) → Begins front whole → Begins (first ++ front) (first ++ whole)
+begins_after : {X : Type 0} (first front whole : List X) → IsPrefix front whole → IsPrefix (first ++ front) (first ++ whole)
 begins_after first front whole b = record { others = b.others; is = ap (λ l. first ++ l) b.is ∙ sym (append_assoc first front b.others) }
 
-begins_on : {X : Type 0} (first second whole : List X) → Begins first second → Begins second whole → Begins first whole
+begins_on : {X : Type 0} (first second whole : List X) → IsPrefix first second → IsPrefix second whole → IsPrefix first whole
 begins_on first second whole a b =
     record { others = a.others ++ b.others; is = b.is ∙ ap (λ l. l ++ b.others) a.is ∙ append_assoc first a.others b.others }
 
@@ -55,14 +55,14 @@ nothing_added (x ∷ xs) ys e = nothing_added xs ys (ap (drop 1) e)
 asked_all : (events others : List KdcEvent) → flat_map asked_by (events ++ others) ≡ flat_map asked_by events ++ flat_map asked_by others
 asked_all events others = flat_map-append asked_by events others
 
-asked_some : (n : ℕ) (events : List KdcEvent) → Begins (flat_map asked_by (take n events)) (flat_map asked_by events)
+asked_some : (n : ℕ) (events : List KdcEvent) → IsPrefix (flat_map asked_by (take n events)) (flat_map asked_by events)
 asked_some zero events = none_begins _
 asked_some (suc n) [] = none_begins _
 asked_some (suc n) (event ∷ events) = begins_after (asked_by event) _ _ (asked_some n events)
 
 module _ (at : Moment) (conn : ℕ) (fault : Option FrameFault) where
   record AreAsked (requests : List KdcEvent) (ms : List (List ℕ)) (stays : Bool) : Type 0 where
-    pub begins : Begins (flat_map asked_by requests) ms
+    pub begins : IsPrefix (flat_map asked_by requests) ms
     pub all : stays ≡ true → flat_map asked_by requests ≡ ms
 
   one_asked : (i j : Issuing) (m : List ℕ) (reply : Option Reply) (requests : List KdcEvent) (ms : List (List ℕ)) (others : StreamStep) → AreAsked requests ms others.stays
@@ -86,7 +86,7 @@ module _ (at : Moment) (conn : ℕ) (fault : Option FrameFault) where
 -- ---- the connection in the table
 
 module _ (conn : ℕ) where
-  abbrev here : Standing → Option Splitting
+  abbrev here : HubState → Option Splitting
   here h = map.get h.connections conn
 
   is_other : (c : ℕ) → c ≢ conn → eq_by_cmp nat_cmp conn c ≡ false
@@ -109,7 +109,7 @@ module _ (conn : ℕ) where
       by_test true = refl
       by_test false = none
 
-  module _ (hub : Standing) (at : Moment) where
+  module _ (hub : HubState) (at : Moment) where
     opening_other : (c : ℕ) (there place : Bool) → c ≢ conn
         → here (if there then nothing hub else if place then record { actions = []; hub = record hub { connections = map.insert hub.connections c (started greatest_request) } } else (let s : Step = record { actions = Close c Full ∷ []; hub = hub } in s)).hub ≡ here hub
     opening_other c true place other = refl
@@ -164,14 +164,14 @@ module _ (conn : ℕ) where
 
   -- ---- a connection that isn't open
 
-  abbrev own_requests : Standing → Entry → List (List ℕ)
+  abbrev own_requests : HubState → Entry → List (List ℕ)
   own_requests hub entry = if is_on conn entry.event then flat_map asked_by (requests_of hub entry) else []
 
-  record StaysGone (hub : Standing) (entry : Entry) : Type 0 where
+  record StaysGone (hub : HubState) (entry : Entry) : Type 0 where
     pub asks : own_requests hub entry ≡ []
     pub gone : here (step_of hub entry).hub ≡ None
 
-  gone_piece : (hub : Standing) (at : Moment) (stop : Option Stop) (c : ℕ) (piece : List ℕ) → here hub ≡ None
+  gone_piece : (hub : HubState) (at : Moment) (stop : Option Stop) (c : ℕ) (piece : List ℕ) → here hub ≡ None
       → StaysGone hub (record { at = at; event = Bytes c piece; stop = stop })
   gone_piece hub at stop c piece none = by_test (c == conn) refl
     where
@@ -189,7 +189,7 @@ module _ (conn : ℕ) where
         gone = piece_unmoved hub at stop c piece (eqb-false c conn e) ∙ none;
       }
 
-  gone_step : (hub : Standing) (at : Moment) (stop : Option Stop) (event : Event) → here hub ≡ None → IsNoOpening conn event
+  gone_step : (hub : HubState) (at : Moment) (stop : Option Stop) (event : Event) → here hub ≡ None → IsNoOpening conn event
       → StaysGone hub (record { at = at; event = event; stop = stop })
   gone_step hub at stop (Datagram peer request) none o = record { asks = refl; gone = datagram_unmoved hub at stop peer request ∙ none }
   gone_step hub at stop (Opened c) none o = record { asks = refl; gone = opening_unmoved hub at stop c o ∙ none }
@@ -202,11 +202,11 @@ module _ (conn : ℕ) where
   abbrev NoOpenings : List Entry → Type 0
   NoOpenings = AllByRecursion (λ entry. IsNoOpening conn entry.event)
 
-  record IsGone (hub : Standing) (entries : List Entry) : Type 0 where
+  record IsGone (hub : HubState) (entries : List Entry) : Type 0 where
     pub asks : requests_on conn hub entries ≡ []
     pub gone : here (logged hub entries).hub ≡ None
 
-  gone : (hub : Standing) (entries : List Entry) → here hub ≡ None → NoOpenings entries → IsGone hub entries
+  gone : (hub : HubState) (entries : List Entry) → here hub ≡ None → NoOpenings entries → IsGone hub entries
   gone hub [] none a = record { asks = refl; gone = none }
   gone hub (entry ∷ entries) none a =
       let first = gone_step hub entry.at entry.stop entry.event none a.0 in
@@ -219,43 +219,43 @@ module _ (conn : ℕ) where
   abbrev IsClean : Splitting → Type 0
   IsClean s = (handed_out (fed s [])).messages ≡ []
 
-  record IsCut (s : Splitting) (hub : Standing) (entries : List Entry) : Type 0 where
-    pub begins : Begins (requests_on conn hub entries) (handed_out (fed s (bytes_on conn entries))).messages
+  record IsCut (s : Splitting) (hub : HubState) (entries : List Entry) : Type 0 where
+    pub begins : IsPrefix (requests_on conn hub entries) (handed_out (fed s (bytes_on conn entries))).messages
     pub all : IsTrue (is_some (here (logged hub entries).hub)) → requests_on conn hub entries ≡ (handed_out (fed s (bytes_on conn entries))).messages
 
   -- an entry elsewhere
-  passing : (s : Splitting) (hub : Standing) (entry : Entry) (entries : List Entry) → own_requests hub entry ≡ [] → brought_on conn entry.event ≡ []
+  passing : (s : Splitting) (hub : HubState) (entry : Entry) (entries : List Entry) → own_requests hub entry ≡ [] → brought_on conn entry.event ≡ []
       → IsCut s (step_of hub entry).hub entries → IsCut s hub (entry ∷ entries)
   passing s hub entry entries asks brings rest =
       let p : requests_on conn hub (entry ∷ entries) ≡ requests_on conn (step_of hub entry).hub entries = ap (λ l. l ++ requests_on conn (step_of hub entry).hub entries) asks in
       let q : bytes_on conn (entry ∷ entries) ≡ bytes_on conn entries = ap (λ l. l ++ bytes_on conn entries) brings in
       record {
-        begins = subst (λ (w : List (List ℕ) × List ℕ). Begins w.0 (handed_out (fed s w.1)).messages) (λ k. (sym p k, sym q k)) rest.begins;
+        begins = subst (λ (w : List (List ℕ) × List ℕ). IsPrefix w.0 (handed_out (fed s w.1)).messages) (λ k. (sym p k, sym q k)) rest.begins;
         all = λ stays_open. p ∙ rest.all stays_open ∙ ap (λ b. (handed_out (fed s b)).messages) (sym q);
       }
 
   module _ (law : (s : Splitting) (first second : List ℕ) → IsSameInTwo s first second) where
     -- an entry after which it is closed
-    ending : (s : Splitting) (hub : Standing) (entry : Entry) (entries : List Entry)
-        → Begins (own_requests hub entry) (handed_out (fed s (brought_on conn entry.event))).messages → IsGone (step_of hub entry).hub entries → IsCut s hub (entry ∷ entries)
+    ending : (s : Splitting) (hub : HubState) (entry : Entry) (entries : List Entry)
+        → IsPrefix (own_requests hub entry) (handed_out (fed s (brought_on conn entry.event))).messages → IsGone (step_of hub entry).hub entries → IsCut s hub (entry ∷ entries)
     ending s hub entry entries own rest =
         let asks : requests_on conn hub (entry ∷ entries) ≡ own_requests hub entry = ap (λ l. own_requests hub entry ++ l) rest.asks ∙ append-nil (own_requests hub entry) in
         let two = law s (brought_on conn entry.event) (bytes_on conn entries) in
         record {
-          begins = subst (λ l. Begins l (handed_out (fed s (bytes_on conn (entry ∷ entries)))).messages) (sym asks)
-              (subst (λ l. Begins (own_requests hub entry) l) (sym two.same_messages) (begins_before (own_requests hub entry) _ _ own));
+          begins = subst (λ l. IsPrefix l (handed_out (fed s (bytes_on conn (entry ∷ entries)))).messages) (sym asks)
+              (subst (λ l. IsPrefix (own_requests hub entry) l) (sym two.same_messages) (begins_before (own_requests hub entry) _ _ own));
           all = λ stays_open. absurd (let e = rest.gone in let f : true ≡ is_some (here (logged hub (entry ∷ entries)).hub) = sym stays_open in (let g : true ≡ false = f ∙ ap is_some e in cc));
         }
 
     -- an entry after which it stays open
-    staying : (s : Splitting) (hub : Standing) (entry : Entry) (entries : List Entry)
+    staying : (s : Splitting) (hub : HubState) (entry : Entry) (entries : List Entry)
         → own_requests hub entry ≡ (handed_out (fed s (brought_on conn entry.event))).messages
         → IsCut (left (fed s (brought_on conn entry.event))) (step_of hub entry).hub entries → IsCut s hub (entry ∷ entries)
     staying s hub entry entries own rest =
         let two = law s (brought_on conn entry.event) (bytes_on conn entries) in
         let first = (handed_out (fed s (brought_on conn entry.event))).messages in
         record {
-          begins = subst (λ (w : List (List ℕ) × List (List ℕ)). Begins w.0 w.1) (λ k. (sym own k ++ requests_on conn (step_of hub entry).hub entries, sym two.same_messages k))
+          begins = subst (λ (w : List (List ℕ) × List (List ℕ)). IsPrefix w.0 w.1) (λ k. (sym own k ++ requests_on conn (step_of hub entry).hub entries, sym two.same_messages k))
               (begins_after first _ _ rest.begins);
           all = λ stays_open. (λ k. own k ++ rest.all stays_open k) ∙ sym two.same_messages;
         }
@@ -265,8 +265,8 @@ module _ (conn : ℕ) where
         nothing_added (handed_out (fed s piece)).messages _
         (ap (λ p. (handed_out (fed s p)).messages) (sym (append-nil piece)) ∙ (law s piece []).same_messages)
 
-    module _ (hub : Standing) (at : Moment) (entries : List Entry) (s : Splitting) (piece : List ℕ)
-        (rest : (h : Standing) (t : Splitting) → here h ≡ Some t → IsClean t → IsCut t h entries) (ends : (h : Standing) → here h ≡ None → IsGone h entries) where
+    module _ (hub : HubState) (at : Moment) (entries : List Entry) (s : Splitting) (piece : List ℕ)
+        (rest : (h : HubState) (t : Splitting) → here h ≡ Some t → IsClean t → IsCut t h entries) (ends : (h : HubState) → here h ≡ None → IsGone h entries) where
       abbrev piece_entry : Option Stop → ℕ → Entry
       piece_entry stop c = record { at = at; event = Bytes c piece; stop = stop }
 
@@ -291,14 +291,14 @@ module _ (conn : ℕ) where
         unfolding r
         step_is = ap (λ o. (brings hub at conn piece o).hub) there
 
-        own_begins : (stop : Option Stop) → Begins (own_requests hub (piece_entry stop conn)) (handed_out (fed s (brought_on conn (Bytes conn piece)))).messages
+        own_begins : (stop : Option Stop) → IsPrefix (own_requests hub (piece_entry stop conn)) (handed_out (fed s (brought_on conn (Bytes conn piece)))).messages
         own_begins stop =
-            subst (λ (w : List (List ℕ) × List ℕ). Begins w.0 (handed_out (fed s w.1)).messages) (λ k. (sym (is_own stop) k, sym is_brought k)) (by_stop stop)
+            subst (λ (w : List (List ℕ) × List ℕ). IsPrefix w.0 (handed_out (fed s w.1)).messages) (λ k. (sym (is_own stop) k, sym is_brought k)) (by_stop stop)
           where
-            whole : Begins (flat_map asked_by (requests_by None hub at (Bytes conn piece))) (handed_out (fed s piece)).messages
-            whole = subst (λ l. Begins (flat_map asked_by l) (handed_out (fed s piece)).messages) (sym asked_are) asks.begins
+            whole : IsPrefix (flat_map asked_by (requests_by None hub at (Bytes conn piece))) (handed_out (fed s piece)).messages
+            whole = subst (λ l. IsPrefix (flat_map asked_by l) (handed_out (fed s piece)).messages) (sym asked_are) asks.begins
 
-            by_stop : (stop : Option Stop) → Begins (flat_map asked_by (requests_by stop hub at (Bytes conn piece))) (handed_out (fed s piece)).messages
+            by_stop : (stop : Option Stop) → IsPrefix (flat_map asked_by (requests_by stop hub at (Bytes conn piece))) (handed_out (fed s piece)).messages
             by_stop None = whole
             by_stop (Some stop) = begins_on _ _ _ (asked_some stop.done (requests_by None hub at (Bytes conn piece))) whole
 
@@ -327,8 +327,8 @@ module _ (conn : ℕ) where
                 (ap (λ b. if b then piece else []) e)
                 (rest _ _ (piece_unmoved hub at stop c piece (eqb-false c conn e) ∙ there) clean)
 
-    closed : (s : Splitting) (hub : Standing) (at : Moment) (stop : Option Stop) (c : ℕ) (entries : List Entry) → here hub ≡ Some s → IsClean s
-        → ((h : Standing) (t : Splitting) → here h ≡ Some t → IsClean t → IsCut t h entries) → ((h : Standing) → here h ≡ None → IsGone h entries)
+    closed : (s : Splitting) (hub : HubState) (at : Moment) (stop : Option Stop) (c : ℕ) (entries : List Entry) → here hub ≡ Some s → IsClean s
+        → ((h : HubState) (t : Splitting) → here h ≡ Some t → IsClean t → IsCut t h entries) → ((h : HubState) → here h ≡ None → IsGone h entries)
         → IsCut s hub ((let e : Entry = record { at = at; event = Closed c; stop = stop } in e) ∷ entries)
     closed s hub at stop c entries there clean rest ends = by_test (c == conn) refl
       where
@@ -340,8 +340,8 @@ module _ (conn : ℕ) where
             passing s hub (record { at = at; event = Closed c; stop = stop }) entries refl refl
             (rest _ _ (ap (λ m. map.get m conn) (closing hub at stop c) ∙ remove_other hub.connections c (eqb-false c conn e) ∙ there) clean)
 
-    one_cut : (s : Splitting) (hub : Standing) (at : Moment) (stop : Option Stop) (event : Event) (entries : List Entry) → here hub ≡ Some s → IsClean s → IsNoOpening conn event
-        → ((h : Standing) (t : Splitting) → here h ≡ Some t → IsClean t → IsCut t h entries) → ((h : Standing) → here h ≡ None → IsGone h entries)
+    one_cut : (s : Splitting) (hub : HubState) (at : Moment) (stop : Option Stop) (event : Event) (entries : List Entry) → here hub ≡ Some s → IsClean s → IsNoOpening conn event
+        → ((h : HubState) (t : Splitting) → here h ≡ Some t → IsClean t → IsCut t h entries) → ((h : HubState) → here h ≡ None → IsGone h entries)
         → IsCut s hub ((let e : Entry = record { at = at; event = event; stop = stop } in e) ∷ entries)
     one_cut s hub at stop (Datagram peer request) entries there clean o rest ends =
         passing s hub (record { at = at; event = Datagram peer request; stop = stop }) entries refl refl (rest _ _ (datagram_unmoved hub at stop peer request ∙ there) clean)
@@ -350,7 +350,7 @@ module _ (conn : ℕ) where
     one_cut s hub at stop (Bytes c piece) entries there clean o rest ends = any_piece hub at entries s piece rest ends there clean stop c
     one_cut s hub at stop (Closed c) entries there clean o rest ends = closed s hub at stop c entries there clean rest ends
 
-    cut_on : (s : Splitting) (hub : Standing) (entries : List Entry) → here hub ≡ Some s → IsClean s → NoOpenings entries → IsCut s hub entries
+    cut_on : (s : Splitting) (hub : HubState) (entries : List Entry) → here hub ≡ Some s → IsClean s → NoOpenings entries → IsCut s hub entries
     cut_on s hub [] there clean a = record { begins = none_begins _; all = λ stays_open. sym clean }
     cut_on s hub (entry ∷ entries) there clean a =
         one_cut s hub entry.at entry.stop entry.event entries there clean a.0 (λ h t is c. cut_on t h entries is c a.1) (λ h none. gone h entries none a.1)

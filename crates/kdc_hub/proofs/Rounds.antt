@@ -8,9 +8,9 @@ use Rattle.std.proofs.lemmas.List.{append-nil}
 use Rattle.std.proofs.lemmas.List.Sums.{sum_by-append}
 use Rattle.krb_fields.specs.declared.moment.Moment.{Moment}
 use Rattle.kdc_hub.specs.declared.event.Action.{Action}
-use Rattle.kdc_hub.specs.declared.wires.Did.{Did}
-use Rattle.kdc_hub.specs.declared.wires.Did.TheVariants.{Acted, Failed}
-use Rattle.kdc_hub.specs.Hub.{Standing}
+use Rattle.kdc_hub.specs.declared.wires.WireCall.{WireCall}
+use Rattle.kdc_hub.specs.declared.wires.WireCall.TheVariants.{Acted, Failed}
+use Rattle.kdc_hub.specs.Hub.{HubState}
 use Rattle.kdc_hub.specs.Logged.{logged}
 use Rattle.kdc_hub.specs.Wire.{IsCounted, Records, is_fault}
 use Rattle.kdc_hub.specs.Rounds.{Tries, action_connection, ending, lost_by, lost_in}
@@ -65,7 +65,7 @@ counted_less a k m b e s = record {
   rose = λ h. let all = s.rose h in let less = min-le_left m (2 ^ 64 - 1) in omega (arith, all, less, e);
 }
 
-pub tries_on : (xs ys : List Action) (d e : List Did) → Tries xs d → Tries ys e → Tries (xs ++ ys) (d ++ e)
+pub tries_on : (xs ys : List Action) (d e : List WireCall) → Tries xs d → Tries ys e → Tries (xs ++ ys) (d ++ e)
 unfolding Tries
 tries_on [] ys d e s t = subst (λ l. Tries ys (l ++ e)) (sym s) t
 tries_on (x ∷ xs) ys d e s t = (
@@ -78,7 +78,7 @@ tries_on (x ∷ xs) ys d e s t = (
 )
 
 -- the first lost connection is that of the first part, if one is lost there
-pub lost_on : (d e : List Did) → lost_in (d ++ e) ≡ option_or (lost_in d) (lost_in e)
+pub lost_on : (d e : List WireCall) → lost_in (d ++ e) ≡ option_or (lost_in d) (lost_in e)
 lost_on [] e = refl
 lost_on (x ∷ d) e = ap (option_or (lost_by x)) (lost_on d e) ∙ one_by_one (lost_by x)
   where
@@ -91,21 +91,21 @@ pub one_further : (xs : List Action) (i : ℕ) (x : Action) → i < length xs �
 one_further xs i x lt is = (let e : i + 1 ≡ suc i = omega arith in ap (λ k. take k xs) e) ∙ take-suc xs i x lt ∙ ap (λ y. take i xs ++ y ∷ []) (sym is)
 
 -- the acts so far, and the connection that they lost
-pub record AreTried (before : Option (List Did)) (start : Standing) (actions : List Action) (failed : ℕ) (lost : Option ℕ) (after : Option (List Did)) (new : Standing) : Type 0 where
-  pub did : List Did
+pub record AreTried (before : Option (List WireCall)) (start : HubState) (actions : List Action) (failed : ℕ) (lost : Option ℕ) (after : Option (List WireCall)) (new : HubState) : Type 0 where
+  pub did : List WireCall
   pub tries : Tries actions did
   pub recorded : Records before did after
   pub hub : new ≡ start
   pub faults : failed ≡ count_by is_fault did
   pub loses : lost ≡ lost_in did
 
-pub none_tried : (before : Option (List Did)) (start : Standing) → AreTried before start [] 0 None before start
+pub none_tried : (before : Option (List WireCall)) (start : HubState) → AreTried before start [] 0 None before start
 unfolding Tries
 none_tried before start = record { did = []; tries = refl; recorded = records_nothing before; hub = refl; faults = refl; loses = refl }
 
-module _ (before : Option (List Did)) (start : Standing) (actions : List Action) (i n : ℕ) (lost : Option ℕ) (middle : Option (List Did)) (hub : Standing) (so_far : AreTried before start (take i actions) n lost middle hub)
-    (x : Action) (lt : i < length actions) (is : x ≡ slice_index_or actions i x) (after : Option (List Did)) (new : Standing) (m : ℕ) (more : Option ℕ) where
-  one_tried : (did : Did) → (did ≡ Acted x) ⊎ (did ≡ Failed x) → Records middle (did ∷ []) after → new ≡ hub → m ≡ n + count_by is_fault (did ∷ []) → more ≡ option_or lost (lost_by did)
+module _ (before : Option (List WireCall)) (start : HubState) (actions : List Action) (i n : ℕ) (lost : Option ℕ) (middle : Option (List WireCall)) (hub : HubState) (so_far : AreTried before start (take i actions) n lost middle hub)
+    (x : Action) (lt : i < length actions) (is : x ≡ slice_index_or actions i x) (after : Option (List WireCall)) (new : HubState) (m : ℕ) (more : Option ℕ) where
+  one_tried : (did : WireCall) → (did ≡ Acted x) ⊎ (did ≡ Failed x) → Records middle (did ∷ []) after → new ≡ hub → m ≡ n + count_by is_fault (did ∷ []) → more ≡ option_or lost (lost_by did)
       → AreTried before start (take (i + 1) actions) m more after new
   unfolding Tries
   one_tried did tried recorded same failed lost_then = record {
@@ -124,7 +124,7 @@ module _ (before : Option (List Did)) (start : Standing) (actions : List Action)
   pub one_failed : Records middle (Failed x ∷ []) after → new ≡ hub → m ≡ n + 1 → more ≡ option_or lost (action_connection x) → AreTried before start (take (i + 1) actions) m more after new
   one_failed recorded same failed lost_then = one_tried (Failed x) (inr refl) recorded same failed lost_then
 
-pub all_tried : (before : Option (List Did)) (start : Standing) (at : Moment) (xs : List Action) (n : ℕ) (lost : Option ℕ) (after : Option (List Did)) (hub new : Standing)
+pub all_tried : (before : Option (List WireCall)) (start : HubState) (at : Moment) (xs : List Action) (n : ℕ) (lost : Option ℕ) (after : Option (List WireCall)) (hub new : HubState)
     → AreTried before start xs n lost after hub → new ≡ (logged hub (ending at lost)).hub → AreActs before start at xs n after new
 all_tried before start at xs n lost after hub new h ended = record {
   did = h.did;

@@ -16,7 +16,7 @@ use Rattle.kdc_hub.specs.declared.event.HubFault.{HubFault}
 use Rattle.kdc_state.specs.declared.state.State.{State}
 use Rattle.kdc_hub.specs.Issuing.{Issuing}
 use Rattle.kdc_hub.specs.StreamStep.{StreamStep, after_some, drawn, stream_step}
-use Rattle.kdc_hub.specs.Hub.{Standing, Step, Steps, brings, kept, opened, messages_in, stopped_issuing, most_connections}
+use Rattle.kdc_hub.specs.Hub.{HubState, Step, Steps, brings, kept, opened, messages_in, stopped_issuing, most_connections}
 use Rattle.kdc_hub.proofs.Tables.{set_anew, taken_out}
 
 abbrev pub Table : Type 0
@@ -34,10 +34,10 @@ pub stopped_drawn : (n draws : ℕ) (i i' : Issuing) (at : Moment) (requests : L
 unfolding after_some drawn
 stopped_drawn n draws i i' at requests e d kdc random accounts = rw (e, d) (same_issuing i'.kdc i.kdc i'.random _ i'.accounts i.accounts kdc random accounts)
 
-pub same_standing : (i j : Issuing) (c d : Table) → i ≡ j → c ≡ d → (let s : Standing = record { issuing = i; connections = c } in s) ≡ record { issuing = j; connections = d }
+pub same_standing : (i j : Issuing) (c d : Table) → i ≡ j → c ≡ d → (let s : HubState = record { issuing = i; connections = c } in s) ≡ record { issuing = j; connections = d }
 same_standing i j c d e h = rw (e, h) refl
 
-module _ (hub : Standing) (at : Moment) (conn : ℕ) (piece : List ℕ) (o : Option Splitting) (s f : Splitting) (is : o ≡ Some s) (feed : f ≡ fed s piece) where
+module _ (hub : HubState) (at : Moment) (conn : ℕ) (piece : List ℕ) (o : Option Splitting) (s f : Splitting) (is : o ≡ Some s) (feed : f ≡ fed s piece) where
   full : Splitting → StreamStep
   full x = stream_step hub.issuing at conn x
 
@@ -53,7 +53,7 @@ module _ (hub : Standing) (at : Moment) (conn : ℕ) (piece : List ℕ) (o : Opt
   pub stays_there : (actions : List Action) (i : Issuing) (t place : Splitting) (table table' : Table) (stays : Bool)
       → actions ≡ (stream_step hub.issuing at conn f).actions → i ≡ (stream_step hub.issuing at conn f).issuing → stays ≡ (stream_step hub.issuing at conn f).stays → stays ≡ true
       → t ≡ left f → table ≡ map.insert hub.connections conn place → table' ≡ map.insert table conn t
-      → (actions ≡ (brings hub at conn piece o).actions) × ((let x : Standing = record { issuing = i; connections = table' } in x) ≡ (brings hub at conn piece o).hub)
+      → (actions ≡ (brings hub at conn piece o).actions) × ((let x : HubState = record { issuing = i; connections = table' } in x) ≡ (brings hub at conn piece o).hub)
   unfolding full
   stays_there actions i t place table table' stays acts issues e open_still same first then = (
     acts ∙ taken_actions,
@@ -65,7 +65,7 @@ module _ (hub : Standing) (at : Moment) (conn : ℕ) (piece : List ℕ) (o : Opt
   pub is_closed : (actions : List Action) (i : Issuing) (place : Splitting) (table table' : Table) (stays : Bool)
       → actions ≡ (stream_step hub.issuing at conn f).actions → i ≡ (stream_step hub.issuing at conn f).issuing → stays ≡ (stream_step hub.issuing at conn f).stays → stays ≡ false
       → table ≡ map.insert hub.connections conn place → table' ≡ map.remove table conn
-      → (actions ≡ (brings hub at conn piece o).actions) × ((let x : Standing = record { issuing = i; connections = table' } in x) ≡ (brings hub at conn piece o).hub)
+      → (actions ≡ (brings hub at conn piece o).actions) × ((let x : HubState = record { issuing = i; connections = table' } in x) ≡ (brings hub at conn piece o).hub)
   unfolding full
   is_closed actions i place table table' stays acts issues e closed first then = (
     acts ∙ taken_actions,
@@ -78,7 +78,7 @@ module _ (hub : Standing) (at : Moment) (conn : ℕ) (piece : List ℕ) (o : Opt
       → done ≡ take (length done) (stream_step hub.issuing at conn f).actions → i.kdc ≡ (after_some (length done) hub.issuing at (handed_out f).messages).kdc → i.random ≡ drawn draws hub.issuing.random → i.accounts ≡ hub.issuing.accounts
       → table ≡ map.insert hub.connections conn place → table' ≡ map.remove table conn
       → (done ≡ take (length done) (brings hub at conn piece o).actions)
-      × ((let x : Standing = record { issuing = i; connections = table' } in x) ≡ record { issuing = stopped_issuing hub.issuing at (messages_in piece o) (length done) draws; connections = map.remove hub.connections conn })
+      × ((let x : HubState = record { issuing = i; connections = table' } in x) ≡ record { issuing = stopped_issuing hub.issuing at (messages_in piece o) (length done) draws; connections = map.remove hub.connections conn })
   unfolding full
   is_stopped done i draws place table table' acts kdc random accounts first then = (
     acts ∙ ap (take (length done)) taken_actions,
@@ -88,18 +88,18 @@ module _ (hub : Standing) (at : Moment) (conn : ℕ) (piece : List ℕ) (o : Opt
   )
 
 -- nothing of the piece was read
-pub not_fed : (hub : Standing) (at : Moment) (conn : ℕ) (piece : List ℕ) (o : Option Splitting) (done : List Action) (draws : ℕ) (place : Splitting) (table table' : Table)
+pub not_fed : (hub : HubState) (at : Moment) (conn : ℕ) (piece : List ℕ) (o : Option Splitting) (done : List Action) (draws : ℕ) (place : Splitting) (table table' : Table)
     → done ≡ [] → draws ≡ 0 → table ≡ map.insert hub.connections conn place → table' ≡ map.remove table conn
     → (done ≡ take (length done) (brings hub at conn piece o).actions)
-    × ((let x : Standing = record { issuing = hub.issuing; connections = table' } in x) ≡ record { issuing = stopped_issuing hub.issuing at (messages_in piece o) (length done) draws; connections = map.remove hub.connections conn })
+    × ((let x : HubState = record { issuing = hub.issuing; connections = table' } in x) ≡ record { issuing = stopped_issuing hub.issuing at (messages_in piece o) (length done) draws; connections = map.remove hub.connections conn })
 not_fed hub at conn piece o done draws place table table' e d first then =
     (rw e refl, same_standing hub.issuing _ table' _ (stopped_before (length done) draws hub.issuing at (messages_in piece o) (ap length e) d) (then ∙ ap (λ m. map.remove m conn) first ∙ taken_out hub.connections conn place))
 
-full_there : (hub : Standing) (conn : ℕ) → map.contains_key hub.connections conn ≡ false → nat_lt (map.len hub.connections) most_connections ≡ false → opened hub conn ≡ record { actions = Close conn Full ∷ []; hub = hub }
+full_there : (hub : HubState) (conn : ℕ) → map.contains_key hub.connections conn ≡ false → nat_lt (map.len hub.connections) most_connections ≡ false → opened hub conn ≡ record { actions = Close conn Full ∷ []; hub = hub }
 full_there hub conn e h = rw (e, h) refl
 
 -- a connection for which there is no room
-pub table_full : (hub : Standing) (at : Moment) (conn : ℕ) (there : Bool) (n : ℕ) (r : Result (Vec Action Global) HubFault)
+pub table_full : (hub : HubState) (at : Moment) (conn : ℕ) (there : Bool) (n : ℕ) (r : Result (Vec Action Global) HubFault)
     → there ≡ map.contains_key hub.connections conn → there ≡ false → n ≡ map.len hub.connections → most_connections ≤ n
     → IfOk r (λ actions. actions.items ≡ Close conn Full ∷ []) → IfErr r (λ fault. fault.done.items ≡ []) → IfErr r (λ fault. fault.conn ≡ Some conn) → IfErr r (λ fault. fault.draws ≡ 0)
     → Steps hub at (Opened conn) r hub

@@ -19,7 +19,7 @@ use Rattle.kdc_hub.specs.declared.reply.Reply.{Reply}
 use Rattle.kdc_hub.specs.declared.event.CloseReason.TheVariants.{BadLength, Full}
 use Rattle.kdc_hub.specs.Issuing.{Issuing, after, reply_of, too_long}
 use Rattle.kdc_hub.specs.StreamStep.{StreamStep, reply_then, messages_step, stream_step, stream_room, action_for}
-use Rattle.kdc_hub.specs.Hub.{Standing, Step, brings, kept, hub_step, opened, sent, datagram_room, most_connections, greatest_request}
+use Rattle.kdc_hub.specs.Hub.{HubState, Step, brings, kept, hub_step, opened, sent, datagram_room, most_connections, greatest_request}
 use Rattle.kdc_hub.specs.Logged.{Log, logged}
 use Rattle.kdc_hub.specs.Cutting.{RepliesAreSame, SameOpen}
 use Rattle.kdc_hub.specs.Works.{Work, Asked, Requested, Faulted, Came, Went, Timed, Happening, all_works, entries, others_if, piece_works, stream_works, works}
@@ -157,7 +157,7 @@ stream_worked i at conn fault (m ∷ ms) table = at_reply (reply_of i at stream_
           ∙ sym (ap (λ x. place_if (reply_then conn x (after i at stream_room m) (messages_step (after i at stream_room m) at conn fault ms)) table conn) e);
     }
 
-abbrev pub place_of : Standing → Table → Place
+abbrev pub place_of : HubState → Table → Place
 place_of hub t = record { issuing = hub.issuing; table = t }
 
 -- a step does what its pieces of work do
@@ -166,21 +166,21 @@ record IsWorked (step : Step) (p : Place) (ws : List Timed) : Type 0 where
   pub issuing : step.hub.issuing ≡ (last_place p ws).issuing
   pub same : SameOpen step.hub.connections (last_place p ws).table
 
-opens : (hub : Standing) (at : Moment) (conn : ℕ) (t : Table) (b c : Bool) → map.contains_key hub.connections conn ≡ b → map.contains_key t conn ≡ b → nat_lt (map.len hub.connections) most_connections ≡ c → nat_lt (map.len t) most_connections ≡ c
+opens : (hub : HubState) (at : Moment) (conn : ℕ) (t : Table) (b c : Bool) → map.contains_key hub.connections conn ≡ b → map.contains_key t conn ≡ b → nat_lt (map.len hub.connections) most_connections ≡ c → nat_lt (map.len t) most_connections ≡ c
     → SameOpen hub.connections t → IsWorked (opened hub conn) (place_of hub t) (works hub at (Opened conn))
 opens hub at conn t true c e f g k h = record { actions = rw (e, f) refl; issuing = rw (e, f) refl; same = rw (e, f) h }
 opens hub at conn t false true e f g k h = record { actions = rw (e, f, g, k) refl; issuing = rw (e, f, g, k) refl; same = rw (e, f, g, k) (both_set hub.connections t conn (started greatest_request) (started greatest_request) h) }
 opens hub at conn t false false e f g k h = record { actions = rw (e, f, g, k) refl; issuing = rw (e, f, g, k) refl; same = rw (e, f, g, k) h }
 
-keeps : (hub : Standing) (conn : ℕ) (x : Splitting) (i : Issuing) (t : Table) (b : Bool) → map.contains_key hub.connections conn ≡ true → SameOpen hub.connections t → SameOpen (kept b hub conn x i).connections (table_if b t conn)
+keeps : (hub : HubState) (conn : ℕ) (x : Splitting) (i : Issuing) (t : Table) (b : Bool) → map.contains_key hub.connections conn ≡ true → SameOpen hub.connections t → SameOpen (kept b hub conn x i).connections (table_if b t conn)
 keeps hub conn x i t true there h = same_then (map.insert hub.connections conn x) hub.connections t (one_set hub.connections conn x there) h
 keeps hub conn x i t false there h = both_out hub.connections t conn h
 
-kept_issuing : (b : Bool) (hub : Standing) (conn : ℕ) (x : Splitting) (i : Issuing) → (kept b hub conn x i).issuing ≡ i
+kept_issuing : (b : Bool) (hub : HubState) (conn : ℕ) (x : Splitting) (i : Issuing) → (kept b hub conn x i).issuing ≡ i
 kept_issuing true hub conn x i = refl
 kept_issuing false hub conn x i = refl
 
-brings_worked : (hub : Standing) (at : Moment) (conn : ℕ) (piece : List ℕ) (t : Table) (o : Option Splitting) → map.get hub.connections conn ≡ o → SameOpen hub.connections t
+brings_worked : (hub : HubState) (at : Moment) (conn : ℕ) (piece : List ℕ) (t : Table) (o : Option Splitting) → map.get hub.connections conn ≡ o → SameOpen hub.connections t
     → IsWorked (brings hub at conn piece o) (place_of hub t) (piece_works hub.issuing at conn piece o)
 brings_worked hub at conn piece t None e h = record { actions = refl; issuing = refl; same = h }
 brings_worked hub at conn piece t (Some s) e h =
@@ -192,7 +192,7 @@ brings_worked hub at conn piece t (Some s) e h =
       same = subst (λ (p : Place). SameOpen (kept r.stays hub conn (left f) r.issuing).connections p.table) (sym is.place) (keeps hub conn (left f) r.issuing t r.stays (ap is_some e) h);
     }
 
-step_worked : (hub : Standing) (at : Moment) (event : Event) (t : Table) → SameOpen hub.connections t → IsWorked (hub_step hub at event) (place_of hub t) (works hub at event)
+step_worked : (hub : HubState) (at : Moment) (event : Event) (t : Table) → SameOpen hub.connections t → IsWorked (hub_step hub at event) (place_of hub t) (works hub at event)
 step_worked hub at (Datagram peer request) t h = record { actions = sym (append-nil (sent peer (reply_of hub.issuing at datagram_room request))); issuing = refl; same = h }
 step_worked hub at (Opened conn) t h = opens hub at conn t (map.contains_key hub.connections conn) (nat_lt (map.len hub.connections) most_connections) refl (sym (h.keys conn)) refl (ap (λ n. nat_lt n most_connections) (sym h.len)) h
 step_worked hub at (Bytes conn piece) t h = brings_worked hub at conn piece t (map.get hub.connections conn) refl h
@@ -204,12 +204,12 @@ record IsRun (log : Log) (p : Place) (ws : List Timed) : Type 0 where
   pub issuing : log.hub.issuing ≡ (last_place p ws).issuing
   pub same : SameOpen log.hub.connections (last_place p ws).table
 
-run_worked : (hub : Standing) (t : Table) (hs : List Happening) → SameOpen hub.connections t → IsRun (logged hub (entries hs)) (place_of hub t) (all_works hub hs)
+run_worked : (hub : HubState) (t : Table) (hs : List Happening) → SameOpen hub.connections t → IsRun (logged hub (entries hs)) (place_of hub t) (all_works hub hs)
 run_worked hub t [] h = record { actions = refl; issuing = refl; same = h }
 run_worked hub t (e ∷ hs) h =
     let w = step_worked hub e.at e.event t h in
     let ws : List Timed = works hub e.at e.event in
-    let new : Standing = (hub_step hub e.at e.event).hub in
+    let new : HubState = (hub_step hub e.at e.event).hub in
     let p : Place = last_place (place_of hub t) ws in
     let next : place_of new p.table ≡ p = ap (λ (i : Issuing). let q : Place = record { issuing = i; table = p.table } in q) w.issuing in
     let others = run_worked new p.table hs w.same in

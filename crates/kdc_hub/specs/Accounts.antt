@@ -13,7 +13,7 @@ use Rattle.kdc_hub.specs.declared.event.Event.{Event}
 use Rattle.kdc_hub.specs.declared.event.Event.TheVariants.{Datagram, Opened, Bytes, Closed}
 use Rattle.kdc_hub.specs.declared.event.HubFault.{HubFault}
 use Rattle.kdc_hub.specs.declared.reply.Reply.{Reply}
-use Rattle.kdc_hub.specs.Hub.{Standing, datagram_room, messages_in}
+use Rattle.kdc_hub.specs.Hub.{HubState, datagram_room, messages_in}
 use Rattle.kdc_hub.specs.Issuing.{Issuing, after, reply_of}
 use Rattle.kdc_hub.specs.StreamStep.{stream_room}
 
@@ -37,7 +37,7 @@ FirstHold (suc n) i at room (request ∷ requests) =
     × if_answered (reply_of i at room request) (FirstHold n (after i at room request) at room requests)
 
 -- and for those that an event completes
-abbrev pub EventHolds : Standing → Moment → Event → ℕ → Type 0
+abbrev pub EventHolds : HubState → Moment → Event → ℕ → Type 0
 EventHolds hub at (Datagram peer request) n = FirstHold n hub.issuing at datagram_room (request ∷ [])
 EventHolds hub at (Opened conn) n = ⊤
 EventHolds hub at (Bytes conn piece) n =
@@ -45,6 +45,6 @@ EventHolds hub at (Bytes conn piece) n =
 EventHolds hub at (Closed conn) n = ⊤
 
 -- for those that have an action
-abbrev pub AccountsHold : Standing → Moment → Event → Result (Vec Action Global) HubFault → Type 0
+abbrev pub AccountsHold : HubState → Moment → Event → Result (Vec Action Global) HubFault → Type 0
 AccountsHold hub at event (Ok actions) = EventHolds hub at event (length actions.items)
 AccountsHold hub at event (Err fault) = EventHolds hub at event (length fault.done.items)

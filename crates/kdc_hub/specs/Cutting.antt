@@ -6,7 +6,7 @@ use Rattle.std.specs.List.{flat_map}
 use Rattle.framing.specs.Splitting.{Splitting}
 use Rattle.krb_fields.specs.declared.moment.Moment.{Moment}
 use Rattle.kdc_hub.specs.declared.event.Event.TheVariants.{Bytes}
-use Rattle.kdc_hub.specs.Hub.{Standing}
+use Rattle.kdc_hub.specs.Hub.{HubState}
 use Rattle.kdc_hub.specs.Logged.{Entry, Log, logged}
 use Rattle.kdc_hub.specs.Works.{Happening, all_works, entries}
 
@@ -23,7 +23,7 @@ pub record SameReplies (a b : Log) : Type 0 where
 
 -- Runs that complete the same work give the same replies.
 abbrev pub RepliesAreSame : Type 0
-RepliesAreSame = (start : Standing) (es fs : List Happening) → all_works start es ≡ all_works start fs
+RepliesAreSame = (start : HubState) (es fs : List Happening) → all_works start es ≡ all_works start fs
     → SameReplies (logged start (entries es)) (logged start (entries fs))
 
 -- The same actions in the same order, and afterwards the same hub.
@@ -37,6 +37,6 @@ piece_at at conn piece = record { at = at; event = Bytes conn piece; stop = None
 
 -- Anywhere in a run, a piece may arrive in two parts.
 abbrev pub IsSameInTwoPieces : Type 0
-IsSameInTwoPieces = (start : Standing) (earlier later : List Entry) (at : Moment) (conn : ℕ) (first second : List ℕ)
+IsSameInTwoPieces = (start : HubState) (earlier later : List Entry) (at : Moment) (conn : ℕ) (first second : List ℕ)
     → SameRun (logged start (earlier ++ piece_at at conn (first ++ second) ∷ later))
     (logged start (earlier ++ piece_at at conn first ∷ piece_at at conn second ∷ later))

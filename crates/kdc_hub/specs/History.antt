@@ -36,7 +36,7 @@ use Rattle.kdc_hub.specs.declared.event.Event.TheVariants.{Datagram, Opened, Byt
 use Rattle.kdc_hub.specs.declared.reply.Reply.{Reply}
 use Rattle.kdc_hub.specs.Issuing.{Issuing, after, reply_of}
 use Rattle.kdc_hub.specs.StreamStep.{action_for, stream_room}
-use Rattle.kdc_hub.specs.Hub.{Standing, datagram_room, sent}
+use Rattle.kdc_hub.specs.Hub.{HubState, datagram_room, sent}
 use Rattle.kdc_hub.specs.Logged.{Entry, Stop, step_of}
 
 -- ---- the requests that an event completes
@@ -60,40 +60,40 @@ abbrev pub piece_requests : Issuing → Moment → List ℕ → Option Splitting
 piece_requests i at piece (Some s) = stream_requests i at (handed_out (fed s piece)).messages
 piece_requests i at piece None = []
 
-abbrev pub event_requests : Standing → Moment → Event → List KdcEvent
+abbrev pub event_requests : HubState → Moment → Event → List KdcEvent
 event_requests hub at (Datagram peer request) = asked hub.issuing at datagram_room request ∷ []
 event_requests hub at (Opened conn) = []
 event_requests hub at (Bytes conn piece) = piece_requests hub.issuing at piece (map.get hub.connections conn)
 event_requests hub at (Closed conn) = []
 
 -- if memory runs out, those that were answered before
-abbrev pub stopped_requests : Standing → Moment → Event → ℕ → List KdcEvent
+abbrev pub stopped_requests : HubState → Moment → Event → ℕ → List KdcEvent
 stopped_requests hub at (Datagram peer request) done = []
 stopped_requests hub at (Opened conn) done = []
 stopped_requests hub at (Bytes conn piece) done =
     take done (piece_requests hub.issuing at piece (map.get hub.connections conn))
 stopped_requests hub at (Closed conn) done = []
 
-abbrev pub requests_by : Option Stop → Standing → Moment → Event → List KdcEvent
+abbrev pub requests_by : Option Stop → HubState → Moment → Event → List KdcEvent
 requests_by None hub at event = event_requests hub at event
 requests_by (Some stop) hub at event = stopped_requests hub at event stop.done
 
-abbrev pub requests_of : Standing → Entry → List KdcEvent
+abbrev pub requests_of : HubState → Entry → List KdcEvent
 requests_of hub entry = requests_by entry.stop hub entry.at entry.event
 
 -- ---- the replies that actions send
 
-abbrev pub reply_in : Action → Option Reply
-reply_in (SendTo peer reply) = Some reply
-reply_in (Pass peer) = None
-reply_in (Write conn reply) = Some reply
-reply_in (Close conn reason) = None
+abbrev pub reply_of_action : Action → Option Reply
+reply_of_action (SendTo peer reply) = Some reply
+reply_of_action (Pass peer) = None
+reply_of_action (Write conn reply) = Some reply
+reply_of_action (Close conn reason) = None
 
 -- the replies to the first n requests: each action sends one or none, in order
 unfoldable pub replies_by : ℕ → List Action → List (Option Reply)
 replies_by zero actions = []
 replies_by (suc n) [] = None ∷ replies_by n []
-replies_by (suc n) (action ∷ actions) = reply_in action ∷ replies_by n actions
+replies_by (suc n) (action ∷ actions) = reply_of_action action ∷ replies_by n actions
 
 abbrev pub octets_of : Option Reply → Option (List ℕ)
 octets_of reply = option_map (λ (r : Reply). r.message) reply
@@ -123,7 +123,7 @@ pub data Turn : Type 0 where
   Resumed : Principals → Limits → Resumption → Stream → Bool → Turn
 
 -- the hub afterwards
-abbrev pub after_turn : Standing → Turn → Standing
+abbrev pub after_turn : HubState → Turn → HubState
 after_turn hub (Stepped entry) = (step_of hub entry).hub
 after_turn hub (Replaced database) =
     record hub { issuing = record hub.issuing { kdc = replaced hub.issuing.kdc database } }
@@ -146,7 +146,7 @@ after_turn hub (Resumed database limits resumption random kept) = record {
 }
 
 -- the events of the turn in the run of the key distribution centre
-abbrev pub turn_events : Standing → Turn → List KdcEvent
+abbrev pub turn_events : HubState → Turn → List KdcEvent
 turn_events hub (Stepped entry) = requests_of hub entry
 turn_events hub (Replaced database) = Replace database ∷ []
 turn_events hub (Tidied at) = Tidy at ∷ []
@@ -154,38 +154,38 @@ turn_events hub (Reopened database limits at random kept) = Reopen database limi
 turn_events hub (Resumed database limits resumption random kept) = Resume database limits resumption ∷ []
 
 -- the replies that are sent to the requests of an entry, with their accounts
-abbrev pub entry_replies : Standing → Entry → List (Option Reply)
+abbrev pub entry_replies : HubState → Entry → List (Option Reply)
 entry_replies hub entry = replies_by (length (requests_of hub entry)) (step_of hub entry).actions
 
 -- the replies that are sent
-abbrev pub turn_replies : Standing → Turn → List (Option (List ℕ))
+abbrev pub turn_replies : HubState → Turn → List (Option (List ℕ))
 turn_replies hub (Stepped entry) = map_list octets_of (entry_replies hub entry)
 turn_replies hub (Replaced database) = None ∷ []
 turn_replies hub (Tidied at) = None ∷ []
 turn_replies hub (Reopened database limits at random kept) = None ∷ []
 turn_replies hub (Resumed database limits resumption random kept) = None ∷ []
 
-abbrev pub after_turns : Standing → List Turn → Standing
+abbrev pub after_turns : HubState → List Turn → HubState
 after_turns hub [] = hub
 after_turns hub (turn ∷ turns) = after_turns (after_turn hub turn) turns
 
-abbrev pub events_in : Standing → List Turn → List KdcEvent
+abbrev pub events_in : HubState → List Turn → List KdcEvent
 events_in hub [] = []
 events_in hub (turn ∷ turns) = turn_events hub turn ++ events_in (after_turn hub turn) turns
 
-abbrev pub replies_in : Standing → List Turn → List (Option (List ℕ))
+abbrev pub replies_in : HubState → List Turn → List (Option (List ℕ))
 replies_in hub [] = []
 replies_in hub (turn ∷ turns) = turn_replies hub turn ++ replies_in (after_turn hub turn) turns
 
 -- the accounts of the requests, in order, each in the action that answers it
-abbrev pub turn_accounts : Standing → Turn → List (Option Account)
+abbrev pub turn_accounts : HubState → Turn → List (Option Account)
 turn_accounts hub (Stepped entry) = map_list account_in (entry_replies hub entry)
 turn_accounts hub (Replaced database) = []
 turn_accounts hub (Tidied at) = []
 turn_accounts hub (Reopened database limits at random kept) = []
 turn_accounts hub (Resumed database limits resumption random kept) = []
 
-abbrev pub accounts_in : Standing → List Turn → List (Option Account)
+abbrev pub accounts_in : HubState → List Turn → List (Option Account)
 accounts_in hub [] = []
 accounts_in hub (turn ∷ turns) = turn_accounts hub turn ++ accounts_in (after_turn hub turn) turns
 
@@ -220,30 +220,30 @@ abbrev pub all_seen_by : List (Option Reply) → List Seen
 all_seen_by [] = []
 all_seen_by (reply ∷ replies) = seen_by reply ++ all_seen_by replies
 
-abbrev pub turn_sees : Standing → Turn → List Seen
+abbrev pub turn_sees : HubState → Turn → List Seen
 turn_sees hub (Stepped entry) = all_seen_by (entry_replies hub entry)
 turn_sees hub (Replaced database) = []
 turn_sees hub (Tidied at) = []
 turn_sees hub (Reopened database limits at random kept) = []
 turn_sees hub (Resumed database limits resumption random kept) = []
 
-abbrev pub newly_seen_in : Standing → List Turn → List Seen
+abbrev pub newly_seen_in : HubState → List Turn → List Seen
 newly_seen_in hub [] = []
 newly_seen_in hub (turn ∷ turns) = turn_sees hub turn ++ newly_seen_in (after_turn hub turn) turns
 
 -- a list is the beginning of another
-pub record Begins {X : Type 0} (front whole : List X) : Type 0 where
+pub record IsPrefix {X : Type 0} (front whole : List X) : Type 0 where
   pub others : List X
   pub is : whole ≡ front ++ others
 
 -- The first actions of a step send its replies, in order, each to the peer or connection that sent the request.
 abbrev pub AnswersWhoAsked : Type 0
-AnswersWhoAsked = (hub : Standing) (entry : Entry)
-    → Begins (answers entry.event (entry_replies hub entry)) (step_of hub entry).actions
+AnswersWhoAsked = (hub : HubState) (entry : Entry)
+    → IsPrefix (answers entry.event (entry_replies hub entry)) (step_of hub entry).actions
 
 -- The replies that a hub sends, and the final state of its key distribution centre, are those of one run over the
 -- complete requests, the replacements, the tidyings and the restarts, in order.
-pub record IsOneRun (start : Standing) (turns : List Turn) : Type 0 where
+pub record IsOneRun (start : HubState) (turns : List Turn) : Type 0 where
   pub replies_are : replies_in start turns ≡ replies start.issuing.kdc (events_in start turns)
   -- if accounts are kept, each request has one, and it is that of the run
   pub accounts_are : IsTrue start.issuing.accounts → AllByRecursion KeepsAccounts turns
@@ -254,13 +254,13 @@ pub record IsOneRun (start : Standing) (turns : List Turn) : Type 0 where
 
 -- A history of one process can be resumed: what covered the state that it began with, and what its replies have
 -- reported since, cover the final state, at any second that none of its events is later than.
-abbrev pub CanBeResumedFrom : Standing → List Turn → Type 0
+abbrev pub CanBeResumedFrom : HubState → List Turn → Type 0
 CanBeResumedFrom start turns = (r : Resumption) (now : ℤ) → Covers start.issuing.kdc r
     → AreUpTo now (events_in start turns)
     → Covers (after_turns start turns).issuing.kdc (resumption_at now r (newly_seen_in start turns))
 
 abbrev pub CanBeResumed : Type 0
-CanBeResumed = (start : Standing) (turns : List Turn) → CanBeResumedFrom start turns
+CanBeResumed = (start : HubState) (turns : List Turn) → CanBeResumedFrom start turns
 
 -- the replies to those events of a run that pass a test at their places
 abbrev pub chosen : (State → KdcEvent → Bool) → State → List KdcEvent → List (Option (List ℕ)) → List (Option (List ℕ))
@@ -271,10 +271,10 @@ chosen test state (event ∷ events) (reply ∷ replies) =
     else chosen test (after_event state event) events replies
 
 -- the replies that are sent to the requests that pass a test
-abbrev pub sent_to : (State → KdcEvent → Bool) → Standing → List Turn → List (Option (List ℕ))
+abbrev pub sent_to : (State → KdcEvent → Bool) → HubState → List Turn → List (Option (List ℕ))
 sent_to test start turns = chosen test start.issuing.kdc (events_in start turns) (replies_in start turns)
 
-pub record AreServedAlike (c : Components) (S : Names) (start other : Standing) (turns others : List Turn)
+pub record AreServedAlike (c : Components) (S : Names) (start other : HubState) (turns others : List Turn)
     : Type 0 where
   pub replies : sent_to is_request other others ≡ sent_to (is_request_of c) start turns
   pub afterwards : AgreesFor c S (after_turns start turns).issuing.kdc (after_turns other others).issuing.kdc
@@ -282,25 +282,25 @@ pub record AreServedAlike (c : Components) (S : Names) (start other : Standing) 
 -- What others send, over any connections and in any pieces, never changes what a client gets. In a second history only
 -- the requests of c are complete, each at its moment and with its draw, in any pieces and from any peer; the
 -- replacements, tidyings and restarts are the same. Then c's requests get the same replies there, in order.
-abbrev pub ServesAlikeFrom : Standing → List Turn → Type 0
-ServesAlikeFrom start turns = (other : Standing) (others : List Turn) (c : Components) (S : Names)
+abbrev pub ServesAlikeFrom : HubState → List Turn → Type 0
+ServesAlikeFrom start turns = (other : HubState) (others : List Turn) (c : Components) (S : Names)
     → IsTrue (S (tgs_principal start.issuing.kdc.database.realm))
     → ServicesWithin c S start.issuing.kdc (events_in start turns) → AgreesFor c S start.issuing.kdc other.issuing.kdc
     → events_in other others ≡ strike c S start.issuing.kdc (events_in start turns)
     → AreServedAlike c S start other turns others
 
 abbrev pub ServesAlike : Type 0
-ServesAlike = (start : Standing) (turns : List Turn) → ServesAlikeFrom start turns
+ServesAlike = (start : HubState) (turns : List Turn) → ServesAlikeFrom start turns
 
-pub record GetsTheSame (c : Components) (S : Names) (start other : Standing) (turns others : List Turn) : Type 0 where
+pub record GetsTheSame (c : Components) (S : Names) (start other : HubState) (turns others : List Turn) : Type 0 where
   pub replies : sent_to (is_request_of c) other others ≡ sent_to (is_request_of c) start turns
   pub afterwards : AgreesFor c S (after_turns start turns).issuing.kdc (after_turns other others).issuing.kdc
 
 -- The same for two histories in which others send what they like: c's requests are the same in both, each at its moment
 -- and with its draw. The replacements, tidyings and restarts are the same too, except for the rows of others in
 -- replacement databases.
-abbrev pub UnaffectedFrom : Standing → List Turn → Type 0
-UnaffectedFrom start turns = (other : Standing) (others : List Turn) (c : Components) (S : Names)
+abbrev pub UnaffectedFrom : HubState → List Turn → Type 0
+UnaffectedFrom start turns = (other : HubState) (others : List Turn) (c : Components) (S : Names)
     → IsTrue (S (tgs_principal start.issuing.kdc.database.realm))
     → ServicesWithin c S start.issuing.kdc (events_in start turns)
     → ServicesWithin c S other.issuing.kdc (events_in other others)
@@ -310,16 +310,16 @@ UnaffectedFrom start turns = (other : Standing) (others : List Turn) (c : Compon
     → GetsTheSame c S start other turns others
 
 abbrev pub Unaffected : Type 0
-Unaffected = (start : Standing) (turns : List Turn) → UnaffectedFrom start turns
+Unaffected = (start : HubState) (turns : List Turn) → UnaffectedFrom start turns
 
 -- If no request is before an earlier tidying, the requests are sent the replies that they get in the run without
 -- tidyings.
-abbrev pub TidiesUnseenFrom : Standing → List Turn → Type 0
+abbrev pub TidiesUnseenFrom : HubState → List Turn → Type 0
 TidiesUnseenFrom start turns = RequestsFollow (events_in start turns)
     → sent_to is_request start turns ≡ replies_to is_request start.issuing.kdc (untidied (events_in start turns))
 
 abbrev pub TidiesUnseen : Type 0
-TidiesUnseen = (start : Standing) (turns : List Turn) → TidiesUnseenFrom start turns
+TidiesUnseen = (start : HubState) (turns : List Turn) → TidiesUnseenFrom start turns
 
 -- the tickets that replies to a run's events bring to the client c, each with the time of its authenticator
 abbrev pub tickets_among : Components → State → List KdcEvent → List (Option (List ℕ)) → List (Stamp × List ℕ)
@@ -329,13 +329,13 @@ tickets_among c state (event ∷ events) (reply ∷ replies) =
     with_any (ticket_for c state event reply) (tickets_among c (after_event state event) events replies)
 
 -- those that are sent
-abbrev pub tickets_sent : Components → Standing → List Turn → List (Stamp × List ℕ)
+abbrev pub tickets_sent : Components → HubState → List Turn → List (Stamp × List ℕ)
 tickets_sent c start turns = tickets_among c start.issuing.kdc (events_in start turns) (replies_in start turns)
 
 -- No authenticator gets two different tickets, over any connections, even across replacements and restarts, and across
 -- resumptions that cover the state.
 abbrev pub OneTicketSent : Type 0
-OneTicketSent = (start : Standing) (turns : List Turn) → RestartsFollow (events_in start turns)
+OneTicketSent = (start : HubState) (turns : List Turn) → RestartsFollow (events_in start turns)
     → ResumesFollow start.issuing.kdc (events_in start turns) → (c : Components)
     → OneForEach (tickets_sent c start turns)
 
@@ -349,5 +349,5 @@ IsOfOneProcess (Resumed database limits resumption random kept) = ⊥
 
 -- Within one process, moments need no order.
 abbrev pub OneTicketInProcess : Type 0
-OneTicketInProcess = (start : Standing) (turns : List Turn) → AllByRecursion IsOfOneProcess turns → (c : Components)
+OneTicketInProcess = (start : HubState) (turns : List Turn) → AllByRecursion IsOfOneProcess turns → (c : Components)
     → OneForEach (tickets_sent c start turns)

@@ -20,19 +20,19 @@ use Rattle.kdc_hub.specs.Issuing.{Issuing, after, issuing, reply_of}
 use Rattle.kdc_hub.specs.StreamStep.{StreamStep, after_some, drawn, stream_step}
 
 -- the issuer, and the stream of each open connection
-pub record Standing : Type 0 where
+pub record HubState : Type 0 where
   pub issuing : Issuing
   pub connections : map.FinMap nat_cmp Splitting
 
-abbrev pub standing : {R : Type 0} → (R → Stream) → Hub R → Standing
+abbrev pub standing : {R : Type 0} → (R → Stream) → Hub R → HubState
 standing stream hub = record { issuing = issuing stream hub.issuer; connections = hub.connections }
 
 -- the actions of one event, and the hub afterwards
 pub record Step : Type 0 where
   pub actions : List Action
-  pub hub : Standing
+  pub hub : HubState
 
-abbrev pub nothing : Standing → Step
+abbrev pub nothing : HubState → Step
 nothing hub = record { actions = []; hub = hub }
 
 -- the greatest size in bytes of a request on a connection, and of a reply with a ticket in a datagram; and the most
@@ -52,7 +52,7 @@ sent peer (Some reply) = SendTo peer reply ∷ []
 sent peer None = Pass peer ∷ []
 
 -- a connection that is already open changes nothing, even if the table is full
-abbrev pub opened : Standing → ℕ → Step
+abbrev pub opened : HubState → ℕ → Step
 opened hub conn =
     if map.contains_key hub.connections conn then nothing hub
     else if nat_lt (map.len hub.connections) most_connections
@@ -63,19 +63,19 @@ opened hub conn =
     else record { actions = Close conn Full ∷ []; hub = hub }
 
 -- a connection that stays open keeps the rest of its stream
-abbrev pub kept : Bool → Standing → ℕ → Splitting → Issuing → Standing
+abbrev pub kept : Bool → HubState → ℕ → Splitting → Issuing → HubState
 kept true hub conn s i = record { issuing = i; connections = map.insert hub.connections conn s }
 kept false hub conn s i = record { issuing = i; connections = map.remove hub.connections conn }
 
-abbrev pub brought : Standing → ℕ → Splitting → StreamStep → Step
+abbrev pub brought : HubState → ℕ → Splitting → StreamStep → Step
 brought hub conn s r = record { actions = r.actions; hub = kept r.stays hub conn (left s) r.issuing }
 
 -- a piece goes to the end of its connection's stream
-abbrev pub brings : Standing → Moment → ℕ → List ℕ → Option Splitting → Step
+abbrev pub brings : HubState → Moment → ℕ → List ℕ → Option Splitting → Step
 brings hub at conn piece (Some s) = brought hub conn (fed s piece) (stream_step hub.issuing at conn (fed s piece))
 brings hub at conn piece None = nothing hub
 
-abbrev pub hub_step : Standing → Moment → Event → Step
+abbrev pub hub_step : HubState → Moment → Event → Step
 hub_step hub at (Datagram peer request) = record {
   actions = sent peer (reply_of hub.issuing at datagram_room request);
   hub = record hub { issuing = after hub.issuing at datagram_room request };
@@ -100,7 +100,7 @@ stopped_issuing i at requests done draws = record {
   accounts = i.accounts;
 }
 
-abbrev pub stopped : Standing → Moment → Event → ℕ → ℕ → Step
+abbrev pub stopped : HubState → Moment → Event → ℕ → ℕ → Step
 stopped hub at (Datagram peer request) done draws =
     nothing (record hub { issuing = stopped_issuing hub.issuing at [] done draws })
 stopped hub at (Opened conn) done draws =
@@ -125,7 +125,7 @@ abbrev pub AreDraws : HubFault → Type 0
 AreDraws fault = (length fault.done.items ≤ fault.draws) × (fault.draws ≤ length fault.done.items + 1)
 
 -- what a step returned, and the hub afterwards
-abbrev pub Steps : Standing → Moment → Event → Result (Vec Action Global) HubFault → Standing → Type 0
+abbrev pub Steps : HubState → Moment → Event → Result (Vec Action Global) HubFault → HubState → Type 0
 Steps hub at event (Ok actions) new =
     (actions.items ≡ (hub_step hub at event).actions) × (new ≡ (hub_step hub at event).hub)
 Steps hub at event (Err fault) new =

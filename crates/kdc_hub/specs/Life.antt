@@ -7,8 +7,8 @@ use Rattle.krb_fields.specs.Name.{Components}
 use Rattle.krb_fields.specs.declared.moment.Moment.{Moment}
 use Rattle.replay.specs.Run.{OneForEach}
 use Rattle.kdc_hub.specs.declared.server.Served.{Served}
-use Rattle.kdc_hub.specs.declared.wires.Did.{Did}
-use Rattle.kdc_hub.specs.Hub.{Standing}
+use Rattle.kdc_hub.specs.declared.wires.WireCall.{WireCall}
+use Rattle.kdc_hub.specs.Hub.{HubState}
 use Rattle.kdc_hub.specs.History.{CanBeResumedFrom, IsOneRun, Replaced, ServesAlikeFrom, Stepped, Tidied, Turn}
 use Rattle.kdc_hub.specs.History.{TidiesUnseenFrom}
 use Rattle.kdc_hub.specs.History.{UnaffectedFrom, after_turns, tickets_sent}
@@ -57,7 +57,7 @@ abbrev pub rounds_in : List Period → List Round
 rounds_in periods = flat_map (λ period. period.rounds) periods
 
 -- each period begins with the hub that the ones before it left; it tidies if that is due
-unfoldable pub ArePeriods : Option Moment → Standing → List Period → Type 0
+unfoldable pub ArePeriods : Option Moment → HubState → List Period → Type 0
 ArePeriods tidied hub [] = ⊤
 ArePeriods tidied hub (period ∷ periods) =
     AreRounds (after_turns hub (replacement period.look)) period.rounds
@@ -69,9 +69,9 @@ abbrev pub periods_of : ℕ → List ℕ
 periods_of rounds = replicate (rounds / 16) 16 ++ rounds % 16 ∷ []
 
 -- The records of the Wire and of the source before and afterwards, the hub before and afterwards, and the counts.
-pub record IsLived (wire : Option (List Did)) (source : Option (List Look)) (start : Standing) (lengths : List ℕ)
-    (totals : Totals) (wire_after : Option (List Did)) (source_after : Option (List Look))
-    (new : Standing) : Type 0 where
+pub record IsLived (wire : Option (List WireCall)) (source : Option (List Look)) (start : HubState) (lengths : List ℕ)
+    (totals : Totals) (wire_after : Option (List WireCall)) (source_after : Option (List Look))
+    (new : HubState) : Type 0 where
   pub periods : List Period
   pub each : ArePeriods None start periods
   pub many : map (λ period. length period.rounds) periods ≡ lengths
@@ -86,9 +86,9 @@ pub record IsLived (wire : Option (List Did)) (source : Option (List Look)) (sta
   pub refused : totals.refused ≡ count_by is_refused (flat_map entries_of (rounds_in periods))
 
 -- It is a history of one process, and the laws of all histories hold of it.
-pub record IsLife (wire : Option (List Did)) (source : Option (List Look)) (start : Standing) (lengths : List ℕ)
-    (totals : Totals) (wire_after : Option (List Did)) (source_after : Option (List Look))
-    (new : Standing) : Type 0 where
+pub record IsLife (wire : Option (List WireCall)) (source : Option (List Look)) (start : HubState) (lengths : List ℕ)
+    (totals : Totals) (wire_after : Option (List WireCall)) (source_after : Option (List Look))
+    (new : HubState) : Type 0 where
   pub lived : IsLived wire source start lengths totals wire_after source_after new
   pub one_run : IsOneRun start (flat_map turns_of lived.periods)
   pub isolation : ServesAlikeFrom start (flat_map turns_of lived.periods)
@@ -99,24 +99,24 @@ pub record IsLife (wire : Option (List Did)) (source : Option (List Look)) (star
   pub one_ticket : (c : Components) → OneForEach (tickets_sent c start (flat_map turns_of lived.periods))
 
 -- the result of a look
-pub record HasLooked (source : Option (List Look)) (start : Standing) (source_after : Option (List Look))
-    (new : Standing) : Type 0 where
+pub record HasLooked (source : Option (List Look)) (start : HubState) (source_after : Option (List Look))
+    (new : HubState) : Type 0 where
   pub look : Look
   pub found : Records source (look ∷ []) source_after
   pub hub : new ≡ after_turns start (replacement look)
 
 -- the result of a tidying, if there was one, and the moment of the last one
-pub record HasTidied (start : Standing) (tidied last : Option Moment) (new : Standing)
+pub record HasTidied (start : HubState) (tidied last : Option Moment) (new : HubState)
     (tidied_after : Option Moment) : Type 0 where
   pub hub : new ≡ after_turns start (tidying (due tidied last))
   pub after : tidied_after ≡ option_or (due tidied last) tidied
 
 -- the result of a look, of this many rounds after it, and perhaps of a tidying
-pub record IsPeriod (wire : Option (List Did)) (source : Option (List Look)) (start : Standing)
-    (tidied : Option Moment) (n : ℕ) (served : Served) (wire_after : Option (List Did))
-    (source_after : Option (List Look)) (new : Standing) (tidied_after : Option Moment) : Type 0 where
+pub record IsPeriod (wire : Option (List WireCall)) (source : Option (List Look)) (start : HubState)
+    (tidied : Option Moment) (n : ℕ) (served : Served) (wire_after : Option (List WireCall))
+    (source_after : Option (List Look)) (new : HubState) (tidied_after : Option Moment) : Type 0 where
   pub look : Look
-  pub middle : Standing
+  pub middle : HubState
   pub found : Records source (look ∷ []) source_after
   pub run : IsRun wire (after_turns start (replacement look)) n served wire_after middle
   pub tidies : HasTidied middle tidied served.last new tidied_after

@@ -7,10 +7,10 @@ use Rattle.kdc_core.specs.Unaffected.{AreAlike}
 use Rattle.kdc_core.specs.Unseen.{RequestsFollow, untidied}
 use Rattle.kdc_core.specs.declared.run.Event.{Event as KdcEvent}
 use Rattle.kdc_hub.specs.History.{Turn, events_in, sent_to}
-use Rattle.kdc_hub.specs.Hub.{Standing}
+use Rattle.kdc_hub.specs.Hub.{HubState}
 
 -- the events of a history that concern c, where the rows of S matter: its requests, and the replacements
-abbrev pub concerning : Components → Names → Standing → List Turn → List KdcEvent
+abbrev pub concerning : Components → Names → HubState → List Turn → List KdcEvent
 concerning c S start turns = strike c S start.issuing.kdc (events_in start turns)
 
 -- Two histories, as two lives of a server, in which others send what they like, at any moments and in any pieces. In both
@@ -18,8 +18,8 @@ concerning c S start turns = strike c S start.issuing.kdc (events_in start turns
 -- Where a look finds new rows is by the polls between two looks, which the events of others use up too: so these may move
 -- a replacement, but not what it is, nor, if none moves past a request of c, what c gets. Tidyings may be anywhere, if no
 -- request of c is before the second of an earlier one. Then c's requests get the same replies, in order.
-abbrev pub MovesNothingElseFrom : Standing → List Turn → Type 0
-MovesNothingElseFrom start turns = (other : Standing) (others : List Turn) (c : Components) (S : Names)
+abbrev pub MovesNothingElseFrom : HubState → List Turn → Type 0
+MovesNothingElseFrom start turns = (other : HubState) (others : List Turn) (c : Components) (S : Names)
     → IsTrue (S (tgs_principal start.issuing.kdc.database.realm))
     → ServicesWithin c S start.issuing.kdc (events_in start turns)
     → ServicesWithin c S other.issuing.kdc (events_in other others)
@@ -29,4 +29,4 @@ MovesNothingElseFrom start turns = (other : Standing) (others : List Turn) (c : 
     → sent_to (is_request_of c) other others ≡ sent_to (is_request_of c) start turns
 
 abbrev pub MovesNothingElse : Type 0
-MovesNothingElse = (start : Standing) (turns : List Turn) → MovesNothingElseFrom start turns
+MovesNothingElse = (start : HubState) (turns : List Turn) → MovesNothingElseFrom start turns

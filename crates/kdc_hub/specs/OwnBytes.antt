@@ -8,9 +8,9 @@ use Rattle.kdc_core.specs.declared.run.Event.{Event as KdcEvent}
 use Rattle.kdc_core.specs.declared.run.Event.TheVariants.{Request, Change, Replace, Tidy, Restart, Reopen, Resume}
 use Rattle.kdc_hub.specs.declared.event.Event.{Event}
 use Rattle.kdc_hub.specs.declared.event.Event.TheVariants.{Datagram, Opened, Bytes, Closed}
-use Rattle.kdc_hub.specs.Hub.{Standing, greatest_request}
+use Rattle.kdc_hub.specs.Hub.{HubState, greatest_request}
 use Rattle.kdc_hub.specs.Logged.{Entry, logged, step_of}
-use Rattle.kdc_hub.specs.History.{Begins, requests_of}
+use Rattle.kdc_hub.specs.History.{IsPrefix, requests_of}
 
 abbrev pub is_on : ℕ → Event → Bool
 is_on conn (Datagram peer request) = false
@@ -39,7 +39,7 @@ asked_by (Reopen database limits at) = []
 asked_by (Resume database limits resumption) = []
 
 -- the requests in the run that entries complete on it, in order
-abbrev pub requests_on : ℕ → Standing → List Entry → List (List ℕ)
+abbrev pub requests_on : ℕ → HubState → List Entry → List (List ℕ)
 requests_on conn hub [] = []
 requests_on conn hub (entry ∷ entries) =
     (if is_on conn entry.event then flat_map asked_by (requests_of hub entry) else [])
@@ -54,13 +54,13 @@ IsNoOpening conn (Closed c) = ⊤
 
 -- the requests on a connection are the first messages of the bytes that arrive on it; and all of them, if it is still
 -- open
-pub record AreItsMessages (conn : ℕ) (hub : Standing) (entries : List Entry) : Type 0 where
-  pub begins : Begins (requests_on conn hub entries) (messages greatest_request (bytes_on conn entries)).messages
+pub record AreItsMessages (conn : ℕ) (hub : HubState) (entries : List Entry) : Type 0 where
+  pub begins : IsPrefix (requests_on conn hub entries) (messages greatest_request (bytes_on conn entries)).messages
   pub all : IsTrue (map.contains_key (logged hub entries).hub.connections conn)
       → requests_on conn hub entries ≡ (messages greatest_request (bytes_on conn entries)).messages
 
 -- From its opening on, a connection's requests are the messages of its own bytes, whatever arrives elsewhere.
 abbrev pub AsksItsOwn : Type 0
-AsksItsOwn = (hub : Standing) (entries : List Entry) (conn : ℕ)
+AsksItsOwn = (hub : HubState) (entries : List Entry) (conn : ℕ)
     → map.get hub.connections conn ≡ Some (started greatest_request) → AllByRecursion (λ entry. IsNoOpening conn entry.event) entries
     → AreItsMessages conn hub entries

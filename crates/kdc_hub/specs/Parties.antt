@@ -18,9 +18,9 @@ use Rattle.kdc_hub.specs.declared.event.CloseReason.TheVariants.{NoRequest, BadL
 use Rattle.kdc_hub.specs.declared.event.Event.{Event}
 use Rattle.kdc_hub.specs.declared.event.Event.TheVariants.{Datagram, Opened, Bytes, Closed}
 use Rattle.kdc_hub.specs.declared.event.Peer.{Peer}
-use Rattle.kdc_hub.specs.declared.wires.Did.{Did}
-use Rattle.kdc_hub.specs.declared.wires.Did.TheVariants.{Polled, Waited, Missed, Acted, Failed}
-use Rattle.kdc_hub.specs.Hub.{Standing, most_connections}
+use Rattle.kdc_hub.specs.declared.wires.WireCall.{WireCall}
+use Rattle.kdc_hub.specs.declared.wires.WireCall.TheVariants.{Polled, Waited, Missed, Acted, Failed}
+use Rattle.kdc_hub.specs.Hub.{HubState, most_connections}
 use Rattle.kdc_hub.specs.Logged.{Entry, Stop, logged, step_of}
 use Rattle.kdc_hub.specs.Rounds.{AreRounds, PollFailed, NothingCame, Round, Took, closing, did_in, entries_of}
 use Rattle.kdc_hub.specs.History.{Turn, Stepped, Replaced, Tidied, Reopened, Resumed, after_turn, event_requests}
@@ -87,12 +87,12 @@ fault_after piece (Some s) = (handed_out (fed s piece)).fault
 fault_after piece None = None
 
 -- a new connection, with as many open as the server allows
-abbrev pub has_no_place : Standing → ℕ → Bool
+abbrev pub has_no_place : HubState → ℕ → Bool
 has_no_place hub conn =
     not (map.contains_key hub.connections conn) && not (nat_lt (map.len hub.connections) most_connections)
 
 -- what is due after these replies to an event's requests, with this state behind them
-abbrev pub due_after : List (Option (List ℕ)) → State → Standing → Moment → Event → List Sent
+abbrev pub due_after : List (Option (List ℕ)) → State → HubState → Moment → Event → List Sent
 due_after replied state hub at (Datagram peer request) = []
 due_after replied state hub at (Opened conn) = if has_no_place hub conn then Ended Full ∷ [] else []
 due_after replied state hub at (Bytes conn piece) =
@@ -100,7 +100,7 @@ due_after replied state hub at (Bytes conn piece) =
 due_after replied state hub at (Closed conn) = []
 
 -- all that is due for an event, where the run has come to this state
-abbrev pub due_to_event : State → Standing → Moment → Event → List Sent
+abbrev pub due_to_event : State → HubState → Moment → Event → List Sent
 due_to_event state hub at event =
     flat_map (due_to_request event) (replies state (event_requests hub at event))
     ++ due_after (replies state (event_requests hub at event)) (run state (event_requests hub at event)) hub at event
@@ -112,15 +112,15 @@ part_due done (Opened conn) due = []
 part_due done (Bytes conn piece) due = take done due
 part_due done (Closed conn) due = []
 
-abbrev pub due_by : Option Stop → State → Standing → Moment → Event → List Sent
+abbrev pub due_by : Option Stop → State → HubState → Moment → Event → List Sent
 due_by None state hub at event = due_to_event state hub at event
 due_by (Some stop) state hub at event = part_due stop.done event (due_to_event state hub at event)
 
-abbrev pub due_to_entry : Parties → State → Standing → Entry → List Sent
+abbrev pub due_to_entry : Parties → State → HubState → Entry → List Sent
 due_to_entry these state hub entry =
     if these (sender entry.event) then due_by entry.stop state hub entry.at entry.event else []
 
-abbrev pub due_to_turn : Parties → State → Standing → Turn → List Sent
+abbrev pub due_to_turn : Parties → State → HubState → Turn → List Sent
 due_to_turn these state hub (Stepped entry) = due_to_entry these state hub entry
 due_to_turn these state hub (Replaced database) = []
 due_to_turn these state hub (Tidied at) = []
@@ -129,7 +129,7 @@ due_to_turn these state hub (Resumed database limits resumption random kept) = [
 
 -- What is due to these over a history: each of their own requests gets its reply in the one run. The state goes along
 -- that run, over everyone's requests.
-abbrev pub due_in : Parties → State → Standing → List Turn → List Sent
+abbrev pub due_in : Parties → State → HubState → List Turn → List Sent
 due_in these state hub [] = []
 due_in these state hub (turn ∷ turns) =
     due_to_turn these state hub turn
@@ -137,26 +137,26 @@ due_in these state hub (turn ∷ turns) =
 
 -- ---- the law
 
-abbrev pub turn_actions : Standing → Turn → List Action
+abbrev pub turn_actions : HubState → Turn → List Action
 turn_actions hub (Stepped entry) = (step_of hub entry).actions
 turn_actions hub (Replaced database) = []
 turn_actions hub (Tidied at) = []
 turn_actions hub (Reopened database limits at random kept) = []
 turn_actions hub (Resumed database limits resumption random kept) = []
 
-abbrev pub actions_in : Standing → List Turn → List Action
+abbrev pub actions_in : HubState → List Turn → List Action
 actions_in hub [] = []
 actions_in hub (turn ∷ turns) = turn_actions hub turn ++ actions_in (after_turn hub turn) turns
 
 -- What is sent to these is what is due to them, in order: the replies of the one run to their own requests, and the ends
 -- of their own connections. They get nothing of another's.
 abbrev pub GetsItsOwn : Type 0
-GetsItsOwn = (these : Parties) (start : Standing) (turns : List Turn)
+GetsItsOwn = (these : Parties) (start : HubState) (turns : List Turn)
     → gets these (actions_in start turns) ≡ due_in these start.issuing.kdc start turns
 
 -- ---- the same over what a Wire records
 
-abbrev pub tried_by : Did → List Action
+abbrev pub tried_by : WireCall → List Action
 tried_by (Polled at event) = []
 tried_by (Waited at) = []
 tried_by Missed = []
@@ -164,23 +164,23 @@ tried_by (Acted action) = action ∷ []
 tried_by (Failed action) = action ∷ []
 
 -- the acts in a record, those that failed too
-abbrev pub tried : List Did → List Action
+abbrev pub tried : List WireCall → List Action
 tried did = flat_map tried_by did
 
 -- after memory ran out a connection is closed
-abbrev pub due_to_round : Parties → State → Standing → Round → List Sent
+abbrev pub due_to_round : Parties → State → HubState → Round → List Sent
 due_to_round these state hub PollFailed = []
 due_to_round these state hub (NothingCame at) = []
 due_to_round these state hub (Took entry acts close) =
     due_to_entry these state hub entry ++ gets these (closing entry.stop entry.event)
 
 -- the state of the run after a round
-abbrev pub after_round : State → Standing → Round → State
+abbrev pub after_round : State → HubState → Round → State
 after_round state hub PollFailed = state
 after_round state hub (NothingCame at) = state
 after_round state hub (Took entry acts close) = run state (requests_of hub entry)
 
-abbrev pub due_to_rounds : Parties → State → Standing → List Round → List Sent
+abbrev pub due_to_rounds : Parties → State → HubState → List Round → List Sent
 due_to_rounds these state hub [] = []
 due_to_rounds these state hub (round ∷ rounds) =
     due_to_round these state hub round
@@ -188,5 +188,5 @@ due_to_rounds these state hub (round ∷ rounds) =
 
 -- What a Wire records as tried for these is what is due to them, in order.
 abbrev pub RecordsItsOwn : Type 0
-RecordsItsOwn = (these : Parties) (start : Standing) (rounds : List Round) → AreRounds start rounds
+RecordsItsOwn = (these : Parties) (start : HubState) (rounds : List Round) → AreRounds start rounds
     → gets these (tried (flat_map did_in rounds)) ≡ due_to_rounds these start.issuing.kdc start rounds

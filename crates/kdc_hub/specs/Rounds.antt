@@ -10,9 +10,9 @@ use Rattle.kdc_hub.specs.declared.event.CloseReason.TheVariants.{OutOfMemory}
 use Rattle.kdc_hub.specs.declared.event.Event.{Event}
 use Rattle.kdc_hub.specs.declared.event.Event.TheVariants.{Closed}
 use Rattle.kdc_hub.specs.declared.server.Served.{Served}
-use Rattle.kdc_hub.specs.declared.wires.Did.{Did}
-use Rattle.kdc_hub.specs.declared.wires.Did.TheVariants.{Polled, Waited, Missed, Acted, Failed}
-use Rattle.kdc_hub.specs.Hub.{Standing, event_connection}
+use Rattle.kdc_hub.specs.declared.wires.WireCall.{WireCall}
+use Rattle.kdc_hub.specs.declared.wires.WireCall.TheVariants.{Polled, Waited, Missed, Acted, Failed}
+use Rattle.kdc_hub.specs.Hub.{HubState, event_connection}
 use Rattle.kdc_hub.specs.Logged.{Entry, Stop, logged, step_of}
 use Rattle.kdc_hub.specs.Wire.{Records, is_event, is_fault}
 
@@ -23,13 +23,13 @@ action_connection (Write conn reply) = Some conn
 action_connection (Close conn reason) = Some conn
 
 -- each of these actions was tried, in order: it succeeded or failed
-unfoldable pub Tries : List Action → List Did → Type 0
+unfoldable pub Tries : List Action → List WireCall → Type 0
 Tries [] did = did ≡ []
 Tries (action ∷ actions) did =
-    (others : List Did) × ((did ≡ Acted action ∷ others) ⊎ (did ≡ Failed action ∷ others)) × Tries actions others
+    (others : List WireCall) × ((did ≡ Acted action ∷ others) ⊎ (did ≡ Failed action ∷ others)) × Tries actions others
 
 -- the connection that an act failed on
-abbrev pub lost_by : Did → Option ℕ
+abbrev pub lost_by : WireCall → Option ℕ
 lost_by (Polled at event) = None
 lost_by (Waited at) = None
 lost_by Missed = None
@@ -37,7 +37,7 @@ lost_by (Acted action) = None
 lost_by (Failed action) = action_connection action
 
 -- the connection of the first act that failed on one, which is lost
-abbrev pub lost_in : List Did → Option ℕ
+abbrev pub lost_in : List WireCall → Option ℕ
 lost_in [] = None
 lost_in (did ∷ others) = option_or (lost_by did) (lost_in others)
 
@@ -46,7 +46,7 @@ lost_in (did ∷ others) = option_or (lost_by did) (lost_in others)
 pub data Round : Type 0 where
   PollFailed : Round
   NothingCame : Moment → Round
-  Took : Entry → List Did → List Did → Round
+  Took : Entry → List WireCall → List WireCall → Round
 
 abbrev pub close_of : Option ℕ → List Action
 close_of (Some conn) = Close conn OutOfMemory ∷ []
@@ -69,7 +69,7 @@ entries_of (NothingCame at) = []
 entries_of (Took entry acts close) = entry ∷ ending entry.at (lost_in acts) ++ ending entry.at (lost_in close)
 
 -- what the Wire does in a round
-abbrev pub did_in : Round → List Did
+abbrev pub did_in : Round → List WireCall
 did_in PollFailed = Missed ∷ []
 did_in (NothingCame at) = Waited at ∷ []
 did_in (Took entry acts close) = Polled entry.at entry.event ∷ acts ++ close
@@ -90,14 +90,14 @@ abbrev pub DrawsWithin : Option Stop → Type 0
 DrawsWithin (Some stop) = (stop.done ≤ stop.draws) × (stop.draws ≤ stop.done + 1)
 DrawsWithin None = ⊤
 
-abbrev pub IsRound : Standing → Round → Type 0
+abbrev pub IsRound : HubState → Round → Type 0
 IsRound hub PollFailed = ⊤
 IsRound hub (NothingCame at) = ⊤
 IsRound hub (Took entry acts close) =
     Tries (step_of hub entry).actions acts × Tries (closing entry.stop entry.event) close × DrawsWithin entry.stop
 
 -- rounds that begin with this hub, each with the hub that the log of the earlier rounds leaves
-unfoldable pub AreRounds : Standing → List Round → Type 0
+unfoldable pub AreRounds : HubState → List Round → Type 0
 AreRounds hub [] = ⊤
 AreRounds hub (round ∷ rounds) = IsRound hub round × AreRounds (logged hub (entries_of round)).hub rounds
 
@@ -105,12 +105,12 @@ abbrev pub is_refused : Entry → Bool
 is_refused entry = is_some entry.stop
 
 -- how many calls failed; the count stops at the greatest 64-bit number
-abbrev pub fault_total : List Did → ℕ
+abbrev pub fault_total : List WireCall → ℕ
 fault_total did = min (count_by is_fault did) (2 ^ 64 - 1)
 
 -- A run of this many rounds: the Wire's record before and afterwards, the hub before and afterwards, and the counts.
-pub record IsRun (before : Option (List Did)) (start : Standing) (n : ℕ) (served : Served) (after : Option (List Did))
-    (new : Standing) : Type 0 where
+pub record IsRun (before : Option (List WireCall)) (start : HubState) (n : ℕ) (served : Served) (after : Option (List WireCall))
+    (new : HubState) : Type 0 where
   pub rounds : List Round
   pub each : AreRounds start rounds
   pub many : length rounds ≡ n

@@ -10,7 +10,7 @@ use Rattle.kdc_hub.specs.declared.event.Peer.{Peer}
 use Rattle.kdc_hub.specs.declared.reply.Reply.{Reply}
 use Rattle.kdc_hub.specs.Issuing.{Issuing, after, reply_of}
 use Rattle.kdc_hub.specs.StreamStep.{stream_room}
-use Rattle.kdc_hub.specs.Hub.{Standing, hub_step}
+use Rattle.kdc_hub.specs.Hub.{HubState, hub_step}
 use Rattle.kdc_hub.specs.Logged.{Entry}
 
 -- a request, a bad length, or the beginning or the end of a connection
@@ -47,7 +47,7 @@ piece_works i at conn piece (Some s) =
 piece_works i at conn piece None = []
 
 -- what an event completes
-abbrev pub works : Standing → Moment → Event → List Timed
+abbrev pub works : HubState → Moment → Event → List Timed
 works hub at (Datagram peer request) = record { at = at; work = Asked peer request } ∷ []
 works hub at (Opened conn) = record { at = at; work = Came conn } ∷ []
 works hub at (Bytes conn piece) = piece_works hub.issuing at conn piece (map.get hub.connections conn)
@@ -63,6 +63,6 @@ entries [] = []
 entries (h ∷ hs) = record { at = h.at; event = h.event; stop = None } ∷ entries hs
 
 -- what a run completes, in order
-abbrev pub all_works : Standing → List Happening → List Timed
+abbrev pub all_works : HubState → List Happening → List Timed
 all_works hub [] = []
 all_works hub (h ∷ hs) = works hub h.at h.event ++ all_works (hub_step hub h.at h.event).hub hs

@@ -2,13 +2,13 @@
 ghost use Rattle.std.specs.Prelude.{◌≡◌, ◌∷◌, [], Some, false, IfOk, OnErr};
 ghost use Rattle.kdc_hub.specs.Wire.{Records, complete};
 
-use crate::wires::Did;
+use crate::wires::WireCall;
 use std::alloc::{AllocError, Global};
 
 /// What was done, in order, until memory ran out.
 #[derive(Drop)]
 pub struct Diary {
-    pub did: Vec<Did>,
+    pub did: Vec<WireCall>,
     pub is_whole: bool,
 }
 
@@ -25,7 +25,7 @@ impl Diary {
 
     /// Records what was done. If there was no memory to copy it, or is none to store it, the diary is incomplete from
     /// then on.
-    pub fn keep(&mut self, did: Result<Did, AllocError>)
+    pub fn keep(&mut self, did: Result<WireCall, AllocError>)
         ensures records { IfOk did
             (λ did. Records (complete self.old.is_whole self.old.did.items) (did ∷ [])
             (complete self.new.is_whole self.new.did.items)) }

@@ -11,7 +11,7 @@ ghost use Rattle.principals.specs.Database.{Principals};
 ghost use Rattle.replay.specs.declared.opening.Opening.TheVariants.{Restart};
 ghost use Rattle.replay.specs.Sizes.{limited};
 ghost use Rattle.replay.specs.declared.seen.Resumption.{Resumption};
-ghost use Rattle.kdc_hub.specs.Hub.{AreDraws, Standing, Steps, standing};
+ghost use Rattle.kdc_hub.specs.Hub.{AreDraws, HubState, Steps, standing};
 ghost use Rattle.kdc_hub.specs.Logged.{Entry, LogsNext, logged};
 ghost use Rattle.kdc_hub.specs.Accounts.{AccountsHold};
 ghost use Rattle.kdc_hub.specs.declared.event.Action.TheVariants.{Close};
@@ -54,12 +54,12 @@ impl<R: Rng> Hub<R> {
         ensures accounts { (standing R.stream result).issuing.accounts ≡ keeps_accounts }
         ensures connections { (standing R.stream result).connections ≡ map.empty }
         // Over a centre that reopens, it is the hub of a new process, whatever came before.
-        ensures reopened { (before : Standing) (database : Principals) (limits : Limits) (at : moments.Moment)
+        ensures reopened { (before : HubState) (database : Principals) (limits : Limits) (at : moments.Moment)
             → kdc ≡ opened_state database limits (Restart at)
             → standing R.stream result
             ≡ after_turn before (Reopened database limits at (R.stream rng) keeps_accounts) }
         // The same over a centre that resumes.
-        ensures resumed { (before : Standing) (database : Principals) (limits : Limits) (r : Resumption)
+        ensures resumed { (before : HubState) (database : Principals) (limits : Limits) (r : Resumption)
             → kdc ≡ resumed_state database limits r
             → standing R.stream result
             ≡ after_turn before (Resumed database limits r (R.stream rng) keeps_accounts) }
@@ -123,7 +123,7 @@ impl<R: Rng> Hub<R> {
     /// after the completed actions, and the event's connection is removed.
     pub fn step(&mut self, alloc: Global, at: Moment, event: Event) -> Result<Vec<Action>, HubFault>
         // What the step returns is the next entry of the log, and the hub afterwards is that of the log.
-        ensures log { (start : Standing) (entries : List Entry)
+        ensures log { (start : HubState) (entries : List Entry)
             → (logged start entries).hub ≡ standing R.stream self.old
             → LogsNext start entries at event result (standing R.stream self.new) }
         ensures step { Steps (standing R.stream self.old) at event result (standing R.stream self.new) }

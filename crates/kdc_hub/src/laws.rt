@@ -3,7 +3,7 @@ ghost use Rattle.std.specs.Prelude.{◌≡◌, ◌++◌, List, map};
 ghost use Rattle.kdc_hub.specs.Cutting.{IsSameInTwoPieces, RepliesAreSame};
 ghost use Rattle.kdc_hub.specs.History.{AnswersWhoAsked, CanBeResumed, IsOneRun, OneTicketInProcess, OneTicketSent};
 ghost use Rattle.kdc_hub.specs.History.{ServesAlike, Stepped, TidiesUnseen, Turn, Unaffected, after_turns};
-ghost use Rattle.kdc_hub.specs.Hub.{Standing};
+ghost use Rattle.kdc_hub.specs.Hub.{HubState};
 ghost use Rattle.kdc_hub.specs.Logged.{Entry, logged};
 ghost use Rattle.kdc_hub.specs.Moved.{MovesNothingElse};
 ghost use Rattle.kdc_hub.specs.OwnBytes.{AsksItsOwn};
@@ -27,11 +27,11 @@ pub fn any_cutting()
 /// All answers of a server are those of one run of its key distribution centre: over the complete requests on all
 /// connections, the replaced databases, and the restarted processes.
 pub fn one_run()
-    ensures run { (start : Standing) (turns : List Turn) → IsOneRun start turns }
+    ensures run { (start : HubState) (turns : List Turn) → IsOneRun start turns }
     // A history continues from the hub that it left, and a log is a history.
-    ensures goes_on { (start : Standing) (turns later : List Turn)
+    ensures goes_on { (start : HubState) (turns later : List Turn)
         → after_turns start (turns ++ later) ≡ after_turns (after_turns start turns) later }
-    ensures log { (start : Standing) (entries : List Entry)
+    ensures log { (start : HubState) (entries : List Entry)
         → after_turns start (map Stepped entries) ≡ (logged start entries).hub }
     // What others send, over any connections and in any pieces, never changes what a client gets.
     ensures isolation { ServesAlike }

@@ -37,4 +37,4 @@ pub use reply::Reply;
 pub use rows::{Look, RowSource, RowsState};
 pub use server::{Served, serve};
 pub use totals::Totals;
-pub use wires::{Did, Wire, WireFault};
+pub use wires::{Wire, WireCall, WireFault};

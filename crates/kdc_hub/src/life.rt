@@ -155,7 +155,7 @@ fn take_rows<S: RowSource, R: Rng>(alloc: Global, source: &mut S, hub: &mut Hub<
     match source.look(alloc) {
         Look::Changed(database) => {
             let taken = hub.replace(database);
-            source.hear(taken);
+            source.report(taken);
         }
         Look::Unchanged | Look::Failed => {}
     }

@@ -4,7 +4,7 @@ ghost use Rattle.kdc_hub.specs.Wire.{IsCounted};
 
 use crate::diary::Diary;
 use crate::event::{Action, Event};
-use crate::wires::{Did, Wire, WireFault};
+use crate::wires::{Wire, WireCall, WireFault};
 use krb_fields::Moment;
 use std::alloc::Global;
 use std::collections::VecDeque;
@@ -41,7 +41,7 @@ impl MemoryWire {
     }
 
     /// Returns what it did, in order, if there was enough memory to record all of it.
-    pub fn did(&self) -> Option<&[Did]>
+    pub fn did(&self) -> Option<&[WireCall]>
         ensures { option_copied result ≡ ⟦<MemoryWire as Wire>⟧.recorded self.now }
     {
         if self.diary.is_whole {
@@ -80,27 +80,28 @@ impl Wire for MemoryWire {
 
     fn poll(&mut self, alloc: Global) -> Result<(Moment, Option<Event>), WireFault> {
         if self.fails() {
-            self.diary.keep(Ok(Did::Missed));
+            self.diary.keep(Ok(WireCall::Missed));
             return Err(WireFault);
         }
         let Some((at, event)) = self.coming.pop_front() else {
-            self.diary.keep(Ok(Did::Waited { at: self.at }));
+            self.diary.keep(Ok(WireCall::Waited { at: self.at }));
             return Ok((self.at, None));
         };
         self.at = at;
-        self.diary
-            .keep(event.copy(alloc).map(|event| Did::Polled { at, event }));
+        self.diary.keep(
+            event
+                .copy(alloc)
+                .map(|event| WireCall::Polled { at, event }),
+        );
         Ok((at, Some(event)))
     }
 
     fn act(&mut self, alloc: Global, action: &Action) -> Result<(), WireFault> {
         if self.fails() {
-            self.diary
-                .keep(action.copy(alloc).map(|action| Did::Failed { action }));
+            self.diary.keep(action.copy(alloc).map(|action| WireCall::Failed { action }));
             return Err(WireFault);
         }
-        self.diary
-            .keep(action.copy(alloc).map(|action| Did::Acted { action }));
+        self.diary.keep(action.copy(alloc).map(|action| WireCall::Acted { action }));
         Ok(())
     }
 

@@ -70,7 +70,7 @@ impl RowSource for MemoryRows {
         look
     }
 
-    fn hear(&mut self, taken: Result<(), OtherRealm>) {}
+    fn report(&mut self, taken: Result<(), OtherRealm>) {}
 
     fn state(&self) -> RowsState {
         RowsState::first()

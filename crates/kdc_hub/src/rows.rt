@@ -61,7 +61,7 @@ pub trait RowSource {
         ensures records { Records (recorded self.old) (result ∷ []) (recorded self.new) };
 
     /// Learns whether the rows of the last look are served from now on.
-    fn hear(&mut self, taken: Result<(), OtherRealm>)
+    fn report(&mut self, taken: Result<(), OtherRealm>)
         ensures records { recorded self.new ≡ recorded self.old };
 
     /// Returns what it knows of the rows that are served.
@@ -79,9 +79,9 @@ impl<S: RowSource> RowSource for Option<S> {
         }
     }
 
-    fn hear(&mut self, taken: Result<(), OtherRealm>) {
+    fn report(&mut self, taken: Result<(), OtherRealm>) {
         if let Some(source) = self {
-            source.hear(taken);
+            source.report(taken);
         }
     }
 

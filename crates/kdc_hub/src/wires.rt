@@ -1,6 +1,6 @@
 //! What a hub receives and sends through.
 ghost use Rattle.std.specs.Prelude.{◌≡◌, ◌∷◌, [], ℕ, List, Option};
-ghost use Rattle.kdc_hub.specs.declared.wires.Did.{Did};
+ghost use Rattle.kdc_hub.specs.declared.wires.WireCall.{WireCall};
 ghost use Rattle.kdc_hub.specs.Wire.{IsCounted, Records, acted, polled, faults_of};
 
 use crate::event::{Action, Event};
@@ -23,7 +23,7 @@ impl Error for WireFault {}
 
 /// A call of a Wire, with its outcome.
 #[derive(Drop)]
-pub enum Did {
+pub enum WireCall {
     /// A poll returned an event.
     Polled { at: Moment, event: Event },
     /// A poll returned no event until this moment.
@@ -39,7 +39,7 @@ pub enum Did {
 /// The source of events and the target of actions. A Wire may keep a record, for contracts alone.
 pub trait Wire {
     // The polls and acts so far with their outcomes, in order, if the Wire keeps a record.
-    ghost recorded: { Self → Option (List Did) };
+    ghost recorded: { Self → Option (List WireCall) };
 
     // How often a call has failed.
     ghost fault_count: { Self → ℕ };

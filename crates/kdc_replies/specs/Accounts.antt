@@ -3,7 +3,7 @@ use Rattle.std.specs.Prelude.{◌≡◌, ℕ, List, Option, Some, None}
 use Rattle.krb_fields.specs.Code.{number_of}
 use Rattle.krb_fields.specs.PrincipalName.{Name}
 use Rattle.krb_fields.specs.declared.code.Code.{Code}
-use Rattle.krb_messages.specs.KrbError.{KrbError, krb_error}
+use Rattle.krb_types.specs.KrbError.{KrbError, krb_error}
 use Rattle.kdc_replies.specs.Granted.{granted}
 use Rattle.kdc_replies.specs.Issue.{Issue, IsIssued}
 use Rattle.kdc_replies.specs.declared.granted.Granted.{Granted}

@@ -6,8 +6,8 @@ use Rattle.krb_fields.specs.declared.code.Code.TheVariants.{KrbErrResponseTooBig
 use Rattle.krb_fields.specs.declared.moment.Moment.{Moment}
 use Rattle.krb_fields.specs.Code.{number_of}
 use Rattle.krb_fields.specs.PrincipalName.{Name}
-use Rattle.krb_messages.specs.KrbError.{KrbError}
-use Rattle.krb_messages.specs.ReqBody.{ReqBody}
+use Rattle.krb_types.specs.KrbError.{KrbError}
+use Rattle.krb_types.specs.ReqBody.{ReqBody}
 use Rattle.principals.specs.Database.{tgs_name}
 
 -- KRB-ERROR (RFC 4120, section 5.9.1): the moment, the code, this realm, the requested service or else the

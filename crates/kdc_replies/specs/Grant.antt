@@ -7,8 +7,8 @@ use Rattle.enctypes.specs.declared.etype.Etype.{Etype}
 use Rattle.krb_elements.specs.Codec.{list_of}
 use Rattle.krb_fields.specs.NameLimits.{IsWithinLimits}
 use Rattle.krb_fields.specs.Typed.{Typed, typed}
-use Rattle.krb_sealed.specs.EncKdcRepPart.{EncKdcRepPart}
-use Rattle.krb_sealed.specs.EncTicketPart.{EncTicketPart}
+use Rattle.krb_types.specs.EncKdcRepPart.{EncKdcRepPart}
+use Rattle.krb_types.specs.EncTicketPart.{EncTicketPart}
 use Rattle.sealed_parts.specs.Keys.{key_part}
 use Rattle.kdc_replies.specs.declared.grant.Grant.{Grant}
 

@@ -5,14 +5,14 @@ use Rattle.enctypes.specs.Etype.{key_len}
 use Rattle.enctypes.specs.KeyUsage.{usage_number}
 use Rattle.enctypes.specs.declared.key_usage.KeyUsage.TheVariants.{Ticket as TicketUsage}
 use Rattle.krb_fields.specs.PaData.{PaData}
-use Rattle.krb_sealed.specs.EncKdcRepPart.{EncKdcRepPart, enc_kdc_rep_part}
-use Rattle.krb_sealed.specs.EncTicketPart.{EncTicketPart, enc_ticket_part}
-use Rattle.krb_replies.specs.KdcRep.{KdcRep, kdc_rep}
-use Rattle.krb_replies.specs.Under.{under}
-use Rattle.krb_messages.specs.declared.kdc_req.Exchange.{Exchange}
-use Rattle.krb_messages.specs.declared.kdc_req.Exchange.TheVariants.{As, Tgs}
-use Rattle.krb_messages.specs.KrbError.{KrbError, krb_error}
-use Rattle.krb_messages.specs.Ticket.{Ticket}
+use Rattle.krb_types.specs.EncKdcRepPart.{EncKdcRepPart, enc_kdc_rep_part}
+use Rattle.krb_types.specs.EncTicketPart.{EncTicketPart, enc_ticket_part}
+use Rattle.krb_types.specs.KdcRep.{KdcRep, kdc_rep}
+use Rattle.krb_types.specs.Under.{under}
+use Rattle.krb_types.specs.declared.kdc_req.Exchange.{Exchange}
+use Rattle.krb_types.specs.declared.kdc_req.Exchange.TheVariants.{As, Tgs}
+use Rattle.krb_types.specs.KrbError.{KrbError, krb_error}
+use Rattle.krb_types.specs.Ticket.{Ticket}
 use Rattle.kdc_replies.specs.declared.grant.Grant.{Grant}
 use Rattle.kdc_replies.specs.declared.replies.ReplyKey.{ReplyKey}
 use Rattle.kdc_replies.specs.declared.tickets.ServiceKey.{ServiceKey}

@@ -11,12 +11,12 @@ use Rattle.krb_fields.specs.NameLimits.{IsWithinLimits}
 use Rattle.krb_fields.specs.PaData.{PaData, pa_data}
 use Rattle.krb_fields.specs.PrincipalName.{Name, name, name_form}
 use Rattle.krb_fields.specs.Typed.{Typed, typed, typed_form}
-use Rattle.krb_sealed.specs.EncKdcRepPart.{enc_kdc_rep_part, enc_kdc_rep_part_of, enc_kdc_rep_part_form}
-use Rattle.krb_sealed.specs.EncTicketPart.{enc_ticket_part, enc_ticket_part_of, enc_ticket_part_form}
-use Rattle.krb_sealed.specs.LastReq.{last_req, last_req_form}
-use Rattle.krb_replies.specs.KdcRep.{KdcRep, kdc_rep, kdc_rep_of, kdc_rep_form}
-use Rattle.krb_messages.specs.Ticket.{ticket_of, ticket_form}
-use Rattle.krb_messages.specs.KrbError.{krb_error, krb_error_of, krb_error_form}
+use Rattle.krb_types.specs.EncKdcRepPart.{enc_kdc_rep_part, enc_kdc_rep_part_of, enc_kdc_rep_part_form}
+use Rattle.krb_types.specs.EncTicketPart.{enc_ticket_part, enc_ticket_part_of, enc_ticket_part_form}
+use Rattle.krb_types.specs.LastReq.{last_req, last_req_form}
+use Rattle.krb_types.specs.KdcRep.{KdcRep, kdc_rep, kdc_rep_of, kdc_rep_form}
+use Rattle.krb_types.specs.Ticket.{ticket_of, ticket_form}
+use Rattle.krb_types.specs.KrbError.{krb_error, krb_error_of, krb_error_form}
 use Rattle.principals.specs.Database.{tgs_name}
 use Rattle.kdc_replies.specs.ErrorReply.{error_reply}
 use Rattle.kdc_replies.specs.declared.grant.Grant.{Grant}

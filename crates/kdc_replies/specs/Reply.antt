@@ -5,11 +5,11 @@ use Rattle.enctypes.specs.KeyUsage.{usage_number}
 use Rattle.enctypes.specs.declared.key_usage.KeyUsage.TheVariants.{Ticket as TicketUsage}
 use Rattle.krb_fields.specs.EncryptedData.{EncryptedData}
 use Rattle.krb_fields.specs.PaData.{PaData}
-use Rattle.krb_sealed.specs.EncKdcRepPart.{EncKdcRepPart, enc_kdc_rep_part}
-use Rattle.krb_sealed.specs.EncTicketPart.{EncTicketPart, enc_ticket_part}
-use Rattle.krb_replies.specs.KdcRep.{KdcRep}
-use Rattle.krb_replies.specs.Under.{under}
-use Rattle.krb_messages.specs.Ticket.{Ticket}
+use Rattle.krb_types.specs.EncKdcRepPart.{EncKdcRepPart, enc_kdc_rep_part}
+use Rattle.krb_types.specs.EncTicketPart.{EncTicketPart, enc_ticket_part}
+use Rattle.krb_types.specs.KdcRep.{KdcRep}
+use Rattle.krb_types.specs.Under.{under}
+use Rattle.krb_types.specs.Ticket.{Ticket}
 use Rattle.preauth.specs.Keys.{key_named}
 use Rattle.principal_rows.specs.declared.row.Row.{Row}
 use Rattle.kdc_replies.specs.declared.grant.Grant.{Grant}

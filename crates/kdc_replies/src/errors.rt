@@ -4,13 +4,13 @@ ghost use Rattle.std.specs.Option.{option_copied};
 ghost use Rattle.krb_elements.specs.Codec.{written};
 ghost use Rattle.krb_fields.specs.Code.{number_of};
 ghost use Rattle.krb_fields.specs.PrincipalName.{name};
-ghost use Rattle.krb_messages.specs.KrbError.{krb_error};
+ghost use Rattle.krb_types.specs.KrbError.{krb_error};
 ghost use Rattle.kdc_replies.specs.ErrorReply.{error_reply, too_big};
 
 use crate::sent_names::sent_name;
 use krb_elements::{Coded, KerberosStringRef, Octets, write};
 use krb_fields::{Code, Moment, NameRef};
-use krb_messages::{KrbError, ReqBodyRef};
+use krb_types::{KrbError, ReqBodyRef};
 use principals::tgs_name;
 use std::alloc::{AllocError, Global};
 

@@ -1,14 +1,14 @@
 //! What the KDC grants.
 ghost use Rattle.std.specs.Prelude.{◌≡◌, ◌≤◌, length, IfOk};
-ghost use Rattle.krb_sealed.specs.EncKdcRepPart.{enc_kdc_rep_part};
-ghost use Rattle.krb_sealed.specs.EncTicketPart.{enc_ticket_part};
+ghost use Rattle.krb_types.specs.EncKdcRepPart.{enc_kdc_rep_part};
+ghost use Rattle.krb_types.specs.EncTicketPart.{enc_ticket_part};
 ghost use Rattle.kdc_replies.specs.Grant.{IsShort, no_realms, ticket_part, reply_part};
 
 use enctypes::Key;
 use krb_der::KTime;
 use krb_elements::{KerberosStringRef, Lent, Octets, Seq, UInt32};
 use krb_fields::{Flags, Name, Typed};
-use krb_sealed::{EncKdcRepPart, EncTicketPart, LastReq};
+use krb_types::{EncKdcRepPart, EncTicketPart, LastReq};
 use sealed_parts::key_part;
 use std::alloc::{AllocError, Global};
 use ticket_times::Times;

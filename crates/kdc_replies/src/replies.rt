@@ -2,9 +2,9 @@
 ghost use Rattle.std.specs.Prelude.{◌≡◌, ◌≤◌, ◌<◌, ◌+◌, ◌^◌, length, Some, IfOk, IfSome};
 ghost use Rattle.krb_elements.specs.Codec.{list_of, written};
 ghost use Rattle.krb_fields.specs.PaData.{pa_data};
-ghost use Rattle.krb_sealed.specs.EncKdcRepPart.{enc_kdc_rep_part};
-ghost use Rattle.krb_replies.specs.KdcRep.{kdc_rep};
-ghost use Rattle.krb_replies.specs.Under.{under};
+ghost use Rattle.krb_types.specs.EncKdcRepPart.{enc_kdc_rep_part};
+ghost use Rattle.krb_types.specs.KdcRep.{kdc_rep};
+ghost use Rattle.krb_types.specs.Under.{under};
 ghost use Rattle.enctypes.specs.KeyUsage.{usage_number};
 ghost use Rattle.sealed_parts.specs.Encrypted.{decrypted};
 ghost use Rattle.kdc_replies.specs.Grant.{IsShort, reply_part, ticket_part};
@@ -16,7 +16,7 @@ use enctypes::{Key, KeyUsage};
 use krb_der::KTime;
 use krb_elements::{Lent, Seq, UInt32, write};
 use krb_fields::{EncryptedData, PaData};
-use krb_replies::{KdcRep, Under};
+use krb_types::{KdcRep, Under};
 use sealed_parts::ReadyKeys;
 use std::alloc::{AllocError, Global};
 

@@ -2,7 +2,7 @@
 ghost use Rattle.std.specs.Prelude.{◌≡◌, ◌≤◌, ◌+◌, pos, length, take, drop, Some, IfOk};
 ghost use Rattle.enctypes.specs.KeyUsage.{usage_number};
 ghost use Rattle.enctypes.specs.declared.key_usage.KeyUsage.TheVariants.{Ticket as TicketUsage};
-ghost use Rattle.krb_sealed.specs.EncTicketPart.{enc_ticket_part};
+ghost use Rattle.krb_types.specs.EncTicketPart.{enc_ticket_part};
 ghost use Rattle.sealed_parts.specs.Encrypted.{decrypted};
 ghost use Rattle.kdc_replies.specs.Grant.{IsShort, ticket_part};
 ghost use Rattle.kdc_replies.specs.Reply.{ticket_confounder, granted_ticket};
@@ -11,7 +11,7 @@ use crate::grant::{Grant, LentName, LentRealm};
 use enctypes::{Key, KeyUsage};
 use krb_elements::{Lent, UInt32};
 use krb_fields::EncryptedData;
-use krb_messages::{PVNO, Ticket};
+use krb_types::{PVNO, Ticket};
 use sealed_parts::ReadyKeys;
 use std::alloc::{AllocError, Global};
 

@@ -4,8 +4,8 @@ use crate::fixtures::{BEGIN, END, JUDGED, holds, mark, octets};
 use crate::kdcs::{opened, with_one};
 use crate::messages::message;
 use kdc_hub::{
-    Action, CloseReason, Did, Event, Hub, HubFault, Look, MemoryRows, MemoryWire, Peer, Served,
-    Wire, serve, serve_life,
+    Action, CloseReason, Event, Hub, HubFault, Look, MemoryRows, MemoryWire, Peer, Served, Wire,
+    WireCall, serve, serve_life,
 };
 use krb_elements::Octets;
 use krb_fields::Moment;
@@ -313,11 +313,11 @@ struct Seen {
     done: Vec<Done>,
 }
 
-fn all_done(alloc: Global, did: &[Did]) -> Result<Vec<Done>, Fail> {
+fn all_done(alloc: Global, did: &[WireCall]) -> Result<Vec<Done>, Fail> {
     let wanted = octets(alloc, message("CLIENT_UNKNOWN"))?;
     let mut all = Vec::new(alloc);
     for call in did {
-        if let Did::Acted { action } = call {
+        if let WireCall::Acted { action } = call {
             all.push(done(action, &wanted))?;
         }
     }

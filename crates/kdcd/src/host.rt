@@ -10,7 +10,7 @@ use kdcd_run::{
 use krb_fields::Moment;
 use principal_rows::Limits;
 use principals::Database;
-use ready_writer::SharedWriter;
+use program::SharedWriter;
 use std::alloc::{AllocError, Global};
 use std::io;
 use std::io::{Error, ErrorKind, Stderr, Write};

@@ -4,7 +4,7 @@ use kdc_sockets::BindFault;
 use kdcd_run::{
     CountedLog, FaultCount, Host, Outlets, Ran, RequestLines, ServeOptions, run_server,
 };
-use ready_writer::{ReadyWriter, SharedWriter};
+use program::{ReadyWriter, SharedWriter};
 use std::alloc::AllocError;
 use std::io;
 use std::io::Write;

@@ -3,8 +3,8 @@ use Rattle.std.proofs.Common.{List, [], ◌∷◌, ◌++◌, map, Option, Some, 
 use Rattle.std.specs.Prelude.{IfSome}
 use Rattle.std.proofs.lemmas.List.{map-append}
 use Rattle.kdc_hub.specs.Wire.{Records}
-use Rattle.request_counts.specs.Counts.{AreCountsOf, Asked}
-use Rattle.request_counts.specs.declared.counts.Counts.{Counts}
+use Rattle.request_log.specs.Counts.{AreCountsOf, Asked}
+use Rattle.request_log.specs.declared.counts.Counts.{Counts}
 use Rattle.kdcd_run.specs.Log.{LogEntry, asked_by}
 use Rattle.kdcd_run.specs.Served.{IsNew}
 

@@ -18,10 +18,10 @@ use Rattle.kdc_hub.specs.declared.event.Event.{Event}
 use Rattle.kdc_hub.specs.declared.event.Event.TheVariants.{Datagram, Opened, Bytes, Closed}
 use Rattle.kdc_hub.specs.declared.event.Peer.{Peer}
 use Rattle.kdc_hub.specs.declared.reply.Reply.{Reply}
-use Rattle.kdc_hub.specs.declared.wires.Did.{Did}
-use Rattle.kdc_hub.specs.declared.wires.Did.TheVariants.{Polled, Waited, Missed, Acted, Failed}
-use Rattle.kdc_hub.specs.History.{Stepped, Turn, after_turn, after_turns, all_seen_by, asked, others_after, piece_requests, newly_seen_in, replies_by, reply_in, requests_by, seen_by, stream_requests, turn_sees}
-use Rattle.kdc_hub.specs.Hub.{Standing, Step, brings, datagram_room, most_connections, opened, sent}
+use Rattle.kdc_hub.specs.declared.wires.WireCall.{WireCall}
+use Rattle.kdc_hub.specs.declared.wires.WireCall.TheVariants.{Polled, Waited, Missed, Acted, Failed}
+use Rattle.kdc_hub.specs.History.{Stepped, Turn, after_turn, after_turns, all_seen_by, asked, others_after, piece_requests, newly_seen_in, replies_by, reply_of_action, requests_by, seen_by, stream_requests, turn_sees}
+use Rattle.kdc_hub.specs.Hub.{HubState, Step, brings, datagram_room, most_connections, opened, sent}
 use Rattle.kdc_hub.specs.Issuing.{Issuing, after, reply_of, too_long}
 use Rattle.kdc_hub.specs.Logged.{Entry, Stop, logged, step_by, step_of}
 use Rattle.kdc_hub.specs.Rounds.{AreRounds, IsRound, NothingCame, PollFailed, Took, Tries, closing, did_in, ending, entries_of, lost_in}
@@ -37,7 +37,7 @@ use Rattle.kdcd_run.specs.Served.{handed_in}
 
 abbrev seens : List Action → List Seen
 seens [] = []
-seens (action ∷ actions) = seen_by (reply_in action) ++ seens actions
+seens (action ∷ actions) = seen_by (reply_of_action action) ++ seens actions
 
 abbrev no_events : List KdcEvent
 no_events = []
@@ -111,7 +111,7 @@ either_none true b x y z first second third = first
 either_none false true x y z first second third = second
 either_none false false x y z first second third = third
 
-opened_none : (hub : Standing) (conn : ℕ) → seens (opened hub conn).actions ≡ []
+opened_none : (hub : HubState) (conn : ℕ) → seens (opened hub conn).actions ≡ []
 opened_none hub conn =
     either_none (finmap.contains_key hub.connections conn) (nat_lt (finmap.len hub.connections) most_connections) _ _ _ refl refl refl
 
@@ -120,7 +120,7 @@ unfolding replies_by
 none_taken zero = refl
 none_taken (suc d) = refl
 
-module _ (hub : Standing) (at : Moment) where
+module _ (hub : HubState) (at : Moment) where
   piece_only : (conn : ℕ) (piece : List ℕ) (o : Option Splitting)
       → OnlyReplies (length (piece_requests hub.issuing at piece o)) (brings hub at conn piece o).actions
   unfolding replies_by
@@ -150,22 +150,22 @@ seen_at : (at : Moment) (all : List Seen) → all_seen (handed_at at all) ≡ al
 seen_at at [] = refl
 seen_at at (seen ∷ all) = ap (λ l. seen ∷ l) (seen_at at all)
 
-module _ (at : Moment) (rest : List Did) where
-  one_handed : (action : Action) (actions : List Action) (others : List Did)
+module _ (at : Moment) (rest : List WireCall) where
+  one_handed : (action : Action) (actions : List Action) (others : List WireCall)
       → handed_in at (others ++ rest) ≡ handed_at at (seens actions) ++ handed_in at rest
       → handed_by at action ++ handed_in at (others ++ rest)
       ≡ handed_at at (seens (action ∷ actions)) ++ handed_in at rest
   one_handed action actions others is =
       ap (λ l. handed_by at action ++ l) is
       ∙ sym (append_assoc (handed_by at action) (handed_at at (seens actions)) (handed_in at rest))
-      ∙ ap (λ l. l ++ handed_in at rest) (sym (map-append _ (seen_by (reply_in action)) (seens actions)))
+      ∙ ap (λ l. l ++ handed_in at rest) (sym (map-append _ (seen_by (reply_of_action action)) (seens actions)))
 
-  tried : (action : Action) (did others : List Did) → (did ≡ Acted action ∷ others) ⊎ (did ≡ Failed action ∷ others)
+  tried : (action : Action) (did others : List WireCall) → (did ≡ Acted action ∷ others) ⊎ (did ≡ Failed action ∷ others)
       → handed_in at (did ++ rest) ≡ handed_by at action ++ handed_in at (others ++ rest)
   tried action did others (inl is) = ap (λ d. handed_in at (d ++ rest)) is
   tried action did others (inr is) = ap (λ d. handed_in at (d ++ rest)) is
 
-  acts_handed : (actions : List Action) (did : List Did) → Tries actions did
+  acts_handed : (actions : List Action) (did : List WireCall) → Tries actions did
       → handed_in at (did ++ rest) ≡ handed_at at (seens actions) ++ handed_in at rest
   unfolding Tries
   acts_handed [] did is = ap (λ d. handed_in at (d ++ rest)) is
@@ -181,12 +181,12 @@ closing_none (Some stop) (Opened conn) = refl
 closing_none (Some stop) (Bytes conn piece) = refl
 closing_none (Some stop) (Closed conn) = refl
 
-logged_on : (hub : Standing) (entries more : List Entry) → (logged hub (entries ++ more)).hub ≡ (logged (logged hub entries).hub more).hub
+logged_on : (hub : HubState) (entries more : List Entry) → (logged hub (entries ++ more)).hub ≡ (logged (logged hub entries).hub more).hub
 logged_on hub [] more = refl
 logged_on hub (entry ∷ entries) more = logged_on (step_of hub entry).hub entries more
 
 -- the ends of connections that were lost bring no requests
-ends_see : (hub : Standing) (at : Moment) (one two : Option ℕ) (entries : List Entry)
+ends_see : (hub : HubState) (at : Moment) (one two : Option ℕ) (entries : List Entry)
     → newly_seen_in hub (map Stepped ((ending at one ++ ending at two) ++ entries))
     ≡ newly_seen_in (logged hub (ending at one ++ ending at two)).hub (map Stepped entries)
 unfolding replies_by
@@ -198,7 +198,7 @@ ends_see hub at (Some conn) (Some other) entries = refl
 all_seen_on : (xs ys : List Handed) → all_seen (xs ++ ys) ≡ all_seen xs ++ all_seen ys
 all_seen_on xs ys = map-append _ xs ys
 
-module _ (hub : Standing) (entry : Entry) (acts close : List Did) (tries : IsRound hub (Took entry acts close)) (did : List Did) (entries : List Entry) where
+module _ (hub : HubState) (entry : Entry) (acts close : List WireCall) (tries : IsRound hub (Took entry acts close)) (did : List WireCall) (entries : List Entry) where
   abbrev actions : List Action
   actions = (step_of hub entry).actions
 
@@ -232,17 +232,17 @@ in_rounds hub (Took entry acts close ∷ rounds) at a =
 -- ---- periods
 
 -- what is handed over by what was done afterwards begins at some moment
-pub record GoesOn (at : Moment) (done did : List Did) : Type 0 where
+pub record GoesOn (at : Moment) (done did : List WireCall) : Type 0 where
   pub later : Moment
   pub is : handed_in at (done ++ did) ≡ handed_in at done ++ handed_in later did
 
-module _ (did : List Did) where
-  act_goes_on : (at : Moment) (action : Action) (done : List Did) → (r : GoesOn at done did)
+module _ (did : List WireCall) where
+  act_goes_on : (at : Moment) (action : Action) (done : List WireCall) → (r : GoesOn at done did)
       → handed_by at action ++ handed_in at (done ++ did) ≡ (handed_by at action ++ handed_in at done) ++ handed_in r.later did
   act_goes_on at action done r =
       ap (λ l. handed_by at action ++ l) r.is ∙ sym (append_assoc (handed_by at action) (handed_in at done) (handed_in r.later did))
 
-  handed_on : (at : Moment) (done : List Did) → GoesOn at done did
+  handed_on : (at : Moment) (done : List WireCall) → GoesOn at done did
   handed_on at [] = record { later = at; is = refl }
   handed_on at (Polled came event ∷ done) = let r = handed_on came done in record { later = r.later; is = r.is }
   handed_on at (Waited now ∷ done) = let r = handed_on at done in record { later = r.later; is = r.is }
@@ -250,24 +250,24 @@ module _ (did : List Did) where
   handed_on at (Acted action ∷ done) = let r = handed_on at done in record { later = r.later; is = act_goes_on at action done r }
   handed_on at (Failed action ∷ done) = let r = handed_on at done in record { later = r.later; is = act_goes_on at action done r }
 
-newly_seen_on : (hub : Standing) (turns more : List Turn)
+newly_seen_on : (hub : HubState) (turns more : List Turn)
     → newly_seen_in hub (turns ++ more) ≡ newly_seen_in hub turns ++ newly_seen_in (after_turns hub turns) more
 newly_seen_on hub [] more = refl
 newly_seen_on hub (turn ∷ turns) more =
     ap (λ l. turn_sees hub turn ++ l) (newly_seen_on (after_turn hub turn) turns more)
     ∙ sym (append_assoc (turn_sees hub turn) (newly_seen_in (after_turn hub turn) turns) (newly_seen_in (after_turns hub (turn ∷ turns)) more))
 
-replaced_none : (hub : Standing) (look : Look) (more : List Turn)
+replaced_none : (hub : HubState) (look : Look) (more : List Turn)
     → newly_seen_in hub (replacement look ++ more) ≡ newly_seen_in (after_turns hub (replacement look)) more
 replaced_none hub Unchanged more = refl
 replaced_none hub (Changed database) more = refl
 replaced_none hub LookFailed more = refl
 
-tidied_none : (hub : Standing) (tidied : Option Moment) → newly_seen_in hub (tidying tidied) ≡ []
+tidied_none : (hub : HubState) (tidied : Option Moment) → newly_seen_in hub (tidying tidied) ≡ []
 tidied_none hub None = refl
 tidied_none hub (Some at) = refl
 
-period_sees : (hub : Standing) (period : Period)
+period_sees : (hub : HubState) (period : Period)
     → newly_seen_in hub (turns_of period)
     ≡ newly_seen_in (after_turns hub (replacement period.look)) (map Stepped (flat_map entries_of period.rounds))
 period_sees hub period =

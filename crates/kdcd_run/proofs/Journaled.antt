@@ -2,7 +2,7 @@
 use Rattle.std.proofs.Common.{List, [], ◌∷◌, Option, ℕ, subst}
 use Rattle.krb_fields.specs.declared.moment.Moment.{Moment}
 use Rattle.replay.specs.declared.seen.Resumption.{Resumption}
-use Rattle.kdc_hub.specs.Hub.{Standing}
+use Rattle.kdc_hub.specs.Hub.{HubState}
 use Rattle.kdc_hub.specs.Life.{Period}
 use Rattle.journal.specs.Holding.{IsSafe}
 use Rattle.journal.specs.Life.{IsLife, LivesHold, Stage, StagesFollow, past_after_all, past_of}
@@ -40,7 +40,7 @@ module _ (laws : LivesHold) where
     may_start next (Refuses doubt) may = tt
     may_start next (Resumes resumed check) may = finds_all next resumed check may
 
-  are_processes : (at : Moment) (hub : Standing) (r : Resumption) (periods : List Period) (did : OnJournal) (w : World) (ns : List Journaled)
+  are_processes : (at : Moment) (hub : HubState) (r : Resumption) (periods : List Period) (did : OnJournal) (w : World) (ns : List Journaled)
       → AreJournaled at hub r periods did w ns → AreProcesses at hub r periods (processes_in ns)
   are_processes at hub r periods did w [] are = are
   are_processes at hub r periods did w (n ∷ ns) (left, found, lived, keeps, life, follows, may, late, rest) = (

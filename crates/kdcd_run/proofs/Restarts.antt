@@ -16,7 +16,7 @@ use Rattle.kdc_core.specs.Tickets.{ResumesFollow, ResumesWithAll}
 use Rattle.kdc_core.specs.declared.run.Event.{Event as KdcEvent}
 use Rattle.kdc_core.specs.declared.run.Event.TheVariants.{Request, Change, Replace, Tidy, Restart, Reopen, Resume}
 use Rattle.kdc_hub.specs.History.{CanBeResumed, IsOneRun, OneTicketSent, Stepped, Turn, after_turn, after_turns, events_in, turn_events}
-use Rattle.kdc_hub.specs.Hub.{Standing}
+use Rattle.kdc_hub.specs.Hub.{HubState}
 use Rattle.kdc_hub.specs.Logged.{Entry}
 use Rattle.kdc_hub.specs.Rounds.{entries_of}
 use Rattle.kdc_hub.proofs.Histories.{AreAsked, IsAsked, entry_asks}
@@ -62,38 +62,38 @@ asked_none (event ∷ events) a = (one_none event a.0, asked_none events a.1)
     one_none (Resume database limits resumption) a = a
 
 -- turns with an event each, of which none resumes
-events_both : (hub : Standing) (turns others : List Turn) → events_in hub (turns ++ others) ≡ events_in hub turns ++ events_in (after_turns hub turns) others
+events_both : (hub : HubState) (turns others : List Turn) → events_in hub (turns ++ others) ≡ events_in hub turns ++ events_in (after_turns hub turns) others
 events_both hub [] others = refl
 events_both hub (turn ∷ turns) others =
     ap (λ l. turn_events hub turn ++ l) (events_both (after_turn hub turn) turns others)
     ∙ sym (append_assoc (turn_events hub turn) (events_in (after_turn hub turn) turns) (events_in (after_turns (after_turn hub turn) turns) others))
 
-turns_none : (hub : Standing) (turns others : List Turn) → AreNoResumes (events_in hub turns) → AreNoResumes (events_in (after_turns hub turns) others)
+turns_none : (hub : HubState) (turns others : List Turn) → AreNoResumes (events_in hub turns) → AreNoResumes (events_in (after_turns hub turns) others)
     → AreNoResumes (events_in hub (turns ++ others))
 turns_none hub turns others a b = subst AreNoResumes (sym (events_both hub turns others)) (both_none (events_in hub turns) _ a b)
 
-steps_none : (hub : Standing) (entries : List Entry) → AreNoResumes (events_in hub (map Stepped entries))
+steps_none : (hub : HubState) (entries : List Entry) → AreNoResumes (events_in hub (map Stepped entries))
 steps_none hub [] = tt
 steps_none hub (entry ∷ entries) =
     both_none (turn_events hub (Stepped entry)) _ (asked_none _ (entry_asks hub entry.at entry.stop entry.event)) (steps_none (after_turn hub (Stepped entry)) entries)
 
-look_none : (hub : Standing) (look : Look) → AreNoResumes (events_in hub (replacement look))
+look_none : (hub : HubState) (look : Look) → AreNoResumes (events_in hub (replacement look))
 look_none hub Unchanged = tt
 look_none hub (Changed database) = (tt, tt)
 look_none hub Failed = tt
 
-tidying_none : (hub : Standing) (tidied : Option Moment) → AreNoResumes (events_in hub (tidying tidied))
+tidying_none : (hub : HubState) (tidied : Option Moment) → AreNoResumes (events_in hub (tidying tidied))
 tidying_none hub (Some at) = (tt, tt)
 tidying_none hub None = tt
 
-period_none : (hub : Standing) (period : Period) → AreNoResumes (events_in hub (turns_of period))
+period_none : (hub : HubState) (period : Period) → AreNoResumes (events_in hub (turns_of period))
 period_none hub period =
     let steps = map Stepped (flat_map entries_of period.rounds) in
     let looked = after_turns hub (replacement period.look) in
     turns_none hub (replacement period.look) (steps ++ tidying period.tidied) (look_none hub period.look)
     (turns_none looked steps (tidying period.tidied) (steps_none looked (flat_map entries_of period.rounds)) (tidying_none (after_turns looked steps) period.tidied))
 
-life_none : (hub : Standing) (periods : List Period) → AreNoResumes (events_in hub (flat_map turns_of periods))
+life_none : (hub : HubState) (periods : List Period) → AreNoResumes (events_in hub (flat_map turns_of periods))
 life_none hub [] = tt
 life_none hub (period ∷ periods) =
     turns_none hub (turns_of period) (flat_map turns_of periods) (period_none hub period) (life_none (after_turns hub (turns_of period)) periods)
@@ -120,10 +120,10 @@ follows_both state (event ∷ events) others a b = (a.0, follows_both (after_eve
 
 -- ---- processes
 
-module _ (one_run : (start : Standing) (turns : List Turn) → IsOneRun start turns) (resumable : CanBeResumed) (begins : core.CanBeResumed)
+module _ (one_run : (start : HubState) (turns : List Turn) → IsOneRun start turns) (resumable : CanBeResumed) (begins : core.CanBeResumed)
     (hands : HandsAllInLife) where
   -- what a process knows at its end covers its state
-  covers_at_end : (at : Moment) (hub : Standing) (r : Resumption) (periods : List Period) (now : ℤ) → Covers hub.issuing.kdc r → ArePeriods None hub periods
+  covers_at_end : (at : Moment) (hub : HubState) (r : Resumption) (periods : List Period) (now : ℤ) → Covers hub.issuing.kdc r → ArePeriods None hub periods
       → core.AreUpTo now (events_in hub (flat_map turns_of periods))
       → Covers (after_turns hub (flat_map turns_of periods)).issuing.kdc
       (record { floor = int_max r.floor (now -ℤ pos skew); seen = (known_after at r periods).seen })
@@ -132,8 +132,8 @@ module _ (one_run : (start : Standing) (turns : List Turn) → IsOneRun start tu
       (sym (hands None hub periods at lived))
       (resumable hub (flat_map turns_of periods) r now covers up_to)
 
-  module _ (began : Moment) (hub : Standing) (r : Resumption) (periods : List Period) (p : Process) (covers : Covers hub.issuing.kdc r) (lived : ArePeriods None hub periods) where
-    abbrev ended : Standing
+  module _ (began : Moment) (hub : HubState) (r : Resumption) (periods : List Period) (p : Process) (covers : Covers hub.issuing.kdc r) (lived : ArePeriods None hub periods) where
+    abbrev ended : HubState
     ended = after_turns hub (flat_map turns_of periods)
 
     -- and so do the files that the next one finds
@@ -149,11 +149,11 @@ module _ (one_run : (start : Standing) (turns : List Turn) → IsOneRun start tu
     next_with_all (Resumes found check) may late = (covers_next found check may late, tt)
 
   -- what the next process begins with covers its state
-  next_covers : (hub : Standing) (p : Process) (start : Start) → Covers (after_turn hub (beginning_by p start)).issuing.kdc (known_by (RestartAt p.at) start)
+  next_covers : (hub : HubState) (p : Process) (start : Start) → Covers (after_turn hub (beginning_by p start)).issuing.kdc (known_by (RestartAt p.at) start)
   next_covers hub p (Refuses doubt) = begins.opened p.database p.limits (RestartAt p.at)
   next_covers hub p (Resumes found check) = begins.resumed p.database p.limits found
 
-  all_follow : (at : Moment) (hub : Standing) (r : Resumption) (periods : List Period) (processes : List Process) → Covers hub.issuing.kdc r
+  all_follow : (at : Moment) (hub : HubState) (r : Resumption) (periods : List Period) (processes : List Process) → Covers hub.issuing.kdc r
       → AreProcesses at hub r periods processes → ResumesFollow hub.issuing.kdc (events_in hub (history periods processes))
   all_follow at hub r periods [] covers lived = follows_none hub.issuing.kdc _ (life_none hub periods)
   all_follow at hub r periods (p ∷ ps) covers (lived, late, may, rest) =
@@ -171,7 +171,7 @@ module _ (one_run : (start : Standing) (turns : List Turn) → IsOneRun start tu
       (all_follow p.at next (known_at p) p.periods ps (next_covers ended p p.start) rest)))))
     where
       -- a turn alone
-      turn_run : (start : Standing) (turn : Turn) → (after_turn start turn).issuing.kdc ≡ run start.issuing.kdc (turn_events start turn)
+      turn_run : (start : HubState) (turn : Turn) → (after_turn start turn).issuing.kdc ≡ run start.issuing.kdc (turn_events start turn)
       turn_run start turn = (one_run start (turn ∷ [])).kdc_is ∙ ap (run start.issuing.kdc) (append-nil (turn_events start turn))
 
   pub one_ticket_through_restarts : OneTicketSent → OneTicketThroughRestarts

@@ -8,8 +8,8 @@ use Rattle.krb_fields.specs.declared.moment.Moment.{Moment}
 use Rattle.kdc_core.specs.Account.{Account}
 use Rattle.kdc_hub.specs.declared.event.Action.{Action}
 use Rattle.kdc_hub.specs.declared.event.Event.{Event}
-use Rattle.kdc_hub.specs.declared.wires.Did.{Did}
-use Rattle.kdc_hub.specs.declared.wires.Did.TheVariants.{Acted, Failed}
+use Rattle.kdc_hub.specs.declared.wires.WireCall.{WireCall}
+use Rattle.kdc_hub.specs.declared.wires.WireCall.TheVariants.{Acted, Failed}
 use Rattle.kdc_hub.specs.declared.wires.WireFault.{WireFault}
 use Rattle.kdc_hub.specs.Wire.{Records, acted, is_fault, polled}
 use Rattle.kdc_hub.proofs.Rounds.{records_nothing, records_on}
@@ -17,39 +17,39 @@ use Rattle.kdcd_run.specs.Journal.{Handed, handed_by, moment_after}
 use Rattle.kdcd_run.specs.Log.{LogEntry, LogsAll, asker_of, entries_of, reported}
 use Rattle.kdcd_run.specs.Served.{HasServed, IsNew, Serves, handed_in, handed_of, in_order, last_came, said, said_of, says, succeeded}
 use Rattle.kdcd_run.specs.Withheld.{EndsOnly}
-use Rattle.kdcd_run.specs.declared.logging.Came.{Came}
+use Rattle.kdcd_run.specs.declared.logging.Arrival.{Arrival}
 
-succeeded_on : (xs ys : List Did) → succeeded (xs ++ ys) ≡ succeeded xs ++ succeeded ys
+succeeded_on : (xs ys : List WireCall) → succeeded (xs ++ ys) ≡ succeeded xs ++ succeeded ys
 succeeded_on xs ys = filter-append (λ d. not (is_fault d)) xs ys
 
-in_order_on : {X : Type 0} (each : Moment → Did → List X) (at : Moment) (tried : List Did) (did : Did)
+in_order_on : {X : Type 0} (each : Moment → WireCall → List X) (at : Moment) (tried : List WireCall) (did : WireCall)
     → in_order each at (tried ++ did ∷ []) ≡ in_order each at tried ++ each (last_came at tried) did
 in_order_on each at [] did = append-nil (each at did)
 in_order_on each at (x ∷ tried) did =
     ap (λ l. each at x ++ l) (in_order_on each (moment_after at x) tried did)
     ∙ sym (append_assoc (each at x) (in_order each (moment_after at x) tried) (each (last_came (moment_after at x) tried) did))
 
-last_on : (at : Moment) (tried : List Did) (did : Did) → last_came at (tried ++ did ∷ []) ≡ moment_after (last_came at tried) did
+last_on : (at : Moment) (tried : List WireCall) (did : WireCall) → last_came at (tried ++ did ∷ []) ≡ moment_after (last_came at tried) did
 last_on at [] did = refl
 last_on at (x ∷ tried) did = last_on (moment_after at x) tried did
 
 -- ---- one more thing
 
 -- the record of the sockets, where they did the same, and where they did nothing and it failed
-same_sent : (tried : List Did) (did : Did) (sockets new : Option (List Did)) → Records sockets (did ∷ []) new
+same_sent : (tried : List WireCall) (did : WireCall) (sockets new : Option (List WireCall)) → Records sockets (did ∷ []) new
     → IfSome sockets (λ sent. succeeded sent ≡ succeeded tried) → IfSome new (λ sent. succeeded sent ≡ succeeded (tried ++ did ∷ []))
 same_sent tried did sockets None records is = tt
 same_sent tried did None (Some new) records is = absurd records
 same_sent tried did (Some sent) (Some new) records is =
     ap succeeded records ∙ succeeded_on sent (did ∷ []) ∙ ap (λ l. l ++ succeeded (did ∷ [])) is ∙ sym (succeeded_on tried (did ∷ []))
 
-none_sent : (tried : List Did) (action : Action) (sockets : Option (List Did))
+none_sent : (tried : List WireCall) (action : Action) (sockets : Option (List WireCall))
     → IfSome sockets (λ sent. succeeded sent ≡ succeeded tried) → IfSome sockets (λ sent. succeeded sent ≡ succeeded (tried ++ Failed action ∷ []))
 none_sent tried action None is = tt
 none_sent tried action (Some sent) is = is ∙ sym (append-nil (succeeded tried)) ∙ sym (succeeded_on tried (Failed action ∷ []))
 
 -- a record of what comes in order, as it is shown
-module _ {X Y : Type 0} (show : X → Y) (each : Moment → Did → List Y) (start at : Moment) (tried : List Did) (did : Did) (last : at ≡ last_came start tried) where
+module _ {X Y : Type 0} (show : X → Y) (each : Moment → WireCall → List Y) (start at : Moment) (tried : List WireCall) (did : WireCall) (last : at ≡ last_came start tried) where
   more_in_order : (old new : Option (List X)) (added : List X) → map show added ≡ each at did → Records old added new
       → IfSome old (λ xs. map show xs ≡ in_order each start tried) → IfSome new (λ xs. map show xs ≡ in_order each start (tried ++ did ∷ []))
   more_in_order old None added shown records is = tt
@@ -70,11 +70,11 @@ back : {X : Type 0} (o : Option (List X)) (l : List X) → IfSome o (λ xs. map 
 back None l is = tt
 back (Some xs) l is = sym (map_same xs) ∙ is
 
-module _ (did : Did) (sockets sockets_new : Option (List Did)) (journal journal_new : Option (List Handed)) (log log_new : Option (List LogEntry)) (at at_new : Moment)
-    (sends : (tried : List Did) → IfSome sockets (λ sent. succeeded sent ≡ succeeded tried) → IfSome sockets_new (λ sent. succeeded sent ≡ succeeded (tried ++ did ∷ [])))
+module _ (did : WireCall) (sockets sockets_new : Option (List WireCall)) (journal journal_new : Option (List Handed)) (log log_new : Option (List LogEntry)) (at at_new : Moment)
+    (sends : (tried : List WireCall) → IfSome sockets (λ sent. succeeded sent ≡ succeeded tried) → IfSome sockets_new (λ sent. succeeded sent ≡ succeeded (tried ++ did ∷ [])))
     (hands : Records journal (handed_of at did) journal_new) (added : List LogEntry) (shown : map said added ≡ said_of at did) (logs : Records log added log_new)
     (comes : at_new ≡ moment_after at did) where
-  served_more : (tried : List Did) → HasServed tried sockets journal log at → HasServed (tried ++ did ∷ []) sockets_new journal_new log_new at_new
+  served_more : (tried : List WireCall) → HasServed tried sockets journal log at → HasServed (tried ++ did ∷ []) sockets_new journal_new log_new at_new
   served_more tried s = record {
     start = s.start;
     last = comes ∙ ap (λ t. moment_after t did) s.last ∙ sym (last_on s.start tried did);
@@ -85,14 +85,14 @@ module _ (did : Did) (sockets sockets_new : Option (List Did)) (journal journal_
     entries = more_in_order said said_of s.start at tried did s.last log log_new added shown logs s.entries;
   }
 
-  one_more : (tally tally_new : Option (List Did)) → Records tally (did ∷ []) tally_new
+  one_more : (tally tally_new : Option (List WireCall)) → Records tally (did ∷ []) tally_new
       → Serves tally sockets journal log at → Serves tally_new sockets_new journal_new log_new at_new
   one_more tally None records s = tt
   one_more None (Some new) records s = absurd records
   one_more (Some tried) (Some new) records s = subst (λ l. HasServed l sockets_new journal_new log_new at_new) (sym records) (served_more tried s)
 
 -- where an action was withheld, the record of the sockets is as it was
-pub ends_record : {S : Type 0} (recorded : S → Option (List Did)) (HangsUp : S → ℕ → S → Type 0)
+pub ends_record : {S : Type 0} (recorded : S → Option (List WireCall)) (HangsUp : S → ℕ → S → Type 0)
     (keeps : (old new : S) (conn : ℕ) → HangsUp old conn new → recorded new ≡ recorded old)
     (old new : S) (conn : Option ℕ) → EndsOnly HangsUp old conn new → recorded new ≡ recorded old
 ends_record recorded HangsUp keeps old new None is = ap recorded is
@@ -110,7 +110,7 @@ polls_say_nothing at (Ok (came, Some event)) = refl
 polls_say_nothing at (Ok (came, None)) = refl
 polls_say_nothing at (Err fault) = refl
 
-pub by_poll : (r : Result (Moment × Option Event) WireFault) (tally tally_new sockets sockets_new : Option (List Did)) (journal : Option (List Handed)) (log : Option (List LogEntry)) (at at_new : Moment)
+pub by_poll : (r : Result (Moment × Option Event) WireFault) (tally tally_new sockets sockets_new : Option (List WireCall)) (journal : Option (List Handed)) (log : Option (List LogEntry)) (at at_new : Moment)
     → Records tally (polled r ∷ []) tally_new → Records sockets (polled r ∷ []) sockets_new → at_new ≡ moment_after at (polled r)
     → Serves tally sockets journal log at → Serves tally_new sockets_new journal log at_new
 by_poll r tally tally_new sockets sockets_new journal log at at_new noted polls comes =
@@ -119,7 +119,7 @@ by_poll r tally tally_new sockets sockets_new journal log at at_new noted polls 
 
 -- ---- acts
 
-shown_said : (at : Moment) (is_sent : Bool) (came : Came) (action : Action) → came.at ≡ at → map said (entries_of came action is_sent) ≡ says at is_sent (reported action)
+shown_said : (at : Moment) (is_sent : Bool) (came : Arrival) (action : Action) → came.at ≡ at → map said (entries_of came action is_sent) ≡ says at is_sent (reported action)
 shown_said at is_sent came action is = each (reported action) ∙ ap (λ t. says t is_sent (reported action)) is
   where
     each : (accounts : List (Option Account))
@@ -135,7 +135,7 @@ module _ {L : Type 0} (logged : L → Option (List LogEntry)) (Logs : L → LogE
   logs_all log new (entry ∷ entries) (middle, first, rest) =
       records_on (logged log) (entry ∷ []) (logged middle) entries (logged new) (grows log entry middle first) (logs_all middle new entries rest)
 
-module _ (action : Action) (came : Came) (tally tally_new sockets sockets_new : Option (List Did)) (journal journal_new : Option (List Handed)) (log log_new : Option (List LogEntry))
+module _ (action : Action) (came : Arrival) (tally tally_new sockets sockets_new : Option (List WireCall)) (journal journal_new : Option (List Handed)) (log log_new : Option (List LogEntry))
     (hands : Records journal (handed_by came.at action) journal_new) (s : Serves tally sockets journal log came.at) where
   pub by_act : {T : Type 0} (r : Result T WireFault) (may : Bool) (is_sent : Bool) → is_sent ≡ is_ok r → Records tally (acted action r ∷ []) tally_new
       → (may ≡ true → Records sockets (acted action r ∷ []) sockets_new) → (may ≡ false → (sockets_new ≡ sockets) × (is_ok r ≡ false))
@@ -155,7 +155,7 @@ module _ (action : Action) (came : Came) (tally tally_new sockets sockets_new : 
 
 -- ---- the beginning
 
-pub new_serves : (tally sockets : Option (List Did)) (journal : Option (List Handed)) (log : Option (List LogEntry)) (at : Moment)
+pub new_serves : (tally sockets : Option (List WireCall)) (journal : Option (List Handed)) (log : Option (List LogEntry)) (at : Moment)
     → IsNew tally → IsNew sockets → IsNew journal → IsNew log → Serves tally sockets journal log at
 new_serves None sockets journal log at new_tally new_sockets new_journal new_log = tt
 new_serves (Some tried) sockets journal log at new_tally new_sockets new_journal new_log = record {
@@ -166,7 +166,7 @@ new_serves (Some tried) sockets journal log at new_tally new_sockets new_journal
   entries = entries_new log new_log;
 }
   where
-    sent_new : (o : Option (List Did)) → IsNew o → IfSome o (λ sent. succeeded sent ≡ succeeded tried)
+    sent_new : (o : Option (List WireCall)) → IsNew o → IfSome o (λ sent. succeeded sent ≡ succeeded tried)
     sent_new None is = tt
     sent_new (Some sent) is = ap succeeded (is ∙ sym new_tally)
 

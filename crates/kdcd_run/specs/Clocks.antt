@@ -5,8 +5,8 @@ use Rattle.std.specs.Prelude.{if◌then◌else◌}
 use Rattle.krb_fields.specs.Skew.{skew}
 use Rattle.krb_fields.specs.declared.moment.Moment.{Moment}
 use Rattle.replay.specs.Tidied.{day}
-use Rattle.kdc_hub.specs.declared.wires.Did.{Did}
-use Rattle.kdc_hub.specs.declared.wires.Did.TheVariants.{Polled, Waited, Missed, Acted, Failed}
+use Rattle.kdc_hub.specs.declared.wires.WireCall.{WireCall}
+use Rattle.kdc_hub.specs.declared.wires.WireCall.TheVariants.{Polled, Waited, Missed, Acted, Failed}
 use Rattle.kdcd_run.specs.declared.clock_watch.ClockWatch.{ClockWatch}
 use Rattle.kdcd_run.specs.declared.clock_watch.Refused.{Refused}
 use Rattle.kdcd_run.specs.declared.clock_watch.Refused.TheVariants.{All, ServedLater}
@@ -80,7 +80,7 @@ watched w now = record {
 }
 
 -- the watch after something that a Wire did
-abbrev pub clock_after : ClockWatch → Did → ClockWatch
+abbrev pub clock_after : ClockWatch → WireCall → ClockWatch
 clock_after w (Polled at event) = watched w at
 clock_after w (Waited at) = watched w at
 clock_after w Missed = w

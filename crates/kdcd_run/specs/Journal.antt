@@ -4,9 +4,9 @@ use Rattle.krb_fields.specs.declared.moment.Moment.{Moment}
 use Rattle.replay.specs.declared.seen.Seen.{Seen}
 use Rattle.kdc_hub.specs.declared.event.Action.{Action}
 use Rattle.kdc_hub.specs.declared.event.Action.TheVariants.{SendTo, Pass, Write, Close}
-use Rattle.kdc_hub.specs.declared.wires.Did.{Did}
-use Rattle.kdc_hub.specs.declared.wires.Did.TheVariants.{Polled, Waited, Missed, Acted, Failed}
-use Rattle.kdc_hub.specs.History.{reply_in, seen_by}
+use Rattle.kdc_hub.specs.declared.wires.WireCall.{WireCall}
+use Rattle.kdc_hub.specs.declared.wires.WireCall.TheVariants.{Polled, Waited, Missed, Acted, Failed}
+use Rattle.kdc_hub.specs.History.{reply_of_action, seen_by}
 
 -- an authenticator that the KDC remembers, with the moment of its request
 pub record Handed : Type 0 where
@@ -18,7 +18,7 @@ handed_at at all = map (λ seen. record { at = at; seen = seen }) all
 
 -- what is handed over for an action: the authenticator that the request made the KDC remember, if it did
 abbrev pub handed_by : Moment → Action → List Handed
-handed_by at action = handed_at at (seen_by (reply_in action))
+handed_by at action = handed_at at (seen_by (reply_of_action action))
 
 abbrev pub has_reply : Action → Bool
 has_reply (SendTo peer reply) = true
@@ -40,7 +40,7 @@ abbrev pub is_kept : {J : Type 0} → (J → Bool) → J → Action → Bool
 is_kept is_whole journal action = not (has_reply action) || is_whole journal
 
 -- when the last event came, after something that a Wire did
-abbrev pub moment_after : Moment → Did → Moment
+abbrev pub moment_after : Moment → WireCall → Moment
 moment_after at (Polled came event) = came
 moment_after at (Waited now) = at
 moment_after at Missed = at

@@ -12,7 +12,7 @@ use Rattle.kdc_state.specs.State.{opened_state}
 use Rattle.kdc_core.specs.NewlySeen.{opening_resumption}
 use Rattle.kdc_core.specs.Tickets.{RestartsFollow}
 use Rattle.kdc_hub.specs.History.{after_turn, after_turns, events_in, tickets_sent}
-use Rattle.kdc_hub.specs.Hub.{Standing}
+use Rattle.kdc_hub.specs.Hub.{HubState}
 use Rattle.kdc_hub.specs.Life.{ArePeriods, Period, turns_of}
 use Rattle.journal.specs.Holding.{IsStart}
 use Rattle.journal.specs.Life as journal
@@ -54,7 +54,7 @@ MayResume past w at (Refuses doubt) = ⊤
 MayResume past w at (Resumes found check) = ResumesWith past w at found check
 
 -- As `AreProcesses`, but of the files is said only what was done with them: the first process finds these.
-abbrev pub AreJournaled : Moment → Standing → Resumption → List Period → OnJournal → World → List Journaled → Type 0
+abbrev pub AreJournaled : Moment → HubState → Resumption → List Period → OnJournal → World → List Journaled → Type 0
 AreJournaled at hub r periods did w [] = ArePeriods None hub periods
 AreJournaled at hub r periods did w (n ∷ ns) =
     (left found : World)
@@ -72,7 +72,7 @@ processes_in ns = map (λ n. n.process) ns
 
 -- No authenticator gets two different tickets, whichever process sends them.
 abbrev pub OneTicketThroughJournals : Type 0
-OneTicketThroughJournals = (database : Principals) (limits : Limits) (opening : Opening) (at : Moment) (hub : Standing)
+OneTicketThroughJournals = (database : Principals) (limits : Limits) (opening : Opening) (at : Moment) (hub : HubState)
     (periods : List Period) (did : OnJournal) (w : World) (ns : List Journaled)
     → hub.issuing.kdc ≡ opened_state database limits opening
     → AreJournaled at hub (opening_resumption opening) periods did w ns

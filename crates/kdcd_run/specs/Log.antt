@@ -9,13 +9,13 @@ use Rattle.kdc_hub.specs.declared.event.Action.{Action}
 use Rattle.kdc_hub.specs.declared.event.Action.TheVariants.{SendTo, Pass, Write, Close}
 use Rattle.kdc_hub.specs.declared.event.CloseReason.{CloseReason}
 use Rattle.kdc_hub.specs.declared.event.CloseReason.TheVariants.{NoRequest, BadLength, Full, OutOfMemory}
-use Rattle.request_counts.specs.Counts.{Asked}
+use Rattle.request_log.specs.Counts.{Asked}
 use Rattle.request_log.specs.Entry.{entry_fields}
 use Rattle.request_log.specs.Field.{Field}
 use Rattle.request_log.specs.Lines.{json_line, text_line}
 use Rattle.request_log.specs.declared.asker.Asker.{Asker}
 use Rattle.request_log.specs.declared.asker.Transport.TheVariants.{Udp, Tcp}
-use Rattle.kdcd_run.specs.declared.logging.Came.{Came}
+use Rattle.kdcd_run.specs.declared.logging.Arrival.{Arrival}
 use Rattle.kdcd_run.specs.declared.request_lines.LogFormat.{LogFormat}
 use Rattle.kdcd_run.specs.declared.request_lines.LogFormat.TheVariants.{Text, Json}
 use Rattle.kdcd_run.specs.declared.request_lines.RequestLines.{RequestLines}
@@ -64,7 +64,7 @@ entries_by at asker is_sent accounts =
     map (λ account. record { at = at; asker = asker; account = account; is_sent = is_sent }) accounts
 
 -- an action has one entry for the request that it answers, if it answers one
-abbrev pub entries_of : Came → Action → Bool → List LogEntry
+abbrev pub entries_of : Arrival → Action → Bool → List LogEntry
 entries_of came action is_sent = entries_by came.at (asker_of came.source action) is_sent (reported action)
 
 -- entries written one after another

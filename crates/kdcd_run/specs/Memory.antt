@@ -8,8 +8,8 @@ use Rattle.kdc_hub.specs.declared.event.CloseReason.{CloseReason}
 use Rattle.kdc_hub.specs.declared.event.CloseReason.TheVariants.{NoRequest, BadLength, Full, OutOfMemory}
 use Rattle.kdc_hub.specs.declared.event.Event.{Event}
 use Rattle.kdc_hub.specs.declared.event.Event.TheVariants.{Datagram, Opened, Bytes, Closed}
-use Rattle.kdc_hub.specs.declared.wires.Did.{Did}
-use Rattle.kdc_hub.specs.declared.wires.Did.TheVariants.{Polled, Waited, Missed, Acted, Failed}
+use Rattle.kdc_hub.specs.declared.wires.WireCall.{WireCall}
+use Rattle.kdc_hub.specs.declared.wires.WireCall.TheVariants.{Polled, Waited, Missed, Acted, Failed}
 use Rattle.kdcd_run.specs.Clocks.{is_due}
 use Rattle.kdcd_run.specs.declared.memory_watch.MemoryWatch.{MemoryWatch}
 
@@ -66,7 +66,7 @@ after_act w (Write conn reply) = w
 after_act w (Close conn reason) = after_close w reason
 
 -- The watch after something that a Wire did. This many requests were lost before they were read.
-abbrev pub memory_after : ℕ → MemoryWatch → Did → MemoryWatch
+abbrev pub memory_after : ℕ → MemoryWatch → WireCall → MemoryWatch
 memory_after lost w (Polled at event) = after_poll w lost at (awaits_action event)
 memory_after lost w (Waited at) = after_poll w lost at false
 memory_after lost w Missed = settled w false

@@ -2,10 +2,10 @@
 use Rattle.std.specs.Prelude.{ℕ, ℤ, pos, ◌+ℤ◌, int_lt, not, ◌&&◌, unsigned_abs, if◌then◌else◌, List, ◌++◌, codes, Option, Some, None}
 use Rattle.kdc_state.specs.declared.sizes.CacheSizes.{CacheSizes}
 use Rattle.krb_fields.specs.declared.moment.Moment.{Moment}
-use Rattle.request_counts.specs.Prometheus.{head, sample, single}
-use Rattle.request_counts.specs.Text.{counts_text}
-use Rattle.request_counts.specs.declared.counts.Counts.{Counts}
-use Rattle.request_counts.specs.declared.prometheus.NumberType.TheVariants.{Counter, Gauge}
+use Rattle.request_log.specs.Prometheus.{head, sample, single}
+use Rattle.request_log.specs.CountText.{counts_text}
+use Rattle.request_log.specs.declared.counts.Counts.{Counts}
+use Rattle.request_log.specs.declared.prometheus.NumberType.TheVariants.{Counter, Gauge}
 use Rattle.kdcd_run.specs.declared.clock_watch.Refused.{Refused}
 use Rattle.kdcd_run.specs.declared.clock_watch.Refused.TheVariants.{All, ServedLater}
 use Rattle.kdcd_run.specs.declared.numbers.Numbers.{Numbers}

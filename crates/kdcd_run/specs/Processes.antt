@@ -16,7 +16,7 @@ use Rattle.kdc_core.specs.NewlySeen.{AreUpTo, opening_resumption}
 use Rattle.kdc_core.specs.Tickets.{RestartsFollow}
 use Rattle.kdc_core.specs.declared.run.Event.{Event as KdcEvent}
 use Rattle.kdc_hub.specs.History.{Reopened, Resumed, Turn, after_turn, after_turns, events_in, tickets_sent}
-use Rattle.kdc_hub.specs.Hub.{Standing}
+use Rattle.kdc_hub.specs.Hub.{HubState}
 use Rattle.kdc_hub.specs.Rounds.{did_in}
 use Rattle.kdc_hub.specs.Life.{ArePeriods, Period, rounds_in, turns_of}
 use Rattle.journal.specs.Decision.{Place, start_of}
@@ -87,7 +87,7 @@ MayStart r at (Refuses doubt) = ⊤
 MayStart r at (Resumes found check) = FindsAll r at (Resumes found check)
 
 -- A process that started at this moment with this hub, knew this and lived so, and those that follow it.
-abbrev pub AreProcesses : Moment → Standing → Resumption → List Period → List Process → Type 0
+abbrev pub AreProcesses : Moment → HubState → Resumption → List Period → List Process → Type 0
 AreProcesses at hub r periods [] = ArePeriods None hub periods
 AreProcesses at hub r periods (p ∷ ps) =
     ArePeriods None hub periods
@@ -103,7 +103,7 @@ history periods (p ∷ ps) = flat_map turns_of periods ++ beginning p ∷ histor
 -- No authenticator gets two different tickets, whichever process sends them: a start that can't resume refuses what may
 -- have come before, and one that resumes knows it. No start is before the second of an earlier request.
 abbrev pub OneTicketThroughRestarts : Type 0
-OneTicketThroughRestarts = (database : Principals) (limits : Limits) (opening : Opening) (at : Moment) (hub : Standing)
+OneTicketThroughRestarts = (database : Principals) (limits : Limits) (opening : Opening) (at : Moment) (hub : HubState)
     (periods : List Period) (processes : List Process)
     → hub.issuing.kdc ≡ opened_state database limits opening
     → AreProcesses at hub (opening_resumption opening) periods processes

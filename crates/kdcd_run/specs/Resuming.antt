@@ -10,7 +10,7 @@ use Rattle.replay.specs.declared.seen.Resumption.{Resumption}
 use Rattle.kdc_state.specs.Resumed.{resumed_state}
 use Rattle.kdc_state.specs.State.{opened_state}
 use Rattle.kdc_state.specs.declared.state.State.{State}
-use Rattle.kdc_hub.specs.Hub.{Standing}
+use Rattle.kdc_hub.specs.Hub.{HubState}
 use Rattle.kdc_hub.specs.Wire.{Records}
 use Rattle.journal.specs.Decision.{Place, start_of}
 use Rattle.journal.specs.declared.decision.Found.{Found}
@@ -86,7 +86,7 @@ began None beginning = []
 -- What was asked of the host for these options, in this order: its sockets are held before the journals are read, and
 -- these before it looks at the clock. And the hub that is made of it, what its journal is to begin with, and how many rows
 -- it serves. The moment and the floor of the start are those of the journal's beginning.
-pub record IsReady (options : ServeOptions) (before after : Option (List HostDid)) (hub : Standing)
+pub record IsReady (options : ServeOptions) (before after : Option (List HostDid)) (hub : HubState)
     (beginning : JournalBeginning) (row_count : ℕ) : Type 0 where
   pub rows : Principals
   pub octets : List ℕ

@@ -2,8 +2,8 @@
 use Rattle.std.specs.Prelude.{◌≡◌, ◌-◌, ◌^◌, ℕ, ℤ, List, Option, Some, None}
 use Rattle.std.specs.Option.{option_copied}
 use Rattle.krb_fields.specs.declared.moment.Moment.{Moment}
-use Rattle.kdc_hub.specs.declared.wires.Did.{Did}
-use Rattle.kdc_hub.specs.Hub.{Standing}
+use Rattle.kdc_hub.specs.declared.wires.WireCall.{WireCall}
+use Rattle.kdc_hub.specs.Hub.{HubState}
 use Rattle.kdc_hub.specs.Wire.{Records}
 use Rattle.kdc_hub.specs.declared.rows.Look.{Look}
 use Rattle.kdc_hub.specs.declared.totals.Totals.{Totals}
@@ -18,7 +18,7 @@ use Rattle.kdcd_run.specs.declared.host.StartNews.{StartNews}
 
 -- a start as the options say, with the host's record before and afterwards, the hub, the moment and the floor that it
 -- began with, and its news
-pub record IsStarted (options : ServeOptions) (before after : Option (List HostDid)) (hub : Standing) (at : Moment)
+pub record IsStarted (options : ServeOptions) (before after : Option (List HostDid)) (hub : HubState) (at : Moment)
     (floor : ℤ) (news : StartNews) : Type 0 where
   pub beginning : JournalBeginning
   pub middle : Option (List HostDid)
@@ -36,8 +36,8 @@ rounds_of None = 2 ^ 64 - 1
 
 -- a start, and then a life over the hub of that start; nothing was looked at before
 pub record HasRun (options : ServeOptions) (before after : Option (List HostDid)) (news : StartNews)
-    (tally tally_after : Option (List Did)) (rows_after : Option (List Look)) (totals : Totals) (new : Standing) : Type 0 where
-  pub hub : Standing
+    (tally tally_after : Option (List WireCall)) (rows_after : Option (List Look)) (totals : Totals) (new : HubState) : Type 0 where
+  pub hub : HubState
   pub at : Moment
   pub floor : ℤ
   pub rows : Option (List Look)

@@ -1,6 +1,6 @@
 //! A log whose entries are counted.
 ghost use Rattle.std.specs.Prelude.{◌≡◌, IfSome, map};
-ghost use Rattle.request_counts.specs.Counts.{AreCountsOf, CountsOne};
+ghost use Rattle.request_log.specs.Counts.{AreCountsOf, CountsOne};
 ghost use Rattle.kdcd_run.specs.Log.{asked_by};
 ghost use Rattle.kdcd_run.specs.Served.{IsNew};
 
@@ -9,8 +9,7 @@ use crate::memory_parts::MemoryLog;
 use crate::request_lines::RequestLines;
 use kdc_hub::Account;
 use krb_fields::Moment;
-use request_counts::Counts;
-use request_log::Asker;
+use request_log::{Asker, Counts};
 use std::alloc::Global;
 use std::io::Write;
 

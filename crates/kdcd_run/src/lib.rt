@@ -50,7 +50,7 @@ pub use crate::journal_parts::JournalPart;
 pub use crate::journal_store::SystemJournal;
 pub use crate::keeping::JournalWriter;
 pub use crate::laws::{every_journaled_restart, every_life, every_restart};
-pub use crate::logging::{Came, LogWriter};
+pub use crate::logging::{Arrival, LogWriter};
 pub use crate::memory_host::{AlreadyHeld, Given, HostCall, MemoryHost};
 pub use crate::memory_metrics::MemoryMetrics;
 pub use crate::memory_parts::{

@@ -44,21 +44,21 @@ pub trait LogWriter {
 
 /// When an event came, and the peer's address if it came on a connection whose peer is known.
 #[derive(Clone, Copy)]
-pub struct Came {
+pub struct Arrival {
     pub at: Moment,
     pub source: Option<SocketAddr>,
 }
 
 /// Returns the last event after a poll.
-pub(crate) fn came_after(
+pub(crate) fn arrival_after(
     peers: &impl Peers,
-    came: Came,
+    came: Arrival,
     outcome: &Result<(Moment, Option<Event>), WireFault>,
-) -> Came
+) -> Arrival
     ensures { result.at ≡ moment_after came.at (polled outcome.now) }
 {
     match outcome {
-        Ok((at, Some(event))) => Came {
+        Ok((at, Some(event))) => Arrival {
             at: *at,
             source: source_of(peers, event),
         },
@@ -104,7 +104,7 @@ impl<L: LogWriter> LogWriter for Option<L> {
 pub(crate) fn log_action<L: LogWriter>(
     alloc: Global,
     log: &mut L,
-    came: Came,
+    came: Arrival,
     action: &Action,
     is_sent: bool,
 )

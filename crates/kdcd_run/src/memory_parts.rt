@@ -16,7 +16,7 @@ use crate::sockets::Sockets;
 use crate::tally::{FaultCount, Tally};
 use journal::NotKept;
 use kdc_core::{Account, Seen};
-use kdc_hub::{Action, Did, Event, MemoryWire, Peers, Wire, WireFault};
+use kdc_hub::{Action, Event, MemoryWire, Peers, Wire, WireCall, WireFault};
 use krb_fields::Moment;
 use request_log::Asker;
 use std::alloc::{AllocError, Global};
@@ -42,7 +42,7 @@ impl MemorySockets {
     }
 
     /// Returns what was polled and done, in order, unless memory ran out for it.
-    pub fn did(&self) -> Option<&[Did]>
+    pub fn did(&self) -> Option<&[WireCall]>
         ensures { option_copied result ≡ ⟦<MemorySockets as Wire>⟧.recorded self.now }
     {
         self.wire.did()
@@ -97,7 +97,7 @@ impl Sockets for MemorySockets {
 /// A tally that records all that it counts. For tests.
 #[derive(Drop)]
 pub struct MemoryTally {
-    did: Record<Did>,
+    did: Record<WireCall>,
     count: FaultCount,
 }
 
@@ -113,7 +113,7 @@ impl MemoryTally {
     }
 
     /// Returns what was polled and tried, in order, unless memory ran out for it.
-    pub fn did(&self) -> Option<&[Did]>
+    pub fn did(&self) -> Option<&[WireCall]>
         ensures { option_copied result ≡ ⟦<MemoryTally as Tally>⟧.recorded self.now }
     {
         self.did.entries()
@@ -144,27 +144,31 @@ impl Tally for MemoryTally {
 fn poll_of(
     alloc: Global,
     outcome: &Result<(Moment, Option<Event>), WireFault>,
-) -> Result<Did, AllocError>
+) -> Result<WireCall, AllocError>
     ensures { IfOk result (λ did. did ≡ polled outcome.now) }
 {
     match outcome {
-        Ok((at, Some(event))) => Ok(Did::Polled {
+        Ok((at, Some(event))) => Ok(WireCall::Polled {
             at: *at,
             event: event.copy(alloc)?,
         }),
-        Ok((at, None)) => Ok(Did::Waited { at: *at }),
-        Err(_) => Ok(Did::Missed),
+        Ok((at, None)) => Ok(WireCall::Waited { at: *at }),
+        Err(_) => Ok(WireCall::Missed),
     }
 }
 
 /// Returns a copy of an action with its outcome.
-fn act_of(alloc: Global, action: &Action, outcome: Result<(), WireFault>) -> Result<Did, AllocError>
+fn act_of(
+    alloc: Global,
+    action: &Action,
+    outcome: Result<(), WireFault>,
+) -> Result<WireCall, AllocError>
     ensures { IfOk result (λ did. did ≡ acted action.now outcome) }
 {
     let action = action.copy(alloc)?;
     match outcome {
-        Ok(()) => Ok(Did::Acted { action }),
-        Err(_) => Ok(Did::Failed { action }),
+        Ok(()) => Ok(WireCall::Acted { action }),
+        Err(_) => Ok(WireCall::Failed { action }),
     }
 }
 

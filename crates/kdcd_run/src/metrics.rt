@@ -10,11 +10,11 @@ use crate::logging::LogWriter;
 use crate::numbers::{Numbers, push_numbers};
 use crate::server_wire::ServerWire;
 use crate::tally::Tally;
-use command_options::VERSION;
 use kdc_hub::{Hub, Onlooker, RowSource, RowsState, Served, Wire};
 use krb_fields::Moment;
+use program::VERSION;
 use rand_core::Rng;
-use request_counts::Counts;
+use request_log::Counts;
 use std::alloc::{AllocError, Global};
 
 /// In seconds.

@@ -4,7 +4,7 @@ ghost use Rattle.kdcd_run.specs.Numbers.{caches_text, database_text, journal_tex
 ghost use Rattle.kdcd_run.specs.Numbers.{version_sample, version_text, withheld_text};
 
 use kdc_hub::CacheSizes;
-use request_counts::{Counts, NumberType, push_head, push_sample, push_single};
+use request_log::{Counts, NumberType, push_head, push_sample, push_single};
 use std::alloc::AllocError;
 
 const WITHHELD: &str = "kdcd_withheld_total";

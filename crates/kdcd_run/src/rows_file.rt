@@ -157,7 +157,7 @@ impl<'a, F: Files + Clock, W: Write + Drop> RowsFile<'a, F, W> {
     }
 
     /// Logs this, in place of what could not be logged yet.
-    fn report(&mut self, news: News) {
+    fn log(&mut self, news: News) {
         self.state = state_after(self.files, self.state, &news);
         self.unsaid = Some(news);
         self.say();
@@ -186,18 +186,18 @@ impl<F: Files + Clock, W: Write + Drop> RowSource for RowsFile<'_, F, W> {
             }
             Ok(None) => Look::Unchanged,
             Err(fault) => {
-                self.report(News::Faulty(fault));
+                self.log(News::Faulty(fault));
                 Look::Failed
             }
         }
     }
 
-    fn hear(&mut self, taken: Result<(), OtherRealm>) {
+    fn report(&mut self, taken: Result<(), OtherRealm>) {
         let news = match taken {
             Ok(()) => News::Taken(self.row_count),
             Err(OtherRealm) => News::OtherRealm,
         };
-        self.report(news);
+        self.log(news);
     }
 
     fn state(&self) -> RowsState {

@@ -13,7 +13,7 @@ ghost use Rattle.kdcd_run.specs.Withheld.{EndsOnly, may_send, withheld_after};
 
 use crate::clock_watch::{ClockWatch, watch};
 use crate::keeping::{JournalWriter, keep_for};
-use crate::logging::{Came, LogWriter, came_after, log_action};
+use crate::logging::{Arrival, LogWriter, arrival_after, log_action};
 use crate::memory_watch::{MemoryWatch, watch_memory};
 use crate::quiet::is_quiet;
 use crate::sockets::Sockets;
@@ -52,7 +52,7 @@ pub struct ServerWire<S: Wire, J: JournalWriter, L: LogWriter, E, T: Tally> {
     /// Where it is said that the clock went back, and that memory ran out.
     errors: E,
     /// The last event, or the start.
-    came: Came,
+    came: Arrival,
     // The sockets, the journal and the log have recorded what the tally says.
     ghost served: { ∥ Serves (T.recorded tally) (S.recorded sockets) (J.handed journal) (L.logged log) came.at ∥₁ },
 }
@@ -91,7 +91,7 @@ impl<S: Wire, J: JournalWriter, L: LogWriter, E, T: Tally> ServerWire<S, J, L, E
             memory: MemoryWatch::new(),
             withheld: Withheld::new(),
             errors: outlets.errors,
-            came: Came { at, source: None },
+            came: Arrival { at, source: None },
         }
     }
 
@@ -162,7 +162,7 @@ impl<S: Sockets, J: JournalWriter, L: LogWriter, E: Write, T: Tally> Wire
         watch(&mut self.clock, &mut self.errors, &polled);
         let lost = self.sockets.lost();
         watch_memory(&mut self.memory, &mut self.errors, lost, &polled);
-        self.came = came_after(&self.sockets, self.came, &polled);
+        self.came = arrival_after(&self.sockets, self.came, &polled);
         polled
     }
 

@@ -4,9 +4,9 @@ ghost use Rattle.kdcd_run.specs.Clocks.{quiet_until};
 ghost use Rattle.kdcd_run.specs.Resuming.{found_by};
 
 use crate::clock_watch::Refused;
-use command_options::VERSION;
 use journal::{Doubt, Start};
 use principal_rows::Limits;
+use program::VERSION;
 use std::fmt;
 use std::net::SocketAddr;
 

@@ -1,6 +1,6 @@
 //! Counting the failed calls of a server.
 ghost use Rattle.std.specs.Prelude.{◌≡◌, ◌∷◌, [], ℕ, List, Option, None};
-ghost use Rattle.kdc_hub.specs.declared.wires.Did.{Did};
+ghost use Rattle.kdc_hub.specs.declared.wires.WireCall.{WireCall};
 ghost use Rattle.kdc_hub.specs.Wire.{IsCounted, Records, acted, faults_of, polled};
 
 use kdc_hub::{Action, Event, WireFault};
@@ -10,7 +10,7 @@ use std::alloc::Global;
 /// Counts the polls and acts of a server that failed. It may keep a record of all, for contracts alone.
 pub trait Tally {
     // The polls and acts so far with their outcomes, in order, if it keeps a record.
-    ghost recorded: { Self → Option (List Did) };
+    ghost recorded: { Self → Option (List WireCall) };
 
     // How many have failed.
     ghost fault_count: { Self → ℕ };

@@ -3,8 +3,8 @@
 //! A message is one list of fields. Reading it, the relation to its encoding, and the text that is written are each
 //! built from the same pieces: a field, an optional field, a list, the end.
 //!
-//! [`decode`] returns the message that bytes encode, and [`encode`] the bytes of a message. No
-//! message is defined here: `krb_messages`, `krb_sealed`, `krb_replies` and `krb_ap` define them.
+//! [`decode`] returns the message that bytes encode, and [`encode`] the bytes of a message. No message is defined here:
+//! `krb_types` defines them.
 #![tactic(auto)]
 
 mod codec;

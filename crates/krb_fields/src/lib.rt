@@ -1,7 +1,7 @@
 //! The values inside Kerberos messages: names, times, flags, error codes, and the types that several messages
 //! share (RFC 4120, sections 5.2 and 7.5).
 //!
-//! It has no whole message: `krb_messages`, `krb_sealed`, `krb_replies` and `krb_ap` have them.
+//! It has no whole message: `krb_types` has them.
 #![tactic(auto)]
 
 mod ap_option;

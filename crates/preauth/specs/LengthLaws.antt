@@ -5,7 +5,7 @@ use Rattle.krb_elements.specs.Codec.{list_of, written}
 use Rattle.krb_elements.specs.ShortTextLaws.{tlv_short}
 use Rattle.krb_elements.specs.TextLengthLaws.{most_items}
 use Rattle.krb_fields.specs.PaData.{PaData, pa_data, pa_data_form}
-use Rattle.krb_sealed.specs.EtypeInfo2Entry.{EtypeInfo2Entry, etype_info2_entry, etype_info2_entry_form}
+use Rattle.krb_types.specs.EtypeInfo2Entry.{EtypeInfo2Entry, etype_info2_entry, etype_info2_entry_form}
 use Rattle.preauth.specs.MethodData.{info_entry, timestamp_wanted}
 
 -- the encoding is longer than its contents by a tag and a length

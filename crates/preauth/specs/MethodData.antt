@@ -2,7 +2,7 @@
 use Rattle.std.specs.Prelude.{ℕ, ℤ, pos, List, [], ◌∷◌, Some, None, map}
 use Rattle.krb_elements.specs.Codec.{written, list_of}
 use Rattle.krb_fields.specs.PaData.{PaData, pa_data}
-use Rattle.krb_sealed.specs.EtypeInfo2Entry.{EtypeInfo2Entry, etype_info2_entry}
+use Rattle.krb_types.specs.EtypeInfo2Entry.{EtypeInfo2Entry, etype_info2_entry}
 
 -- an encryption type, with the salt of the client's password
 abbrev pub info_entry : List ℕ → ℤ → EtypeInfo2Entry

@@ -6,7 +6,7 @@ use Rattle.krb_elements.specs.Format.{whole}
 use Rattle.krb_fields.specs.PaData.{PaData}
 use Rattle.krb_fields.specs.Skew.{skew}
 use Rattle.krb_fields.specs.EncryptedData.{EncryptedData, encrypted_data}
-use Rattle.krb_sealed.specs.PaEncTsEnc.{PaEncTsEnc, pa_enc_ts_enc}
+use Rattle.krb_types.specs.PaEncTsEnc.{PaEncTsEnc, pa_enc_ts_enc}
 use Rattle.enctypes.specs.KeyUsage.{usage_number}
 use Rattle.enctypes.specs.declared.key.Key.{Key}
 use Rattle.enctypes.specs.declared.key_usage.KeyUsage.TheVariants.{PaEncTimestamp}

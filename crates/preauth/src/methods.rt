@@ -4,7 +4,7 @@ ghost use Rattle.preauth.specs.MethodData.{info_entry, etype_info2, timestamp_wa
 
 use krb_elements::{KerberosString, Octets, Seq, write};
 use krb_fields::{PA_ENC_TIMESTAMP, PA_ETYPE_INFO2, PaData};
-use krb_sealed::EtypeInfo2Entry;
+use krb_types::EtypeInfo2Entry;
 use std::alloc::{AllocError, Global};
 
 /// Returns PA-ETYPE-INFO2 for these encryption types, each with the salt of the client's password.

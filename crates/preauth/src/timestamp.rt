@@ -7,7 +7,7 @@ use enctypes::KeyUsage;
 use krb_der::KTime;
 use krb_elements::{OctetsRef, SeqRef, read};
 use krb_fields::{EncryptedDataRef, Moment, PA_ENC_TIMESTAMP, PaDataRef, SKEW};
-use krb_sealed::PaEncTsEnc;
+use krb_types::PaEncTsEnc;
 use principal_rows::{KeyList, Row};
 use sealed_parts::ReadyKeys;
 use std::alloc::{AllocError, Global};

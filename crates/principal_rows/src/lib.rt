@@ -1,6 +1,6 @@
 //! Rows of the database: a principal's keys by version, and its policy. Also maps from names.
 //!
-//! Nothing here makes a key: `principal_keys` does.
+//! Nothing here makes a key: `text_fields` does.
 #![tactic(auto)]
 
 mod key_list;

@@ -3,3 +3,6 @@ pub mod Shown
 pub mod Named
 pub mod Dates
 mod Fields
+pub mod Found
+pub mod Counting
+pub mod Appended

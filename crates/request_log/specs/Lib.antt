@@ -4,3 +4,8 @@ pub mod Times
 pub mod Entry
 pub mod Lines
 pub mod Named
+pub mod Kinds
+pub mod Places
+pub mod Counts
+pub mod Prometheus
+pub mod CountText

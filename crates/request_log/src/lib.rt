@@ -1,25 +1,39 @@
-//! The KDC's request log: from the account of a request to a line.
+//! The KDC's request log: from the account of a request to a line, and how many requests there were, for those who watch
+//! it.
 //!
 //! A log entry is a list of fields, built from the account and the sender. A line is those fields as text or as one
 //! JSON object: each field is written straight into it. So it shows what the KDC decided, and nothing parses the request
 //! or the reply again.
+//!
+//! Each request is of one kind, by its account: the exchange, the outcome, and the rule that refused it. A count of a kind
+//! is the number of requests of that kind, up to the greatest `u64`. To count allocates nothing. The text is Prometheus'.
 #![tactic(auto)]
 
 mod asker;
+mod count_laws;
+mod count_text;
+mod counts;
 mod entries;
 mod field;
 mod json_lines;
+mod kind;
 mod laws;
 mod names;
 mod outcome;
 mod peer;
+mod places;
+mod prometheus;
 mod text_lines;
 mod times;
 mod values;
 mod words;
 
 pub use crate::asker::{Asker, Transport};
+pub use crate::count_laws::places_of_kinds;
+pub use crate::counts::Counts;
 pub use crate::json_lines::json_line;
+pub use crate::kind::Kind;
 pub use crate::laws::rule_names;
+pub use crate::prometheus::{NumberType, push_head, push_sample, push_single};
 pub use crate::text_lines::text_line;
 pub use crate::words::{as_rule_name, code_word, tgs_rule_name};

@@ -2,7 +2,7 @@
 //! record. Its journal fails once.
 use journal::{Doubt, Start};
 use kdc_core::{Account, Bears, TgsOutcome};
-use kdc_hub::{Action, Did, Event, Look, MemoryRows, Peer, Totals};
+use kdc_hub::{Action, Event, Look, MemoryRows, Peer, Totals, WireCall};
 use kdcd_run::{
     CountedLog, Given, HandedOver, HostCall, JournalBeginning, LogFormat, MemoryEntry, MemoryHost,
     MemoryJournal, MemoryLog, MemoryMetrics, MemorySockets, MemoryTally, Outlets, Ran,
@@ -194,18 +194,18 @@ fn run(alloc: Global, host: &mut MemoryHost) -> Result<Finished, Fail> {
     }
 }
 
-fn letter(did: &Did) -> u8 {
+fn letter(did: &WireCall) -> u8 {
     match did {
-        Did::Polled { .. } => b'p',
-        Did::Waited { .. } => b'w',
-        Did::Missed => b'm',
-        Did::Acted { .. } => b'a',
-        Did::Failed { .. } => b'f',
+        WireCall::Polled { .. } => b'p',
+        WireCall::Waited { .. } => b'w',
+        WireCall::Missed => b'm',
+        WireCall::Acted { .. } => b'a',
+        WireCall::Failed { .. } => b'f',
     }
 }
 
 /// Checks whether a record is whole, and its entries have these letters.
-fn are(record: Option<&[Did]>, letters: &[u8]) -> bool {
+fn are(record: Option<&[WireCall]>, letters: &[u8]) -> bool {
     match record {
         Some(did) => did.iter().map(letter).eq(letters.iter().copied()),
         None => false,
@@ -213,13 +213,13 @@ fn are(record: Option<&[Did]>, letters: &[u8]) -> bool {
 }
 
 /// Returns the message of the act at a place of a record.
-fn message(record: Option<&[Did]>, place: usize) -> &[u8] {
+fn message(record: Option<&[WireCall]>, place: usize) -> &[u8] {
     match record.and_then(|did| did.get(place)) {
         Some(
-            Did::Acted {
+            WireCall::Acted {
                 action: Action::SendTo { reply, .. },
             }
-            | Did::Failed {
+            | WireCall::Failed {
                 action: Action::Write { reply, .. },
             },
         ) => reply.message.as_slice(),
@@ -228,7 +228,7 @@ fn message(record: Option<&[Did]>, place: usize) -> &[u8] {
 }
 
 /// Checks whether the login is refused, and the ticket that was withheld is sent at last.
-fn are_replies(alloc: Global, tried: Option<&[Did]>) -> Result<bool, Fail> {
+fn are_replies(alloc: Global, tried: Option<&[WireCall]>) -> Result<bool, Fail> {
     let refused = octets(alloc, CLIENT_UNKNOWN)?;
     let (withheld, sent) = (message(tried, 4), message(tried, 6));
     Ok(message(tried, 1) == refused.as_slice() && sent.first() == Some(&0x6d) && withheld == sent)

@@ -2,5 +2,7 @@ pub mod Dates
 pub mod Numbers
 pub mod Settings
 pub mod Spans
+pub mod Etypes
+pub mod Keys
 -- laws that proofs cite; readers of a contract don't need them
 pub mod SettingLaws

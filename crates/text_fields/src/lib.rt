@@ -1,12 +1,17 @@
-//! Reads and writes decimal numbers, time spans, dates and policy settings, as words of a line or a command.
+//! Reads and writes decimal numbers, time spans, dates, policy settings and encryption types, as words of a line or a
+//! command; makes a principal's new keys, from a password or random.
 #![tactic(auto)]
 
 mod dates;
+mod etypes;
+mod keys;
 mod numbers;
 mod settings;
 mod spans;
 
 pub use dates::UtcDate;
+pub use etypes::{EtypesFault, offered, read_etypes};
+pub use keys::{password_keys, random_keys};
 pub use numbers::{number, number_u32};
 pub use settings::{FlagField, LifeField, SETTINGS, Setting, TimeField};
 pub use spans::{lifetime, span};

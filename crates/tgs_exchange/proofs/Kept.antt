@@ -5,8 +5,8 @@ use Rattle.std.specs.Cmp.Lexicographic.{pointwise}
 use Rattle.std.specs.FinMap as map
 use Rattle.kdc_replies.specs.Incoming.{Incoming}
 use Rattle.krb_elements.specs.Codec.{written}
-use Rattle.krb_replies.specs.KdcRep.{kdc_rep}
-use Rattle.krb_messages.specs.ReqBody.{ReqBody}
+use Rattle.krb_types.specs.KdcRep.{kdc_rep}
+use Rattle.krb_types.specs.ReqBody.{ReqBody}
 use Rattle.replay.specs.ReplayCache.{if_kept, recent}
 use Rattle.replay.specs.Stamp.{is_beyond_clock_skew}
 use Rattle.replay.specs.declared.keep.Kept.{Kept}

@@ -5,11 +5,11 @@ use Rattle.std.specs.Cmp.Lexicographic.{pointwise}
 use Rattle.enctypes.specs.KeyUsage.{usage_number}
 use Rattle.krb_elements.specs.Codec.{written}
 use Rattle.krb_fields.specs.declared.moment.Moment.{Moment}
-use Rattle.krb_replies.specs.KdcRep.{KdcRep, kdc_rep}
-use Rattle.krb_sealed.specs.EncKdcRepPart.{EncKdcRepPart}
-use Rattle.krb_sealed.specs.EncTicketPart.{EncTicketPart}
-use Rattle.krb_messages.specs.KrbError.{KrbError, krb_error}
-use Rattle.krb_messages.specs.ReqBody.{ReqBody}
+use Rattle.krb_types.specs.KdcRep.{KdcRep, kdc_rep}
+use Rattle.krb_types.specs.EncKdcRepPart.{EncKdcRepPart}
+use Rattle.krb_types.specs.EncTicketPart.{EncTicketPart}
+use Rattle.krb_types.specs.KrbError.{KrbError, krb_error}
+use Rattle.krb_types.specs.ReqBody.{ReqBody}
 use Rattle.kdc_replies.specs.ErrorReply.{error_reply, too_big}
 use Rattle.kdc_replies.specs.Grant.{reply_part, ticket_part}
 use Rattle.kdc_replies.specs.Incoming.{Incoming}

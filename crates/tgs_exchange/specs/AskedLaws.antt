@@ -4,10 +4,10 @@ use Rattle.std.specs.Prelude.{IfOk}
 use Rattle.kdc_replies.specs.ServiceTerms.{service_terms}
 use Rattle.kdc_replies.specs.ServiceTermsLaws.{found_terms}
 use Rattle.krb_fields.specs.PrincipalName.{Name}
-use Rattle.krb_messages.specs.ReqBody.{ReqBody}
+use Rattle.krb_types.specs.ReqBody.{ReqBody}
 use Rattle.principal_rows.specs.declared.row.Row.{Row}
-use Rattle.refusals.specs.RefusalLaws.{decided_found}
-use Rattle.refusals.specs.Refusals.{Rule, decided, first_holding}
+use Rattle.lists.specs.RefusalLaws.{decided_found}
+use Rattle.lists.specs.Refusals.{Rule, decided, first_holding}
 use Rattle.replay.specs.declared.keep.Kept.{Kept}
 use Rattle.replay.specs.declared.verdict.Verdict.{Verdict}
 use Rattle.replay.specs.declared.verdict.Verdict.TheVariants.{Fresh, Skew, Repeat, Full as NoPlace}

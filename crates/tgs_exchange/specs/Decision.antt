@@ -2,8 +2,8 @@
 -- stored, and the ticket that is issued are read from it.
 use Rattle.std.specs.Borrow.{Bor}
 use Rattle.std.specs.Prelude.{ℤ, ⊤, Option, Some, None, Result, Ok, Err}
-use Rattle.refusals.specs.Refusals.{first_holding}
-use Rattle.krb_messages.specs.ReqBody.{ReqBody}
+use Rattle.lists.specs.Refusals.{first_holding}
+use Rattle.krb_types.specs.ReqBody.{ReqBody}
 use Rattle.replay.specs.ReplayCache.{verdict}
 use Rattle.replay.specs.Stamp.{Stamp}
 use Rattle.replay.specs.declared.keep.Kept.{Kept}

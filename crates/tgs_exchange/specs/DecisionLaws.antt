@@ -4,8 +4,8 @@
 use Rattle.std.proofs.Common.{◌≡◌, ℤ, Option, Some, None, Result, Ok, Err, IfOk, refl, sym, subst}
 use Rattle.std.specs.Borrow.{Bor}
 use Rattle.std.specs.Prelude.{⊤}
-use Rattle.refusals.specs.Refusals.{first_holding}
-use Rattle.krb_messages.specs.ReqBody.{ReqBody}
+use Rattle.lists.specs.Refusals.{first_holding}
+use Rattle.krb_types.specs.ReqBody.{ReqBody}
 use Rattle.replay.specs.declared.keep.Kept.{Kept}
 use Rattle.replay.specs.declared.verdict.Verdict.{Verdict}
 use Rattle.replay.specs.declared.verdict.Verdict.TheVariants.{Fresh, Skew, Repeat, Full as NoPlace}

@@ -7,8 +7,8 @@ use Rattle.kdc_replies.specs.Reply.{reply_of}
 use Rattle.kdc_replies.specs.declared.grant.Grant.{Grant}
 use Rattle.kdc_replies.specs.declared.replies.ReplyKey.{ReplyKey}
 use Rattle.krb_fields.specs.declared.moment.Moment.{Moment}
-use Rattle.krb_replies.specs.KdcRep.{KdcRep}
-use Rattle.krb_messages.specs.ReqBody.{ReqBody}
+use Rattle.krb_types.specs.KdcRep.{KdcRep}
+use Rattle.krb_types.specs.ReqBody.{ReqBody}
 use Rattle.ticket_times.specs.Flags.{tgs_flags}
 use Rattle.tgs_opening.specs.declared.presented.Presented.{Presented}
 use Rattle.tgs_exchange.specs.View.{TgsView}

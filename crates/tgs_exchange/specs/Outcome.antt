@@ -5,9 +5,9 @@ use Rattle.krb_elements.specs.Codec.{written}
 use Rattle.krb_fields.specs.PrincipalName.{Name}
 use Rattle.krb_fields.specs.declared.code.Code.TheVariants.{KrbErrResponseTooBig}
 use Rattle.krb_fields.specs.declared.moment.Moment.{Moment}
-use Rattle.krb_replies.specs.KdcRep.{kdc_rep}
-use Rattle.krb_messages.specs.KrbError.{krb_error}
-use Rattle.krb_messages.specs.ReqBody.{ReqBody}
+use Rattle.krb_types.specs.KdcRep.{kdc_rep}
+use Rattle.krb_types.specs.KrbError.{krb_error}
+use Rattle.krb_types.specs.ReqBody.{ReqBody}
 use Rattle.kdc_replies.specs.ErrorReply.{too_big}
 use Rattle.kdc_replies.specs.Incoming.{Incoming}
 use Rattle.kdc_replies.specs.Issue.{Issue}

@@ -6,7 +6,7 @@ use Rattle.std.specs.FinMap as map
 use Rattle.kdc_replies.specs.ErrorReply.{too_big}
 use Rattle.kdc_replies.specs.GrantLaws.{session_key_size}
 use Rattle.krb_fields.specs.declared.moment.Moment.{Moment}
-use Rattle.krb_messages.specs.ReqBody.{ReqBody}
+use Rattle.krb_types.specs.ReqBody.{ReqBody}
 use Rattle.replay.specs.ReplayCache.{if_kept, recent}
 use Rattle.replay.specs.Stamp.{is_beyond_clock_skew}
 use Rattle.replay.specs.declared.keep.Kept.{Kept}

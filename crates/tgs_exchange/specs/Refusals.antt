@@ -4,8 +4,8 @@ use Rattle.std.specs.Prelude.{ℕ, ℤ, pos, Bool, true, false, not, nat_eq, is_
 use Rattle.std.specs.Prelude.{option_map}
 use Rattle.std.specs.Ordering.{int_eq}
 use Rattle.std.specs.Cmp.Lexicographic.{pointwise}
-use Rattle.refusals.specs.Optional.{holds_of}
-use Rattle.refusals.specs.Refusals.{Rule, first_holding}
+use Rattle.lists.specs.Optional.{holds_of}
+use Rattle.lists.specs.Refusals.{Rule, first_holding}
 use Rattle.ap_opening.specs.Authenticators.{authenticator_in, is_mismatched, subkey_in}
 use Rattle.ap_opening.specs.HeldKey.{HeldKey, lacks_key, lacks_version}
 use Rattle.ap_opening.specs.Tickets.{is_other_version, part_of}
@@ -14,13 +14,13 @@ use Rattle.ap_opening.specs.declared.refusal.ApRefusal.TheVariants as ap_refusal
 use Rattle.enctypes.specs.declared.key.Key.{Key}
 use Rattle.enctypes.specs.declared.key_usage.KeyUsage.TheVariants.{TgsReqAuthenticator}
 use Rattle.kdc_replies.specs.Standing.{is_disabled, is_expired}
-use Rattle.krb_ap.specs.ApReq.{ApReq}
+use Rattle.krb_types.specs.ApReq.{ApReq}
 use Rattle.krb_fields.specs.ApOption.{ap_option_number}
 use Rattle.krb_fields.specs.Flags.{has_bit}
 use Rattle.krb_fields.specs.declared.ap_option.ApOption.TheVariants.{UseSessionKey}
-use Rattle.krb_messages.specs.KdcReq.{Received}
-use Rattle.krb_sealed.specs.Authenticator.{Authenticator}
-use Rattle.krb_sealed.specs.EncTicketPart.{EncTicketPart}
+use Rattle.krb_types.specs.KdcReq.{Received}
+use Rattle.krb_types.specs.Authenticator.{Authenticator}
+use Rattle.krb_types.specs.EncTicketPart.{EncTicketPart}
 use Rattle.principal_rows.specs.declared.row.Row.{Row}
 use Rattle.replay.specs.Kept.{nothing_kept}
 use Rattle.replay.specs.ReplayCache.{verdict}

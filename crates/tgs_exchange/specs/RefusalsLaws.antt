@@ -1,9 +1,9 @@
 -- The stages in which a TGS-REQ is decided find what the one list of rules says.
 use Rattle.std.proofs.Common.{◌≡◌, ℤ, Bool, true, false, List, [], ◌∷◌, ◌++◌, Option, Some, None, Result, Ok, Err, refl, sym, ap, ◌∙◌}
 use Rattle.std.specs.Prelude.{if◌then◌else◌, is_none, drop, option_map}
-use Rattle.refusals.specs.ClearLaws.{decided_clear}
-use Rattle.refusals.specs.Refusals.{Rule, decided, first_holding, unless_refused}
-use Rattle.refusals.specs.Stages.{◌>>=◌}
+use Rattle.lists.specs.ClearLaws.{decided_clear}
+use Rattle.lists.specs.Refusals.{Rule, decided, first_holding, unless_refused}
+use Rattle.lists.specs.Stages.{◌>>=◌}
 use Rattle.ap_opening.specs.Authenticators.{authenticator_in, authenticator_of, part_rules, session_key_of, subkey_in}
 use Rattle.ap_opening.specs.HeldKey.{HeldKey}
 use Rattle.ap_opening.specs.Tickets.{part_of, shown_ticket as shown_by, ticket_rules}
@@ -12,10 +12,10 @@ use Rattle.ap_opening.specs.declared.refusal.ApRefusal.{ApRefusal}
 use Rattle.ap_opening.specs.declared.refusal.ApRefusal.TheVariants as ap_refusals
 use Rattle.enctypes.specs.declared.key.Key.{Key}
 use Rattle.enctypes.specs.declared.key_usage.KeyUsage.TheVariants.{TgsReqAuthenticator}
-use Rattle.krb_ap.specs.ApReq.{ApReq}
-use Rattle.krb_messages.specs.KdcReq.{Received}
-use Rattle.krb_sealed.specs.Authenticator.{Authenticator}
-use Rattle.krb_sealed.specs.EncTicketPart.{EncTicketPart}
+use Rattle.krb_types.specs.ApReq.{ApReq}
+use Rattle.krb_types.specs.KdcReq.{Received}
+use Rattle.krb_types.specs.Authenticator.{Authenticator}
+use Rattle.krb_types.specs.EncTicketPart.{EncTicketPart}
 use Rattle.principal_rows.specs.declared.row.Row.{Row}
 use Rattle.replay.specs.declared.keep.Kept.{Kept}
 use Rattle.replay.specs.declared.verdict.Verdict.{Verdict}

@@ -7,9 +7,9 @@ use Rattle.kdc_replies.specs.GoodStanding.{AreInGoodStanding}
 use Rattle.kdc_replies.specs.GoodStandingLaws.{in_good_standing}
 use Rattle.krb_fields.specs.Name.{Components}
 use Rattle.krb_fields.specs.declared.moment.Moment.{Moment}
-use Rattle.krb_messages.specs.ReqBody.{ReqBody}
-use Rattle.refusals.specs.ClearLaws.{AreClear, decided_clear}
-use Rattle.refusals.specs.Refusals.{first_holding, unless_refused}
+use Rattle.krb_types.specs.ReqBody.{ReqBody}
+use Rattle.lists.specs.ClearLaws.{AreClear, decided_clear}
+use Rattle.lists.specs.Refusals.{first_holding, unless_refused}
 use Rattle.replay.specs.declared.keep.Kept.{Kept}
 use Rattle.replay.specs.declared.verdict.Verdict.{Verdict}
 use Rattle.replay.specs.declared.verdict.Verdict.TheVariants.{Fresh, Skew, Repeat, Full}

@@ -3,7 +3,7 @@ use Rattle.std.specs.Prelude.{ℤ, List, Option, Some, None}
 use Rattle.kdc_replies.specs.ServiceTerms.{service_terms}
 use Rattle.kdc_replies.specs.declared.services.ServiceTerms.{ServiceTerms}
 use Rattle.krb_fields.specs.PrincipalName.{Name}
-use Rattle.krb_messages.specs.ReqBody.{ReqBody}
+use Rattle.krb_types.specs.ReqBody.{ReqBody}
 use Rattle.principal_rows.specs.declared.limits.Limits.{Limits}
 use Rattle.principal_rows.specs.declared.row.Row.{Row}
 use Rattle.ticket_times.specs.Times.{tgs_times}

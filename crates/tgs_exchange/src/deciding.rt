@@ -1,6 +1,6 @@
 //! Decides on a TGS-REQ whose ticket and authenticator were decrypted: once, before anything is written.
 ghost use Rattle.std.specs.Prelude.{◌≡◌, IfOk};
-ghost use Rattle.refusals.specs.Refusals.{first_holding};
+ghost use Rattle.lists.specs.Refusals.{first_holding};
 ghost use Rattle.replay.specs.ReplayCache.{verdict_copied};
 ghost use Rattle.tgs_exchange.specs.Decision.{by_admission, by_client, by_verdict, decision, decision_copied};
 ghost use Rattle.tgs_exchange.specs.Decision.{verdict_on};
@@ -12,8 +12,8 @@ use crate::terms::{Admission, terms_for};
 use crate::view::TgsView;
 use ap_opening::ApRefusal;
 use krb_fields::Moment;
-use krb_messages::ReqBodyRef;
-use refusals::first_holding;
+use krb_types::ReqBodyRef;
+use lists::first_holding;
 use replay::{Kept, Verdict};
 use std::alloc::{AllocError, Global};
 use tgs_opening::{Presented, TgsRefusal};

@@ -2,12 +2,12 @@
 ghost use Rattle.std.specs.Prelude.{◌≡◌, ◌<◌, ◌≤◌, length, IfOk, IfSome};
 ghost use Rattle.krb_elements.specs.Codec.{written};
 ghost use Rattle.krb_fields.specs.PrincipalName.{name};
-ghost use Rattle.krb_messages.specs.KrbError.{krb_error};
+ghost use Rattle.krb_types.specs.KrbError.{krb_error};
 ghost use Rattle.tgs_exchange.specs.Answer.{tgs_error};
 
 use kdc_replies::error_reply;
 use krb_fields::Moment;
-use krb_messages::ReqBodyRef;
+use krb_types::ReqBodyRef;
 use std::alloc::{AllocError, Global};
 use tgs_opening::TgsRefusal;
 

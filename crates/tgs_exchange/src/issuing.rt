@@ -1,7 +1,7 @@
 //! The ticket of an admission, and the reply that bears it (RFC 4120, section 3.3.3).
 ghost use Rattle.std.specs.Prelude.{◌≡◌, ◌≤◌, length, IfOk};
 ghost use Rattle.krb_elements.specs.Codec.{written};
-ghost use Rattle.krb_replies.specs.KdcRep.{kdc_rep};
+ghost use Rattle.krb_types.specs.KdcRep.{kdc_rep};
 ghost use Rattle.kdc_replies.specs.Grant.{IsShort};
 ghost use Rattle.tgs_exchange.specs.Answer.{OpensFor};
 ghost use Rattle.tgs_exchange.specs.Issue.{grant_by, reply_key_of, tgs_rep};
@@ -18,8 +18,7 @@ use enctypes::KeyUsage;
 use kdc_replies::{Grant, Granted, Incoming, ReplyInputs, ReplyKey, session_key, ticket_reply};
 use krb_elements::{KerberosStringRef, Lent, Seq};
 use krb_fields::{Flags, Typed};
-use krb_messages::ReqBodyRef;
-use krb_replies::{ENC_TGS_REP_PART, TGS_REP};
+use krb_types::{ENC_TGS_REP_PART, ReqBodyRef, TGS_REP};
 use std::alloc::{AllocError, Global};
 use tgs_opening::Presented;
 use ticket_times::tgs_flags;

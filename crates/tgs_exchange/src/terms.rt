@@ -5,7 +5,7 @@ ghost use Rattle.tgs_exchange.specs.Terms.{admission_of, terms, times_of};
 use crate::view::TgsView;
 use kdc_replies::{ServiceTerms, service_terms};
 use krb_fields::Moment;
-use krb_messages::ReqBodyRef;
+use krb_types::ReqBodyRef;
 use principal_rows::{Limits, Policy};
 use std::alloc::{AllocError, Global};
 use ticket_times::{TicketTerms, Times, tgs_times};

@@ -1,13 +1,13 @@
 -- The result for a decrypted ticket.
 use Rattle.std.proofs.Common.{◌≡◌, ◌<◌, ℕ, List, length, Option, Some, None, Ok, Err, refl, ap, sym, ◌∙◌, arith}
 use Rattle.std.specs.Prelude.{IfSome}
-use Rattle.refusals.specs.RefusalLaws.{decided_found}
+use Rattle.lists.specs.RefusalLaws.{decided_found}
 use Rattle.enctypes.specs.declared.key.Key.{Key}
 use Rattle.enctypes.specs.declared.key_usage.KeyUsage.TheVariants.{TgsReqAuthenticator}
-use Rattle.krb_ap.specs.ApReq.{ApReq}
-use Rattle.krb_sealed.specs.Authenticator.{Authenticator}
-use Rattle.krb_sealed.specs.EncTicketPart.{EncTicketPart, enc_ticket_part}
-use Rattle.krb_messages.specs.KdcReq.{Received}
+use Rattle.krb_types.specs.ApReq.{ApReq}
+use Rattle.krb_types.specs.Authenticator.{Authenticator}
+use Rattle.krb_types.specs.EncTicketPart.{EncTicketPart, enc_ticket_part}
+use Rattle.krb_types.specs.KdcReq.{Received}
 use Rattle.sealed_parts.specs.Parts.{IsSpelledWithin}
 use Rattle.ap_opening.specs.Authenticators.{authenticator_of, session_key_of}
 use Rattle.tgs_opening.specs.Authenticators.{subkey_of}

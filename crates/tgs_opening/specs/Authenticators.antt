@@ -3,16 +3,16 @@
 use Rattle.std.specs.Prelude.{ℕ, Bool, not, nat_eq, is_none, List, [], ◌∷◌, Option, Result}
 use Rattle.std.specs.Ordering.{int_eq}
 use Rattle.std.specs.Cmp.Lexicographic.{pointwise}
-use Rattle.refusals.specs.Optional.{holds_of}
-use Rattle.refusals.specs.Refusals.{Rule, decided}
+use Rattle.lists.specs.Optional.{holds_of}
+use Rattle.lists.specs.Refusals.{Rule, decided}
 use Rattle.enctypes.specs.Etype.{checksum_type}
 use Rattle.enctypes.specs.Sealing.{mac}
 use Rattle.enctypes.specs.KeyUsage.{usage_number}
 use Rattle.enctypes.specs.declared.key.Key.{Key}
 use Rattle.enctypes.specs.declared.key_usage.KeyUsage.TheVariants.{TgsReqAuthenticatorChecksum}
 use Rattle.krb_fields.specs.Typed.{Typed}
-use Rattle.krb_sealed.specs.Authenticator.{Authenticator}
-use Rattle.krb_sealed.specs.EncTicketPart.{EncTicketPart}
+use Rattle.krb_types.specs.Authenticator.{Authenticator}
+use Rattle.krb_types.specs.EncTicketPart.{EncTicketPart}
 use Rattle.ap_opening.specs.Authenticators.{is_mismatched, subkey_in}
 use Rattle.ap_opening.specs.declared.refusal.ApRefusal.TheVariants.{BadMatch, BadSubkey}
 use Rattle.tgs_opening.specs.declared.refusal.TgsRefusal.{TgsRefusal}

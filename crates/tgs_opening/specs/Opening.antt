@@ -2,8 +2,8 @@
 -- 3.3.2).
 use Rattle.std.specs.Prelude.{Some, None, Result, Ok, Err}
 use Rattle.enctypes.specs.declared.key_usage.KeyUsage.TheVariants.{TgsReqAuthenticator}
-use Rattle.krb_messages.specs.KdcReq.{Received}
-use Rattle.refusals.specs.Stages.{◌>>=◌}
+use Rattle.krb_types.specs.KdcReq.{Received}
+use Rattle.lists.specs.Stages.{◌>>=◌}
 use Rattle.ap_opening.specs.Authenticators.{authenticator_of, session_key_of}
 use Rattle.ap_opening.specs.declared.authenticated.Authenticated.{Authenticated}
 use Rattle.tgs_opening.specs.Authenticators.{subkey_of}

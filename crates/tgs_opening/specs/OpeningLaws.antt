@@ -1,8 +1,8 @@
 -- The result holds the decrypted ticket, or names its client if the request is refused after that.
 use Rattle.std.proofs.Common.{◌≡◌, Option, Some, None, Result, Ok, Err, refl, ap}
 use Rattle.krb_fields.specs.PrincipalName.{Name}
-use Rattle.krb_messages.specs.KdcReq.{Received}
-use Rattle.refusals.specs.StageLaws.{ok_is}
+use Rattle.krb_types.specs.KdcReq.{Received}
+use Rattle.lists.specs.StageLaws.{ok_is}
 use Rattle.ap_opening.specs.declared.authenticated.Authenticated.{Authenticated}
 use Rattle.tgs_opening.specs.Opening.{authenticated, by_authenticated, by_ticket, opened_ticket, presented}
 use Rattle.tgs_opening.specs.Opening.{presented_as}

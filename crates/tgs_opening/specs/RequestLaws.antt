@@ -10,8 +10,8 @@ use Rattle.krb_elements.specs.Codec.{sequence, list_of, octets}
 use Rattle.krb_elements.specs.Spells.{Items}
 use Rattle.krb_elements.specs.WrittenLaws.{tlv_longer}
 use Rattle.krb_fields.specs.PaData.{PaData, pa_data, pa_data_form}
-use Rattle.krb_messages.specs.KdcReq.{Received, SpellsReceived, received_form, message_tag}
-use Rattle.krb_messages.specs.declared.kdc_req.Exchange.{Exchange}
+use Rattle.krb_types.specs.KdcReq.{Received, SpellsReceived, received_form, message_tag}
+use Rattle.krb_types.specs.declared.kdc_req.Exchange.{Exchange}
 use Rattle.preauth.specs.Timestamp.{first_of}
 use Rattle.krb_elements.specs.InsideLaws.{IsAtMost, IsInside, in_contents, in_field, in_optional, past_field, part_of}
 use Rattle.tgs_opening.specs.Tickets.{tgs_data}

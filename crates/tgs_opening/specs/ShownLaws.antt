@@ -4,18 +4,18 @@ use Rattle.std.proofs.Common.{ℕ, ℤ, List, subst}
 use Rattle.std.specs.Prelude.{◌&&◌, not, if◌then◌else◌, nat_eq}
 use Rattle.std.specs.Cmp.Lexicographic.{pointwise}
 use Rattle.std.proofs.lemmas.Bool.{and_parts}
-use Rattle.refusals.specs.ClearLaws.{decided_clear}
-use Rattle.refusals.specs.RefusalLaws.{decided_found}
-use Rattle.refusals.specs.StageLaws.{ok_is, stage_ok}
-use Rattle.refusals.specs.Stages.{◌>>=◌}
+use Rattle.lists.specs.ClearLaws.{decided_clear}
+use Rattle.lists.specs.RefusalLaws.{decided_found}
+use Rattle.lists.specs.StageLaws.{ok_is, stage_ok}
+use Rattle.lists.specs.Stages.{◌>>=◌}
 use Rattle.enctypes.specs.KeyUsage.{usage_number}
 use Rattle.enctypes.specs.declared.key.Key.{Key}
 use Rattle.enctypes.specs.declared.key_usage.KeyUsage.TheVariants.{Ticket as TicketUsage}
-use Rattle.krb_ap.specs.ApReq.{ApReq}
+use Rattle.krb_types.specs.ApReq.{ApReq}
 use Rattle.krb_fields.specs.PrincipalName.{Name}
-use Rattle.krb_messages.specs.KdcReq.{Received}
-use Rattle.krb_messages.specs.ReqBody.{ReqBody}
-use Rattle.krb_sealed.specs.EncTicketPart.{EncTicketPart, enc_ticket_part}
+use Rattle.krb_types.specs.KdcReq.{Received}
+use Rattle.krb_types.specs.ReqBody.{ReqBody}
+use Rattle.krb_types.specs.EncTicketPart.{EncTicketPart, enc_ticket_part}
 use Rattle.preauth.specs.Keys.{key_named}
 use Rattle.principal_rows.specs.declared.row.Row.{Row}
 use Rattle.sealed_parts.specs.Parts.{opened_as}

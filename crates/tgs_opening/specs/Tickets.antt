@@ -5,17 +5,17 @@ use Rattle.std.specs.Prelude.{List, [], ◌∷◌, Option, Some, None, Result}
 use Rattle.std.specs.List.{list_any}
 use Rattle.std.specs.Ordering.{int_eq, eq_by_cmp}
 use Rattle.std.specs.Cmp.Lexicographic.{pointwise}
-use Rattle.refusals.specs.Optional.{holds_of}
-use Rattle.refusals.specs.Refusals.{Rule, decided}
+use Rattle.lists.specs.Optional.{holds_of}
+use Rattle.lists.specs.Refusals.{Rule, decided}
 use Rattle.krb_elements.specs.Format.{whole}
 use Rattle.krb_fields.specs.EncryptedData.{EncryptedData}
 use Rattle.krb_fields.specs.Name.{name_cmp}
 use Rattle.krb_fields.specs.PrincipalName.{Name}
-use Rattle.krb_ap.specs.ApReq.{ApReq, ap_req}
-use Rattle.krb_sealed.specs.EncTicketPart.{EncTicketPart}
-use Rattle.krb_messages.specs.KdcReq.{Received}
-use Rattle.krb_messages.specs.ReqBody.{ReqBody}
-use Rattle.krb_messages.specs.Ticket.{Ticket}
+use Rattle.krb_types.specs.ApReq.{ApReq, ap_req}
+use Rattle.krb_types.specs.EncTicketPart.{EncTicketPart}
+use Rattle.krb_types.specs.KdcReq.{Received}
+use Rattle.krb_types.specs.ReqBody.{ReqBody}
+use Rattle.krb_types.specs.Ticket.{Ticket}
 use Rattle.enctypes.specs.declared.key.Key.{Key}
 use Rattle.sealed_parts.specs.Parts.{ok_of}
 use Rattle.preauth.specs.Keys.{has_key, key_named}

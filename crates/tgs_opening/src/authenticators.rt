@@ -9,8 +9,8 @@ use crate::refusal::TgsRefusal;
 use ap_opening::{ApRefusal, is_mismatched, subkey_in};
 use enctypes::{Key, KeyUsage};
 use krb_fields::Typed;
-use krb_sealed::{Authenticator, EncTicketPart};
-use refusals::decide;
+use krb_types::{Authenticator, EncTicketPart};
+use lists::decide;
 use sealed_parts::ReadyKeys;
 
 /// Returns the subkey, after checking that the authenticator matches the ticket and the bytes of the request's body.

@@ -1,6 +1,5 @@
 //! The decrypted ticket of a TGS-REQ, before its authenticator is checked.
-use krb_ap::ApReqRef;
-use krb_sealed::EncTicketPart;
+use krb_types::{ApReqRef, EncTicketPart};
 
 /// An AP-REQ, and its decrypted ticket.
 #[derive(Debug, Drop)]

@@ -17,8 +17,8 @@ use crate::tickets::{ap_req_of, shown_ticket};
 use crate::view::TicketView;
 use ap_opening::{Authenticated, authenticator_of, session_key_of};
 use enctypes::KeyUsage;
-use krb_messages::KdcReqRef;
-use refusals::Attempt;
+use krb_types::KdcReqRef;
+use lists::Attempt;
 use std::alloc::{AllocError, Global};
 
 /// Decrypts and checks what a TGS-REQ presents. Otherwise returns the first rule that refuses it, with the ticket's

@@ -1,7 +1,7 @@
 //! The ticket and the authenticator of a TGS-REQ.
 use enctypes::Key;
 use krb_fields::Name;
-use krb_sealed::{Authenticator, EncTicketPart};
+use krb_types::{Authenticator, EncTicketPart};
 
 /// A ticket and an authenticator that match each other and the request.
 #[derive(Drop)]

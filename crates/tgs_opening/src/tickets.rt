@@ -1,8 +1,8 @@
 //! The ticket that a TGS-REQ presents, and the key that decrypts it (RFC 4120, sections 3.2.3 and 3.3.2).
 ghost use Rattle.std.specs.Prelude.{◌≡◌, ◌<◌, length, ◌&&◌, nat_eq, IfOk, IfSome, is_none, option_copied};
 ghost use Rattle.std.specs.Cmp.Lexicographic.{pointwise};
-ghost use Rattle.refusals.specs.Optional.{holds_of};
-ghost use Rattle.krb_sealed.specs.EncTicketPart.{enc_ticket_part};
+ghost use Rattle.lists.specs.Optional.{holds_of};
+ghost use Rattle.krb_types.specs.EncTicketPart.{enc_ticket_part};
 ghost use Rattle.sealed_parts.specs.Parts.{IsSpelledWithin};
 ghost use Rattle.ap_opening.specs.Tickets.{shown_ticket as shown};
 ghost use Rattle.tgs_opening.specs.Tickets.{addressee, ap_req_in, ap_req_of, held_by, held_key, holds_type};
@@ -13,15 +13,15 @@ use crate::refusal::TgsRefusal;
 use crate::view::TicketView;
 use ap_opening::{ApRefusal, HeldKey};
 use enctypes::Key;
-use krb_ap::{ApReqRef, read_ap_req};
 use krb_elements::OctetsRef;
 use krb_fields::{EncryptedDataRef, Name, NameRef, PA_TGS_REQ};
-use krb_messages::{KdcReqRef, PVNO, ReqBodyRef, TGS_REQ, TicketRef};
-use krb_sealed::EncTicketPart;
+use krb_types::{
+    ApReqRef, EncTicketPart, KdcReqRef, PVNO, ReqBodyRef, TGS_REQ, TicketRef, read_ap_req,
+};
+use lists::{Attempt, decide};
 use preauth::{first_of, key_by, key_numbered};
 use principal_rows::{Row, Versions};
 use principals::names_tgs;
-use refusals::{Attempt, decide};
 use std::alloc::{AllocError, Global};
 use std::cmp::Ordering;
 use ticket_times::keeps_ticket;

@@ -4,7 +4,7 @@ use Rattle.krb_fields.specs.Flags.{has_bit}
 use Rattle.krb_fields.specs.declared.kdc_option.KdcOption.{KdcOption}
 use Rattle.krb_fields.specs.declared.kdc_option.KdcOption.TheVariants.{Renew, Validate}
 use Rattle.krb_fields.specs.KdcOption.{kdc_option_number}
-use Rattle.krb_messages.specs.ReqBody.{ReqBody}
+use Rattle.krb_types.specs.ReqBody.{ReqBody}
 
 -- the request asks for the option
 abbrev pub asks : ReqBody → KdcOption → Bool

@@ -6,7 +6,7 @@ use Rattle.krb_fields.specs.declared.ticket_flag.TicketFlag.TheVariants.{MayPost
 use Rattle.krb_fields.specs.declared.ticket_flag.TicketFlag.TheVariants.{Initial, PreAuthent, OkAsDelegate}
 use Rattle.krb_fields.specs.TicketFlag.{ticket_flag_number}
 use Rattle.krb_fields.specs.declared.kdc_option.KdcOption as options
-use Rattle.krb_messages.specs.ReqBody.{ReqBody}
+use Rattle.krb_types.specs.ReqBody.{ReqBody}
 use Rattle.principal_rows.specs.declared.policy.Policy.{Policy}
 use Rattle.ticket_times.specs.declared.ticket_terms.TicketTerms.{TicketTerms}
 use Rattle.ticket_times.specs.declared.times.Times.{Times}

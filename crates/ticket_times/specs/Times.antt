@@ -11,7 +11,7 @@ use Rattle.krb_fields.specs.Skew.{skew}
 use Rattle.krb_fields.specs.declared.kdc_option.KdcOption.TheVariants.{Postdated, Renewable, RenewableOk, Renew}
 use Rattle.krb_fields.specs.declared.kdc_option.KdcOption.TheVariants.{Validate}
 use Rattle.krb_fields.specs.declared.ticket_flag.TicketFlag.TheVariants.{Renewable as RenewableFlag}
-use Rattle.krb_messages.specs.ReqBody.{ReqBody}
+use Rattle.krb_types.specs.ReqBody.{ReqBody}
 use Rattle.principal_rows.specs.declared.limits.Limits.{Limits}
 use Rattle.principal_rows.specs.declared.policy.Policy.{Policy}
 use Rattle.ticket_times.specs.declared.ceiling.Ceiling.{Ceiling}

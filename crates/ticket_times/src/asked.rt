@@ -3,7 +3,7 @@ ghost use Rattle.std.specs.Prelude.{◌≡◌};
 ghost use Rattle.ticket_times.specs.Asked.{asks, keeps_ticket};
 
 use krb_fields::KdcOption;
-use krb_messages::ReqBodyRef;
+use krb_types::ReqBodyRef;
 
 /// Checks whether the request asks for the option.
 pub fn asks(body: &ReqBodyRef<'_>, option: KdcOption) -> bool

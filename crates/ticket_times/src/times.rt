@@ -15,7 +15,7 @@ use crate::ceiling::Ceiling;
 use crate::earliest::earliest;
 use krb_der::KTime;
 use krb_fields::{KdcOption, Moment, SKEW, TicketFlag};
-use krb_messages::ReqBodyRef;
+use krb_types::ReqBodyRef;
 use principal_rows::{Limits, Policy};
 
 /// When a ticket is valid, and until when it is renewable, if at all.

@@ -4,7 +4,7 @@ use crate::expect::{same, shows};
 use enctypes::{Etype, Key, KeyUsage, seal};
 use krb_der::KTime;
 use krb_elements::Microseconds;
-use krb_sealed::PaEncTsEnc;
+use krb_types::PaEncTsEnc;
 use sealed_parts::{ReadyKeys, open_part, seal_part};
 use std::alloc::{AllocError, Global};
 use std::process::Abort;
@@ -18,7 +18,7 @@ const TIMESTAMP: &str = "\
 const NONE: &str = "Ok(None)";
 
 /// Returns the timestamp, encrypted for `USAGE`, or no bytes if memory runs out.
-#[tactic(auto, using(krb_sealed::specs::PaEncTsEnc::pa_enc_ts_enc_short))]
+#[tactic(auto, using(krb_types::specs::PaEncTsEnc::pa_enc_ts_enc_short))]
 fn sealed(alloc: Global, key: &Key) -> Vec<u8> {
     let Some(patimestamp) = KTime::new(1_704_067_200) else {
         return Vec::new(alloc);

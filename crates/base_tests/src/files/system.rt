@@ -1,6 +1,6 @@
-//! Tests of the store over the system's files (`file_store`). Each removes its files at the end.
+//! Tests of the store over the system's files (`program`). Each removes its files at the end.
 use crate::expect::same;
-use file_store::{FileStore, Store};
+use program::{FileStore, Store};
 use std::fs::Permissions;
 use std::os::unix::fs::{MetadataExt, PermissionsExt};
 use std::{fs, io};

@@ -1,25 +1,20 @@
-//! Tests of whole messages (`krb_messages`, `krb_replies`, `krb_ap`), and of the contents of their OCTET STRINGs
-//! (`krb_sealed`).
+//! Tests of whole messages (`krb_types`), and of the contents of their OCTET STRINGs.
 ghost use Rattle.std.specs.Prelude.{◌≡◌, ◌<◌, ◌*◌, length, IfOk};
-ghost use Rattle.krb_messages.specs.KdcReq.{SpellsKdcReq, message, without_octets};
+ghost use Rattle.krb_types.specs.KdcReq.{SpellsKdcReq, message, without_octets};
 
 use crate::expect::{BEGIN, END, JUDGED, bytes, mark, same, shows, written};
 use crate::messages::vectors::*;
-use krb_ap::{
-    ApRep, ApReq, decode_ap_rep, decode_ap_req, encode_ap_rep, encode_ap_req, read_ap_req,
-};
 use krb_der::DerFault;
 use krb_elements::{Encode, Fault, MakeOwned, ReadOwned, Seq, SeqRef, decode, encode, read};
 use krb_fields::{EncryptedData, MethodData, PaData, PaDataRef};
-use krb_messages::{
-    Exchange, KdcReq, KdcReqRef, KrbError, ReqBody, ReqBodyRef, Ticket, decode_krb_error,
-    encode_kdc_req, encode_krb_error, read_kdc_req,
-};
-use krb_replies::{AsRep, AsReq, EncAsRepPart, EncTgsRepPart, KdcRepRef, TgsRep, TgsReq};
-use krb_sealed::{
-    Authenticator, EncApRepPart, EncTicketPart, EtypeInfo2, EtypeInfo2EntryRef, PaEncTsEnc,
-    decode_authenticator, decode_enc_ap_rep_part, decode_enc_ticket_part, decode_pa_enc_ts_enc,
-    encode_authenticator, encode_enc_ap_rep_part, encode_enc_ticket_part, encode_pa_enc_ts_enc,
+use krb_types::{
+    ApRep, ApReq, AsRep, AsReq, Authenticator, EncApRepPart, EncAsRepPart, EncTgsRepPart,
+    EncTicketPart, EtypeInfo2, EtypeInfo2EntryRef, Exchange, KdcRepRef, KdcReq, KdcReqRef,
+    KrbError, PaEncTsEnc, ReqBody, ReqBodyRef, TgsRep, TgsReq, Ticket, decode_ap_rep,
+    decode_ap_req, decode_authenticator, decode_enc_ap_rep_part, decode_enc_ticket_part,
+    decode_krb_error, decode_pa_enc_ts_enc, encode_ap_rep, encode_ap_req, encode_authenticator,
+    encode_enc_ap_rep_part, encode_enc_ticket_part, encode_kdc_req, encode_krb_error,
+    encode_pa_enc_ts_enc, read_ap_req, read_kdc_req,
 };
 use std::alloc::{AllocError, Global};
 use std::fmt::Debug;
@@ -220,7 +215,7 @@ fn service_answer_again(alloc: Global, octets: &[u8]) -> Result<Vec<u8>, Fault>
     encode_enc_ap_rep_part(alloc, &decode(alloc, octets)?).map_err(Fault::from)
 }
 
-#[tactic(auto, using(krb_sealed::specs::PaEncTsEnc::pa_enc_ts_enc_short))]
+#[tactic(auto, using(krb_types::specs::PaEncTsEnc::pa_enc_ts_enc_short))]
 fn timestamp_written(alloc: Global, part: &PaEncTsEnc) -> Result<Vec<u8>, AllocError> {
     encode_pa_enc_ts_enc(alloc, part)
 }

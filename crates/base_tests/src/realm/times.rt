@@ -3,7 +3,7 @@ use crate::expect::same;
 use krb_der::{DerFault, KTime};
 use krb_elements::read;
 use krb_fields::{Flags, Moment};
-use krb_messages::ReqBodyRef;
+use krb_types::ReqBodyRef;
 use principal_rows::{Limits, Policy};
 use ticket_times::{TicketTerms, Times, as_flags, as_times, starts_too_late, tgs_flags, tgs_times};
 

@@ -18,7 +18,7 @@ use cred_files::Credential;
 use enctypes::{Etype, Key};
 use krb_elements::{KerberosString, Octets, Seq};
 use krb_fields::{Moment, Name};
-use krb_sealed::EtypeInfo2Entry;
+use krb_types::EtypeInfo2Entry;
 use std::alloc::{AllocError, Global};
 use std::test::Fail;
 

@@ -11,10 +11,10 @@ use crate::services::{limits, opened};
 use ap_accept::{Accepted, Acceptor, ApFault};
 use client_core::{ClientFault, KeyRole, session_key};
 use cred_files::Credential;
-use enctypes::{Etype, Key};
+use enctypes::Key;
 use kdc_core::Kdc;
-use krb_end_to_end::{Client, Issuing, JoinedFault, Reader, Sealing, end_to_end, obtain};
 use krb_fields::Moment;
+use krb_joined::{Client, Issuing, JoinedFault, Reader, Sealing, end_to_end, obtain};
 use std::alloc::{AllocError, Global};
 use std::test::Fail;
 
@@ -124,9 +124,36 @@ pub struct Trip {
     pub later: u32,
 }
 
-/// Returns the key of the request, and how the client reads the reply. The request's key is that of the timestamp, or the
-/// subkey, if there is one.
-fn keys(way: &Way, trip: &Trip, found: &[Credential], at: Moment) -> (Option<Key>, Reader) {
+/// A leg of a path.
+#[derive(Clone, Copy)]
+struct Step<'w> {
+    way: &'w Way,
+    leg: Leg,
+    trip: Trip,
+    /// Whether its ticket is presented.
+    is_last: bool,
+}
+
+/// The realm in which a path is taken, and the credentials that were found on it.
+#[derive(Drop)]
+struct Realm {
+    kdc: Kdc,
+    acceptor: Acceptor,
+    found: Vec<Credential>,
+}
+
+/// How a request is made and answered.
+#[derive(Drop)]
+struct Asking {
+    /// The key of the request: that of the timestamp, or the subkey, if there is one.
+    key: Option<Key>,
+    client: Client,
+    issuing: Issuing,
+}
+
+/// Returns the key of the request, and how the client reads the reply.
+fn keys(step: Step<'_>, found: &[Credential], at: Moment) -> (Option<Key>, Reader) {
+    let (way, trip) = (step.way, step.trip);
     let reply = trip.types.reply;
     let Some(credential) = found.last() else {
         let reader = Reader {
@@ -160,14 +187,13 @@ fn keys(way: &Way, trip: &Trip, found: &[Credential], at: Moment) -> (Option<Key
 /// Returns the client of the path.
 fn client(
     alloc: Global,
-    leg: &Leg,
-    trip: &Trip,
+    step: Step<'_>,
     reader: Reader,
     presenting: Sealing,
 ) -> Result<Client, AllocError>
     ensures { IfOk result (λ client. IsShortChecksum client.wanted.checksum) }
 {
-    let (types, choice) = (trip.types, trip.choice);
+    let (leg, types, choice) = (step.leg, step.trip.types, step.trip.choice);
     let more = if choice.subkey {
         Some((key_from(types.reply, 96), u32::MAX))
     } else {
@@ -191,7 +217,7 @@ fn client(
 }
 
 /// Checks whether the service learns what the client chose to send.
-fn is_as_sent(accepted: &Accepted, trip: &Trip) -> bool {
+fn is_as_sent(accepted: &Accepted, trip: Trip) -> bool {
     let choice = trip.choice;
     let has_subkey = match &accepted.subkey {
         Some(key) => choice.subkey && is_key_from(key, trip.types.reply, 96),
@@ -215,7 +241,8 @@ fn is_as_sent(accepted: &Accepted, trip: &Trip) -> bool {
 }
 
 /// Checks whether the service learns that, and what was granted.
-fn is_due(alloc: Global, accepted: &Accepted, way: &Way, leg: &Leg, trip: &Trip) -> bool {
+fn is_due(alloc: Global, accepted: &Accepted, step: Step<'_>) -> bool {
+    let (way, leg, trip) = (step.way, step.leg, step.trip);
     let terms = Terms {
         flags: way.flags,
         authtime: MIDNIGHT.wrapping_add(i64::from(way.answered)),
@@ -233,27 +260,26 @@ fn is_due(alloc: Global, accepted: &Accepted, way: &Way, leg: &Leg, trip: &Trip)
         && is_as_sent(accepted, trip)
 }
 
-/// Takes the last leg, and presents its ticket.
-fn arrive(
-    alloc: Global,
-    kdc: &mut Kdc,
-    acceptor: &mut Acceptor,
-    issuing: &Issuing,
-    request: &[u8],
-    client: &Client,
-    way: &Way,
-    leg: &Leg,
-    trip: &Trip,
-) -> End
-    requires { IsShortChecksum client.now.wanted.checksum }
+/// Takes the last leg with this request, and presents its ticket.
+fn arrive(alloc: Global, realm: &mut Realm, step: Step<'_>, asking: &Asking, request: &[u8]) -> End
+    requires { IsShortChecksum asking.now.client.wanted.checksum }
 {
     let accepting = Sealing {
-        at: moment(i64::from(leg.at.wrapping_add(way.accepted)), 7),
-        confounder: up(trip.choice.first),
+        at: moment(i64::from(step.leg.at.wrapping_add(step.way.accepted)), 7),
+        confounder: up(step.trip.choice.first),
     };
-    match end_to_end(alloc, kdc, issuing, request, client, acceptor, &accepting) {
+    let (kdc, acceptor) = (&mut realm.kdc, &mut realm.acceptor);
+    match end_to_end(
+        alloc,
+        kdc,
+        &asking.issuing,
+        request,
+        &asking.client,
+        acceptor,
+        &accepting,
+    ) {
         Ok(accepted) => {
-            if is_due(alloc, &accepted, way, leg, trip) {
+            if is_due(alloc, &accepted, step) {
                 End::Accepted
             } else {
                 End::Other
@@ -263,129 +289,102 @@ fn arrive(
     }
 }
 
-/// Takes a leg before the last one, and keeps its credential.
-fn take(
-    alloc: Global,
-    kdc: &mut Kdc,
-    issuing: &Issuing,
-    request: &[u8],
-    client: &Client,
-    found: &mut Vec<Credential>,
-) -> Result<End, Fail> {
-    match obtain(alloc, kdc, issuing, request, &client.asked, &client.reader) {
+/// Takes a leg before the last one with this request, and keeps its credential.
+fn take(alloc: Global, realm: &mut Realm, asking: &Asking, request: &[u8]) -> Result<End, Fail> {
+    let client = &asking.client;
+    match obtain(
+        alloc,
+        &mut realm.kdc,
+        &asking.issuing,
+        request,
+        &client.asked,
+        &client.reader,
+    ) {
         Ok(credential) => {
-            found.push(credential)?;
+            realm.found.push(credential)?;
             Ok(End::Accepted)
         }
         Err(fault) => Ok(end_by(&fault)),
     }
 }
 
-/// Sends the request of a leg under this key.
-fn send(
-    alloc: Global,
-    kdc: &mut Kdc,
-    acceptor: &mut Acceptor,
-    way: &Way,
-    leg: &Leg,
-    trip: &Trip,
-    found: &mut Vec<Credential>,
-    is_last: bool,
-    key: Option<Key>,
-    issuing: &Issuing,
-    client: &mut Client,
-) -> Result<End, Fail>
-    requires { IsShortChecksum client.old.wanted.checksum }
+/// Sends the request of a leg.
+fn send(alloc: Global, realm: &mut Realm, step: Step<'_>, mut asking: Asking) -> Result<End, Fail>
+    requires { IsShortChecksum asking.client.wanted.checksum }
 {
+    let leg = step.leg;
     let at = moment(i64::from(leg.at), 0);
-    let mut octets = request(alloc, &client.asked, found.last(), key, at, 0)?;
-    if !is_last {
-        return take(alloc, kdc, issuing, &octets, client, found);
+    let mut octets = request(
+        alloc,
+        &asking.client.asked,
+        realm.found.last(),
+        asking.key,
+        at,
+        0,
+    )?;
+    if !step.is_last {
+        return take(alloc, realm, &asking, &octets);
     }
-    if way.is_cut {
+    if step.way.is_cut {
         let _ = octets.pop();
     }
-    client.asked.nonce = leg.at.wrapping_add(way.nonce);
-    Ok(arrive(
-        alloc, kdc, acceptor, issuing, &octets, client, way, leg, trip,
-    ))
+    asking.client.asked.nonce = leg.at.wrapping_add(step.way.nonce);
+    Ok(arrive(alloc, realm, step, &asking, &octets))
 }
 
 /// Takes a leg with the ticket from the one before it.
-fn go(
-    alloc: Global,
-    kdc: &mut Kdc,
-    acceptor: &mut Acceptor,
-    way: &Way,
-    leg: &Leg,
-    trip: &Trip,
-    found: &mut Vec<Credential>,
-    is_last: bool,
-) -> Result<End, Fail> {
+fn go(alloc: Global, realm: &mut Realm, step: Step<'_>) -> Result<End, Fail> {
+    let (way, leg, trip) = (step.way, step.leg, step.trip);
     let answered = moment(i64::from(leg.at.wrapping_add(way.answered)), 0);
     let presented = leg.at.wrapping_add(way.presented).wrapping_add(trip.later);
-    let (key, reader) = keys(way, trip, found, answered);
-    let issuing = Issuing {
-        at: answered,
-        random: up(leg.octet().wrapping_add(trip.random)),
-        room: 1400,
-    };
+    let (key, reader) = keys(step, &realm.found, answered);
     let presenting = Sealing {
         at: moment(i64::from(presented), 7),
         confounder: up(200),
     };
-    let mut client = client(alloc, leg, trip, reader, presenting)?;
-    send(
-        alloc,
-        kdc,
-        acceptor,
-        way,
-        leg,
-        trip,
-        found,
-        is_last,
+    let asking = Asking {
         key,
-        &issuing,
-        &mut client,
-    )
+        client: client(alloc, step, reader, presenting)?,
+        issuing: Issuing {
+            at: answered,
+            random: up(leg.octet().wrapping_add(trip.random)),
+            room: 1400,
+        },
+    };
+    send(alloc, realm, step, asking)
 }
 
 /// Returns how a leg ends if it continues after running out of memory. The service's replay cache is kept.
-fn go_at_last(
-    alloc: Global,
-    kdc: &mut Kdc,
-    acceptor: &mut Acceptor,
-    way: &Way,
-    leg: &Leg,
-    trip: &Trip,
-    found: &mut Vec<Credential>,
-    is_last: bool,
-) -> Result<End, Fail> {
-    match go(alloc, kdc, acceptor, way, leg, trip, found, is_last)? {
-        End::Memory => go(alloc, kdc, acceptor, way, leg, trip, found, is_last),
+fn go_at_last(alloc: Global, realm: &mut Realm, step: Step<'_>) -> Result<End, Fail> {
+    match go(alloc, realm, step)? {
+        End::Memory => go(alloc, realm, step),
         End::Unheard => Ok(End::Accepted),
         end => Ok(end),
     }
 }
 
 /// Checks whether the path ends as expected in an unused realm.
-fn is_ended(
-    alloc: Global,
-    kdc: &mut Kdc,
-    acceptor: &mut Acceptor,
-    way: &Way,
-    trip: &Trip,
-    found: &mut Vec<Credential>,
-) -> Result<bool, Fail> {
+fn is_ended(alloc: Global, realm: &mut Realm, way: &Way, trip: &Trip) -> Result<bool, Fail> {
     let Some((last, before)) = way.legs.split_last() else {
         return Ok(false);
     };
+    let last = Step {
+        way,
+        leg: *last,
+        trip: *trip,
+        is_last: true,
+    };
     for leg in before {
-        if go_at_last(alloc, kdc, acceptor, way, leg, trip, found, false)? != End::Accepted {
+        let step = Step {
+            leg: *leg,
+            is_last: false,
+            ..last
+        };
+        if go_at_last(alloc, realm, step)? != End::Accepted {
             return Ok(false);
         }
     }
-    let first = go_at_last(alloc, kdc, acceptor, way, last, trip, found, true)?;
+    let first = go_at_last(alloc, realm, last)?;
     let Some(later) = way.again else {
         return Ok(first == way.end);
     };
@@ -394,29 +393,32 @@ fn is_ended(
         later,
         ..*trip
     };
-    let end = go_at_last(alloc, kdc, acceptor, way, last, &second, found, true)?;
+    let end = go_at_last(
+        alloc,
+        realm,
+        Step {
+            trip: second,
+            ..last
+        },
+    )?;
     Ok(first == End::Accepted && end == way.end)
 }
 
 /// Checks the same in a new realm. Only this function owns one.
 fn is_ended_anew(alloc: Global, way: &Way, trip: &Trip) -> Result<bool, Fail> {
     let limits = limits(64)?;
-    let mut acceptor = opened(alloc, way.keytab, limits.remembered)?;
-    let mut kdc = kdc(alloc, trip.types, limits)?;
-    let mut found = Vec::new(alloc);
-    is_ended(alloc, &mut kdc, &mut acceptor, way, trip, &mut found)
+    let mut realm = Realm {
+        acceptor: opened(alloc, way.keytab, limits.remembered)?,
+        kdc: kdc(alloc, trip.types, limits)?,
+        found: Vec::new(alloc),
+    };
+    is_ended(alloc, &mut realm, way, trip)
 }
 
 /// Checks the paths, each in a new realm with these keys.
-pub fn are_ended(
-    alloc: Global,
-    ways: &[Way],
-    reply: Etype,
-    service: Etype,
-    choice: &Choice,
-) -> Result<(), Fail> {
+pub fn are_ended(alloc: Global, ways: &[Way], types: Types, choice: &Choice) -> Result<(), Fail> {
     let trip = Trip {
-        types: Types { reply, service },
+        types,
         choice: *choice,
         random: 0,
         later: 0,

@@ -18,6 +18,16 @@ pub struct Types {
     pub service: Etype,
 }
 
+impl Types {
+    /// Returns one type for all keys.
+    pub fn alike(etype: Etype) -> Types {
+        Types {
+            reply: etype,
+            service: etype,
+        }
+    }
+}
+
 // The bytes from which those of keys count up.
 
 pub const USER_FIRST: u8 = 64;

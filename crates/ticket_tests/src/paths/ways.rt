@@ -5,7 +5,7 @@ use crate::asking::{
 };
 use crate::outcomes::Outcome;
 use crate::paths::going::{Choice, End, Leg, Way, are_ended};
-use crate::paths::realm::USER_FIRST;
+use crate::paths::realm::{Types, USER_FIRST};
 use crate::services::{ALL_TYPES, OF_TGS, OTHER_KEY, OTHER_TYPE, OTHER_VERSION, OWN};
 use ap_accept::{ApFault, ApRefusal};
 use client_core::Mismatch;
@@ -205,7 +205,11 @@ fn what_the_kdc_issues_the_service_accepts(rt: HostRuntime) -> Result<(), Fail> 
     for reply in ETYPES {
         for service in ETYPES {
             for choice in CHOICES {
-                are_ended(rt.alloc(), WAYS, *reply, *service, choice)?;
+                let types = Types {
+                    reply: *reply,
+                    service: *service,
+                };
+                are_ended(rt.alloc(), WAYS, types, choice)?;
             }
         }
     }
@@ -283,7 +287,7 @@ const ANSWERED: &[Way] = &[ONE_LEG];
 #[test]
 fn a_service_answers_by_its_own_confounder(rt: HostRuntime) -> Result<(), Fail> {
     for (etype, choice) in AP_REPS {
-        are_ended(rt.alloc(), ANSWERED, *etype, *etype, choice)?;
+        are_ended(rt.alloc(), ANSWERED, Types::alike(*etype), choice)?;
     }
     Ok(())
 }
@@ -401,5 +405,5 @@ const ENDS: &[Way] = &[
 #[test]
 fn a_path_ends_at_its_first_fault(rt: HostRuntime) -> Result<(), Fail> {
     let etype = Etype::Aes256CtsHmacSha1_96;
-    are_ended(rt.alloc(), ENDS, etype, etype, &MUTUAL)
+    are_ended(rt.alloc(), ENDS, Types::alike(etype), &MUTUAL)
 }

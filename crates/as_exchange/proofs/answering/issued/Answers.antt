@@ -2,7 +2,7 @@ use Rattle.std.proofs.Common.{rules, ◌≡◌, inr, IfOk, subst}
 use Rattle.std.proofs.lemmas.Result.{IfOk-weaker}
 use Rattle.kdc_replies.specs.ErrorReply.{too_big}
 use Rattle.krb_fields.specs.declared.moment.Moment.{Moment}
-use Rattle.krb_messages.specs.KrbError.{krb_error}
+use Rattle.krb_types.specs.KrbError.{krb_error}
 use Rattle.as_exchange.specs.Answer.{SpelledBy}
 use Rattle.as_exchange.specs.Outcome.{OutcomeSpelledBy}
 use Rattle.as_exchange.specs.declared.decision.Decision.TheVariants.{Issues}

@@ -1,6 +1,6 @@
 use Rattle.std.proofs.Common.{rules, refl}
 use Rattle.kdc_replies.specs.ErrorReply.{too_big}
-use Rattle.krb_messages.specs.KrbError.{krb_error}
+use Rattle.krb_types.specs.KrbError.{krb_error}
 use Rattle.as_exchange.proofs.answering.refused_room.Goals as goal
 
 pub returns-clause-outcome : goal.returns-clause-outcome

@@ -1,6 +1,6 @@
 use Rattle.std.proofs.Common.{rules, ◌≡◌}
 use Rattle.std.specs.Prelude.{Some}
-use Rattle.krb_replies.specs.KdcRep.{kdc_rep}
+use Rattle.krb_types.specs.KdcRep.{kdc_rep}
 use Rattle.kdc_replies.specs.Reply.{reply_of}
 use Rattle.kdc_replies.proofs.Results.{respelled}
 use Rattle.as_exchange.proofs.issuing.as_rep.Goals as goal

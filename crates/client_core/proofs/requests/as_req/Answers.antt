@@ -1,7 +1,7 @@
 use Rattle.std.proofs.Common.{◌≡◌, ℕ, List}
 use Rattle.krb_elements.specs.Codec.{written}
-use Rattle.krb_messages.specs.KdcReq.{KdcReq, SpellsKdcReq, message}
-use Rattle.krb_messages.specs.declared.kdc_req.Exchange.TheVariants.{As}
+use Rattle.krb_types.specs.KdcReq.{KdcReq, SpellsKdcReq, message}
+use Rattle.krb_types.specs.declared.kdc_req.Exchange.TheVariants.{As}
 use Rattle.client_core.proofs.Written.{as_req_is}
 use Rattle.client_core.proofs.Results.{respelled}
 use Rattle.client_core.proofs.requests.as_req.Goals as goal

@@ -1,6 +1,6 @@
 use Rattle.std.proofs.Common.{rules, ◌≡◌, ◌<◌, ◌^◌, ℕ, List, length, pos, sym, subst}
 use Rattle.krb_elements.specs.Codec.{written}
-use Rattle.krb_messages.specs.KdcReq.{KdcReq, SpellsKdcReq, message, request_type}
+use Rattle.krb_types.specs.KdcReq.{KdcReq, SpellsKdcReq, message, request_type}
 use Rattle.client_core.specs.ShortLaws.{request_short}
 use Rattle.client_core.proofs.Written.{typed_as}
 use Rattle.client_core.proofs.Results.{respelled}

@@ -1,5 +1,5 @@
 use Rattle.std.proofs.Common.{◌∙◌, Some}
-use Rattle.krb_sealed.specs.PaEncTsEnc.{pa_enc_ts_enc_short}
+use Rattle.krb_types.specs.PaEncTsEnc.{pa_enc_ts_enc_short}
 use Rattle.client_core.specs.ShortLaws.{stamp_sealed_short, stamp_data_short}
 use Rattle.client_core.proofs.requests.timestamp_data.Goals as goal
 

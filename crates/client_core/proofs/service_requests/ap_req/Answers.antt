@@ -1,4 +1,4 @@
-use Rattle.krb_ap.specs.ApReq.{ap_req}
+use Rattle.krb_types.specs.ApReq.{ap_req}
 use Rattle.client_core.proofs.Written.{ap_req_is}
 use Rattle.client_core.proofs.Results.{respelled}
 use Rattle.client_core.proofs.service_requests.ap_req.Goals as goal

@@ -1,5 +1,5 @@
 use Rattle.std.proofs.Common.{◌≡◌, Option, IfOk, IfSome, sym, subst}
-use Rattle.krb_ap.specs.ApReq.{ap_req}
+use Rattle.krb_types.specs.ApReq.{ap_req}
 use Rattle.krb_elements.specs.Codec.{written}
 use Rattle.client_core.specs.ServiceRequests.{asks_ap}
 use Rattle.client_core.specs.ShortLaws.{presentable_realm}

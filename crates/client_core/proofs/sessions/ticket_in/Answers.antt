@@ -1,5 +1,5 @@
 use Rattle.std.proofs.Common.{◌<◌, length, sym, subst, arith}
-use Rattle.krb_messages.specs.Ticket.{Ticket, ticket}
+use Rattle.krb_types.specs.Ticket.{Ticket, ticket}
 use Rattle.client_core.proofs.Tickets.{shorter}
 use Rattle.client_core.proofs.sessions.ticket_in.Goals as goal
 

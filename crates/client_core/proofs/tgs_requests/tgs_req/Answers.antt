@@ -1,8 +1,8 @@
 use Rattle.std.proofs.Common.{◌≡◌, ℕ, List, Some, ap}
 use Rattle.krb_elements.specs.Codec.{written}
 use Rattle.krb_fields.specs.PaData.{PaData}
-use Rattle.krb_messages.specs.KdcReq.{KdcReq, SpellsKdcReq, message}
-use Rattle.krb_messages.specs.declared.kdc_req.Exchange.TheVariants.{Tgs}
+use Rattle.krb_types.specs.KdcReq.{KdcReq, SpellsKdcReq, message}
+use Rattle.krb_types.specs.declared.kdc_req.Exchange.TheVariants.{Tgs}
 use Rattle.client_core.specs.Requests.{request_of}
 use Rattle.client_core.specs.ShortLaws.{data_short}
 use Rattle.client_core.proofs.Results.{respelled}

@@ -2,10 +2,10 @@ use Rattle.std.proofs.Common.{◌≡◌, ℕ, List, None, Some}
 use Rattle.enctypes.specs.KeyUsage.{usage_number}
 use Rattle.enctypes.specs.declared.key_usage.KeyUsage.TheVariants.{TgsReqAuthenticator}
 use Rattle.krb_elements.specs.Codec.{written}
-use Rattle.krb_sealed.specs.Authenticator as parts
-use Rattle.krb_messages.specs.KdcReq.{KdcReq, SpellsKdcReq, message}
-use Rattle.krb_messages.specs.declared.kdc_req.Exchange.TheVariants.{Tgs}
-use Rattle.krb_messages.specs.ReqBody.{ReqBody}
+use Rattle.krb_types.specs.Authenticator as parts
+use Rattle.krb_types.specs.KdcReq.{KdcReq, SpellsKdcReq, message}
+use Rattle.krb_types.specs.declared.kdc_req.Exchange.TheVariants.{Tgs}
+use Rattle.krb_types.specs.ReqBody.{ReqBody}
 use Rattle.sealed_parts.specs.Encrypted.{decrypted}
 use Rattle.client_core.specs.Requests.{body_of, tgs_authenticator, tgs_presents}
 use Rattle.client_core.specs.Sessions.{session}

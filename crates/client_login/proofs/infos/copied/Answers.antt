@@ -1,6 +1,6 @@
 use Rattle.std.proofs.Common.{◌≡◌, List, subst}
 use Rattle.std.specs.Prelude.{IfOk}
-use Rattle.krb_sealed.specs.EtypeInfo2Entry.{EtypeInfo2Entry}
+use Rattle.krb_types.specs.EtypeInfo2Entry.{EtypeInfo2Entry}
 use Rattle.client_login.proofs.InfoCopies.{info_copied}
 use Rattle.client_login.proofs.infos.copied.Goals as goal
 

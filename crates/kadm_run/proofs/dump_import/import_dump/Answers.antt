@@ -1,5 +1,5 @@
 use Rattle.std.proofs.Common.{false, subst}
-use Rattle.file_store.specs.World.{IsThere}
+use Rattle.program.specs.World.{IsThere}
 use Rattle.kadm_run.proofs.Moved.{made_from_dump}
 use Rattle.kadm_run.proofs.dump_import.import_dump.Goals as goal
 

@@ -1,7 +1,7 @@
 use Rattle.std.proofs.Common.{rules, ◌≡◌, ◌≤◌, false, length, Ok, arith}
 use Rattle.std.specs.Prelude.{nat_lt}
 use Rattle.krb_elements.specs.Format.{whole}
-use Rattle.krb_messages.specs.KdcReq.{received_at}
+use Rattle.krb_types.specs.KdcReq.{received_at}
 use Rattle.tgs_opening.specs.RequestLaws.{value_short}
 use Rattle.kdc_core.proofs.Reading.{contents_read}
 use Rattle.kdc_core.proofs.contents.contents_of.Goals as goal

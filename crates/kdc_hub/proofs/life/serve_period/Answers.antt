@@ -1,5 +1,5 @@
 use Rattle.std.proofs.Common.{subst}
-use Rattle.kdc_hub.specs.Hub.{Standing, standing}
+use Rattle.kdc_hub.specs.Hub.{HubState, standing}
 use Rattle.kdc_hub.specs.Rounds.{IsRun}
 use Rattle.kdc_hub.proofs.life.serve_period.Goals as goal
 
@@ -8,6 +8,6 @@ returns-clause-period g c = record {
   look = c.take_rows.ensures.look;
   middle = standing g.R.Rng.stream c.serve-served.new.hub;
   found = c.take_rows.ensures.found;
-  run = subst (λ (h : Standing). IsRun (g.W.Wire.recorded c.args.wire.now) h c.args.rounds c.serve-served.result (g.W.Wire.recorded c.serve-served.new.wire) (standing g.R.Rng.stream c.serve-served.new.hub)) c.take_rows.ensures.hub c.serve-served.ensures.run;
+  run = subst (λ (h : HubState). IsRun (g.W.Wire.recorded c.args.wire.now) h c.args.rounds c.serve-served.result (g.W.Wire.recorded c.serve-served.new.wire) (standing g.R.Rng.stream c.serve-served.new.hub)) c.take_rows.ensures.hub c.serve-served.ensures.run;
   tidies = c.tidy_if_due.ensures;
 }

@@ -1,7 +1,7 @@
 use Rattle.std.proofs.Common.{rules, ◌≡◌, ◌<◌, length, Option, Some, None, ap, ◌∙◌}
 use Rattle.std.specs.Option.{option_copied, unwrap_or}
 use Rattle.krb_fields.specs.PrincipalName.{Name, name}
-use Rattle.krb_messages.specs.KrbError.{krb_error}
+use Rattle.krb_types.specs.KrbError.{krb_error}
 use Rattle.principals.specs.Database.{tgs_name}
 use Rattle.kdc_replies.proofs.ErrorLengths.{made_is, made_short}
 use Rattle.kdc_replies.proofs.Results.{respelled}

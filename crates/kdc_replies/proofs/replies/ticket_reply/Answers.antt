@@ -1,4 +1,4 @@
-use Rattle.krb_replies.specs.KdcRep.{kdc_rep}
+use Rattle.krb_types.specs.KdcRep.{kdc_rep}
 use Rattle.kdc_replies.proofs.Results.{respelled}
 use Rattle.kdc_replies.proofs.replies.ticket_reply.Goals as goal
 

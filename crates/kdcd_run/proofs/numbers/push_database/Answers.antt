@@ -1,5 +1,5 @@
 use Rattle.std.proofs.lemmas.Result.{on_ok_weaker}
-use Rattle.request_counts.proofs.Appended.{three}
+use Rattle.request_log.proofs.Appended.{three}
 use Rattle.kdcd_run.proofs.numbers.push_database.Goals as goal
 
 pub returns : goal.returns

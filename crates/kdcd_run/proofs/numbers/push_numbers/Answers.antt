@@ -1,7 +1,7 @@
 use Rattle.std.proofs.Common.{◌≡◌, ℕ, List, ◌++◌}
 use Rattle.std.proofs.lemmas.Result.{on_ok_weaker}
-use Rattle.request_counts.proofs.Appended.{both}
-use Rattle.request_counts.specs.Text.{counts_text}
+use Rattle.request_log.proofs.Appended.{both}
+use Rattle.request_log.specs.CountText.{counts_text}
 use Rattle.kdcd_run.specs.Numbers.{caches_text, database_text, journal_text, served_text, start_text, version_text}
 use Rattle.kdcd_run.proofs.numbers.push_numbers.Goals as goal
 

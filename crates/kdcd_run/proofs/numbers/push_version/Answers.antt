@@ -1,5 +1,5 @@
 use Rattle.std.proofs.lemmas.Result.{on_ok_weaker}
-use Rattle.request_counts.proofs.Appended.{both}
+use Rattle.request_log.proofs.Appended.{both}
 use Rattle.kdcd_run.proofs.numbers.push_version.Goals as goal
 
 pub returns : goal.returns

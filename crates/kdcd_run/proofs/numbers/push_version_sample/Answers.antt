@@ -1,6 +1,6 @@
 use Rattle.std.proofs.Common.{◌++◌, codes, ap, ◌∙◌}
 use Rattle.std.proofs.lemmas.Result.{on_ok_weaker}
-use Rattle.request_counts.proofs.Appended.{three}
+use Rattle.request_log.proofs.Appended.{three}
 use Rattle.kdcd_run.proofs.numbers.push_version_sample.Goals as goal
 
 pub returns : goal.returns

@@ -1,6 +1,6 @@
 use Rattle.std.proofs.Common.{rules, ◌≡◌}
 use Rattle.std.specs.Prelude.{None}
-use Rattle.krb_replies.specs.KdcRep.{kdc_rep}
+use Rattle.krb_types.specs.KdcRep.{kdc_rep}
 use Rattle.kdc_replies.specs.Reply.{reply_of}
 use Rattle.kdc_replies.proofs.Results.{respelled}
 use Rattle.tgs_exchange.specs.Issue.{grant_by}

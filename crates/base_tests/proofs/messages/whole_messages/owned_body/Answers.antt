@@ -1,7 +1,7 @@
 use Rattle.std.proofs.Common.{◌≡◌, subst}
 use Rattle.std.specs.Prelude.{IfOk}
-use Rattle.krb_messages.specs.ReqBody.{ReqBody}
-use Rattle.krb_messages.specs.CopyLaws.{body_copied}
+use Rattle.krb_types.specs.ReqBody.{ReqBody}
+use Rattle.krb_types.specs.CopyLaws.{body_copied}
 use Rattle.base_tests.proofs.messages.whole_messages.owned_body.Goals as goal
 
 pub returns : goal.returns

@@ -1,7 +1,7 @@
 use Rattle.std.proofs.Common.{◌≡◌, subst, List, Option}
 use Rattle.std.specs.Prelude.{IfOk}
 use Rattle.krb_fields.specs.PaData.{PaData}
-use Rattle.krb_messages.specs.CopyLaws.{data_copied}
+use Rattle.krb_types.specs.CopyLaws.{data_copied}
 use Rattle.base_tests.proofs.messages.whole_messages.owned_padata.Goals as goal
 
 pub returns : goal.returns

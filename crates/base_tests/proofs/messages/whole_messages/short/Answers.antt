@@ -1,5 +1,5 @@
 use Rattle.std.proofs.Common.{arith}
-use Rattle.krb_messages.specs.KdcReq.{short_if_decoded}
+use Rattle.krb_types.specs.KdcReq.{short_if_decoded}
 use Rattle.base_tests.proofs.messages.whole_messages.short.Goals as goal
 
 pub returns : goal.returns

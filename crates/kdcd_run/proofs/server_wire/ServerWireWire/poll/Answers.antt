@@ -8,6 +8,6 @@ invariant_of-self g c =
     record {
       served = ∥∥₁_map old.served
           (by_poll c.poll-polled.result (g.T.Tally.recorded old.tally) (g.T.Tally.recorded c.add_poll.new.self) (g.S.Wire.recorded old.sockets) (g.S.Wire.recorded c.poll-polled.new.self)
-          (g.J.JournalWriter.handed old.journal) (g.L.LogWriter.logged old.log) old.came.at c.came_after-self.result.at
-          c.add_poll.ensures.records c.poll-polled.ensures.records c.came_after-self.ensures);
+          (g.J.JournalWriter.handed old.journal) (g.L.LogWriter.logged old.log) old.came.at c.arrival_after-self.result.at
+          c.add_poll.ensures.records c.poll-polled.ensures.records c.arrival_after-self.ensures);
     }

@@ -1,0 +1,2 @@
+pub mod CacheSessions
+pub mod Worlds

@@ -1,0 +1,72 @@
+-- What came of KDCs in a command, and the effect of the command on the files.
+use Rattle.std.specs.Prelude.{◌≡◌, ◌⊎◌, ℕ, ℤ, List, [], ◌∷◌, Option, option_map}
+use Rattle.std.specs.List.{All}
+use Rattle.std.specs.declared.net.socket_addr.SocketAddr.{SocketAddr}
+use Rattle.cred_files.specs.Cache.{CacheContents, cache_text, put_first}
+use Rattle.cred_files.specs.declared.credential.Credential.{Credential}
+use Rattle.program.specs.World.{World, with_file, without_file}
+use Rattle.client_core.specs.declared.asked.Asked.{Asked}
+use Rattle.client_files.specs.Caches.{HasCache, new_cache}
+use Rattle.client_login.specs.Logins.{IsFirst, IsFurther}
+use Rattle.client_login.specs.Replies.{IsExchanged}
+use Rattle.client_login.specs.declared.kdc_places.KdcPlace.{KdcPlace}
+use Rattle.client_login.specs.declared.secrets.Secret.{Secret}
+
+-- ---- the tickets that came
+
+-- a first ticket, of the reply of a KDC at some places to a request, under a key of the client
+pub record CameFirst (finds : List ℕ → ℕ → SocketAddr → Type 0) (carries : List ℕ → Type 0)
+    (answers : SocketAddr → List ℕ → List ℕ → Type 0) (credential : Credential) : Type 0 where
+  pub places : List KdcPlace
+  pub secret : Secret
+  pub asked : Asked
+  pub now : ℤ
+  pub first : IsFirst (IsExchanged finds places carries answers) secret asked now credential
+
+-- a further ticket, of the reply of a KDC at some places, under the session key of the ticket that was presented
+pub record CameFurther (finds : List ℕ → ℕ → SocketAddr → Type 0) (carries : List ℕ → Type 0)
+    (answers : SocketAddr → List ℕ → List ℕ → Type 0) (credential : Credential) : Type 0 where
+  pub places : List KdcPlace
+  pub granting : Credential
+  pub asked : Asked
+  pub now : ℤ
+  pub further : IsFurther (IsExchanged finds places carries answers) granting asked now credential
+
+-- ---- the effect of each command, from the world before it to the one after it
+
+-- a path has a new cache of one ticket that came, and every other path is unchanged
+pub record Made (Came : Credential → Type 0) (before after : Option World) : Type 0 where
+  pub path : List ℕ
+  pub ticket : Credential
+  pub came : Came ticket
+  pub written : after ≡ option_map (with_file path (cache_text (new_cache ticket))) before
+
+-- each of these tickets in place of the first one of the same service, else at the end
+abbrev pub with_tickets : List Credential → CacheContents → CacheContents
+with_tickets [] cache = cache
+with_tickets (ticket ∷ tickets) cache =
+    with_tickets tickets (record cache { credentials = put_first ticket cache.credentials })
+
+-- a path has this cache with tickets that came, and every other path is unchanged
+pub record Added (Came : Credential → Type 0) (path : List ℕ) (cache : CacheContents) (before after : Option World)
+    : Type 0 where
+  pub tickets : List Credential
+  pub came : All Came tickets
+  pub written : after ≡ option_map (with_file path (cache_text (with_tickets tickets cache))) before
+
+-- a path has the cache that it had, with tickets that came
+pub record Filled (Came : Credential → Type 0) (before after : Option World) : Type 0 where
+  pub path : List ℕ
+  pub cache : CacheContents
+  pub held : HasCache before path cache
+  pub added : Added Came path cache before after
+
+-- a path has no file, and every other path is unchanged
+pub record Removed (before after : Option World) : Type 0 where
+  pub path : List ℕ
+  pub removed : after ≡ option_map (without_file path) before
+
+-- the world is as it was, or one of these
+abbrev pub Did : (First Further : Credential → Type 0) → Option World → Option World → Type 0
+Did First Further before after =
+    (after ≡ before) ⊎ (Made First before after ⊎ (Made Further before after ⊎ (Filled Further before after ⊎ Removed before after)))

@@ -1,0 +1,260 @@
+//! `kinit`: gets a first ticket, and makes a cache from it.
+ghost use Rattle.std.specs.Prelude.{◌≡◌, IfOk, OnErr, OnOk, option_map};
+ghost use Rattle.cred_files.specs.Cache.{cache_text};
+ghost use Rattle.client_files.specs.Caches.{new_cache};
+ghost use Rattle.program.specs.World.{with_file};
+ghost use Rattle.kclient.specs.Worlds.{CameFirst, Made};
+
+use crate::context::Context;
+use crate::places::{cache_path, configured_request, find_realm, use_given_kdcs, use_kdcs_of};
+use crate::run::Printed;
+use crate::words::{
+    ClientWords, FirstWords, NO_NAME, SecretWords, first_words, read_name, read_realm,
+    with_configured,
+};
+use clap::ArgMatches;
+use client_files::{
+    Cause, ClientStore, Defaults, Fault, Variable, at_file, read_cache, read_keytab,
+    write_new_cache,
+};
+use client_login::{AnyMessage, Login, Password, Secret, TicketRequest, granting_service};
+use cred_files::{Credential, Principal};
+use krb_elements::{KerberosString, Octets};
+use krb_fields::{Name, component_to_text};
+use program::{ask_password, read_or_draw_seed, read_password};
+use rand_chacha::ChaCha20Rng;
+use rand_core::SeedableRng;
+use std::alloc::Global;
+
+/// What a first ticket is asked for with, and the path of the cache that is made with it.
+#[derive(Drop)]
+struct First {
+    path: String,
+    login: Login,
+    secret: Secret,
+    rng: ChaCha20Rng,
+}
+
+/// Gets a first ticket, and writes a cache with it. After an `Err` no file is changed.
+#[tactic(auto, using(crate::proofs::Doing::made))]
+pub(crate) fn get_first<T: ClientStore, X: AnyMessage>(
+    context: &mut Context<T, X>,
+    options: &ArgMatches<'_>,
+    defaults: &Defaults<'_>,
+) -> Result<Printed, Fault>
+    ensures made { OnOk result (
+        Made (CameFirst X.finds X.carries X.answers) (T.world context.old.store) (T.world context.new.store)) }
+    ensures kept { OnErr result (T.world context.new.store ≡ T.world context.old.store) }
+{
+    let words = first_words(options)?;
+    let mut first = prepare(context, options, defaults, &words)?;
+    let credential = log_in(context, words.secret.source(), &mut first)?;
+    write_new(context, first.path.as_str(), &credential)
+}
+
+/// Logs in, once more if the KDC's time is taken.
+#[tactic(auto, using(crate::proofs::Doing::came_first))]
+fn log_in<T, X: AnyMessage>(
+    context: &mut Context<T, X>,
+    source: &str,
+    first: &mut First,
+) -> Result<Credential, Fault>
+    ensures came { IfOk result (λ ticket. CameFirst X.finds X.carries X.answers ticket) }
+    ensures store { context.new.store ≡ context.old.store }
+{
+    let alloc = context.alloc;
+    let client = &mut context.client;
+    match client.log_in(alloc, &mut first.rng, &first.login, &first.secret) {
+        Ok(credential) => return Ok(credential),
+        Err(fault) => context.take_clock(source, fault)?,
+    }
+    let client = &mut context.client;
+    match client.log_in(alloc, &mut first.rng, &first.login, &first.secret) {
+        Ok(credential) => Ok(credential),
+        Err(fault) => Err(context.fault(source, fault)),
+    }
+}
+
+fn prepare<T: ClientStore, X>(
+    context: &mut Context<T, X>,
+    options: &ArgMatches<'_>,
+    defaults: &Defaults<'_>,
+    words: &FirstWords<'_>,
+) -> Result<First, Fault>
+    ensures kept { T.world context.new.store ≡ T.world context.old.store }
+{
+    let path = cache_path(context.alloc, &mut context.store, options, defaults)?;
+    use_given_kdcs(context.alloc, &mut context.client.kdcs, options)?;
+    let login = read_login(context, defaults, words, path.as_str())?;
+    let secret = read_secret(context.alloc, &mut context.store, words, &login.client)?;
+    let rng = generator(context.alloc, &mut context.store, options)?;
+    Ok(First {
+        path,
+        login,
+        secret,
+        rng,
+    })
+}
+
+/// Writes a cache with the credential alone. After an `Err` the cache is unchanged.
+pub(crate) fn write_new<T: ClientStore, X>(
+    context: &mut Context<T, X>,
+    path: &str,
+    credential: &Credential,
+) -> Result<Printed, Fault>
+    ensures written { OnOk result (T.world context.new.store
+        ≡ option_map (with_file path.now (cache_text (new_cache credential.now))) (T.world context.old.store)) }
+    ensures kept { OnErr result (T.world context.new.store ≡ T.world context.old.store) }
+{
+    let printed = Printed::ok(context.alloc)?;
+    write_new_cache(context.alloc, &mut context.store, path, credential)?;
+    Ok(printed)
+}
+
+/// Returns the generator for a command's random draws: ChaCha20 with a file's seed, or with one from the system.
+pub(crate) fn generator<T: ClientStore>(
+    alloc: Global,
+    store: &mut T,
+    options: &ArgMatches<'_>,
+) -> Result<ChaCha20Rng, Fault>
+    ensures kept { T.world store.new ≡ T.world store.old }
+{
+    let seed = read_or_draw_seed(alloc, store, options.get_str("seed"));
+    Ok(ChaCha20Rng::from_seed(at_file(alloc, seed)?))
+}
+
+/// Reads the names, and finds the realm if no word names it.
+fn read_login<T: ClientStore, X>(
+    context: &mut Context<T, X>,
+    defaults: &Defaults<'_>,
+    words: &FirstWords<'_>,
+    path: &str,
+) -> Result<Login, Fault>
+    ensures kept { T.world context.new.store ≡ T.world context.old.store }
+{
+    let alloc = context.alloc;
+    let given = given_client(alloc, words.client)?;
+    let service = given_service(alloc, words.service)?;
+    let client = match given {
+        Some(GivenClient { name, realm }) => {
+            let realm = find_realm(context, defaults, realm)?;
+            Principal { realm, name }
+        }
+        None => cached_client(context, defaults, path)?,
+    };
+    let request = with_configured(words.request, configured_request(context, defaults)?);
+    login_of(alloc, client, service, request)
+}
+
+/// Returns the client of the cache, and sets the KDCs to those of its realm. Without a cache it is the user's own name.
+fn cached_client<T: ClientStore, X>(
+    context: &mut Context<T, X>,
+    defaults: &Defaults<'_>,
+    path: &str,
+) -> Result<Principal, Fault>
+    ensures kept { T.world context.new.store ≡ T.world context.old.store }
+{
+    let cache = match read_cache(context.alloc, &mut context.store, path) {
+        Ok(cache) => cache,
+        Err(fault) if matches!(fault.cause, Cause::NoCache) => {
+            return own_client(context, defaults);
+        }
+        Err(fault) => return Err(fault),
+    };
+    let client = cache.principal().copy(context.alloc)?;
+    use_kdcs_of(context, defaults, client.realm.as_slice())?;
+    Ok(client)
+}
+
+/// Returns the client with the user's own name, in the default realm.
+fn own_client<T: ClientStore, X>(
+    context: &mut Context<T, X>,
+    defaults: &Defaults<'_>,
+) -> Result<Principal, Fault>
+    ensures kept { T.world context.new.store ≡ T.world context.old.store }
+{
+    let Variable::Text(user) = defaults.user else {
+        return Err(Fault::usage(NO_NAME));
+    };
+    let name = read_name(context.alloc, "LOGNAME", user, user)?;
+    let realm = find_realm(context, defaults, None)?;
+    Ok(Principal { realm, name })
+}
+
+/// A client that words name.
+#[derive(Drop)]
+struct GivenClient {
+    name: Name,
+    realm: Option<KerberosString>,
+}
+
+fn given_client(
+    alloc: Global,
+    words: Option<ClientWords<'_>>,
+) -> Result<Option<GivenClient>, Fault> {
+    let Some(words) = words else {
+        return Ok(None);
+    };
+    let realm = given_realm(alloc, &words)?;
+    let name = read_name(alloc, words.option, words.given, words.name)?;
+    Ok(Some(GivenClient { name, realm }))
+}
+
+fn login_of(
+    alloc: Global,
+    client: Principal,
+    service: Option<Name>,
+    request: TicketRequest,
+) -> Result<Login, Fault> {
+    let service = match service {
+        Some(service) => service,
+        None => granting_service(alloc, &client.realm)?,
+    };
+    Ok(Login {
+        client,
+        service,
+        request,
+    })
+}
+
+fn given_realm(alloc: Global, words: &ClientWords<'_>) -> Result<Option<KerberosString>, Fault> {
+    let Some(realm) = words.realm else {
+        return Ok(None);
+    };
+    if words.has_realm_option {
+        return Ok(Some(read_realm(alloc, "--realm", realm, realm)?));
+    }
+    Ok(Some(read_realm(alloc, words.option, words.given, realm)?))
+}
+
+fn given_service(alloc: Global, service: Option<&str>) -> Result<Option<Name>, Fault> {
+    match service {
+        Some(service) => Ok(Some(read_name(alloc, "--service", service, service)?)),
+        None => Ok(None),
+    }
+}
+
+/// Reads the client's keys from a keytab, or a password from a file or standard input.
+fn read_secret<T: ClientStore>(
+    alloc: Global,
+    store: &mut T,
+    words: &FirstWords<'_>,
+    client: &Principal,
+) -> Result<Secret, Fault>
+    ensures kept { T.world store.new ≡ T.world store.old }
+{
+    let pass = match words.secret {
+        SecretWords::Keytab(path) => return Ok(Secret::Keytab(read_keytab(alloc, store, path)?)),
+        SecretWords::PasswordFile(path) => at_file(alloc, read_password(alloc, store, path))?,
+        SecretWords::Asked => {
+            let name = client.name.to_text(alloc)?;
+            let realm = component_to_text(alloc, client.realm.as_slice())?;
+            let asked = ask_password(alloc, store, name.as_str(), realm.as_str());
+            at_file(alloc, asked)?
+        }
+    };
+    Ok(Secret::Password(Password {
+        octets: Octets::new(pass),
+        least_count: words.least_count,
+    }))
+}

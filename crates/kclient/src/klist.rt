@@ -1,0 +1,95 @@
+//! `klist`: lists a credential cache or a keytab. `kdestroy`: removes a cache.
+ghost use Rattle.std.specs.Prelude.{◌≡◌, OnErr, OnOk};
+ghost use Rattle.kclient.specs.Worlds.{Removed};
+
+use crate::context::Context;
+use crate::listing::{lines_of_cache, lines_of_keytab};
+use crate::places::cache_path;
+use crate::run::{Printed, Status};
+use crate::words::keytab_path;
+use clap::ArgMatches;
+use client_files::{
+    Cause, ClientStore, Defaults, Fault, good_credential, read_cache, read_keytab, remove_cache,
+};
+use client_login::granting_service;
+use krb_fields::Moment;
+use std::alloc::Global;
+
+const SILENT_KEYTAB: &str = "-s and --keytab don't go together";
+
+const TWO_FILES: &str = "--cache and --keytab don't go together";
+
+/// Lists a keytab, or else a cache. It prints no line before all are known, and changes no file.
+pub(crate) fn list<T: ClientStore, X>(
+    context: &mut Context<T, X>,
+    options: &ArgMatches<'_>,
+    defaults: &Defaults<'_>,
+) -> Result<Printed, Fault>
+    ensures kept { T.world context.new.store ≡ T.world context.old.store }
+{
+    let alloc = context.alloc;
+    if let Some(path) = keytab_path(options)? {
+        check_alone(options)?;
+        let keytab = read_keytab(alloc, &mut context.store, path)?;
+        return Ok(Printed::done(lines_of_keytab(alloc, &keytab)?));
+    }
+    let path = cache_path(alloc, &mut context.store, options, defaults)?;
+    if options.get_flag("s") {
+        let at = context.client.at;
+        let found = has_good_ticket(alloc, &mut context.store, path.as_str(), at);
+        return Ok(Printed::silent(alloc, status_of(&found)));
+    }
+    let cache = read_cache(alloc, &mut context.store, path.as_str())?;
+    Ok(Printed::done(lines_of_cache(alloc, &cache)?))
+}
+
+/// Checks that no option of a cache stands beside a keytab.
+fn check_alone(options: &ArgMatches<'_>) -> Result<(), Fault> {
+    if options.get_flag("s") {
+        return Err(Fault::usage(SILENT_KEYTAB));
+    }
+    if options.get_str("cache").is_some() {
+        return Err(Fault::usage(TWO_FILES));
+    }
+    Ok(())
+}
+
+/// Checks whether a cache has a ticket-granting ticket that can be used.
+fn has_good_ticket<T: ClientStore>(
+    alloc: Global,
+    store: &mut T,
+    path: &str,
+    at: Moment,
+) -> Result<bool, Fault>
+    ensures kept { T.world store.new ≡ T.world store.old }
+{
+    let cache = read_cache(alloc, store, path)?;
+    let service = granting_service(alloc, &cache.principal().realm)?;
+    Ok(good_credential(&cache, &service, at).is_some())
+}
+
+/// Returns the status of `klist -s`, as MIT's has it. A cache that is missing or can't be read counts as one without a
+/// ticket.
+fn status_of(found: &Result<bool, Fault>) -> Status {
+    match found {
+        Ok(true) => Status::Done,
+        Err(fault) if matches!(fault.cause, Cause::Memory) => Status::Failed,
+        _ => Status::Refused,
+    }
+}
+
+/// Removes a cache. After an `Err` no file is changed.
+#[tactic(auto, using(crate::proofs::Doing::removed))]
+pub(crate) fn destroy<T: ClientStore, X>(
+    context: &mut Context<T, X>,
+    options: &ArgMatches<'_>,
+    defaults: &Defaults<'_>,
+) -> Result<Printed, Fault>
+    ensures removed { OnOk result (Removed (T.world context.old.store) (T.world context.new.store)) }
+    ensures kept { OnErr result (T.world context.new.store ≡ T.world context.old.store) }
+{
+    let path = cache_path(context.alloc, &mut context.store, options, defaults)?;
+    let printed = Printed::ok(context.alloc)?;
+    remove_cache(context.alloc, &mut context.store, path.as_str())?;
+    Ok(printed)
+}

@@ -1,0 +1,404 @@
+//! `kvno`: gets tickets for services, one after another.
+ghost use Rattle.std.specs.Prelude.{◌≡◌, ◌⊎◌, IfOk, IfSome, OnErr, OnOk, option_map};
+ghost use Rattle.std.specs.String.{string_bytes};
+ghost use Rattle.cred_files.specs.Cache.{cache_text, put_first};
+ghost use Rattle.client_files.specs.Caches.{HasCache};
+ghost use Rattle.client_login.specs.Verifying.{IsTicketOf};
+ghost use Rattle.program.specs.World.{with_file};
+ghost use Rattle.kclient.specs.CacheSessions.{Collected};
+ghost use Rattle.kclient.specs.Worlds.{Added, CameFurther, Filled};
+
+use crate::context::Context;
+use crate::kinit::generator;
+use crate::places::{cache_path, use_given_kdcs, use_kdcs_of};
+use crate::run::Printed;
+use crate::words::{NO_SERVICE, keytab_path, read_name, read_realm};
+use clap::ArgMatches;
+use client_files::{
+    Cause, ClientStore, Defaults, Fault, at, good_credential, granting_ticket, put_credential,
+    read_cache, read_keytab, write_cache,
+};
+use client_login::{AnyMessage, LoginError, opened_ticket};
+use cred_files::{Cache, Credential, Keytab};
+use krb_elements::{KerberosString, read};
+use krb_fields::{Moment, Name};
+use krb_types::TicketRef;
+use rand_chacha::ChaCha20Rng;
+use std::alloc::Global;
+
+/// The keytab that has to decrypt each ticket.
+#[derive(Drop)]
+struct Checks {
+    path: String,
+    keytab: Keytab,
+}
+
+/// The cache, and what is needed to get and to check tickets.
+#[derive(Drop)]
+struct CacheSession {
+    path: String,
+    cache: Cache,
+    checks: Option<Checks>,
+    rng: ChaCha20Rng,
+    /// Whether to request each ticket, even if the cache has one that can be used.
+    fresh: bool,
+    /// Whether the cache has more than its file.
+    is_changed: bool,
+}
+
+/// Gets a ticket for each service, unless the cache has one that can be used, and puts it into the cache. It prints the
+/// key versions of the tickets, in the order of the names. A name that ends the command keeps the tickets before it.
+#[tactic(auto, using(crate::proofs::Doing::filled, crate::proofs::Doing::unfilled))]
+pub(crate) fn get_tickets<T: ClientStore, X: AnyMessage>(
+    context: &mut Context<T, X>,
+    options: &ArgMatches<'_>,
+    defaults: &Defaults<'_>,
+) -> Result<Printed, Fault>
+    ensures world { (T.world context.new.store ≡ T.world context.old.store)
+        ⊎ Filled (CameFurther X.finds X.carries X.answers) (T.world context.old.store) (T.world context.new.store) }
+{
+    let names = service_words(context.alloc, options)?;
+    let keytab = keytab_path(options)?;
+    let path = cache_path(context.alloc, &mut context.store, options, defaults)?;
+    use_given_kdcs(context.alloc, &mut context.client.kdcs, options)?;
+    let services = read_services(context, &names)?;
+    let mut session = read_wallet(context, options, path, keytab)?;
+    check_realms(context, &services, &session.cache)?;
+    Ok(Printed::done(fill(context, defaults, &mut session, &services)?))
+}
+
+/// Gets a ticket for each service, until one fails, and writes the cache with those that came. Returns a line for each.
+#[tactic(auto, using(crate::proofs::Doing::added))]
+fn fill<T: ClientStore, X: AnyMessage>(
+    context: &mut Context<T, X>,
+    defaults: &Defaults<'_>,
+    session: &mut CacheSession,
+    services: &[Service],
+) -> Result<String, Fault>
+    ensures world { (T.world context.new.store ≡ T.world context.old.store)
+        ⊎ Added (CameFurther X.finds X.carries X.answers) (string_bytes session.old.path) session.old.cache
+        (T.world context.old.store) (T.world context.new.store) }
+{
+    let lines = get_each(context, defaults, session, services);
+    let written = write_changed(context.alloc, &mut context.store, session);
+    // Why the command ends is what counts, not whether the tickets before can be written.
+    let lines = lines?;
+    written?;
+    Ok(lines)
+}
+
+/// Gets a ticket for each service, until one fails. Returns a line for each.
+#[tactic(auto, using(crate::proofs::Doing::collected_none, crate::proofs::Doing::collected_more))]
+fn get_each<T: ClientStore, X: AnyMessage>(
+    context: &mut Context<T, X>,
+    defaults: &Defaults<'_>,
+    session: &mut CacheSession,
+    services: &[Service],
+) -> Result<String, Fault>
+    ensures collected { Collected (CameFurther X.finds X.carries X.answers) session.old session.new }
+    ensures kept { T.world context.new.store ≡ T.world context.old.store }
+{
+    let mut lines = String::new(context.alloc);
+    for service in services {
+        match get_ticket(context, defaults, session, &service.name) {
+            Ok(version) => push_line(&mut lines, service, version, session.checks.is_some())?,
+            Err(fault) => return Err(at_name(
+                context,
+                services.len(),
+                service.word.as_str(),
+                fault,
+            )),
+        }
+    }
+    Ok(lines)
+}
+
+fn read_wallet<T: ClientStore, X>(
+    context: &mut Context<T, X>,
+    options: &ArgMatches<'_>,
+    path: String,
+    keytab: Option<&str>,
+) -> Result<CacheSession, Fault>
+    ensures held { IfOk result (λ session.
+        HasCache (T.world context.old.store) (string_bytes session.path) session.cache) }
+    ensures kept { T.world context.new.store ≡ T.world context.old.store }
+{
+    let cache = read_cache(context.alloc, &mut context.store, path.as_str())?;
+    let checks = read_checks(context.alloc, &mut context.store, keytab)?;
+    let rng = generator(context.alloc, &mut context.store, options)?;
+    Ok(CacheSession {
+        path,
+        cache,
+        checks,
+        rng,
+        fresh: options.get_flag("fresh"),
+        is_changed: false,
+    })
+}
+
+#[tactic(auto, using(crate::proofs::Doing::written_or_kept))]
+fn write_changed<T: ClientStore>(
+    alloc: Global,
+    store: &mut T,
+    session: &CacheSession,
+) -> Result<(), Fault>
+    ensures world { (T.world store.new ≡ T.world store.old) ⊎ (T.world store.new
+        ≡ option_map (with_file (string_bytes session.now.path) (cache_text session.now.cache)) (T.world store.old)) }
+{
+    if !session.is_changed {
+        return Ok(());
+    }
+    write_cache(alloc, store, session.path.as_str(), &session.cache)
+}
+
+/// A service, the word that names it, and the realm behind its name.
+#[derive(Drop)]
+struct Service {
+    word: String,
+    name: Name,
+    realm: Option<KerberosString>,
+}
+
+/// Returns the names of services: the plain words, and those of options.
+fn service_words<'a>(alloc: Global, options: &ArgMatches<'a>) -> Result<Vec<&'a str>, Fault> {
+    let mut names = Vec::new(alloc);
+    names.extend_from_slice(options.get_strs("service").unwrap_or(&[]))?;
+    names.extend_from_slice(options.get_strs("name").unwrap_or(&[]))?;
+    if names.is_empty() {
+        return Err(Fault::usage(NO_SERVICE));
+    }
+    Ok(names)
+}
+
+fn read_services<T, X>(context: &mut Context<T, X>, names: &[&str]) -> Result<Vec<Service>, Fault>
+    ensures store { context.new.store ≡ context.old.store }
+{
+    let mut services = Vec::new(context.alloc);
+    for name in names {
+        match read_service(context.alloc, name) {
+            Ok(service) => services.push(service)?,
+            Err(fault) => return Err(at_name(context, names.len(), name, fault)),
+        }
+    }
+    Ok(services)
+}
+
+fn read_service(alloc: Global, word: &str) -> Result<Service, Fault> {
+    let Some((name, realm)) = word.split_once('@') else {
+        return Ok(Service {
+            word: String::from_str(alloc, word)?,
+            name: read_name(alloc, "", word, word)?,
+            realm: None,
+        });
+    };
+    Ok(Service {
+        word: String::from_str(alloc, word)?,
+        name: read_name(alloc, "", word, name)?,
+        realm: Some(read_realm(alloc, "", word, realm)?),
+    })
+}
+
+/// Checks that each realm behind a service's name is the cache's: tickets come from its KDCs alone.
+fn check_realms<T, X>(
+    context: &mut Context<T, X>,
+    services: &[Service],
+    cache: &Cache,
+) -> Result<(), Fault>
+    ensures store { context.new.store ≡ context.old.store }
+{
+    for service in services {
+        let word = service.word.as_str();
+        if let Err(fault) = at(context.alloc, word, check_realm(service, cache)) {
+            return Err(at_name(context, services.len(), word, fault));
+        }
+    }
+    Ok(())
+}
+
+fn check_realm(service: &Service, cache: &Cache) -> Result<(), Cause> {
+    match &service.realm {
+        Some(realm) if realm.as_slice() != cache.principal().realm.as_slice() => {
+            Err(Cause::OtherRealm)
+        }
+        _ => Ok(()),
+    }
+}
+
+/// Notes the name that ends the command, if there are several.
+fn at_name<T, X>(context: &mut Context<T, X>, count: usize, name: &str, fault: Fault) -> Fault
+    ensures store { context.new.store ≡ context.old.store }
+{
+    if count > 1
+        && let Err(error) = context.note_name(name)
+    {
+        return Fault::from(error);
+    }
+    fault
+}
+
+fn read_checks<T: ClientStore>(
+    alloc: Global,
+    store: &mut T,
+    path: Option<&str>,
+) -> Result<Option<Checks>, Fault>
+    ensures kept { T.world store.new ≡ T.world store.old }
+{
+    match path {
+        Some(path) => Ok(Some(Checks {
+            path: String::from_str(alloc, path)?,
+            keytab: read_keytab(alloc, store, path)?,
+        })),
+        None => Ok(None),
+    }
+}
+
+/// Appends the line of a service. If the keytab has decrypted its ticket, the line says so.
+fn push_line(
+    lines: &mut String,
+    service: &Service,
+    version: i64,
+    opened: bool,
+) -> Result<(), Fault> {
+    let more = if opened { OPENED } else { "" };
+    let word = service.word.as_str();
+    Ok(writeln!(lines, "{word} kvno {version}{more}")?)
+}
+
+/// The text after a version if the keytab has decrypted the ticket.
+const OPENED: &str = ", keytab entry valid";
+
+/// Returns the key version of the service's ticket: of the cache's own, if it need not be requested again, or of a new
+/// one. Only a request needs KDCs.
+#[tactic(auto, using(crate::proofs::Doing::collected_none, crate::proofs::Doing::collected_one))]
+fn get_ticket<T: ClientStore, X: AnyMessage>(
+    context: &mut Context<T, X>,
+    defaults: &Defaults<'_>,
+    session: &mut CacheSession,
+    service: &Name,
+) -> Result<i64, Fault>
+    ensures collected { Collected (CameFurther X.finds X.carries X.answers) session.old session.new }
+    ensures kept { T.world context.new.store ≡ T.world context.old.store }
+{
+    let alloc = context.alloc;
+    if let Some(version) = held_version(alloc, session, service, context.client.at)? {
+        return Ok(version);
+    }
+    let path = session.path.as_str();
+    let granting = unended(alloc, path, &session.cache, context.client.at)?;
+    use_kdcs_of(
+        context,
+        defaults,
+        session.cache.principal().realm.as_slice(),
+    )?;
+    let credential = requested(context, path, &mut session.rng, granting, service)?;
+    keep(alloc, session, &credential)
+}
+
+/// Returns a new ticket for a service. It is requested once more if the KDC's time is taken.
+#[tactic(auto, using(crate::proofs::Doing::came_further))]
+fn requested<T, X: AnyMessage>(
+    context: &mut Context<T, X>,
+    path: &str,
+    rng: &mut ChaCha20Rng,
+    granting: &Credential,
+    service: &Name,
+) -> Result<Credential, Fault>
+    ensures came { IfOk result (λ ticket. CameFurther X.finds X.carries X.answers ticket) }
+    ensures store { context.new.store ≡ context.old.store }
+{
+    let alloc = context.alloc;
+    match context.client.service_ticket(alloc, rng, granting, service) {
+        Ok(credential) => return Ok(credential),
+        Err(fault) => context.take_clock(path, fault)?,
+    }
+    match context.client.service_ticket(alloc, rng, granting, service) {
+        Ok(credential) => Ok(credential),
+        Err(fault) => Err(context.fault(path, fault)),
+    }
+}
+
+/// Returns the key version of the cache's own ticket, if it need not be requested again.
+fn held_version(
+    alloc: Global,
+    session: &CacheSession,
+    service: &Name,
+    now: Moment,
+) -> Result<Option<i64>, Fault> {
+    if session.fresh {
+        return Ok(None);
+    }
+    match good_credential(&session.cache, service, now) {
+        Some(credential) => Ok(Some(checked_version(alloc, &session.checks, credential)?)),
+        None => Ok(None),
+    }
+}
+
+/// Returns the cache's ticket-granting ticket, unless it has ended.
+fn unended<'c>(
+    alloc: Global,
+    path: &str,
+    cache: &'c Cache,
+    now: Moment,
+) -> Result<&'c Credential, Fault> {
+    let granting = at(alloc, path, granting_ticket(alloc, cache))?;
+    let end = granting.times.end_time.seconds();
+    if now.sec < end {
+        return Ok(granting);
+    }
+    Err(Fault::new(alloc, path, Cause::Ended(end)))
+}
+
+/// Puts a credential into the cache, and returns its key version.
+fn keep(alloc: Global, session: &mut CacheSession, credential: &Credential) -> Result<i64, Fault>
+    ensures put { OnOk result (session.new.cache
+        ≡ record session.old.cache { credentials = put_first credential.now session.old.cache.credentials }) }
+    ensures kept { OnErr result (session.new.cache ≡ session.old.cache) }
+    ensures path { session.new.path ≡ session.old.path }
+{
+    let version = checked_version(alloc, &session.checks, credential)?;
+    match put_credential(alloc, &mut session.cache, credential) {
+        Ok(()) => {}
+        Err(cause) => return Err(Fault::new(alloc, session.path.as_str(), cause)),
+    }
+    session.is_changed = true;
+    Ok(version)
+}
+
+/// Returns the ticket's key version. If there is a keytab, it has to decrypt the ticket, to the credential's client and
+/// session key.
+fn checked_version(
+    alloc: Global,
+    checks: &Option<Checks>,
+    credential: &Credential,
+) -> Result<i64, Fault>
+    ensures { IfOk result (λ version. IfSome checks.now (λ c. IsTicketOf c.keytab credential.now)) }
+{
+    if let Some(Checks { path, keytab }) = checks {
+        at(
+            alloc,
+            path.as_str(),
+            check_ticket(alloc, keytab, credential),
+        )?;
+    }
+    Ok(version_of(credential))
+}
+
+fn check_ticket(alloc: Global, keytab: &Keytab, credential: &Credential) -> Result<(), Cause>
+    ensures { IfOk result (λ done. IsTicketOf keytab.now credential.now) }
+{
+    match opened_ticket(alloc, keytab, credential)? {
+        Ok(_) => Ok(()),
+        Err(doubt) => Err(Cause::Login(LoginError::Unverified(doubt))),
+    }
+}
+
+/// Returns the key version of the ticket; 0 if it names none.
+fn version_of(credential: &Credential) -> i64 {
+    let Ok(ticket) = read::<TicketRef<'_>>(credential.ticket.as_slice()) else {
+        return 0;
+    };
+    match ticket.enc_part.kvno {
+        Some(version) => version.get(),
+        None => 0,
+    }
+}

@@ -1,0 +1,77 @@
+//! `kinit --renew` and `kinit --validate`: gets the ticket-granting ticket again (RFC 4120, sections 2.3 and 2.4).
+ghost use Rattle.std.specs.Prelude.{◌≡◌, IfOk, OnErr, OnOk};
+ghost use Rattle.kclient.specs.Worlds.{CameFurther, Made};
+
+use crate::context::Context;
+use crate::kinit::{generator, write_new};
+use crate::places::{cache_path, use_given_kdcs, use_kdcs_of};
+use crate::run::Printed;
+use clap::ArgMatches;
+use client_files::{Cause, ClientStore, Defaults, Fault, at, granting_ticket, read_cache};
+use client_login::{AnyMessage, Renewal};
+use cred_files::{Cache, Credential};
+use krb_fields::TicketFlag;
+use rand_chacha::ChaCha20Rng;
+use std::alloc::Global;
+
+/// Gets the cache's ticket-granting ticket again, and writes a new cache with it. After an `Err` no file is changed.
+#[tactic(auto, using(crate::proofs::Doing::made))]
+pub(crate) fn renew_ticket<T: ClientStore, X: AnyMessage>(
+    context: &mut Context<T, X>,
+    options: &ArgMatches<'_>,
+    defaults: &Defaults<'_>,
+    renewal: Renewal,
+) -> Result<Printed, Fault>
+    ensures made { OnOk result (
+        Made (CameFurther X.finds X.carries X.answers) (T.world context.old.store) (T.world context.new.store)) }
+    ensures kept { OnErr result (T.world context.new.store ≡ T.world context.old.store) }
+{
+    let alloc = context.alloc;
+    let path = cache_path(alloc, &mut context.store, options, defaults)?;
+    use_given_kdcs(alloc, &mut context.client.kdcs, options)?;
+    let cache = read_cache(alloc, &mut context.store, path.as_str())?;
+    let mut rng = generator(alloc, &mut context.store, options)?;
+    let granting = renewable(alloc, path.as_str(), &cache, renewal)?;
+    use_kdcs_of(context, defaults, cache.principal().realm.as_slice())?;
+    let credential = renewed(context, path.as_str(), &mut rng, granting, renewal)?;
+    write_new(context, path.as_str(), &credential)
+}
+
+/// Returns the ticket renewed or validated. It is requested once more if the KDC's time is taken.
+#[tactic(auto, using(crate::proofs::Doing::came_further))]
+fn renewed<T, X: AnyMessage>(
+    context: &mut Context<T, X>,
+    path: &str,
+    rng: &mut ChaCha20Rng,
+    granting: &Credential,
+    renewal: Renewal,
+) -> Result<Credential, Fault>
+    ensures came { IfOk result (λ ticket. CameFurther X.finds X.carries X.answers ticket) }
+    ensures store { context.new.store ≡ context.old.store }
+{
+    let alloc = context.alloc;
+    match context.client.renew(alloc, rng, granting, renewal) {
+        Ok(credential) => return Ok(credential),
+        Err(fault) => context.take_clock(path, fault)?,
+    }
+    match context.client.renew(alloc, rng, granting, renewal) {
+        Ok(credential) => Ok(credential),
+        Err(fault) => Err(context.fault(path, fault)),
+    }
+}
+
+/// Returns the cache's ticket-granting ticket, unless it can't be renewed.
+fn renewable<'c>(
+    alloc: Global,
+    path: &str,
+    cache: &'c Cache,
+    renewal: Renewal,
+) -> Result<&'c Credential, Fault> {
+    let granting = at(alloc, path, granting_ticket(alloc, cache))?;
+    match renewal {
+        Renewal::Renew if !granting.flags.has(TicketFlag::Renewable) => {
+            Err(Fault::new(alloc, path, Cause::NotRenewable))
+        }
+        _ => Ok(granting),
+    }
+}

@@ -1,0 +1,233 @@
+//! Running one command line: from its words to what is printed.
+ghost use Rattle.std.specs.Prelude.{◌≡◌, ◌≤◌, IfOk};
+ghost use Rattle.kclient.specs.Worlds.{CameFirst, CameFurther, Did};
+
+use crate::context::Context;
+use crate::kinit::get_first;
+use crate::klist::{destroy, list};
+use crate::kvno::get_tickets;
+use crate::options::read_args;
+use crate::renewing::renew_ticket;
+use crate::words::renewal;
+use clap::error::{Error, ErrorKind};
+use client_files::{Cause, ClientStore, Defaults, Fault};
+use client_login::{AnyMessage, LoginError};
+use std::alloc::{AllocError, Global};
+use std::convert::AsStr;
+use std::io;
+use std::io::{BufWriter, Write};
+
+/// The status of a command that succeeded.
+pub const DONE: u8 = 0;
+
+/// The status of a command that was refused because of a word, a file, the KDC or the client.
+pub const REFUSED: u8 = 1;
+
+/// The status of a usage error.
+pub const USAGE: u8 = 2;
+
+/// The status of a command that failed because of a file, because no KDC replied, or because memory ran out.
+pub const FAILED: u8 = 3;
+
+#[derive(Clone, Copy)]
+pub(crate) enum Status {
+    Done,
+    Refused,
+    Usage,
+    Failed,
+}
+
+impl Status {
+    fn number(self) -> u8
+        ensures { result ≤ 3 }
+    {
+        match self {
+            Status::Done => DONE,
+            Status::Refused => REFUSED,
+            Status::Usage => USAGE,
+            Status::Failed => FAILED,
+        }
+    }
+}
+
+/// What a command prints on standard output if no fault ends it, and its status.
+#[derive(Drop)]
+pub(crate) struct Printed {
+    text: String,
+    status: Status,
+}
+
+impl Printed {
+    pub(crate) fn done(text: String) -> Printed {
+        Printed {
+            text,
+            status: Status::Done,
+        }
+    }
+
+    pub(crate) fn ok(alloc: Global) -> Result<Printed, AllocError> {
+        Ok(Printed::done(String::from_str(alloc, "ok\n")?))
+    }
+
+    pub(crate) fn silent(alloc: Global, status: Status) -> Printed {
+        Printed {
+            text: String::new(alloc),
+            status,
+        }
+    }
+}
+
+/// Runs a command line, whose first word is the program's name, at the context's moment. It writes the result to
+/// `writer`, and explains failures on `errors`. The status is `DONE`, `REFUSED`, `USAGE` or `FAILED`. Unless it is
+/// `DONE`, the cache is unchanged, with two exceptions: if only the printing failed, the status is `FAILED` and the cache
+/// is written; and of several names, one that fails keeps the tickets of those before it.
+pub fn kclient_run<S: AsStr, T: ClientStore, X: AnyMessage, W: Write + Drop, E: Write + Drop>(
+    context: &mut Context<T, X>,
+    args: &[S],
+    defaults: &Defaults<'_>,
+    writer: W,
+    errors: E,
+) -> u8
+    ensures status { result ≤ 3 }
+    // The files are as before, or one path has what the command is for.
+    ensures world { Did (CameFirst X.finds X.carries X.answers) (CameFurther X.finds X.carries X.answers)
+        (T.world context.old.store) (T.world context.new.store) }
+{
+    context.begin();
+    let ended = run_command(context, args, defaults);
+    note_hosts(context, &ended);
+    let Ok(mut errors) = BufWriter::new(context.alloc, errors) else {
+        return FAILED;
+    };
+    let mut out = match BufWriter::new(context.alloc, writer) {
+        Ok(out) => out,
+        Err(error) => {
+            report_unwritten(&mut errors, error);
+            return FAILED;
+        }
+    };
+    match print(&mut out, &mut errors, context.notes(), &ended) {
+        Ok(status) => status,
+        Err(error) => {
+            report_unwritten(&mut errors, error);
+            FAILED
+        }
+    }
+}
+
+/// Notes the hosts that have no known address, unless the command ended because of them.
+fn note_hosts<T, X>(context: &mut Context<T, X>, ended: &Result<Printed, Fault>)
+    ensures store { context.new.store ≡ context.old.store }
+{
+    match ended {
+        Err(
+            Fault {
+                cause: Cause::NotAnAddress,
+                ..
+            },
+        ) => {}
+        // without memory for it, the note is left out
+        _ => {
+            let _ = context.note_unknown();
+        }
+    }
+}
+
+#[tactic(auto, using(crate::proofs::Doing::did_make_first, crate::proofs::Doing::did_make_further, crate::proofs::Doing::did_fill, crate::proofs::Doing::did_remove, crate::proofs::Doing::did_nothing))]
+fn run_command<S: AsStr, T: ClientStore, X: AnyMessage>(
+    context: &mut Context<T, X>,
+    args: &[S],
+    defaults: &Defaults<'_>,
+) -> Result<Printed, Fault>
+    ensures world { Did (CameFirst X.finds X.carries X.answers) (CameFurther X.finds X.carries X.answers)
+        (T.world context.old.store) (T.world context.new.store) }
+{
+    let matches = match read_args(context.alloc, args) {
+        Ok(matches) => matches,
+        Err(error) => return words_ended(context.alloc, &error),
+    };
+    let Some((command, options)) = matches.subcommand() else {
+        return Err(Fault::usage("a command is missing"));
+    };
+    match (command, renewal(options)?) {
+        ("kinit", Some(renewal)) => renew_ticket(context, options, defaults, renewal),
+        ("kinit", None) => get_first(context, options, defaults),
+        ("kvno", _) => get_tickets(context, options, defaults),
+        ("kdestroy", _) => destroy(context, options, defaults),
+        _ => list(context, options, defaults),
+    }
+}
+
+/// Returns what is wrong with the words, or the help that they request.
+fn words_ended(alloc: Global, error: &Error) -> Result<Printed, Fault> {
+    if error.kind() == ErrorKind::OutOfMemory {
+        return Err(Fault::from(AllocError));
+    }
+    let status = if error.exit_code() == 0 {
+        Status::Done
+    } else {
+        Status::Usage
+    };
+    Ok(Printed {
+        text: format!(in alloc; "{error}")?,
+        status,
+    })
+}
+
+/// Prints what a command comes to, and returns its status. An error is a failed write.
+fn print<W: Write, E: Write>(
+    out: &mut W,
+    errors: &mut E,
+    notes: &str,
+    ended: &Result<Printed, Fault>,
+) -> io::Result<u8>
+    ensures { IfOk result (λ status. status ≤ 3) }
+{
+    write!(errors, "{notes}")?;
+    let status = match ended {
+        Ok(printed) => print_text(out, printed)?,
+        Err(fault) => print_fault(out, errors, fault)?,
+    };
+    out.flush()?;
+    errors.flush()?;
+    Ok(status.number())
+}
+
+fn print_text<W: Write>(out: &mut W, printed: &Printed) -> io::Result<Status> {
+    write!(out, "{}", printed.text)?;
+    Ok(printed.status)
+}
+
+/// Prints one word of a fault on standard output, and on standard error what it is and what it concerns. A usage error
+/// goes to standard output alone.
+fn print_fault<W: Write, E: Write>(
+    out: &mut W,
+    errors: &mut E,
+    fault: &Fault,
+) -> io::Result<Status> {
+    if matches!(fault.cause, Cause::Usage(_)) {
+        writeln!(out, "error: {fault}")?;
+        return Ok(Status::Usage);
+    }
+    let status = print_word(out, fault.cause)?;
+    writeln!(errors, "kclient: {fault}")?;
+    Ok(status)
+}
+
+fn print_word<W: Write>(out: &mut W, cause: Cause) -> io::Result<Status> {
+    match (cause, cause.name()) {
+        (Cause::Login(LoginError::Refused(error)), _) => writeln!(out, "refused {}", error.code)?,
+        (_, Some(name)) => writeln!(out, "refused {name}")?,
+        (_, None) => {
+            writeln!(out, "failed")?;
+            return Ok(Status::Failed);
+        }
+    }
+    Ok(Status::Refused)
+}
+
+/// Reports on standard error that standard output can't be written. If that fails too, there is nowhere to report it.
+fn report_unwritten<E: Write>(errors: &mut E, error: io::Error) {
+    let _ = writeln!(errors, "kclient: standard output: {error}");
+    let _ = errors.flush();
+}

@@ -1,2 +1,0 @@
-pub mod Wallets
-pub mod Worlds

@@ -1,3 +1,0 @@
-mod FirstLaws
-mod LineLaws
-mod TextLaws

@@ -1,4 +1,0 @@
-pub mod Line
-pub mod LinePlace
-pub mod Values
-pub mod Kdc

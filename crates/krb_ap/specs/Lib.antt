@@ -1,2 +1,0 @@
-pub mod ApReq
-pub mod ApRep

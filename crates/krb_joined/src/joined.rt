@@ -1,0 +1,90 @@
+//! A ticket's whole path.
+ghost use Rattle.std.specs.Prelude.{◌≡◌, ℕ, List, Some, IfErr, IfOk, IfSome};
+ghost use Rattle.client_core.specs.Presenting.{IsShortChecksum};
+ghost use Rattle.kdc_core.specs.Answer.{after_request, answer};
+ghost use Rattle.kdc_core.specs.Issued.{issued};
+ghost use Rattle.kdc_core.specs.Request.{request_of};
+ghost use Rattle.kdc_core.specs.View.{view};
+ghost use Rattle.kdc_replies.specs.Issue.{Issue, IsIssued};
+ghost use Rattle.krb_joined.specs.Joined.{IsEnded, IsJoined, IsKeptOn, IsPresented, IsRuled, IsServed, MayBeAccepted};
+ghost use Rattle.krb_joined.specs.Joined.{key_of, ruled, taken_of};
+ghost use Rattle.krb_joined.specs.Reading.{IsReader, reads_reply};
+
+use crate::client::Client;
+use crate::fault::JoinedFault;
+use crate::obtaining::{Issuing, obtain};
+use crate::presenting::{Sealing, present};
+use ap_accept::{Accepted, Acceptor};
+use kdc_core::Kdc;
+use std::alloc::Global;
+
+/// Sends a request to a KDC, reads the reply, presents the ticket to a service, and reads the AP-REP if one was asked
+/// for.
+///
+/// The service accepts what the KDC granted and what the client sent. If the KDC issues a ticket and the client reads
+/// the reply with its reply key, neither the service nor the client refuses anything later. This requires that the
+/// service's keytab holds the key that encrypted the ticket, that the ticket is valid at the service by its INVALID
+/// flag and its times, and that the authenticator's time is new.
+pub fn end_to_end(
+    alloc: Global,
+    kdc: &mut Kdc,
+    issuing: &Issuing,
+    request: &[u8],
+    client: &Client,
+    acceptor: &mut Acceptor,
+    accepting: &Sealing,
+) -> Result<Accepted, JoinedFault>
+    requires { IsShortChecksum client.now.wanted.checksum }
+    ensures value { IfSome
+        (issued (view kdc.old request.now) issuing.now.at issuing.now.random (request_of request.now))
+        (λ issue. IsReader client.now.reader issue
+        → MayBeAccepted issue acceptor.old accepting.now.at.sec client.now.presenting.at
+        → IsJoined issue client.now.wanted client.now.presenting.at result) }
+    // The same holds if the KDC sends a kept reply again, for the ticket that it issued then.
+    ensures repeated { (issue : Issue) (octets : List ℕ)
+        → (answer (view kdc.old request.now) issuing.now.at issuing.now.random issuing.now.room request.now).reply
+        ≡ Some octets
+        → IsIssued issue octets → IsReader client.now.reader issue
+        → MayBeAccepted issue acceptor.old accepting.now.at.sec client.now.presenting.at
+        → IsJoined issue client.now.wanted client.now.presenting.at result }
+    // For every reply that the client accepts, either its ticket can't be presented, or the client also reads the
+    // AP-REP before anything counts as accepted.
+    ensures presented { IfSome
+        (answer (view kdc.old request.now) issuing.now.at issuing.now.random issuing.now.room request.now).reply
+        (λ octets. IfOk (reads_reply client.now.reader client.now.asked octets) (λ credential.
+        IsPresented credential client.now.presenting.at result)) }
+    // The path ends before the service is asked if the KDC sends no reply, if the client rejects the reply, or if the
+    // credential can't be presented.
+    ensures ended { IfErr result (IsEnded
+        (answer (view kdc.old request.now) issuing.now.at issuing.now.random issuing.now.room request.now).reply
+        client.now.asked client.now.reader) }
+    // Whatever the KDC issued, the service's answer and new state are those that its rules prescribe for the AP-REQ
+    // that the client makes from the reply.
+    ensures ruled { IsRuled
+        (key_of (taken_of
+        (answer (view kdc.old request.now) issuing.now.at issuing.now.random issuing.now.room request.now).reply
+        client.now.asked client.now.reader))
+        client.now.presenting.at
+        (ruled acceptor.old client.now.wanted client.now.presenting accepting.now (taken_of
+        (answer (view kdc.old request.now) issuing.now.at issuing.now.random issuing.now.room request.now).reply
+        client.now.asked client.now.reader)) result }
+    ensures served { IsServed acceptor.old acceptor.new
+        (ruled acceptor.old client.now.wanted client.now.presenting accepting.now (taken_of
+        (answer (view kdc.old request.now) issuing.now.at issuing.now.random issuing.now.room request.now).reply
+        client.now.asked client.now.reader)) result }
+    // The KDC's state is the one after this request, or the old one if the KDC ran out of memory.
+    ensures kept { IsKeptOn kdc.old kdc.new
+        (after_request kdc.old issuing.now.at issuing.now.random issuing.now.room request.now) result }
+{
+    match obtain(alloc, kdc, issuing, request, &client.asked, &client.reader) {
+        Ok(credential) => present(
+            alloc,
+            &credential,
+            &client.wanted,
+            &client.presenting,
+            acceptor,
+            accepting,
+        ),
+        Err(fault) => Err(fault),
+    }
+}

@@ -1,0 +1,94 @@
+//! From a request to the credential in its reply.
+ghost use Rattle.std.specs.Prelude.{◌≡◌, ◌≤◌, ℕ, List, length, Some, IfOk, IfErr, IfSome, OnOk, OnErr, option_map};
+ghost use Rattle.kdc_core.specs.Answer.{after_request, answer, OneTicketTwoKeys};
+ghost use Rattle.kdc_core.specs.Issued.{issued};
+ghost use Rattle.kdc_core.specs.Request.{request_of};
+ghost use Rattle.kdc_core.specs.View.{view};
+ghost use Rattle.kdc_replies.specs.Issue.{Issue, IsIssued};
+ghost use Rattle.krb_joined.specs.Credential.{IsCredentialOf};
+ghost use Rattle.krb_der.specs.Spelling.{IsBytes};
+ghost use Rattle.krb_joined.specs.Joined.{IsBefore, IsEnded, IsKept, IsRead};
+ghost use Rattle.krb_joined.specs.Reading.{IsReader};
+
+use crate::fault::JoinedFault;
+use crate::reading::{Reader, read_reply};
+use client_core::Asked;
+use cred_files::Credential;
+use kdc_core::Kdc;
+use krb_fields::Moment;
+use std::alloc::{AllocError, Global};
+
+/// When a KDC answers, its random bytes, and how many bytes a reply with a ticket may have.
+#[derive(Clone, Copy)]
+pub struct Issuing {
+    pub at: Moment,
+    pub random: [u8; 64],
+    pub room: u32,
+}
+
+/// Sends a request to a KDC and reads the reply.
+pub fn obtain(
+    alloc: Global,
+    kdc: &mut Kdc,
+    issuing: &Issuing,
+    request: &[u8],
+    asked: &Asked,
+    reader: &Reader,
+) -> Result<Credential, JoinedFault>
+    // If the KDC issues a ticket and the client reads the reply with its key, it gets the credential of that ticket.
+    ensures obtained { IfOk result (λ credential.
+        IfSome (issued (view kdc.old request.now) issuing.now.at issuing.now.random (request_of request.now)) (λ issue.
+        IsReader reader.now issue → IsCredentialOf issue credential)) }
+    // The same holds for a kept reply, with the ticket that was issued then.
+    ensures repeated { (issue : Issue) (octets : List ℕ)
+        → (answer (view kdc.old request.now) issuing.now.at issuing.now.random issuing.now.room request.now).reply
+        ≡ Some octets
+        → IsIssued issue octets → IsReader reader.now issue → IfOk result (IsCredentialOf issue) }
+    ensures read { IfOk result (IsRead
+        (answer (view kdc.old request.now) issuing.now.at issuing.now.random issuing.now.room request.now).reply
+        asked.now reader.now) }
+    // Otherwise it fails before a service is asked: there is no reply, or the client rejects it.
+    ensures before { IfErr result IsBefore }
+    ensures ended { IfErr result (IsEnded
+        (answer (view kdc.old request.now) issuing.now.at issuing.now.random issuing.now.room request.now).reply
+        asked.now reader.now) }
+    // The KDC's state is the one after this request, or the old one if the KDC ran out of memory.
+    ensures kept { IsKept kdc.old kdc.new
+        (after_request kdc.old issuing.now.at issuing.now.random issuing.now.room request.now) result }
+{
+    let reply = replied(alloc, kdc, issuing, request)?;
+    let Some(octets) = reply else {
+        return Err(JoinedFault::NoReply);
+    };
+    look(&issuing.random, &octets);
+    match read_reply(alloc, asked, reader, &octets) {
+        Ok(credential) => Ok(credential),
+        Err(fault) => Err(JoinedFault::NotTaken(fault)),
+    }
+}
+
+/// Returns the KDC's reply.
+fn replied(
+    alloc: Global,
+    kdc: &mut Kdc,
+    issuing: &Issuing,
+    request: &[u8],
+) -> Result<Option<Vec<u8>>, AllocError>
+    ensures reply { IfOk result (λ reply.
+        option_map (λ octets. octets.items) reply
+        ≡ (answer (view kdc.old request.now) issuing.now.at issuing.now.random issuing.now.room request.now).reply) }
+    ensures keys { IfOk result (λ reply.
+        OneTicketTwoKeys (view kdc.old request.now) issuing.now.at issuing.now.random (request_of request.now)
+        (option_map (λ octets. octets.items) reply)) }
+    ensures state { OnOk result (kdc.new
+        ≡ after_request kdc.old issuing.now.at issuing.now.random issuing.now.room request.now) }
+    ensures err { OnErr result (kdc.new ≡ kdc.old) }
+{
+    kdc.handle(alloc, issuing.at, &issuing.random, issuing.room, request)
+}
+
+/// Looks at the random bytes, which are enough for a session key, and at the bytes of a reply.
+fn look(random: &[u8; 64], octets: &[u8])
+    ensures random { 32 ≤ length random.now }
+    ensures octets { IsBytes octets.now }
+{}

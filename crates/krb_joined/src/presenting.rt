@@ -1,0 +1,86 @@
+//! From a client's credential to a service that accepts the client.
+ghost use Rattle.std.specs.Prelude.{IfErr, IfSome, Some};
+ghost use Rattle.client_core.specs.Presenting.{IsShortChecksum};
+ghost use Rattle.enctypes.specs.Key.{IsKey};
+ghost use Rattle.kdc_replies.specs.Issue.{Issue};
+ghost use Rattle.krb_joined.specs.Credential.{IsCredentialOf};
+ghost use Rattle.client_core.specs.Sessions as definitions;
+ghost use Rattle.krb_joined.specs.Joined.{IsHeard, IsJoined, IsLater, IsPresented, IsRuled, IsServed, MayBeAccepted};
+ghost use Rattle.krb_joined.specs.Joined.{ruled};
+
+use crate::fault::JoinedFault;
+use ap_accept::{Accepted, Acceptor};
+use client_core::{ServiceAsked, ap_request, is_presentable, read_ap_reply, session_key};
+use cred_files::Credential;
+use enctypes::Key;
+use krb_fields::Moment;
+use std::alloc::Global;
+
+/// When a client encrypts its authenticator, or a service its AP-REP, and the 16 random bytes for that.
+#[derive(Clone, Copy)]
+pub struct Sealing {
+    pub at: Moment,
+    pub confounder: [u8; 16],
+}
+
+/// Presents a credential to a service, and reads the AP-REP if one was asked for.
+pub fn present(
+    alloc: Global,
+    credential: &Credential,
+    asked: &ServiceAsked,
+    presenting: &Sealing,
+    acceptor: &mut Acceptor,
+    accepting: &Sealing,
+) -> Result<Accepted, JoinedFault>
+    requires { IsShortChecksum asked.now.checksum }
+    // A service accepts the credential of an issued ticket.
+    ensures value { (issue : Issue) → IsCredentialOf issue credential.now
+        → MayBeAccepted issue acceptor.old accepting.now.at.sec presenting.now.at
+        → IsJoined issue asked.now presenting.now.at result }
+    ensures presented { IsPresented credential.now presenting.now.at result }
+    // For any credential, the service's answer and new state are those that its rules prescribe for the client's
+    // AP-REQ.
+    ensures ruled { IsRuled (definitions.session_key credential.now) presenting.now.at
+        (ruled acceptor.old asked.now presenting.now accepting.now (Some credential.now)) result }
+    ensures served { IsServed acceptor.old acceptor.new
+        (ruled acceptor.old asked.now presenting.now accepting.now (Some credential.now)) result }
+    ensures later { IfErr result IsLater }
+{
+    look(asked.subkey);
+    if !is_presentable(credential) {
+        return Err(JoinedFault::NotPresentable);
+    }
+    let key = session_key(credential).unwrap();
+    let octets = ap_request(
+        alloc,
+        credential,
+        presenting.at,
+        asked,
+        &presenting.confounder,
+    )?;
+    match acceptor.accept(alloc, accepting.at, &accepting.confounder, &octets) {
+        Ok(accepted) => hear(alloc, &key, presenting.at, accepted),
+        Err(fault) => Err(JoinedFault::NotAccepted(fault)),
+    }
+}
+
+/// Looks at a key, if there is one: its size is right for its encryption type.
+fn look(key: Option<Key>)
+    ensures { IfSome key IsKey }
+{
+    if let Some(key) = key {
+        let _etype = key.etype();
+    }
+}
+
+/// Returns what was accepted, after the client has read the AP-REP that the service may have sent.
+fn hear(alloc: Global, key: &Key, sent: Moment, accepted: Accepted) -> Result<Accepted, JoinedFault>
+    ensures { IsHeard key.now sent accepted result }
+{
+    if let Some(octets) = &accepted.ap_rep {
+        if let Err(fault) = read_ap_reply(alloc, key, sent, octets.as_slice()) {
+            return Err(JoinedFault::NotAnswered(fault));
+        }
+    }
+    Ok(accepted)
+}

@@ -1,0 +1,55 @@
+//! How a client reads the reply to its request.
+ghost use Rattle.std.specs.Prelude.{IfOk};
+ghost use Rattle.client_core.specs.Faults.{Gives};
+ghost use Rattle.kdc_replies.specs.Issue.{Issue, IsIssued};
+ghost use Rattle.krb_joined.specs.Credential.{IsCredentialOf};
+ghost use Rattle.krb_joined.specs.Reading.{IsReader, IsTakenBy, reads_reply};
+
+use client_core::{Asked, ClientFault, KeyRole, read_as_reply, read_tgs_reply};
+use cred_files::Credential;
+use enctypes::Key;
+use krb_fields::Moment;
+use std::alloc::Global;
+
+/// The key with which a client reads a reply, and when. The client's own key is for an AS-REP, the others for a
+/// TGS-REP.
+#[derive(Clone, Copy)]
+pub struct Reader {
+    pub role: KeyRole,
+    pub key: Key,
+    pub at: Moment,
+}
+
+/// Returns the credential in a reply, or the first error.
+pub fn read_reply(
+    alloc: Global,
+    asked: &Asked,
+    reader: &Reader,
+    octets: &[u8],
+) -> Result<Credential, ClientFault>
+    ensures value { Gives result (reads_reply reader.now asked.now octets.now) }
+    ensures taken { IfOk result (IsTakenBy reader.now asked.now octets.now) }
+    // From a reply with an issued ticket, a client with the right key gets that ticket's credential, whenever the KDC
+    // issued it.
+    ensures credential { (issue : Issue) → IsIssued issue octets.now → IsReader reader.now issue
+        → IfOk result (IsCredentialOf issue) }
+{
+    read_by_role(alloc, asked, reader, octets)
+}
+
+/// Reads the reply by the key's role.
+fn read_by_role(
+    alloc: Global,
+    asked: &Asked,
+    reader: &Reader,
+    octets: &[u8],
+) -> Result<Credential, ClientFault>
+    ensures value { Gives result (reads_reply reader.now asked.now octets.now) }
+    ensures taken { IfOk result (IsTakenBy reader.now asked.now octets.now) }
+{
+    match reader.role {
+        KeyRole::Client => read_as_reply(alloc, asked, &reader.key, reader.at, octets),
+        KeyRole::Subkey => read_tgs_reply(alloc, asked, &reader.key, true, reader.at, octets),
+        KeyRole::Session => read_tgs_reply(alloc, asked, &reader.key, false, reader.at, octets),
+    }
+}

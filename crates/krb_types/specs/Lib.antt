@@ -1,0 +1,23 @@
+pub mod Ticket
+pub mod ReqBody
+pub mod KdcReq
+pub mod KrbError
+pub mod ShortNameLaws
+pub mod EncTicketPart
+pub mod LastReq
+pub mod EncKdcRepPart
+pub mod PaEncTsEnc
+pub mod Authenticator
+pub mod EncApRepPart
+pub mod EtypeInfo2Entry
+pub mod KdcRep
+pub mod Under
+pub mod ApReq
+pub mod ApRep
+-- laws that proofs cite; readers of a contract don't need them
+pub mod NameInRequestLaws
+pub mod CopyLaws
+pub mod TicketLaws
+pub mod ReplyShortLaws
+pub mod ReplyTicketLaws
+pub mod ReplyCopyLaws

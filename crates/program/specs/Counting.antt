@@ -1,0 +1,22 @@
+-- Failed calls of a store are counted, and results show them.
+use Rattle.std.specs.Prelude.{◌≡◌, ◌+◌, ◌-◌, ◌^◌, ℕ, min, ⊤, Result, Ok, Err}
+use Rattle.program.specs.declared.faults.FileCause.{FileCause}
+use Rattle.program.specs.declared.faults.FileCause.TheVariants.{LongFile, ShortSeed, LongPassword, Failed}
+use Rattle.program.specs.declared.faults.FileFault.{FileFault}
+
+-- the count after a call: one more if it failed, up to the greatest u64
+abbrev pub IsCounted : {T E : Type 0} → ℕ → Result T E → ℕ → Type 0
+IsCounted before (Ok done) after = after ≡ before
+IsCounted before (Err fault) after = after ≡ min (before + 1) (2 ^ 64 - 1)
+
+-- a refused file was read, without a failed call
+abbrev pub LeavesCount : ℕ → FileCause → ℕ → Type 0
+LeavesCount before LongFile after = after ≡ before
+LeavesCount before ShortSeed after = after ≡ before
+LeavesCount before LongPassword after = after ≡ before
+LeavesCount before (Failed error) after = ⊤
+
+-- if a call has failed, the result says so
+abbrev pub IsShown : {T : Type 0} → ℕ → Result T FileFault → ℕ → Type 0
+IsShown before (Ok done) after = after ≡ before
+IsShown before (Err fault) after = LeavesCount before fault.cause after

@@ -1,0 +1,39 @@
+//! What each program of this repository is made of, whatever it does: its options, its files, and its standard error.
+//!
+//! Subcommands and their options are tables ([`SubcommandRow`]). A program uses a [`Store`] for its files, and for what
+//! it takes if no file is named: random bytes, and a password from standard input. So its tests run with files in
+//! memory. A fault says which file it concerns.
+//!
+//! A [`ReadyWriter`] is a stream of lines that never blocks the program. The reader of a pipe, a socket or a terminal
+//! may stop reading; a write then blocks, and with it the whole program. So the writer first asks the system whether the
+//! stream is ready, and returns `WouldBlock` instead of waiting. No contract can say what a system does with the bytes.
+//! It is proved that each call is safe and returns; the rest is tested, over a pipe.
+#![tactic(auto)]
+
+mod command_options;
+mod counting;
+mod faults;
+mod inputs;
+mod memory_store;
+mod readiness;
+mod ready_writer;
+mod shared_writer;
+mod store;
+mod system_store;
+
+pub use crate::command_options::{
+    FlagRow, OptionRow, SubcommandRow, Times, VERSION, subcommand, with_flags, with_options,
+    with_subcommands,
+};
+pub use crate::counting::counted;
+pub use crate::faults::{FileCause, FileFault};
+pub use crate::inputs::{
+    ask_password, draw_seed, file_rights, first_octet, has_file, lock_file, password_of,
+    read_at_most, read_clock, read_file, read_or_draw_seed, read_password, read_seed, read_stream,
+    seed_of, update_file, update_private_file, write_file,
+};
+pub use crate::memory_store::MemoryStore;
+pub use crate::ready_writer::ReadyWriter;
+pub use crate::shared_writer::SharedWriter;
+pub use crate::store::{FileRights, LONGEST_FILE, Store};
+pub use crate::system_store::FileStore;

@@ -1,3 +1,0 @@
-pub mod Found
-pub mod Counting
-pub mod Appended

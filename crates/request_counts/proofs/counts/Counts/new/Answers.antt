@@ -1,6 +1,0 @@
-use Rattle.std.proofs.Common.{refl}
-use Rattle.request_counts.proofs.Counting.{none_counted}
-use Rattle.request_counts.proofs.counts.Counts.new.Goals as goal
-
-pub returns : goal.returns
-returns c = none_counted _ 69 4 refl refl

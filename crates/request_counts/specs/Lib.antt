@@ -1,5 +1,0 @@
-pub mod Kinds
-pub mod Places
-pub mod Counts
-pub mod Prometheus
-pub mod Text

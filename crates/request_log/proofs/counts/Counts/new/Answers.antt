@@ -1,0 +1,6 @@
+use Rattle.std.proofs.Common.{refl}
+use Rattle.request_log.proofs.Counting.{none_counted}
+use Rattle.request_log.proofs.counts.Counts.new.Goals as goal
+
+pub returns : goal.returns
+returns c = none_counted _ 69 4 refl refl

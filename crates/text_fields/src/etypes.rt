@@ -1,0 +1,67 @@
+//! The encryption types of new keys, in order of preference.
+ghost use Rattle.std.specs.Prelude.{◌≡◌, ℕ, pos, IfOk, IfSome, IfNone};
+ghost use Rattle.enctypes.specs.declared.etype.Etype as types;
+ghost use Rattle.text_fields.specs.Keys.{offered};
+ghost use Rattle.text_fields.specs.Etypes.{IsEtypeText};
+
+use crate::numbers::number;
+use enctypes::Etype;
+use std::alloc::{AllocError, AllocFailed, Global};
+
+/// Why a text is not a list of encryption types.
+#[derive(Clone, Copy, Debug, PartialEq, Eq)]
+pub enum EtypesFault {
+    /// It is not a list of supported encryption types, each at most once.
+    Form,
+    Memory,
+}
+
+impl From<AllocError> for EtypesFault {
+    fn from(_: AllocError) -> EtypesFault {
+        EtypesFault::Memory
+    }
+}
+
+impl<T: Drop> From<AllocFailed<T>> for EtypesFault {
+    fn from(_: AllocFailed<T>) -> EtypesFault {
+        EtypesFault::Memory
+    }
+}
+
+/// Returns the default encryption types: 18, 17, 20 and 19.
+pub fn offered(alloc: Global) -> Result<Vec<Etype>, AllocError>
+    ensures { IfOk result (λ etypes. etypes.items ≡ offered) }
+{
+    Vec::from_slice(
+        alloc,
+        &[
+            Etype::Aes256CtsHmacSha1_96,
+            Etype::Aes128CtsHmacSha1_96,
+            Etype::Aes256CtsHmacSha384_192,
+            Etype::Aes128CtsHmacSha256_128,
+        ],
+    )
+}
+
+/// Reads a list of encryption types by their numbers: at least one, and each at most once.
+pub fn read_etypes(alloc: Global, text: &str) -> Result<Vec<Etype>, EtypesFault> {
+    let mut etypes = Vec::new(alloc);
+    for part in text.split(',') {
+        let Some(etype) = read_etype(part) else {
+            return Err(EtypesFault::Form);
+        };
+        if etypes.contains(&etype) {
+            return Err(EtypesFault::Form);
+        }
+        etypes.push(etype)?;
+    }
+    Ok(etypes)
+}
+
+/// Reads the number of an encryption type.
+fn read_etype(text: &str) -> Option<Etype>
+    ensures read { IfSome result (λ etype. IsEtypeText etype text.now) }
+    ensures none { IfNone result ((etype : types.Etype) → ¬ IsEtypeText etype text.now) }
+{
+    Etype::from_number(i32::try_from(number(text)?).ok()?)
+}
