@@ -23,9 +23,9 @@ use Rattle.kadm_run.specs.Keytabs.{IsBehind, IsFreePath, IsFront, IsKeytabFor, I
 use Rattle.kadm_run.specs.Updates.{IsRowChanged, IsRowUpdated, IsSecretOf}
 use Rattle.kadm_run.specs.Words.{Text}
 use Rattle.kadm_run.specs.Worlds.{HoldsDatabase, Rewritten, WroteKeytab, with_database}
-use Rattle.kadm_run.specs.declared.order.KeytabOrder.{KeytabOrder}
-use Rattle.kadm_run.specs.declared.order.ChangeArgs.{ChangeArgs}
-use Rattle.kadm_run.specs.declared.order.RowOrder.{RowOrder}
+use Rattle.kadm_run.specs.declared.command.KeytabArgs.{KeytabArgs}
+use Rattle.kadm_run.specs.declared.command.ChangeArgs.{ChangeArgs}
+use Rattle.kadm_run.specs.declared.command.RowArgs.{RowArgs}
 
 -- ---- a change of a row
 
@@ -58,7 +58,7 @@ rewritten before asked locked read made after db path makes p q kept still same 
 }
 
 -- the change of a row, whose password was read before
-pub row_updated : (before changing : Option World) (etypes given : List Etype) (to : RowOrder) (who : Components) (pass octets : List ℕ) (p q : Principals)
+pub row_updated : (before changing : Option World) (etypes given : List Etype) (to : RowArgs) (who : Components) (pass octets : List ℕ) (p q : Principals)
     → changing ≡ before → given ≡ etypes → octets ≡ pass → IsNameText who to.name.now → IsSecretOf before to.how pass
     → IsRowChanged changing given octets to who p q → IsRowUpdated before etypes to p q
 row_updated before changing etypes given to who pass octets p q kept types taken spelled secret change = record {
@@ -78,7 +78,7 @@ rows_changed before changing words how p q kept change = subst (λ world. AreCha
 
 -- ---- keytabs
 
-pub wrote_keytab : {T E : Type 0} (r : Result T E) (before locked opened checked filled after : Option World) (db : List ℕ) (to : KeytabOrder) (who : Components) (p : Principals) (octets : List ℕ)
+pub wrote_keytab : {T E : Type 0} (r : Result T E) (before locked opened checked filled after : Option World) (db : List ℕ) (to : KeytabArgs) (who : Components) (p : Principals) (octets : List ℕ)
     → locked ≡ before → opened ≡ locked → checked ≡ opened → filled ≡ checked → IsNameText who to.name.now → HoldsDatabase locked db p
     → IsFreePath opened to.out.now
     → IsKeytabFor checked to who p octets → OnOk r (after ≡ option_map (with_file to.out.now octets) filled) → OnOk r (WroteKeytab before db to after)
@@ -108,7 +108,7 @@ front world false path (Some old) new entries all (is, read) text behind = absur
 front world true path None new entries all free text same = (5 ∷ 2 ∷ [], inl (free, refl), same ∙ text)
 front world false path None new entries all free text same = (5 ∷ 2 ∷ [], refl, same ∙ text)
 
-pub keytab_for : (world : Option World) (to : KeytabOrder) (name : Name) (p : Principals) (old : Option (List ℕ)) (new all : List ℕ)
+pub keytab_for : (world : Option World) (to : KeytabArgs) (name : Name) (p : Principals) (old : Option (List ℕ)) (new all : List ℕ)
     → IsOldKeytab world to.append to.out.now old → IsNewKeytab p name new → IsBehind old new all
     → IsKeytabFor world to name.components p all
 keytab_for world to name p old new all was (row, found, text) behind =

@@ -1,70 +1,70 @@
--- How an order ends, and how the words end that spell it.
+-- How a command ends, and how the words end that spell it.
 use Rattle.std.proofs.Common.{◌≡◌, ◌∙◌, List, Bool, true, false, Option, Result, Ok, Err, IfErr, IfOk, OnErr, ap, subst, sym, inl, inr}
 use Rattle.std.specs.Result.{result_unwrap_or}
 use Rattle.program.specs.World.{World}
 use Rattle.program.specs.declared.faults.FileCause.{FileCause}
 use Rattle.program.specs.declared.faults.FileCause.TheVariants.{LongFile, ShortSeed, LongPassword, Failed}
 use Rattle.kadm_run.specs.Batches.{IsBatchDone}
-use Rattle.kadm_run.specs.Ends.{IsEnd, IsFailed, IsFailure, IsFileCauseStatus, IsOrderEnd, IsOrderStopped, IsStatusOf, IsStopped, IsTaskDone, IsWorkDone, IsWorkEnd, IsWorkStopped}
+use Rattle.kadm_run.specs.Ends.{IsEnd, IsFailed, IsFailure, IsFileCauseStatus, IsCommandEnd, IsCommandStopped, IsStatusOf, IsStopped, IsKindDone, IsWriteDone, IsWriteEnd, IsWriteStopped}
 use Rattle.kadm_run.specs.Words.{Spells, Text}
-use Rattle.kadm_run.specs.declared.order.Order.{Order}
-use Rattle.kadm_run.specs.declared.order.Print.{Print}
-use Rattle.kadm_run.specs.declared.order.Task.TheVariants as tasks
-use Rattle.kadm_run.specs.declared.order.Work.{Work}
-use Rattle.kadm_run.specs.declared.order.Work.TheVariants as works
+use Rattle.kadm_run.specs.declared.command.Command.{Command}
+use Rattle.kadm_run.specs.declared.command.PrintCommand.{PrintCommand}
+use Rattle.kadm_run.specs.declared.command.CommandKind.TheVariants as kinds
+use Rattle.kadm_run.specs.declared.command.WriteCommand.{WriteCommand}
+use Rattle.kadm_run.specs.declared.command.WriteCommand.TheVariants as writes
 use Rattle.kadm_run.specs.declared.status.Status.{Status}
 use Rattle.kadm_run.specs.declared.status.Status.TheVariants as statuses
 use Rattle.kadm_run.specs.declared.stop.Stop.{Stop}
 use Rattle.kadm_run.specs.declared.stop.Stop.TheVariants as stops
 
--- ---- work
+-- ---- commands that write
 
-pub batch_work : {E : Type 0} (r : Result Bool E) (before : Option World) (order : Order) (keep : Bool) (after : Option World)
-    → IfOk r (λ whole. IsBatchDone before order.db.now keep whole after) → IfOk r (λ whole. IsWorkDone before order (works.Batch keep) whole after)
-batch_work (Ok true) before order keep after done = done
-batch_work (Ok false) before order keep after (keeps, tried) = (ap works.Batch keeps, tried)
-batch_work (Err e) before order keep after done = tt
+pub batch_write : {E : Type 0} (r : Result Bool E) (before : Option World) (command : Command) (keep : Bool) (after : Option World)
+    → IfOk r (λ whole. IsBatchDone before command.db.now keep whole after) → IfOk r (λ whole. IsWriteDone before command (writes.Batch keep) whole after)
+batch_write (Ok true) before command keep after done = done
+batch_write (Ok false) before command keep after (keeps, tried) = (ap writes.Batch keeps, tried)
+batch_write (Err e) before command keep after done = tt
 
--- ---- orders
+-- ---- commands
 
-pub work_end : {E : Type 0} (r : Result Status E) (before : Option World) (order : Order) (work : Work) (after : Option World)
-    → order.task ≡ tasks.Write work → IfOk r (λ status. IsWorkEnd before order work status after) → IfOk r (λ status. IsOrderEnd before order status after)
-work_end (Ok statuses.Done) before order work after is done =
-    subst (λ task. IsTaskDone before order.db.now order.etypes.items task after) (sym is) done
-work_end (Ok statuses.Refused) before order work after is (keeps, tried) = (is ∙ ap tasks.Write keeps, tried)
-work_end (Ok statuses.Usage) before order work after is done = done
-work_end (Ok statuses.Failed) before order work after is done = done
-work_end (Err e) before order work after is done = tt
+pub write_end : {E : Type 0} (r : Result Status E) (before : Option World) (command : Command) (write : WriteCommand) (after : Option World)
+    → command.kind ≡ kinds.Write write → IfOk r (λ status. IsWriteEnd before command write status after) → IfOk r (λ status. IsCommandEnd before command status after)
+write_end (Ok statuses.Done) before command write after is done =
+    subst (λ kind. IsKindDone before command.db.now command.etypes.items kind after) (sym is) done
+write_end (Ok statuses.Refused) before command write after is (keeps, tried) = (is ∙ ap kinds.Write keeps, tried)
+write_end (Ok statuses.Usage) before command write after is done = done
+write_end (Ok statuses.Failed) before command write after is done = done
+write_end (Err e) before command write after is done = tt
 
-pub work_stop : {A : Type 0} (r : Result A Stop) (before : Option World) (order : Order) (work : Work) (after : Option World)
-    → order.task ≡ tasks.Write work → IfErr r (λ stop. IsWorkStopped before order work stop after) → IfErr r (λ stop. IsOrderStopped before order stop after)
-work_stop (Ok x) before order work after is stopped = tt
-work_stop (Err stop) before order work after is (inl same) = inl same
-work_stop (Err stop) before order work after is (inr (failed, done)) =
-    inr (failed, subst (λ task. IsTaskDone before order.db.now order.etypes.items task after) (sym is) done)
+pub write_stop : {A : Type 0} (r : Result A Stop) (before : Option World) (command : Command) (write : WriteCommand) (after : Option World)
+    → command.kind ≡ kinds.Write write → IfErr r (λ stop. IsWriteStopped before command write stop after) → IfErr r (λ stop. IsCommandStopped before command stop after)
+write_stop (Ok x) before command write after is stopped = tt
+write_stop (Err stop) before command write after is (inl same) = inl same
+write_stop (Err stop) before command write after is (inr (failed, done)) =
+    inr (failed, subst (λ kind. IsKindDone before command.db.now command.etypes.items kind after) (sym is) done)
 
-pub print_end : {E : Type 0} (r : Result Status E) (before : Option World) (order : Order) (print : Print) (after : Option World)
-    → order.task ≡ tasks.Print print → after ≡ before → IfOk r (λ status. status ≡ statuses.Done) → IfOk r (λ status. IsOrderEnd before order status after)
-print_end (Ok status) before order print after is same done =
-    subst (λ s. IsOrderEnd before order s after) (sym done)
-    (subst (λ task. IsTaskDone before order.db.now order.etypes.items task after) (sym is) same)
-print_end (Err e) before order print after is same done = tt
+pub print_end : {E : Type 0} (r : Result Status E) (before : Option World) (command : Command) (print : PrintCommand) (after : Option World)
+    → command.kind ≡ kinds.Print print → after ≡ before → IfOk r (λ status. status ≡ statuses.Done) → IfOk r (λ status. IsCommandEnd before command status after)
+print_end (Ok status) before command print after is same done =
+    subst (λ s. IsCommandEnd before command s after) (sym done)
+    (subst (λ kind. IsKindDone before command.db.now command.etypes.items kind after) (sym is) same)
+print_end (Err e) before command print after is same done = tt
 
 -- ---- words
 
-pub spelled_end : {E : Type 0} (r : Result Status E) (words : List Text) (before : Option World) (order : Order) (after : Option World)
-    → Spells words order → IfOk r (λ status. IsOrderEnd before order status after) → IfOk r (λ status. IsEnd words before status after)
-spelled_end (Ok statuses.Done) words before order after spelled done = inr (order, spelled, done)
-spelled_end (Ok statuses.Refused) words before order after spelled tried = inr (order, spelled, tried)
-spelled_end (Ok statuses.Usage) words before order after spelled none = absurd none
-spelled_end (Ok statuses.Failed) words before order after spelled none = absurd none
-spelled_end (Err e) words before order after spelled done = tt
+pub spelled_end : {E : Type 0} (r : Result Status E) (words : List Text) (before : Option World) (command : Command) (after : Option World)
+    → Spells words command → IfOk r (λ status. IsCommandEnd before command status after) → IfOk r (λ status. IsEnd words before status after)
+spelled_end (Ok statuses.Done) words before command after spelled done = inr (command, spelled, done)
+spelled_end (Ok statuses.Refused) words before command after spelled tried = inr (command, spelled, tried)
+spelled_end (Ok statuses.Usage) words before command after spelled none = absurd none
+spelled_end (Ok statuses.Failed) words before command after spelled none = absurd none
+spelled_end (Err e) words before command after spelled done = tt
 
-pub spelled_stop : {A : Type 0} (r : Result A Stop) (words : List Text) (before : Option World) (order : Order) (after : Option World)
-    → Spells words order → IfErr r (λ stop. IsOrderStopped before order stop after) → IfErr r (λ stop. IsStopped words before stop after)
-spelled_stop (Ok x) words before order after spelled stopped = tt
-spelled_stop (Err stop) words before order after spelled (inl same) = inl same
-spelled_stop (Err stop) words before order after spelled (inr (failed, done)) = inr (failed, inl (order, spelled, done))
+pub spelled_stop : {A : Type 0} (r : Result A Stop) (words : List Text) (before : Option World) (command : Command) (after : Option World)
+    → Spells words command → IfErr r (λ stop. IsCommandStopped before command stop after) → IfErr r (λ stop. IsStopped words before stop after)
+spelled_stop (Ok x) words before command after spelled stopped = tt
+spelled_stop (Err stop) words before command after spelled (inl same) = inl same
+spelled_stop (Err stop) words before command after spelled (inr (failed, done)) = inr (failed, inl (command, spelled, done))
 
 -- the output fails after a command
 pub failed_after : (words : List Text) (before : Option World) (status : Status) (stop : Stop) (after : Option World)

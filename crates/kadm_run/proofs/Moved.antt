@@ -17,7 +17,7 @@ use Rattle.principals.specs.Database.{Principals}
 use Rattle.principals.specs.NamesLaws.{AllNamesFit, names_fit-insert}
 use Rattle.kadm_run.specs.Dumps.{AreRowsOf, HasRealm, IsDatabaseOf, IsKept, IsPushedRow, IsRealmOf}
 use Rattle.kadm_run.specs.Worlds.{MadeFromDump, with_database}
-use Rattle.kadm_run.specs.declared.order.DumpOrder.{DumpOrder}
+use Rattle.kadm_run.specs.declared.command.DumpArgs.{DumpArgs}
 use Rattle.kadm_run.proofs.Imports.{here_is}
 
 abbrev HasRow : Entry Row → Type 0
@@ -95,7 +95,7 @@ database_made realm stash found skip made new of kept rows is =
     subst (IsDatabaseOf found stash skip) (sym is) (record { realm = of; kept = kept; entries = made; rows = rows; mapped = refl })
 
 -- the database that is written at a path without a file
-pub made_from_dump : {T E : Type 0} (r : Result T E) (before locked asked read after : Option World) (db path : List ℕ) (from : DumpOrder) (p : Principals)
+pub made_from_dump : {T E : Type 0} (r : Result T E) (before locked asked read after : Option World) (db path : List ℕ) (from : DumpArgs) (p : Principals)
     → locked ≡ before → asked ≡ locked → read ≡ asked → path ≡ db → IsThere locked db false → HasRealm asked from p
     → OnOk r (after ≡ with_database path p read) → OnOk r (MadeFromDump before db from after)
 made_from_dump (Ok x) before locked asked read after db path from p first same still at free made written = record {

@@ -15,7 +15,7 @@ use Rattle.principal_rows.specs.declared.name_map.Entry.{Entry}
 use Rattle.principal_rows.specs.declared.row.Row.{Row}
 use Rattle.principals.specs.Database.{Principals}
 use Rattle.kadm_run.specs.Importing.{AreVersionsOf}
-use Rattle.kadm_run.specs.declared.order.DumpOrder.{DumpOrder}
+use Rattle.kadm_run.specs.declared.command.DumpArgs.{DumpArgs}
 
 -- ---- rows
 
@@ -61,8 +61,8 @@ pub record IsDatabaseOf (found : List DumpedPrincipal) (stash : List KeytabEntry
 abbrev pub IsStash : Option World → List ℕ → List KeytabEntry → Type 0
 IsStash world path stash = (octets : List ℕ) × IsRead world path octets × IsKeytab stash octets
 
--- the same for the files of an order
-pub record HasRealm (before : Option World) (from : DumpOrder) (new : Principals) : Type 0 where
+-- the same for the files of a command
+pub record HasRealm (before : Option World) (from : DumpArgs) (new : Principals) : Type 0 where
   pub text : List ℕ
   pub dump_read : IsRead before from.dump.now text
   pub found : List DumpedPrincipal

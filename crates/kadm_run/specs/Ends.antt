@@ -6,11 +6,11 @@ use Rattle.program.specs.declared.faults.FileCause.{FileCause}
 use Rattle.program.specs.declared.faults.FileCause.TheVariants.{LongFile, ShortSeed, LongPassword, Failed}
 use Rattle.kadm_run.specs.Words.{Spells, Text, asks_help}
 use Rattle.kadm_run.specs.Worlds.{Did, Tried}
-use Rattle.kadm_run.specs.declared.order.Order.{Order}
-use Rattle.kadm_run.specs.declared.order.Task.{Task}
-use Rattle.kadm_run.specs.declared.order.Task.TheVariants.{Print, Write}
-use Rattle.kadm_run.specs.declared.order.Work.{Work}
-use Rattle.kadm_run.specs.declared.order.Work.TheVariants as works
+use Rattle.kadm_run.specs.declared.command.Command.{Command}
+use Rattle.kadm_run.specs.declared.command.CommandKind.{CommandKind}
+use Rattle.kadm_run.specs.declared.command.CommandKind.TheVariants.{Print, Write}
+use Rattle.kadm_run.specs.declared.command.WriteCommand.{WriteCommand}
+use Rattle.kadm_run.specs.declared.command.WriteCommand.TheVariants as writes
 use Rattle.kadm_run.specs.declared.status.Status.{Status}
 use Rattle.kadm_run.specs.declared.status.Status.TheVariants as statuses
 use Rattle.kadm_run.specs.declared.stop.Stop.{Stop}
@@ -61,55 +61,55 @@ IsStatusOf (File fault) status = IsFileCauseStatus fault.cause status
 
 -- ---- what is done
 
-abbrev pub IsTaskDone : Option World → List ℕ → List Etype → Task → Option World → Type 0
-IsTaskDone before db etypes (Print what) after = after ≡ before
-IsTaskDone before db etypes (Write work) after = Did before db etypes work after
+abbrev pub IsKindDone : Option World → List ℕ → List Etype → CommandKind → Option World → Type 0
+IsKindDone before db etypes (Print what) after = after ≡ before
+IsKindDone before db etypes (Write write) after = Did before db etypes write after
 
-abbrev pub IsDone : Option World → Order → Option World → Type 0
-IsDone before order after = IsTaskDone before order.db.now order.etypes.items order.task after
+abbrev pub IsDone : Option World → Command → Option World → Type 0
+IsDone before command after = IsKindDone before command.db.now command.etypes.items command.kind after
 
--- the work is a batch that keeps going, and some of its lines were done
-abbrev pub IsWorkTried : Option World → List ℕ → Work → Option World → Type 0
-IsWorkTried before db work after = (work ≡ works.Batch true) × Tried before db after
+-- the command is a batch that keeps going, and some of its lines were done
+abbrev pub IsWriteTried : Option World → List ℕ → WriteCommand → Option World → Type 0
+IsWriteTried before db write after = (write ≡ writes.Batch true) × Tried before db after
 
 -- all was done, or some lines of a batch were
-abbrev pub IsWorkDone : Option World → Order → Work → Bool → Option World → Type 0
-IsWorkDone before order work true after = Did before order.db.now order.etypes.items work after
-IsWorkDone before order work false after = IsWorkTried before order.db.now work after
+abbrev pub IsWriteDone : Option World → Command → WriteCommand → Bool → Option World → Type 0
+IsWriteDone before command write true after = Did before command.db.now command.etypes.items write after
+IsWriteDone before command write false after = IsWriteTried before command.db.now write after
 
-abbrev pub IsWorkEnd : Option World → Order → Work → Status → Option World → Type 0
-IsWorkEnd before order work statuses.Done after = Did before order.db.now order.etypes.items work after
-IsWorkEnd before order work statuses.Refused after = IsWorkTried before order.db.now work after
-IsWorkEnd before order work statuses.Usage after = ⊥
-IsWorkEnd before order work statuses.Failed after = ⊥
+abbrev pub IsWriteEnd : Option World → Command → WriteCommand → Status → Option World → Type 0
+IsWriteEnd before command write statuses.Done after = Did before command.db.now command.etypes.items write after
+IsWriteEnd before command write statuses.Refused after = IsWriteTried before command.db.now write after
+IsWriteEnd before command write statuses.Usage after = ⊥
+IsWriteEnd before command write statuses.Failed after = ⊥
 
--- work that stops early leaves the files unchanged, unless it was done and then the output failed
-abbrev pub IsWorkStopped : Option World → Order → Work → Stop → Option World → Type 0
-IsWorkStopped before order work stop after =
-    (after ≡ before) ⊎ (IsFailed stop × Did before order.db.now order.etypes.items work after)
+-- a command that stops early leaves the files unchanged, unless it was done and then the output failed
+abbrev pub IsWriteStopped : Option World → Command → WriteCommand → Stop → Option World → Type 0
+IsWriteStopped before command write stop after =
+    (after ≡ before) ⊎ (IsFailed stop × Did before command.db.now command.etypes.items write after)
 
--- the order is a batch that keeps going, and some of its lines were done
-abbrev pub IsTried : Option World → Order → Option World → Type 0
-IsTried before order after = (order.task ≡ Write (works.Batch true)) × Tried before order.db.now after
+-- the command is a batch that keeps going, and some of its lines were done
+abbrev pub IsTried : Option World → Command → Option World → Type 0
+IsTried before command after = (command.kind ≡ Write (writes.Batch true)) × Tried before command.db.now after
 
-abbrev pub IsOrderEnd : Option World → Order → Status → Option World → Type 0
-IsOrderEnd before order statuses.Done after = IsDone before order after
-IsOrderEnd before order statuses.Refused after = IsTried before order after
-IsOrderEnd before order statuses.Usage after = ⊥
-IsOrderEnd before order statuses.Failed after = ⊥
+abbrev pub IsCommandEnd : Option World → Command → Status → Option World → Type 0
+IsCommandEnd before command statuses.Done after = IsDone before command after
+IsCommandEnd before command statuses.Refused after = IsTried before command after
+IsCommandEnd before command statuses.Usage after = ⊥
+IsCommandEnd before command statuses.Failed after = ⊥
 
-abbrev pub IsOrderStopped : Option World → Order → Stop → Option World → Type 0
-IsOrderStopped before order stop after = (after ≡ before) ⊎ (IsFailed stop × IsDone before order after)
+abbrev pub IsCommandStopped : Option World → Command → Stop → Option World → Type 0
+IsCommandStopped before command stop after = (after ≡ before) ⊎ (IsFailed stop × IsDone before command after)
 
 -- ---- the words of a command line
 
 -- what the words order was done
 abbrev pub IsSpelledDone : List Text → Option World → Option World → Type 0
-IsSpelledDone words before after = (order : Order) × Spells words order × IsDone before order after
+IsSpelledDone words before after = (command : Command) × Spells words command × IsDone before command after
 
 -- the words order a batch that keeps going, and some of its lines were done
 abbrev pub IsSpelledTried : List Text → Option World → Option World → Type 0
-IsSpelledTried words before after = (order : Order) × Spells words order × IsTried before order after
+IsSpelledTried words before after = (command : Command) × Spells words command × IsTried before command after
 
 abbrev pub IsStopped : List Text → Option World → Stop → Option World → Type 0
 IsStopped words before stop after =

@@ -13,7 +13,7 @@ use Rattle.principal_rows.specs.declared.row.KeyVersion.{KeyVersion}
 use Rattle.principal_rows.specs.declared.row.Row.{Row}
 use Rattle.principals.specs.Database.{Principals}
 use Rattle.principals_text.specs.Value.{text_database}
-use Rattle.kadm_run.specs.declared.order.KeytabOrder.{KeytabOrder}
+use Rattle.kadm_run.specs.declared.command.KeytabArgs.{KeytabArgs}
 
 -- ---- where it may be written
 
@@ -72,7 +72,7 @@ IsBehind None new octets = octets ≡ new
 IsBehind (Some old) new octets = (size : ℕ) × (octets ≡ take size old ++ drop 2 new)
 
 -- the current keys of a principal that exists, after what comes before them
-pub record IsKeytabFor (world : Option World) (to : KeytabOrder) (who : Components) (p : Principals) (octets : List ℕ) : Type 0 where
+pub record IsKeytabFor (world : Option World) (to : KeytabArgs) (who : Components) (p : Principals) (octets : List ℕ) : Type 0 where
   pub row : Row
   pub found : get p.rows who ≡ Some row
   pub name : Name

@@ -13,15 +13,15 @@ use Rattle.kadm_run.specs.Denying.{migrated_rows}
 use Rattle.kadm_run.specs.Granting.{IsCleared, IsGranted}
 use Rattle.kadm_run.specs.Importing.{HasVersions, Imports}
 use Rattle.kadm_run.specs.Words.{Spells, Text, in_batch, path_of, texts}
-use Rattle.kadm_run.specs.declared.order.Grant.{Grant}
-use Rattle.kadm_run.specs.declared.order.Order.{Order}
-use Rattle.kadm_run.specs.declared.order.RowOrder.{RowOrder}
-use Rattle.kadm_run.specs.declared.order.RowUpdate.{RowUpdate}
-use Rattle.kadm_run.specs.declared.order.RowUpdate.TheVariants as rows
-use Rattle.kadm_run.specs.declared.order.Task.TheVariants as tasks
-use Rattle.kadm_run.specs.declared.order.Update.{Update}
-use Rattle.kadm_run.specs.declared.order.Update.TheVariants as updates
-use Rattle.kadm_run.specs.declared.order.Work.TheVariants as works
+use Rattle.kadm_run.specs.declared.command.Grant.{Grant}
+use Rattle.kadm_run.specs.declared.command.Command.{Command}
+use Rattle.kadm_run.specs.declared.command.RowArgs.{RowArgs}
+use Rattle.kadm_run.specs.declared.command.RowUpdate.{RowUpdate}
+use Rattle.kadm_run.specs.declared.command.RowUpdate.TheVariants as rows
+use Rattle.kadm_run.specs.declared.command.CommandKind.TheVariants as kinds
+use Rattle.kadm_run.specs.declared.command.Update.{Update}
+use Rattle.kadm_run.specs.declared.command.Update.TheVariants as updates
+use Rattle.kadm_run.specs.declared.command.WriteCommand.TheVariants as writes
 
 -- ---- one row
 
@@ -58,12 +58,12 @@ IsRowGiven world etypes pass (rows.Random to) who p new = GivesRandom world etyp
 IsRowGiven world etypes pass (rows.Import keytab) who p new = IsImported world etypes keytab.now who p new
 
 -- a principal is given keys, and then the settings of the command line
-abbrev pub IsRowChanged : Option World → List Etype → List ℕ → RowOrder → Components → Principals → Principals → Type 0
+abbrev pub IsRowChanged : Option World → List Etype → List ℕ → RowArgs → Components → Principals → Principals → Type 0
 IsRowChanged world etypes pass to who p new =
     (given : Principals) × IsRowGiven world etypes pass to.how who p given × AreSet world (texts to.words.now) who given new
 
 -- the row of the principal that a text names is changed
-pub record IsRowUpdated (world : Option World) (etypes : List Etype) (to : RowOrder) (p : Principals) (new : Principals) : Type 0 where
+pub record IsRowUpdated (world : Option World) (etypes : List Etype) (to : RowArgs) (p : Principals) (new : Principals) : Type 0 where
   pub who : Components
   pub spelled : IsNameText who to.name.now
   pub pass : List ℕ
@@ -75,19 +75,19 @@ IsMigrated users_are_no_services p new = new ≡ migrated_rows users_are_no_serv
 
 abbrev pub IsUpdated : Option World → List Etype → Update → Principals → Principals → Type 0
 IsUpdated world etypes (updates.Row to) p new = IsRowUpdated world etypes to p new
-IsUpdated world etypes (updates.Changes words how) p new = AreChanged world (texts words.now) how p new
+IsUpdated world etypes (updates.Changes changes) p new = AreChanged world (texts changes.words.now) changes.how p new
 IsUpdated world etypes (updates.Migrate users_are_no_services) p new = IsMigrated users_are_no_services p new
 
 -- ---- the lines of a batch
 
 -- the change that was ordered is made
-abbrev pub IsOrderMade : Option World → Order → Principals → Principals → Type 0
-IsOrderMade world order p new =
-    (update : Update) × (order.task ≡ tasks.Write (works.Update update)) × IsUpdated world order.etypes.items update p new
+abbrev pub IsCommandMade : Option World → Command → Principals → Principals → Type 0
+IsCommandMade world command p new =
+    (update : Update) × (command.kind ≡ kinds.Write (writes.Update update)) × IsUpdated world command.etypes.items update p new
 
 -- the change that words spell is made
 abbrev pub IsSpelledMade : Option World → List Text → Principals → Principals → Type 0
-IsSpelledMade world words p new = (order : Order) × Spells words order × IsOrderMade world order p new
+IsSpelledMade world words p new = (command : Command) × Spells words command × IsCommandMade world command p new
 
 -- the same for a line of a batch
 abbrev pub IsLineDone : Option World → Text → List Text → Principals → Principals → Type 0

@@ -1,25 +1,25 @@
--- The words of a command line, and the order that they spell.
+-- The words of a command line, and the command that they spell.
 use Rattle.std.specs.Prelude.{◌≡◌, ◌==◌, ◌&&◌, ◌||◌, ℕ, Bool, true, false, not, List, [], ◌∷◌, length, map, nat_lt, slice_get}
 use Rattle.std.specs.Prelude.{Option, Some, None, is_some, option_map, unwrap_or, codes, bytes_eq, if◌then◌else◌}
 use Rattle.std.specs.Option.{option_or}
 use Rattle.std.specs.Borrow.{Bor}
 use Rattle.std.specs.List.{before_first, after_first, position_or_len}
 use Rattle.std.specs.Str.Parse.{IsNumeral, digits_value}
-use Rattle.kadm_run.specs.declared.order.ChangeArgs.{ChangeArgs}
-use Rattle.kadm_run.specs.declared.order.ChangeArgs.TheVariants.{Drop, DropOlder, Policy, Remove}
-use Rattle.kadm_run.specs.declared.order.Grant.{Grant}
-use Rattle.kadm_run.specs.declared.order.Grant.TheVariants.{New, NewUser, Next, Replace, Either}
-use Rattle.kadm_run.specs.declared.order.Order.{Order}
-use Rattle.kadm_run.specs.declared.order.Print.{Print}
-use Rattle.kadm_run.specs.declared.order.Print.TheVariants as prints
-use Rattle.kadm_run.specs.declared.order.RowUpdate.{RowUpdate}
-use Rattle.kadm_run.specs.declared.order.RowUpdate.TheVariants as rows
-use Rattle.kadm_run.specs.declared.order.Task.{Task}
-use Rattle.kadm_run.specs.declared.order.Task.TheVariants as tasks
-use Rattle.kadm_run.specs.declared.order.Update.{Update}
-use Rattle.kadm_run.specs.declared.order.Update.TheVariants as updates
-use Rattle.kadm_run.specs.declared.order.Work.{Work}
-use Rattle.kadm_run.specs.declared.order.Work.TheVariants as works
+use Rattle.kadm_run.specs.declared.command.ChangeArgs.{ChangeArgs}
+use Rattle.kadm_run.specs.declared.command.ChangeArgs.TheVariants.{Drop, DropOlder, Policy, Remove}
+use Rattle.kadm_run.specs.declared.command.Grant.{Grant}
+use Rattle.kadm_run.specs.declared.command.Grant.TheVariants.{New, NewUser, Next, Replace, Either}
+use Rattle.kadm_run.specs.declared.command.Command.{Command}
+use Rattle.kadm_run.specs.declared.command.PrintCommand.{PrintCommand}
+use Rattle.kadm_run.specs.declared.command.PrintCommand.TheVariants as prints
+use Rattle.kadm_run.specs.declared.command.RowUpdate.{RowUpdate}
+use Rattle.kadm_run.specs.declared.command.RowUpdate.TheVariants as rows
+use Rattle.kadm_run.specs.declared.command.CommandKind.{CommandKind}
+use Rattle.kadm_run.specs.declared.command.CommandKind.TheVariants as kinds
+use Rattle.kadm_run.specs.declared.command.Update.{Update}
+use Rattle.kadm_run.specs.declared.command.Update.TheVariants as updates
+use Rattle.kadm_run.specs.declared.command.WriteCommand.{WriteCommand}
+use Rattle.kadm_run.specs.declared.command.WriteCommand.TheVariants as writes
 
 -- ---- words
 
@@ -114,7 +114,7 @@ sets_some words =
     if is_some (value_of words (codes "--field")) then is_some (value_of words (codes "--value"))
     else not (is_some (value_of words (codes "--value"))) && is_some (value_of words (codes "--set"))
 
--- ---- the order that words spell
+-- ---- the command that words spell
 
 -- the principal to add is new, or has keys already
 abbrev pub IsPasswordGrant : List Text → Grant → Type 0
@@ -151,26 +151,27 @@ IsRowSpelled words (rows.Import keytab) =
 abbrev pub IsUpdateSpelled : List Text → Update → Type 0
 IsUpdateSpelled words (updates.Row to) =
     (value_of words (codes "--name") ≡ Some to.name.now) × (texts to.words.now ≡ words) × IsRowSpelled words to.how
-IsUpdateSpelled words (updates.Changes given how) =
-    (is_some (value_of words (codes "--name")) ≡ true) × (texts given.now ≡ words) × IsChangeSpelled words how
+IsUpdateSpelled words (updates.Changes changes) =
+    (is_some (value_of words (codes "--name")) ≡ true) × (texts changes.words.now ≡ words)
+    × IsChangeSpelled words changes.how
 IsUpdateSpelled words (updates.Migrate users_are_no_services) =
     (command_of words ≡ Some (codes "migrate")) × (users_are_no_services ≡ has_flag words (codes "--users-are-no-services"))
 
-abbrev pub IsWorkSpelled : List Text → Work → Type 0
-IsWorkSpelled words (works.Init realm seed) =
-    (command_of words ≡ Some (codes "init")) × (value_of words (codes "--realm") ≡ Some realm.now)
-    × (path_of seed ≡ value_of words (codes "--seed"))
-IsWorkSpelled words (works.Update update) = IsUpdateSpelled words update
-IsWorkSpelled words (works.Batch keep_going) =
+abbrev pub IsWriteSpelled : List Text → WriteCommand → Type 0
+IsWriteSpelled words (writes.Init new) =
+    (command_of words ≡ Some (codes "init")) × (value_of words (codes "--realm") ≡ Some new.realm.now)
+    × (path_of new.seed ≡ value_of words (codes "--seed"))
+IsWriteSpelled words (writes.Update update) = IsUpdateSpelled words update
+IsWriteSpelled words (writes.Batch keep_going) =
     (command_of words ≡ Some (codes "batch")) × (keep_going ≡ has_flag words (codes "--keep-going"))
-IsWorkSpelled words (works.Keytab to) =
+IsWriteSpelled words (writes.Keytab to) =
     (command_of words ≡ Some (codes "keytab")) × (value_of words (codes "--name") ≡ Some to.name.now)
     × (value_of words (codes "--out") ≡ Some to.out.now) × (to.append ≡ has_flag words (codes "--append"))
-IsWorkSpelled words (works.Dump from) =
+IsWriteSpelled words (writes.Dump from) =
     (command_of words ≡ Some (codes "import")) × (value_of words (codes "--dump") ≡ Some from.dump.now)
     × (value_of words (codes "--stash") ≡ Some from.stash.now) × (from.skip ≡ has_flag words (codes "--skip"))
 
-abbrev pub IsPrintSpelled : List Text → Print → Type 0
+abbrev pub IsPrintSpelled : List Text → PrintCommand → Type 0
 IsPrintSpelled words (prints.List list) =
     (command_of words ≡ Some (codes "list")) × (path_of list.like ≡ value_of words (codes "--like"))
     × (list.long ≡ has_flag words (codes "--long")) × (list.json ≡ has_flag words (codes "--json"))
@@ -178,11 +179,11 @@ IsPrintSpelled words prints.Lint = command_of words ≡ Some (codes "lint")
 IsPrintSpelled words (prints.Show name) =
     (command_of words ≡ Some (codes "show")) × (value_of words (codes "--name") ≡ Some name.now)
 
-abbrev pub IsTaskSpelled : List Text → Task → Type 0
-IsTaskSpelled words (tasks.Print print) = IsPrintSpelled words print
-IsTaskSpelled words (tasks.Write work) = IsWorkSpelled words work
+abbrev pub IsKindSpelled : List Text → CommandKind → Type 0
+IsKindSpelled words (kinds.Print print) = IsPrintSpelled words print
+IsKindSpelled words (kinds.Write write) = IsWriteSpelled words write
 
--- the order that the words of a command line spell: its database, and what to do with it
-pub record Spells (words : List Text) (order : Order) : Type 0 where
-  pub db : value_of words (codes "--db") ≡ Some order.db.now
-  pub task : IsTaskSpelled words order.task
+-- the command that the words of a command line spell: its database, and what to do with it
+pub record Spells (words : List Text) (command : Command) : Type 0 where
+  pub db : value_of words (codes "--db") ≡ Some command.db.now
+  pub kind : IsKindSpelled words command.kind

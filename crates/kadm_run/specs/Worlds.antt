@@ -13,11 +13,11 @@ use Rattle.kadm_run.specs.Dumps.{HasRealm}
 use Rattle.kadm_run.specs.Keytabs.{IsFreePath, IsKeytabFor}
 use Rattle.kadm_run.specs.Updates.{AreDone, AreTried, IsUpdated}
 use Rattle.kadm_run.specs.Words.{Text, path_of}
-use Rattle.kadm_run.specs.declared.order.DumpOrder.{DumpOrder}
-use Rattle.kadm_run.specs.declared.order.KeytabOrder.{KeytabOrder}
-use Rattle.kadm_run.specs.declared.order.Update.{Update}
-use Rattle.kadm_run.specs.declared.order.Work.{Work}
-use Rattle.kadm_run.specs.declared.order.Work.TheVariants as works
+use Rattle.kadm_run.specs.declared.command.DumpArgs.{DumpArgs}
+use Rattle.kadm_run.specs.declared.command.KeytabArgs.{KeytabArgs}
+use Rattle.kadm_run.specs.declared.command.Update.{Update}
+use Rattle.kadm_run.specs.declared.command.WriteCommand.{WriteCommand}
+use Rattle.kadm_run.specs.declared.command.WriteCommand.TheVariants as writes
 
 -- the path has the text of a database
 abbrev pub HoldsDatabase : Option World → List ℕ → Principals → Type 0
@@ -61,7 +61,7 @@ abbrev pub Tried : Option World → List ℕ → Option World → Type 0
 Tried before db after = (lines : List (List Text)) × Rewritten before db (AreTried before db lines) after
 
 -- a keytab of a principal's current keys is written, at a path without a database or a lock, and no other file
-pub record WroteKeytab (before : Option World) (db : List ℕ) (to : KeytabOrder) (after : Option World) : Type 0 where
+pub record WroteKeytab (before : Option World) (db : List ℕ) (to : KeytabArgs) (after : Option World) : Type 0 where
   pub who : Components
   pub spelled : IsNameText who to.name.now
   pub old : Principals
@@ -72,15 +72,15 @@ pub record WroteKeytab (before : Option World) (db : List ℕ) (to : KeytabOrder
   pub written : after ≡ option_map (with_file to.out.now octets) before
 
 -- the database of the realm of a dump, at a path without a file
-pub record MadeFromDump (before : Option World) (db : List ℕ) (from : DumpOrder) (after : Option World) : Type 0 where
+pub record MadeFromDump (before : Option World) (db : List ℕ) (from : DumpArgs) (after : Option World) : Type 0 where
   pub free : IsThere before db false
   pub new : Principals
   pub made : HasRealm before from new
   pub written : after ≡ with_database db new before
 
-abbrev pub Did : Option World → List ℕ → List Etype → Work → Option World → Type 0
-Did before db etypes (works.Init realm seed) after = MadeRealm before db etypes realm.now (path_of seed) after
-Did before db etypes (works.Update update) after = Updated before db etypes update after
-Did before db etypes (works.Batch keep_going) after = Batched before db after
-Did before db etypes (works.Keytab to) after = WroteKeytab before db to after
-Did before db etypes (works.Dump from) after = MadeFromDump before db from after
+abbrev pub Did : Option World → List ℕ → List Etype → WriteCommand → Option World → Type 0
+Did before db etypes (writes.Init new) after = MadeRealm before db etypes new.realm.now (path_of new.seed) after
+Did before db etypes (writes.Update update) after = Updated before db etypes update after
+Did before db etypes (writes.Batch keep_going) after = Batched before db after
+Did before db etypes (writes.Keytab to) after = WroteKeytab before db to after
+Did before db etypes (writes.Dump from) after = MadeFromDump before db from after

@@ -1,21 +1,24 @@
 //! Many changes of one database: each line of standard input is a command. The database is read once and written once.
 ghost use Rattle.std.specs.Prelude.{◌≡◌, IfNone, IfOk, OnErr, OnOk, true};
 ghost use Rattle.kadm_run.specs.Batches.{IsBatchDone, line_text, line_texts};
-ghost use Rattle.kadm_run.specs.Updates.{AreDone, IsLineDone, IsOrderMade, IsRun, IsSpelledMade, IsTurn};
+ghost use Rattle.kadm_run.specs.Updates.{AreDone, IsLineDone, IsCommandMade, IsRun, IsSpelledMade, IsTurn};
 ghost use Rattle.kadm_run.specs.Words.{texts};
 
+use crate::command::{Command, CommandFault, CommandKind, WriteCommand};
+use crate::command_words::{NO_MODE, read_command};
+use crate::context::Context;
 use crate::databases::{lock_database, read_database, write_database};
+use crate::draft::Draft;
 use crate::line_words::{LineFault, line_words};
-use crate::order::{NO_MODE, Order, OrderFault, Task, Work, read_args, read_order};
+use crate::options::read_args;
 use crate::reason::Reason;
 use crate::status::Status;
 use crate::stop::{Stop, Subject, begin_line, report};
 use crate::updates::update_in_batch;
-use crate::usage::{report_fault, report_order_fault};
+use crate::usage::{report_command_fault, report_fault};
 use crate::words::{has_flag, in_batch};
 use clap::ArgMatches;
 use clap::error::Error;
-use principals::Database;
 use program::{FileCause, FileFault, Store};
 use std::alloc::{AllocError, Global};
 use std::io::{ErrorKind, Write};
@@ -40,44 +43,39 @@ struct BatchLine {
     words: Vec<String>,
 }
 
-/// How far a batch is, for those who watch it.
+/// The commands of a batch.
 #[derive(Clone, Copy)]
-struct Progress {
-    /// Whether standard error is a terminal.
-    watched: bool,
-    /// The second of the last report, or of the start.
-    second: Option<u64>,
+struct Batch<'a> {
+    /// The path of the database.
+    db: &'a str,
+    lines: &'a [BatchLine],
+    /// Whether a line that is not done leaves the others.
+    keep_going: bool,
 }
 
 /// Runs the commands on the lines of standard input, which it reads before it locks the database. Returns whether all
 /// were done. If one is not, nothing is written, unless the batch keeps going.
 pub(crate) fn run_batch<'p, T: Store, W: Write, E: Write>(
-    alloc: Global,
-    order: &Order<'p>,
-    keep_going: bool,
-    watched: bool,
+    context: &mut Context<W, E>,
     store: &mut T,
-    out: &mut W,
-    errors: &mut E,
+    command: &Command<'p>,
+    keep_going: bool,
 ) -> Result<bool, Stop<'p>>
-    ensures done { IfOk result (λ whole. IsBatchDone (T.world store.old) order.now.db.now keep_going whole (T.world store.new)) }
+    ensures done { IfOk result (λ whole. IsBatchDone (T.world store.old) command.now.db.now keep_going whole (T.world store.new)) }
     ensures kept { OnErr result (T.world store.new ≡ T.world store.old) }
 {
-    let lines = read_lines(alloc, store, errors)?;
-    let locked = lock_database(alloc, order.db, store, errors)?;
-    let mut database = read_database(alloc, store, errors, order.db)?;
-    let whole = run_lines(
-        alloc,
-        order.db,
-        &lines,
+    let alloc = context.alloc;
+    let lines = read_lines(alloc, store, &mut context.errors)?;
+    let locked = lock_database(context, store, command)?;
+    let database = read_database(context, store, command.db)?;
+    let mut draft = Draft { alloc, database };
+    let batch = Batch {
+        db: command.db,
+        lines: &lines,
         keep_going,
-        watched,
-        store,
-        &mut database,
-        out,
-        errors,
-    )?;
-    write_database(alloc, store, &locked, &database, order.keep_mode)?;
+    };
+    let whole = run_lines(context, store, &batch, &mut draft)?;
+    write_database(alloc, store, &locked, &draft.database)?;
     Ok(whole)
 }
 
@@ -147,68 +145,42 @@ fn report_line_fault<E: Write>(errors: &mut E, number: usize, fault: LineFault) 
 /// Runs the commands, and returns whether all were done. If one is not, that is the end, unless the batch keeps going.
 #[tactic(auto, using(crate::proofs::Batching::run_kept))]
 fn run_lines<T: Store, W: Write, E: Write>(
-    alloc: Global,
-    db: &str,
-    lines: &[BatchLine],
-    keep_going: bool,
-    watched: bool,
+    context: &mut Context<W, E>,
     store: &mut T,
-    database: &mut Database,
-    out: &mut W,
-    errors: &mut E,
+    batch: &Batch<'_>,
+    draft: &mut Draft,
 ) -> Result<bool, Stop<'static>>
-    ensures run { IfOk result (λ whole. IsRun (T.world store.old) db.now keep_going (line_texts lines.now)
-        database.old database.new whole) }
+    ensures run { IfOk result (λ whole. IsRun (T.world store.old) batch.now.db.now batch.now.keep_going
+        (line_texts batch.now.lines.now) draft.old.database draft.new.database whole) }
     ensures kept { T.world store.new ≡ T.world store.old }
 {
-    let mut progress = Progress {
-        watched,
-        second: None,
-    };
-    if keep_going {
-        return run_each(
-            alloc,
-            db,
-            lines,
-            &mut progress,
-            store,
-            database,
-            out,
-            errors,
-        );
+    if batch.keep_going {
+        return run_each(context, store, batch, draft);
     }
-    run_all(
-        alloc,
-        db,
-        lines,
-        &mut progress,
-        store,
-        database,
-        out,
-        errors,
-    )?;
+    run_all(context, store, batch, draft)?;
     Ok(true)
 }
 
 /// Runs the commands up to the first that is not done.
 fn run_all<T: Store, W: Write, E: Write>(
-    alloc: Global,
-    db: &str,
-    lines: &[BatchLine],
-    progress: &mut Progress,
+    context: &mut Context<W, E>,
     store: &mut T,
-    database: &mut Database,
-    out: &mut W,
-    errors: &mut E,
+    batch: &Batch<'_>,
+    draft: &mut Draft,
 ) -> Result<(), Stop<'static>>
-    ensures done { OnOk result (AreDone (T.world store.old) db.now (line_texts lines.now) database.old database.new) }
+    ensures done { OnOk result (AreDone (T.world store.old) batch.now.db.now (line_texts batch.now.lines.now)
+        draft.old.database draft.new.database) }
     ensures kept { T.world store.new ≡ T.world store.old }
 {
-    let mut rest = lines;
+    let mut rest = batch.lines;
     while let [line, others @ ..] = rest {
-        report_progress(progress, line.number, store, errors);
-        if let Some(status) = run_line(alloc, db, line, store, database, out, errors)? {
-            let _ = writeln!(errors, "kadm: line {}: nothing was written", line.number);
+        report_progress(context, store, line.number);
+        if let Some(status) = run_line(context, store, batch.db, line, draft)? {
+            let _ = writeln!(
+                context.errors,
+                "kadm: line {}: nothing was written",
+                line.number
+            );
             return Err(stop_of(status));
         }
         rest = others;
@@ -227,24 +199,20 @@ fn stop_of(status: Status) -> Stop<'static> {
 
 /// Runs each command, and returns whether all were done.
 fn run_each<T: Store, W: Write, E: Write>(
-    alloc: Global,
-    db: &str,
-    lines: &[BatchLine],
-    progress: &mut Progress,
+    context: &mut Context<W, E>,
     store: &mut T,
-    database: &mut Database,
-    out: &mut W,
-    errors: &mut E,
+    batch: &Batch<'_>,
+    draft: &mut Draft,
 ) -> Result<bool, Stop<'static>>
-    ensures run { IfOk result (λ whole. IsRun (T.world store.old) db.now true (line_texts lines.now)
-        database.old database.new whole) }
+    ensures run { IfOk result (λ whole. IsRun (T.world store.old) batch.now.db.now true (line_texts batch.now.lines.now)
+        draft.old.database draft.new.database whole) }
     ensures kept { T.world store.new ≡ T.world store.old }
 {
     let mut whole = true;
-    let mut rest = lines;
+    let mut rest = batch.lines;
     while let [line, others @ ..] = rest {
-        report_progress(progress, line.number, store, errors);
-        whole = try_line(alloc, db, line, whole, store, database, out, errors)?;
+        report_progress(context, store, line.number);
+        whole = try_line(context, store, batch.db, line, whole, draft)?;
         rest = others;
     }
     Ok(whole)
@@ -252,24 +220,26 @@ fn run_each<T: Store, W: Write, E: Write>(
 
 /// Runs a command. If it is not done, the database is unchanged and the run is no longer whole.
 fn try_line<T: Store, W: Write, E: Write>(
-    alloc: Global,
+    context: &mut Context<W, E>,
+    store: &mut T,
     db: &str,
     line: &BatchLine,
     whole: bool,
-    store: &mut T,
-    database: &mut Database,
-    out: &mut W,
-    errors: &mut E,
+    draft: &mut Draft,
 ) -> Result<bool, Stop<'static>>
     ensures turn { IfOk result (λ whole_then. IsTurn (T.world store.old) db.now (line_text line.now)
-        whole database.old database.new whole_then) }
+        whole draft.old.database draft.new.database whole_then) }
     ensures kept { T.world store.new ≡ T.world store.old }
 {
     // a command that is refused in its middle leaves its own copy changed in part
-    let mut changed = database.copy(alloc)?;
-    match run_line(alloc, db, line, store, &mut changed, out, errors)? {
+    let database = draft.database.copy(draft.alloc)?;
+    let mut changed = Draft {
+        alloc: draft.alloc,
+        database,
+    };
+    match run_line(context, store, db, line, &mut changed)? {
         None => {
-            *database = changed;
+            *draft = changed;
             Ok(whole)
         }
         Some(_) => Ok(false),
@@ -278,61 +248,56 @@ fn try_line<T: Store, W: Write, E: Write>(
 
 /// Runs a command, and reports why it is not done. Returns its status then. The database may be changed in part.
 fn run_line<T: Store, W: Write, E: Write>(
-    alloc: Global,
+    context: &mut Context<W, E>,
+    store: &mut T,
     db: &str,
     line: &BatchLine,
-    store: &mut T,
-    database: &mut Database,
-    out: &mut W,
-    errors: &mut E,
+    draft: &mut Draft,
 ) -> Result<Option<Status>, Stop<'static>>
     ensures done { IfOk result (λ end. IfNone end (IsLineDone (T.world store.old) db.now
-        (line_text line.now) database.old database.new)) }
+        (line_text line.now) draft.old.database draft.new.database)) }
     ensures kept { T.world store.new ≡ T.world store.old }
 {
-    let words = in_batch(alloc, db, &line.words)?;
+    let words = in_batch(context.alloc, db, &line.words)?;
     let subject = Subject {
         words: &words,
         line: Some(line.number),
     };
-    match run_words(alloc, &words, &subject, store, database, errors) {
+    match run_words(&mut context.errors, store, &subject, draft) {
         Ok(()) => Ok(None),
-        Err(stop) => Ok(Some(report(out, errors, &subject, stop)?)),
+        Err(stop) => Ok(Some(report(context, &subject, stop)?)),
     }
 }
 
 /// Makes the change that the words of a line order.
 fn run_words<'a, T: Store, E: Write>(
-    alloc: Global,
-    words: &'a [&'a str],
-    subject: &Subject<'_>,
-    store: &mut T,
-    database: &mut Database,
     errors: &mut E,
+    store: &mut T,
+    subject: &Subject<'a>,
+    draft: &mut Draft,
 ) -> Result<(), Stop<'a>>
-    ensures done { OnOk result (IsSpelledMade (T.world store.old) (texts words.entry.now) database.old database.new) }
+    ensures done { OnOk result (IsSpelledMade (T.world store.old) (texts subject.now.words.now) draft.old.database draft.new.database) }
     ensures kept { T.world store.new ≡ T.world store.old }
 {
-    let matches = read_args(alloc, words);
-    check_words(&matches, words, subject, errors)?;
-    match read_order(alloc, words) {
-        Ok(order) => run_order(alloc, &order, subject, store, database, errors),
+    let matches = read_args(draft.alloc, subject.words);
+    check_words(errors, subject, &matches)?;
+    match read_command(draft.alloc, subject.words) {
+        Ok(command) => run_command(errors, store, &command, subject, draft),
         Err(fault) => {
             begin_line(errors, subject);
-            Err(report_order_fault(errors, fault))
+            Err(report_command_fault(errors, fault))
         }
     }
 }
 
 /// Reports what is wrong with the words of a line, as the parser finds it.
 fn check_words<E: Write>(
-    matches: &Result<ArgMatches<'_>, Error>,
-    words: &[&str],
-    subject: &Subject<'_>,
     errors: &mut E,
+    subject: &Subject<'_>,
+    matches: &Result<ArgMatches<'_>, Error>,
 ) -> Result<(), Stop<'static>> {
     match matches {
-        Ok(_) => check_mode(words, subject, errors),
+        Ok(_) => check_mode(errors, subject),
         Err(error) => {
             begin_line(errors, subject);
             Err(report_fault(errors, error))
@@ -341,63 +306,47 @@ fn check_words<E: Write>(
 }
 
 /// Refuses `--keep-mode`, which a line can't keep: the batch writes the file.
-fn check_mode<E: Write>(
-    words: &[&str],
-    subject: &Subject<'_>,
-    errors: &mut E,
-) -> Result<(), Stop<'static>> {
-    if !has_flag(words, "--keep-mode") {
+fn check_mode<E: Write>(errors: &mut E, subject: &Subject<'_>) -> Result<(), Stop<'static>> {
+    if !has_flag(subject.words, "--keep-mode") {
         return Ok(());
     }
     begin_line(errors, subject);
-    Err(report_order_fault(errors, OrderFault::BadValue(NO_MODE)))
+    Err(report_command_fault(errors, CommandFault::BadValue(NO_MODE)))
 }
 
 /// Makes a change that a line orders.
-fn run_order<'a, T: Store, E: Write>(
-    alloc: Global,
-    order: &Order<'a>,
-    subject: &Subject<'_>,
-    store: &mut T,
-    database: &mut Database,
+fn run_command<'a, T: Store, E: Write>(
     errors: &mut E,
+    store: &mut T,
+    command: &Command<'a>,
+    subject: &Subject<'_>,
+    draft: &mut Draft,
 ) -> Result<(), Stop<'a>>
-    ensures done { OnOk result (IsOrderMade (T.world store.old) order.now database.old database.new) }
+    ensures done { OnOk result (IsCommandMade (T.world store.old) command.now draft.old.database draft.new.database) }
     ensures kept { T.world store.new ≡ T.world store.old }
 {
-    match order.task {
-        Task::Write(Work::Update(update)) => update_in_batch(
-            alloc,
-            store,
-            database,
-            errors,
-            &order.etypes,
-            update,
-            subject,
-        ),
+    match command.kind {
+        CommandKind::Write(WriteCommand::Update(update)) => {
+            update_in_batch(errors, store, draft, &command.etypes, update, subject)
+        }
         _ => Err(Stop::Refused(Reason::NotInBatch)),
     }
 }
 
 /// Reports each second how far the batch is, if standard error is a terminal. Ignores a clock that can't be read and a
 /// failed write.
-fn report_progress<T: Store, E: Write>(
-    progress: &mut Progress,
-    number: usize,
-    store: &mut T,
-    errors: &mut E,
-)
+fn report_progress<T: Store, W, E: Write>(context: &mut Context<W, E>, store: &mut T, number: usize)
     ensures kept { T.world store.new ≡ T.world store.old }
 {
-    if !progress.watched {
+    if !context.progress.watched {
         return;
     }
     let Ok(now) = store.seconds() else {
         return;
     };
-    if progress.second.is_some_and(|second| second != now) {
-        let _ = writeln!(errors, "kadm: line {number}");
-        let _ = errors.flush();
+    if context.progress.second.is_some_and(|second| second != now) {
+        let _ = writeln!(context.errors, "kadm: line {number}");
+        let _ = context.errors.flush();
     }
-    progress.second = Some(now);
+    context.progress.second = Some(now);
 }

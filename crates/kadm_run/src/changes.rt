@@ -9,10 +9,12 @@ ghost use Rattle.kadm_run.specs.Words.{path_of, texts};
 ghost use Rattle.kadm_run.specs.Worlds.{MadeNew, MadeRealm};
 
 use crate::assigning::{SettingWords, setting_at};
+use crate::command::{ChangeArgs, Changes, Command, InitArgs};
+use crate::context::Context;
 use crate::databases::{apply, lock_database, write_database};
 use crate::denying::deny_users;
+use crate::draft::Draft;
 use crate::granting::drop_older;
-use crate::order::{ChangeArgs, Order};
 use crate::reason::Reason;
 use crate::stop::{Stop, of_realm};
 use crate::values::{setting_from, setting_of};
@@ -29,43 +31,45 @@ use text_fields::{FlagField, Setting, random_keys};
 const NAME: &str = "--name";
 
 /// Makes the database of a new realm.
-pub(crate) fn make_realm<'p, T: Store, E: Write>(
-    alloc: Global,
-    order: &Order<'p>,
+pub(crate) fn make_realm<'p, T: Store, W: Write, E: Write>(
+    context: &mut Context<W, E>,
     store: &mut T,
-    errors: &mut E,
-    realm: &str,
-    seed: Option<&'p str>,
+    command: &Command<'p>,
+    new: InitArgs<'p>,
 ) -> Result<(), Stop<'p>>
-    ensures done { OnOk result (MadeRealm (T.world store.old) order.now.db.now order.now.etypes.items realm.now
-        (path_of seed.entry) (T.world store.new)) }
+    ensures done { OnOk result (MadeRealm (T.world store.old) command.now.db.now command.now.etypes.items new.entry.realm.now
+        (path_of new.entry.seed) (T.world store.new)) }
     ensures kept { OnErr result (T.world store.new ≡ T.world store.old) }
 {
-    match component_from_text(alloc, realm) {
-        Ok(realm) => make_new_realm(alloc, order, store, errors, &realm, seed),
+    match component_from_text(context.alloc, new.realm) {
+        Ok(realm) => make_new_realm(context, store, command, &realm, new.seed),
         Err(fault) => Err(of_realm(fault)),
     }
 }
 
-fn make_new_realm<'p, T: Store, E: Write>(
-    alloc: Global,
-    order: &Order<'p>,
+fn make_new_realm<'p, T: Store, W: Write, E: Write>(
+    context: &mut Context<W, E>,
     store: &mut T,
-    errors: &mut E,
+    command: &Command<'p>,
     realm: &KerberosString,
     seed: Option<&'p str>,
 ) -> Result<(), Stop<'p>>
-    ensures done { OnOk result (MadeNew (T.world store.old) order.now.db.now order.now.etypes.items realm.now
+    ensures done { OnOk result (MadeNew (T.world store.old) command.now.db.now command.now.etypes.items realm.now
         (path_of seed.entry) (T.world store.new)) }
     ensures kept { OnErr result (T.world store.new ≡ T.world store.old) }
 {
-    let locked = lock_database(alloc, order.db, store, errors)?;
-    if has_file(store, order.db)? {
+    let alloc = context.alloc;
+    let locked = lock_database(context, store, command)?;
+    if has_file(store, command.db)? {
         return Err(Stop::Refused(Reason::FileExists));
     }
-    let keys = random_keys(alloc, &order.etypes, read_or_draw_seed(alloc, store, seed)?)?;
+    let keys = random_keys(
+        alloc,
+        &command.etypes,
+        read_or_draw_seed(alloc, store, seed)?,
+    )?;
     let database = Database::first(alloc, realm.as_slice(), keys)?;
-    write_database(alloc, store, &locked, &database, order.keep_mode)
+    write_database(alloc, store, &locked, &database)
 }
 
 /// Fails if the words of a command line name a principal by a text that is no name.
@@ -90,19 +94,17 @@ fn check_name<'p>(alloc: Global, name: &'p str) -> Result<(), Stop<'p>> {
 /// Changes each principal that the words of a command line name, without new keys. After an `Err` some may have been
 /// changed.
 pub(crate) fn change_all<'p, T: Store>(
-    alloc: Global,
     store: &mut T,
-    database: &mut Database,
-    words: &'p [&'p str],
-    how: ChangeArgs,
+    draft: &mut Draft,
+    changes: &Changes<'p>,
 ) -> Result<(), Stop<'p>>
-    ensures changed { OnOk result (AreChanged (T.world store.old) (texts words.entry.now) how database.old database.new) }
+    ensures changed { OnOk result (AreChanged (T.world store.old) (texts changes.now.words.now) changes.now.how draft.old.database draft.new.database) }
     ensures kept { T.world store.new ≡ T.world store.old }
 {
-    let mut rest = words;
+    let mut rest = changes.words;
     while let [word, others @ ..] = rest {
         let name = value_at(NAME, word, others);
-        change_at(alloc, store, database, words, how, name)?;
+        change_at(store, draft, changes, name)?;
         rest = others;
     }
     Ok(())
@@ -110,90 +112,82 @@ pub(crate) fn change_all<'p, T: Store>(
 
 /// Changes the principal that a word names, if it names one.
 fn change_at<'p, T: Store>(
-    alloc: Global,
     store: &mut T,
-    database: &mut Database,
-    words: &'p [&'p str],
-    how: ChangeArgs,
+    draft: &mut Draft,
+    changes: &Changes<'p>,
     name: Option<&'p str>,
 ) -> Result<(), Stop<'p>>
-    ensures changed { OnOk result (IsChangedAt (T.world store.old) (texts words.entry.now) how (path_of name.entry) database.old database.new) }
+    ensures changed { OnOk result (IsChangedAt (T.world store.old) (texts changes.now.words.now) changes.now.how (path_of name.entry) draft.old.database draft.new.database) }
     ensures kept { T.world store.new ≡ T.world store.old }
 {
     match name {
-        Some(name) => change_named(alloc, store, database, words, how, name),
+        Some(name) => change_named(store, draft, changes, name),
         None => Ok(()),
     }
 }
 
 /// Changes the principal that a text names. A refusal names it.
 fn change_named<'p, T: Store>(
-    alloc: Global,
     store: &mut T,
-    database: &mut Database,
-    words: &'p [&'p str],
-    how: ChangeArgs,
+    draft: &mut Draft,
+    changes: &Changes<'p>,
     name: &'p str,
 ) -> Result<(), Stop<'p>>
-    ensures changed { OnOk result (IsNamedChanged (T.world store.old) (texts words.entry.now) how name.entry.now database.old database.new) }
+    ensures changed { OnOk result (IsNamedChanged (T.world store.old) (texts changes.now.words.now) changes.now.how name.entry.now draft.old.database draft.new.database) }
     ensures kept { T.world store.new ≡ T.world store.old }
 {
-    match change_text(alloc, store, database, words, how, name) {
+    match change_text(store, draft, changes, name) {
         Ok(()) => Ok(()),
         Err(stop) => Err(stop.about(name)),
     }
 }
 
+/// Changes the principal that a text names.
 fn change_text<'p, T: Store>(
-    alloc: Global,
     store: &mut T,
-    database: &mut Database,
-    words: &'p [&'p str],
-    how: ChangeArgs,
+    draft: &mut Draft,
+    changes: &Changes<'p>,
     name: &str,
 ) -> Result<(), Stop<'p>>
-    ensures changed { OnOk result (IsNamedChanged (T.world store.old) (texts words.entry.now) how name.now database.old database.new) }
+    ensures changed { OnOk result (IsNamedChanged (T.world store.old) (texts changes.now.words.now) changes.now.how name.now draft.old.database draft.new.database) }
     ensures kept { T.world store.new ≡ T.world store.old }
 {
-    let who = Name::from_text(alloc, name)?;
-    change(alloc, store, database, &who, words, how)
+    let who = Name::from_text(draft.alloc, name)?;
+    change(store, draft, &who, changes)
 }
 
 /// Changes the row of a principal, without new keys.
 fn change<'p, T: Store>(
-    alloc: Global,
     store: &mut T,
-    database: &mut Database,
+    draft: &mut Draft,
     who: &Name,
-    words: &'p [&'p str],
-    how: ChangeArgs,
+    changes: &Changes<'p>,
 ) -> Result<(), Stop<'p>>
-    ensures changed { OnOk result (IsChanged (T.world store.old) (texts words.entry.now) how who.now.components database.old database.new) }
+    ensures changed { OnOk result (IsChanged (T.world store.old) (texts changes.now.words.now) changes.now.how who.now.components draft.old.database draft.new.database) }
     ensures kept { T.world store.new ≡ T.world store.old }
 {
-    match how {
-        ChangeArgs::Drop { version } => drop_keys(alloc, database, who, version),
-        ChangeArgs::DropOlder => Ok(drop_older(alloc, database, who)?),
-        ChangeArgs::Policy => set_all(alloc, store, database, who, words),
-        ChangeArgs::Remove => Ok(apply(alloc, database, who, RowChange::Remove)?),
+    match changes.how {
+        ChangeArgs::Drop { version } => drop_keys(draft, who, version),
+        ChangeArgs::DropOlder => Ok(drop_older(draft, who)?),
+        ChangeArgs::Policy => set_all(store, draft, who, changes.words),
+        ChangeArgs::Remove => Ok(apply(draft, who, RowChange::Remove)?),
     }
 }
 
 /// Makes the settings that the words of a command line order, in their order. After an `Err` some may have been made.
 pub(crate) fn set_all<'p, T: Store>(
-    alloc: Global,
     store: &mut T,
-    database: &mut Database,
+    draft: &mut Draft,
     who: &Name,
     words: &'p [&'p str],
 ) -> Result<(), Stop<'p>>
-    ensures set { OnOk result (AreSet (T.world store.old) (texts words.entry.now) who.now.components database.old database.new) }
+    ensures set { OnOk result (AreSet (T.world store.old) (texts words.entry.now) who.now.components draft.old.database draft.new.database) }
     ensures kept { T.world store.new ≡ T.world store.old }
 {
     let mut rest = words;
     while let [word, others @ ..] = rest {
         let setting = setting_at(words, word, others);
-        set_at(alloc, store, database, who, setting)?;
+        set_at(store, draft, who, setting)?;
         rest = others;
     }
     Ok(())
@@ -201,36 +195,30 @@ pub(crate) fn set_all<'p, T: Store>(
 
 /// Makes a setting, if there is one.
 fn set_at<'p, T: Store>(
-    alloc: Global,
     store: &mut T,
-    database: &mut Database,
+    draft: &mut Draft,
     who: &Name,
     setting: Option<SettingWords<'p>>,
 ) -> Result<(), Stop<'p>>
     ensures set { OnOk result (IsSetAt (T.world store.old)
         (option_map (λ setting. (setting.field.now, setting.value.now)) setting.entry)
-        who.now.components database.old database.new) }
+        who.now.components draft.old.database draft.new.database) }
     ensures kept { T.world store.new ≡ T.world store.old }
 {
     match setting {
-        Some(setting) => set_policy(alloc, store, database, who, setting.field, setting.value),
+        Some(setting) => set_policy(store, draft, who, setting),
         None => Ok(()),
     }
 }
 
 /// Drops the keys of an old version.
-fn drop_keys(
-    alloc: Global,
-    database: &mut Database,
-    who: &Name,
-    version: u32,
-) -> Result<(), Stop<'static>>
-    ensures { OnOk result (Makes database.old who.now.components (row_changes.DropKeys version) database.new) }
+fn drop_keys(draft: &mut Draft, who: &Name, version: u32) -> Result<(), Stop<'static>>
+    ensures { OnOk result (Makes draft.old.database who.now.components (row_changes.DropKeys version) draft.new.database) }
 {
-    if lacks_version(database, who, version) {
+    if lacks_version(&draft.database, who, version) {
         return Err(Stop::Refused(Reason::NoVersion));
     }
-    Ok(apply(alloc, database, who, RowChange::DropKeys(version))?)
+    Ok(apply(draft, who, RowChange::DropKeys(version))?)
 }
 
 /// Checks whether the principal exists, but has no such version.
@@ -241,28 +229,28 @@ fn lacks_version(database: &Database, who: &Name, version: u32) -> bool {
     }
 }
 
+/// Sets a field of a principal's policy.
 fn set_policy<'p, T: Store>(
-    alloc: Global,
     store: &mut T,
-    database: &mut Database,
+    draft: &mut Draft,
     who: &Name,
-    field: &str,
-    value: &'p str,
+    words: SettingWords<'p>,
 ) -> Result<(), Stop<'p>>
-    ensures changed { OnOk result (IsPolicySet (T.world store.old) field.now value.entry.now who.now.components database.old database.new) }
+    ensures changed { OnOk result (IsPolicySet (T.world store.old) words.entry.field.now words.entry.value.now who.now.components
+        draft.old.database draft.new.database) }
     ensures kept { T.world store.new ≡ T.world store.old }
 {
-    let Some(row) = database.get(who) else {
+    let Some(row) = draft.database.get(who) else {
         return Err(Stop::from(ChangeFault::Absent));
     };
     let policy = row.policy;
-    let setting = setting(store, field, value)?;
-    let is_tgs = is_tgs(alloc, database, who)?;
+    let setting = setting(store, words.field, words.value)?;
+    let is_tgs = is_tgs(draft.alloc, &draft.database, who)?;
     if shuts_realm(is_tgs, setting) {
         return Err(Stop::Refused(Reason::ServesAll));
     }
     let policy = setting.on(policy);
-    Ok(apply(alloc, database, who, RowChange::SetPolicy(policy))?)
+    Ok(apply(draft, who, RowChange::SetPolicy(policy))?)
 }
 
 /// Checks whether a name is that of the realm's ticket-granting service.
@@ -308,14 +296,13 @@ fn setting<'p, T: Store>(store: &mut T, field: &str, value: &'p str) -> Result<S
 
 /// Sets what older versions of the format lack: whether tickets for users are allowed.
 pub(crate) fn migrate_rows(
-    alloc: Global,
-    database: &mut Database,
+    draft: &mut Draft,
     users_are_no_services: bool,
 ) -> Result<(), ChangeFault>
-    ensures { OnOk result (database.new ≡ migrated_rows users_are_no_services database.old) }
+    ensures { OnOk result (draft.new.database ≡ migrated_rows users_are_no_services draft.old.database) }
 {
     if users_are_no_services {
-        deny_users(alloc, database)
+        deny_users(draft)
     } else {
         Ok(())
     }

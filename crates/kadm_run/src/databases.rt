@@ -4,6 +4,9 @@ ghost use Rattle.program.specs.World.{with_file};
 ghost use Rattle.kadm_run.specs.Granting.{Makes};
 ghost use Rattle.kadm_run.specs.Worlds.{HoldsDatabase, with_database};
 
+use crate::command::Command;
+use crate::context::Context;
+use crate::draft::Draft;
 use crate::reason::Reason;
 use crate::stop::Stop;
 use krb_fields::Name;
@@ -24,29 +27,34 @@ const QUIET_LOOKS: u32 = 10;
 #[derive(Clone, Copy)]
 pub(crate) struct Locked<'p> {
     path: &'p str,
+    /// Whether the file keeps its mode.
+    keep_mode: bool,
 }
 
 /// Keeps other commands from the database until this one is done. Waits at most ten seconds for another one.
-pub(crate) fn lock_database<'p, T: Store, E: Write>(
-    alloc: Global,
-    db: &'p str,
+pub(crate) fn lock_database<'p, T: Store, W: Write, E: Write>(
+    context: &mut Context<W, E>,
     store: &mut T,
-    errors: &mut E,
+    command: &Command<'p>,
 ) -> Result<Locked<'p>, Stop<'p>>
-    ensures locked { IfOk result (λ locked. locked.path.now ≡ db.now) }
+    ensures locked { IfOk result (λ locked. locked.path.now ≡ command.now.db.now) }
     ensures kept { T.world store.new ≡ T.world store.old }
 {
+    let locked = Locked {
+        path: command.db,
+        keep_mode: command.keep_mode,
+    };
     for looks in 0..LOOKS {
-        if lock_file(alloc, store, db)? {
-            return Ok(Locked { path: db });
+        if lock_file(context.alloc, store, command.db)? {
+            return Ok(locked);
         }
         if looks == QUIET_LOOKS {
-            report_waiting(errors);
+            report_waiting(&mut context.errors);
         }
         store.pause();
     }
-    if lock_file(alloc, store, db)? {
-        Ok(Locked { path: db })
+    if lock_file(context.alloc, store, command.db)? {
+        Ok(locked)
     } else {
         Err(Stop::Refused(Reason::Locked))
     }
@@ -59,38 +67,37 @@ fn report_waiting<E: Write>(errors: &mut E) {
 }
 
 /// Reads the current database. If its text is refused, reports where it is wrong.
-pub(crate) fn read_database<'p, T: Store, E: Write>(
-    alloc: Global,
+pub(crate) fn read_database<'p, T: Store, W: Write, E: Write>(
+    context: &mut Context<W, E>,
     store: &mut T,
-    errors: &mut E,
     db: &'p str,
 ) -> Result<Database, Stop<'p>>
     ensures read { IfOk result (λ database. HoldsDatabase (T.world store.old) db.now database) }
     ensures kept { T.world store.new ≡ T.world store.old }
 {
-    let octets = read_at_most(alloc, store, db, LONGEST_TEXT)?;
+    let octets = read_at_most(context.alloc, store, db, LONGEST_TEXT)?;
     let Ok(text) = str::from_utf8(&octets) else {
         return Err(Stop::Refused(Reason::NotJson));
     };
-    match principals_text::read(alloc, text) {
+    match principals_text::read(context.alloc, text) {
         Ok(database) => Ok(database),
         Err(fault) => {
-            report_place(alloc, errors, db, text, fault);
+            report_place(context, db, text, fault);
             Err(Stop::from(fault))
         }
     }
 }
 
 /// Reports where a text is wrong, if that can be found. Ignores a failed write.
-fn report_place<E: Write>(alloc: Global, errors: &mut E, db: &str, text: &str, fault: ReadFault) {
+fn report_place<W, E: Write>(context: &mut Context<W, E>, db: &str, text: &str, fault: ReadFault) {
     if !matches!(fault, ReadFault::NotJson | ReadFault::BadRow) {
         return;
     }
-    let Ok(place) = fault_place(alloc, text) else {
+    let Ok(place) = fault_place(context.alloc, text) else {
         return;
     };
     if !place.is_empty() {
-        let _ = writeln!(errors, "kadm: {db}: {place}");
+        let _ = writeln!(context.errors, "kadm: {db}: {place}");
     }
 }
 
@@ -100,13 +107,12 @@ pub(crate) fn write_database<'p, T: Store>(
     store: &mut T,
     locked: &Locked<'p>,
     database: &Database,
-    keep_mode: bool,
 ) -> Result<(), Stop<'p>>
     ensures written { OnOk result (T.world store.new ≡ with_database locked.now.path.now database.now (T.world store.old)) }
     ensures kept { OnErr result (T.world store.new ≡ T.world store.old) }
 {
     let text = principals_text::write(alloc, database)?;
-    change_file(alloc, store, locked.path, text.as_bytes(), keep_mode)
+    change_file(alloc, store, locked.path, text.as_bytes(), locked.keep_mode)
 }
 
 /// Writes a file in place of the one there, whose owner and group it keeps, and its mode if `keep_mode` says so.
@@ -130,15 +136,10 @@ pub(crate) fn change_file<'p, T: Store>(
 
 /// Changes a principal's row. A refused change leaves the database unchanged.
 #[tactic(auto, using(crate::proofs::Doing::made_by))]
-pub(crate) fn apply(
-    alloc: Global,
-    database: &mut Database,
-    who: &Name,
-    what: RowChange,
-) -> Result<(), ChangeFault>
-    ensures changed { OnOk result (Makes database.old who.now.components what database.new) }
-    ensures kept { OnErr result (database.new ≡ database.old) }
+pub(crate) fn apply(draft: &mut Draft, who: &Name, what: RowChange) -> Result<(), ChangeFault>
+    ensures changed { OnOk result (Makes draft.old.database who.now.components what draft.new.database) }
+    ensures kept { OnErr result (draft.new.database ≡ draft.old.database) }
 {
-    let name = who.copy(alloc)?;
-    database.apply(alloc, &Change { name, what })
+    let name = who.copy(draft.alloc)?;
+    draft.database.apply(draft.alloc, &Change { name, what })
 }

@@ -3,18 +3,19 @@ ghost use Rattle.std.specs.Prelude.{◌≡◌, IfOk, OnOk, map};
 ghost use Rattle.kadm_run.specs.Denying.{all_denied, denied, is_user, users};
 
 use crate::databases::apply;
+use crate::draft::Draft;
 use krb_fields::Name;
 use principal_rows::Policy;
 use principals::{ChangeFault, Database, RowChange};
 use std::alloc::{AllocError, Global};
 
 /// Denies tickets for users.
-pub(crate) fn deny_users(alloc: Global, database: &mut Database) -> Result<(), ChangeFault>
-    ensures { OnOk result (database.new ≡ all_denied (users database.old) database.old) }
+pub(crate) fn deny_users(draft: &mut Draft) -> Result<(), ChangeFault>
+    ensures { OnOk result (draft.new.database ≡ all_denied (users draft.old.database) draft.old.database) }
 {
-    let users = users_of(alloc, database)?;
+    let users = users_of(draft.alloc, &draft.database)?;
     for user in &users {
-        deny_service(alloc, database, user)?;
+        deny_service(draft, user)?;
     }
     Ok(())
 }
@@ -42,19 +43,15 @@ pub(crate) fn is_user(name: &Name) -> bool
 }
 
 /// Denies tickets for a principal.
-pub(crate) fn deny_service(
-    alloc: Global,
-    database: &mut Database,
-    who: &Name,
-) -> Result<(), ChangeFault>
-    ensures { OnOk result (database.new ≡ denied who.now.components database.old) }
+pub(crate) fn deny_service(draft: &mut Draft, who: &Name) -> Result<(), ChangeFault>
+    ensures { OnOk result (draft.new.database ≡ denied who.now.components draft.old.database) }
 {
-    let Some(row) = database.get(who) else {
+    let Some(row) = draft.database.get(who) else {
         return Err(ChangeFault::Absent);
     };
     let policy = Policy {
         service: false,
         ..row.policy
     };
-    apply(alloc, database, who, RowChange::SetPolicy(policy))
+    apply(draft, who, RowChange::SetPolicy(policy))
 }

@@ -11,12 +11,13 @@ ghost use Rattle.kadm_run.specs.Dumps.{AreRowsOf, HasRealm, IsDatabaseOf, IsPush
 ghost use Rattle.kadm_run.specs.Importing.{AreVersionsOf};
 ghost use Rattle.kadm_run.specs.Worlds.{MadeFromDump};
 
+use crate::command::{Command, DumpArgs};
+use crate::context::Context;
 use crate::databases::{lock_database, write_database};
 use crate::dump_reports::{
     report_fault, report_key_fault, report_losses, report_no_database, report_taken,
 };
-use crate::importing::versions_of;
-use crate::order::{DumpOrder, Order};
+use crate::importing::{KeytabKeys, versions_of};
 use crate::reason::Reason;
 use crate::stop::Stop;
 use cred_files::{Keytab, KeytabEntry};
@@ -31,41 +32,39 @@ use std::alloc::{AllocError, Global};
 use std::io::Write;
 
 /// Makes the database of a realm from the dump of MIT's database.
-pub(crate) fn import_dump<'p, T: Store, E: Write>(
-    alloc: Global,
-    order: &Order<'p>,
+pub(crate) fn import_dump<'p, T: Store, W: Write, E: Write>(
+    context: &mut Context<W, E>,
     store: &mut T,
-    errors: &mut E,
-    from: DumpOrder<'p>,
+    command: &Command<'p>,
+    from: DumpArgs<'p>,
 ) -> Result<(), Stop<'p>>
-    ensures done { OnOk result (MadeFromDump (T.world store.old) order.now.db.now from.entry (T.world store.new)) }
+    ensures done { OnOk result (MadeFromDump (T.world store.old) command.now.db.now from.entry (T.world store.new)) }
     ensures kept { OnErr result (T.world store.new ≡ T.world store.old) }
 {
-    let locked = lock_database(alloc, order.db, store, errors)?;
-    if has_file(store, order.db)? {
+    let locked = lock_database(context, store, command)?;
+    if has_file(store, command.db)? {
         return Err(Stop::Refused(Reason::FileExists));
     }
-    let database = read_realm(alloc, store, errors, from)?;
-    write_database(alloc, store, &locked, &database, order.keep_mode)
+    let database = read_realm(context, store, from)?;
+    write_database(context.alloc, store, &locked, &database)
 }
 
 /// Reads the realm of a dump.
-fn read_realm<'p, T: Store, E: Write>(
-    alloc: Global,
+fn read_realm<'p, T: Store, W: Write, E: Write>(
+    context: &mut Context<W, E>,
     store: &mut T,
-    errors: &mut E,
-    from: DumpOrder<'p>,
+    from: DumpArgs<'p>,
 ) -> Result<Database, Stop<'p>>
     ensures read { IfOk result (λ database. HasRealm (T.world store.old) from.entry database) }
     ensures kept { T.world store.new ≡ T.world store.old }
 {
-    let text = read_at_most(alloc, store, from.dump, LONGEST_TEXT)?;
-    let stash = read_stash(alloc, store, from.stash)?;
-    let found = match read_dump(alloc, &text) {
+    let text = read_at_most(context.alloc, store, from.dump, LONGEST_TEXT)?;
+    let stash = read_stash(context.alloc, store, from.stash)?;
+    let found = match read_dump(context.alloc, &text) {
         Ok(found) => found,
-        Err(fault) => return Err(report_fault(errors, from.dump, fault)),
+        Err(fault) => return Err(report_fault(&mut context.errors, from.dump, fault)),
     };
-    database_of(alloc, errors, &found, &stash, from.skip)
+    database_of(context, &found, &stash, from.skip)
 }
 
 /// Reads MIT's stash file, which is a keytab.
@@ -82,9 +81,8 @@ fn read_stash<'p, T: Store>(alloc: Global, store: &mut T, path: &'p str) -> Resu
 }
 
 /// Returns the database with the principals of a dump that have a place in it.
-fn database_of<E: Write>(
-    alloc: Global,
-    errors: &mut E,
+fn database_of<W, E: Write>(
+    context: &mut Context<W, E>,
     found: &[DumpedPrincipal],
     stash: &Keytab,
     skip: bool,
@@ -92,17 +90,17 @@ fn database_of<E: Write>(
     ensures { IfOk result (λ database. IsDatabaseOf found.now stash.now skip database) }
 {
     let Some(realm) = realm_of(found) else {
-        return Err(report_no_database(errors));
+        return Err(report_no_database(&mut context.errors));
     };
-    let is_whole = report_losses(alloc, errors, found, realm)?;
+    let is_whole = report_losses(context.alloc, &mut context.errors, found, realm)?;
     if !is_whole && !skip {
         return Err(Stop::Refused(Reason::NoPlace));
     }
-    let rows = rows_of(alloc, errors, found, realm, stash)?;
-    report_taken(alloc, errors, found, rows.len())?;
-    match with_rows(alloc, realm, rows)? {
+    let rows = rows_of(context, found, realm, stash)?;
+    report_taken(context.alloc, &mut context.errors, found, rows.len())?;
+    match with_rows(context.alloc, realm, rows)? {
         Some(database) => Ok(database),
-        None => Err(report_no_database(errors)),
+        None => Err(report_no_database(&mut context.errors)),
     }
 }
 
@@ -149,26 +147,24 @@ fn granter(found: &[DumpedPrincipal]) -> Option<&DumpedPrincipal>
 }
 
 /// Returns the rows of the principals that have a place, the last one first.
-fn rows_of<E: Write>(
-    alloc: Global,
-    errors: &mut E,
+fn rows_of<W, E: Write>(
+    context: &mut Context<W, E>,
     found: &[DumpedPrincipal],
     realm: &[u8],
     stash: &Keytab,
 ) -> Result<Vec<Entry<Row>>, Stop<'static>>
     ensures { IfOk result (λ rows. AreRowsOf realm.now stash.now found.now rows.items) }
 {
-    let mut rows = Vec::new(alloc);
+    let mut rows = Vec::new(context.alloc);
     for i in (0..found.len()).rev() {
-        push_row(alloc, errors, &mut rows, &found[i], realm, stash)?;
+        push_row(context, &mut rows, &found[i], realm, stash)?;
     }
     Ok(rows)
 }
 
 /// Adds the row of a principal, if it has a place.
-fn push_row<E: Write>(
-    alloc: Global,
-    errors: &mut E,
+fn push_row<W, E: Write>(
+    context: &mut Context<W, E>,
     rows: &mut Vec<Entry<Row>>,
     principal: &DumpedPrincipal,
     realm: &[u8],
@@ -178,27 +174,26 @@ fn push_row<E: Write>(
         (IsPushedRow (has_place realm.now principal.now) stash.now principal.now rows.old.items rows.new.items) }
 {
     if principal.has_place(realm) {
-        rows.push(entry_of(alloc, errors, principal, stash)?)?;
+        rows.push(entry_of(context, principal, stash)?)?;
     }
     Ok(())
 }
 
 /// Returns the row of a principal, with its name.
-fn entry_of<E: Write>(
-    alloc: Global,
-    errors: &mut E,
+fn entry_of<W, E: Write>(
+    context: &mut Context<W, E>,
     principal: &DumpedPrincipal,
     stash: &Keytab,
 ) -> Result<Entry<Row>, Stop<'static>>
     ensures name { IfOk result (λ e. e.name.components ≡ principal.now.name.components) }
     ensures row { IfOk result (λ e. IsRowOf stash.now principal.now e.value) }
 {
-    match principal.entries(alloc, stash) {
+    match principal.entries(context.alloc, stash) {
         Ok(entries) => Ok(Entry {
-            name: principal.name.copy(alloc)?,
-            value: row_of(alloc, principal, &entries)?,
+            name: principal.name.copy(context.alloc)?,
+            value: row_of(context.alloc, principal, &entries)?,
         }),
-        Err(fault) => Err(report_key_fault(alloc, errors, principal, fault)),
+        Err(fault) => Err(report_key_fault(context.alloc, &mut context.errors, principal, fault)),
     }
 }
 
@@ -214,8 +209,12 @@ fn row_of(
 {
     let keytab = Keytab::new(alloc, entries)?;
     let etypes = principal.preference(alloc)?;
-    let realm = principal.realm.as_slice();
-    let versions = versions_of(alloc, &keytab, realm, &principal.name, &etypes)?;
+    let keys = KeytabKeys {
+        keytab: &keytab,
+        realm: principal.realm.as_slice(),
+        who: &principal.name,
+    };
+    let versions = versions_of(alloc, &keys, &etypes)?;
     Ok(Row {
         versions,
         policy: principal.policy(),

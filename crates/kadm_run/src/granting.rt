@@ -10,9 +10,10 @@ ghost use Rattle.kadm_run.specs.Granting.{Makes, older_numbers, password_expiry}
 ghost use Rattle.kadm_run.specs.Updates.{GivesPassword, GivesRandom};
 ghost use Rattle.kadm_run.specs.Words.{path_of};
 
+use crate::command::{Grant, KeyChange, RandomGrant};
 use crate::databases::apply;
 use crate::denying::deny_service;
-use crate::order::{Grant, KeyChange, RandomGrant};
+use crate::draft::Draft;
 use crate::stop::Stop;
 use crate::values::is_past;
 use enctypes::Etype;
@@ -23,85 +24,71 @@ use program::{Store, read_clock, read_or_draw_seed};
 use std::alloc::{AllocError, Global};
 use text_fields::{password_keys, random_keys};
 
+/// The principal that gets keys, their encryption types, and the password for those that are made from one.
+#[derive(Clone, Copy)]
+pub(crate) struct Recipient<'a> {
+    pub who: &'a Name,
+    pub etypes: &'a [Etype],
+    pub pass: &'a [u8],
+}
+
 /// Gives a principal the keys of a password.
 pub(crate) fn give_password<'p, T: Store>(
-    alloc: Global,
     store: &mut T,
-    database: &mut Database,
-    etypes: &[Etype],
-    who: &Name,
+    draft: &mut Draft,
+    to: &Recipient<'_>,
     grant: Grant,
-    pass: &[u8],
 ) -> Result<(), Stop<'p>>
-    ensures given { OnOk result (GivesPassword (T.world store.old) etypes.now pass.now grant who.now.components database.old database.new) }
+    ensures given { OnOk result (GivesPassword (T.world store.old) to.now.etypes.now to.now.pass.now grant to.now.who.now.components
+        draft.old.database draft.new.database) }
     ensures kept { T.world store.new ≡ T.world store.old }
 {
-    let keys = keys_of(alloc, etypes, pass, who, database)?;
-    give(alloc, database, who, keys, grant)?;
-    clear_expiry(alloc, store, database, who)
+    let keys = keys_of(draft, to)?;
+    give(draft, to.who, keys, grant)?;
+    clear_expiry(store, draft, to.who)
 }
 
 /// Gives a principal random keys.
 pub(crate) fn give_random<'p, T: Store>(
-    alloc: Global,
     store: &mut T,
-    database: &mut Database,
-    etypes: &[Etype],
-    who: &Name,
-    to: RandomGrant<'p>,
+    draft: &mut Draft,
+    to: &Recipient<'_>,
+    random: RandomGrant<'p>,
 ) -> Result<(), Stop<'p>>
-    ensures given { OnOk result (GivesRandom (T.world store.old) etypes.now (path_of to.entry.seed) to.entry.grant who.now.components
-        database.old database.new) }
+    ensures given { OnOk result (GivesRandom (T.world store.old) to.now.etypes.now (path_of random.entry.seed) random.entry.grant
+        to.now.who.now.components draft.old.database draft.new.database) }
     ensures kept { T.world store.new ≡ T.world store.old }
 {
-    let seed = read_or_draw_seed(alloc, store, to.seed)?;
-    let keys = random_keys(alloc, etypes, seed)?;
-    Ok(give(alloc, database, who, keys, to.grant)?)
+    let seed = read_or_draw_seed(draft.alloc, store, random.seed)?;
+    let keys = random_keys(draft.alloc, to.etypes, seed)?;
+    Ok(give(draft, to.who, keys, random.grant)?)
 }
 
 /// Derives the keys of a password, with the principal's default salt.
-fn keys_of(
-    alloc: Global,
-    etypes: &[Etype],
-    pass: &[u8],
-    who: &Name,
-    database: &Database,
-) -> Result<KeyList, AllocError>
-    ensures { IfOk result (λ keys. keys
-        ≡ map (password_key pass.now (default_salt database.now.realm who.now.components)) etypes.now) }
+fn keys_of(draft: &Draft, to: &Recipient<'_>) -> Result<KeyList, AllocError>
+    ensures { IfOk result (λ keys. keys ≡ map
+        (password_key to.now.pass.now (default_salt draft.now.database.realm to.now.who.now.components)) to.now.etypes.now) }
 {
-    let salt = who.salt(alloc, database.realm())?;
-    password_keys(alloc, etypes, pass, salt.as_slice())
+    let salt = to.who.salt(draft.alloc, draft.database.realm())?;
+    password_keys(draft.alloc, to.etypes, to.pass, salt.as_slice())
 }
 
 /// Gives keys to the principal, as `grant` says.
-fn give(
-    alloc: Global,
-    database: &mut Database,
-    who: &Name,
-    keys: KeyList,
-    grant: Grant,
-) -> Result<(), ChangeFault>
-    ensures { OnOk result (IsGranted grant who.now.components keys database.old database.new) }
+fn give(draft: &mut Draft, who: &Name, keys: KeyList, grant: Grant) -> Result<(), ChangeFault>
+    ensures { OnOk result (IsGranted grant who.now.components keys draft.old.database draft.new.database) }
 {
-    let how = grant.key_change(is_there(database, who));
-    give_by(alloc, database, who, keys, how)
+    let how = grant.key_change(is_there(&draft.database, who));
+    give_by(draft, who, keys, how)
 }
 
-fn give_by(
-    alloc: Global,
-    database: &mut Database,
-    who: &Name,
-    keys: KeyList,
-    how: KeyChange,
-) -> Result<(), ChangeFault>
-    ensures { OnOk result (IsGiven how who.now.components keys database.old database.new) }
+fn give_by(draft: &mut Draft, who: &Name, keys: KeyList, how: KeyChange) -> Result<(), ChangeFault>
+    ensures { OnOk result (IsGiven how who.now.components keys draft.old.database draft.new.database) }
 {
     match how {
-        KeyChange::New => apply(alloc, database, who, RowChange::Add(keys)),
-        KeyChange::NewUser => add_user(alloc, database, who, keys),
-        KeyChange::Next => renew(alloc, database, who, keys),
-        KeyChange::Replace => replace(alloc, database, who, keys),
+        KeyChange::New => apply(draft, who, RowChange::Add(keys)),
+        KeyChange::NewUser => add_user(draft, who, keys),
+        KeyChange::Next => renew(draft, who, keys),
+        KeyChange::Replace => replace(draft, who, keys),
     }
 }
 
@@ -116,57 +103,38 @@ fn is_there(database: &Database, who: &Name) -> bool
 }
 
 /// Adds a principal, and denies tickets for it.
-fn add_user(
-    alloc: Global,
-    database: &mut Database,
-    who: &Name,
-    keys: KeyList,
-) -> Result<(), ChangeFault>
-    ensures { OnOk result (IsUserAdded who.now.components keys database.old database.new) }
+fn add_user(draft: &mut Draft, who: &Name, keys: KeyList) -> Result<(), ChangeFault>
+    ensures { OnOk result (IsUserAdded who.now.components keys draft.old.database draft.new.database) }
 {
-    apply(alloc, database, who, RowChange::Add(keys))?;
-    deny_service(alloc, database, who)
+    apply(draft, who, RowChange::Add(keys))?;
+    deny_service(draft, who)
 }
 
 /// Gives an existing principal new keys, as its next version.
-fn renew(
-    alloc: Global,
-    database: &mut Database,
-    who: &Name,
-    keys: KeyList,
-) -> Result<(), ChangeFault>
-    ensures { OnOk result (Makes database.old who.now.components (row_changes.NewKeys keys) database.new) }
+fn renew(draft: &mut Draft, who: &Name, keys: KeyList) -> Result<(), ChangeFault>
+    ensures { OnOk result (Makes draft.old.database who.now.components (row_changes.NewKeys keys) draft.new.database) }
 {
-    apply(alloc, database, who, RowChange::NewKeys(keys))
+    apply(draft, who, RowChange::NewKeys(keys))
 }
 
 /// Gives a principal new keys, and drops all older versions.
-fn replace(
-    alloc: Global,
-    database: &mut Database,
-    who: &Name,
-    keys: KeyList,
-) -> Result<(), ChangeFault>
-    ensures { OnOk result (IsReplaced who.now.components keys database.old database.new) }
+fn replace(draft: &mut Draft, who: &Name, keys: KeyList) -> Result<(), ChangeFault>
+    ensures { OnOk result (IsReplaced who.now.components keys draft.old.database draft.new.database) }
 {
-    renew(alloc, database, who, keys)?;
-    drop_older(alloc, database, who)
+    renew(draft, who, keys)?;
+    drop_older(draft, who)
 }
 
 /// Drops all versions of a principal's keys but the current one. After an `Err` some may have been dropped.
-pub(crate) fn drop_older(
-    alloc: Global,
-    database: &mut Database,
-    who: &Name,
-) -> Result<(), ChangeFault>
-    ensures { OnOk result (IsOlderDropped who.now.components database.old database.new) }
+pub(crate) fn drop_older(draft: &mut Draft, who: &Name) -> Result<(), ChangeFault>
+    ensures { OnOk result (IsOlderDropped who.now.components draft.old.database draft.new.database) }
 {
-    let Some(row) = database.get(who) else {
+    let Some(row) = draft.database.get(who) else {
         return Err(ChangeFault::Absent);
     };
-    let numbers = older_numbers(alloc, row.versions.as_slice())?;
+    let numbers = older_numbers(draft.alloc, row.versions.as_slice())?;
     for number in &numbers {
-        apply(alloc, database, who, RowChange::DropKeys(*number))?;
+        apply(draft, who, RowChange::DropKeys(*number))?;
     }
     Ok(())
 }
@@ -192,16 +160,11 @@ fn numbers_of(alloc: Global, versions: &[KeyVersion]) -> Result<Vec<u32>, AllocE
 }
 
 /// Clears a `password_expires` that is past.
-fn clear_expiry<'p, T: Store>(
-    alloc: Global,
-    store: &mut T,
-    database: &mut Database,
-    who: &Name,
-) -> Result<(), Stop<'p>>
-    ensures cleared { OnOk result (IsCleared (T.world store.old) who.now.components database.old database.new) }
+fn clear_expiry<'p, T: Store>(store: &mut T, draft: &mut Draft, who: &Name) -> Result<(), Stop<'p>>
+    ensures cleared { OnOk result (IsCleared (T.world store.old) who.now.components draft.old.database draft.new.database) }
     ensures kept { T.world store.new ≡ T.world store.old }
 {
-    let Some((policy, expires)) = expiring(database, who) else {
+    let Some((policy, expires)) = expiring(&draft.database, who) else {
         return Ok(());
     };
     if !is_past(expires, read_clock(store)?) {
@@ -211,7 +174,7 @@ fn clear_expiry<'p, T: Store>(
         password_expires: None,
         ..policy
     };
-    Ok(apply(alloc, database, who, RowChange::SetPolicy(policy))?)
+    Ok(apply(draft, who, RowChange::SetPolicy(policy))?)
 }
 
 /// Returns the policy of a principal whose password expires, and when it does.

@@ -5,74 +5,81 @@ ghost use Rattle.kadm_run.specs.Importing.{AreTaken, AreVersionsOf, HasVersions,
 ghost use Rattle.kadm_run.specs.Importing.{keys_at, next_number, with_version};
 ghost use Rattle.kadm_run.specs.Updates.{IsImported};
 
+use crate::draft::Draft;
+use crate::granting::Recipient;
 use crate::reason::Reason;
 use crate::stop::Stop;
 use cred_files::{Keytab, KeytabEntry};
 use enctypes::{Etype, Key};
 use krb_fields::Name;
 use principal_rows::{KeyList, KeyVersion, Versions};
-use principals::{ChangeFault, Database};
+use principals::ChangeFault;
 use program::{Store, read_file};
 use std::alloc::{AllocError, Global};
 
 /// Adds a principal with its keys from a keytab.
 pub(crate) fn import<'p, T: Store>(
-    alloc: Global,
     store: &mut T,
-    database: &mut Database,
-    etypes: &[Etype],
-    who: &Name,
+    draft: &mut Draft,
+    to: &Recipient<'_>,
     keytab: &'p str,
 ) -> Result<(), Stop<'p>>
-    ensures imported { OnOk result (IsImported (T.world store.old) etypes.now keytab.now who.now.components database.old database.new) }
+    ensures imported { OnOk result (IsImported (T.world store.old) to.now.etypes.now keytab.now to.now.who.now.components
+        draft.old.database draft.new.database) }
     ensures kept { T.world store.new ≡ T.world store.old }
 {
-    let versions = read_versions(alloc, store, keytab, database, who, etypes)?;
-    Ok(add_imported(alloc, database, who, versions)?)
+    let versions = read_versions(store, draft, to, keytab)?;
+    Ok(add_imported(draft, to.who, versions)?)
 }
 
 /// Adds a principal with these versions of its keys.
 #[tactic(auto, using(crate::proofs::Doing::imports_by))]
-fn add_imported(
-    alloc: Global,
-    database: &mut Database,
-    who: &Name,
-    versions: Versions,
-) -> Result<(), ChangeFault>
-    ensures { OnOk result (Imports database.old who.now.components versions database.new) }
+fn add_imported(draft: &mut Draft, who: &Name, versions: Versions) -> Result<(), ChangeFault>
+    ensures { OnOk result (Imports draft.old.database who.now.components versions draft.new.database) }
 {
-    database.import(alloc, who, versions)
+    draft.database.import(draft.alloc, who, versions)
 }
 
 /// Reads a principal's keys with these types from the keytab at a path.
 fn read_versions<'p, T: Store>(
-    alloc: Global,
     store: &mut T,
+    draft: &Draft,
+    to: &Recipient<'_>,
     path: &'p str,
-    database: &Database,
-    who: &Name,
-    etypes: &[Etype],
 ) -> Result<Versions, Stop<'p>>
     ensures read { IfOk result (λ versions. HasVersions (T.world store.old) path.now
-        (database.now.realm ∷ who.now.components) etypes.now versions) }
+        (draft.now.database.realm ∷ to.now.who.now.components) to.now.etypes.now versions) }
     ensures kept { T.world store.new ≡ T.world store.old }
 {
-    let octets = read_file(alloc, store, path)?;
-    let keytab = Keytab::read(alloc, &octets)?;
-    versions_of(alloc, &keytab, database.realm(), who, etypes)
+    let octets = read_file(draft.alloc, store, path)?;
+    let keytab = Keytab::read(draft.alloc, &octets)?;
+    let keys = KeytabKeys {
+        keytab: &keytab,
+        realm: draft.database.realm(),
+        who: to.who,
+    };
+    versions_of(draft.alloc, &keys, to.etypes)
+}
+
+/// The keys of a principal in a keytab.
+#[derive(Clone, Copy)]
+pub(crate) struct KeytabKeys<'a> {
+    pub keytab: &'a Keytab,
+    /// The principal's realm, and its name.
+    pub realm: &'a [u8],
+    pub who: &'a Name,
 }
 
 /// Returns the versions of a principal's keys with these types.
 pub(crate) fn versions_of(
     alloc: Global,
-    keytab: &Keytab,
-    realm: &[u8],
-    who: &Name,
+    of: &KeytabKeys<'_>,
     etypes: &[Etype],
 ) -> Result<Versions, Stop<'static>>
-    ensures { IfOk result (λ versions. AreVersionsOf keytab.now (realm.now ∷ who.now.components) etypes.now versions) }
+    ensures { IfOk result (λ versions. AreVersionsOf of.now.keytab.now (of.now.realm.now ∷ of.now.who.now.components)
+        etypes.now versions) }
 {
-    let versions = taken_versions(alloc, keytab, realm, who, etypes)?;
+    let versions = taken_versions(alloc, of, etypes)?;
     match Versions::new(versions) {
         Some(versions) => Ok(versions),
         None => Err(Stop::Refused(Reason::NoKeys)),
@@ -82,17 +89,16 @@ pub(crate) fn versions_of(
 /// Returns each version of a principal that has a key with one of these types in the keytab; the greatest number first.
 fn taken_versions(
     alloc: Global,
-    keytab: &Keytab,
-    realm: &[u8],
-    who: &Name,
+    of: &KeytabKeys<'_>,
     etypes: &[Etype],
 ) -> Result<Vec<KeyVersion>, Stop<'static>>
-    ensures { IfOk result (λ versions. AreTaken keytab.now (realm.now ∷ who.now.components) etypes.now versions.items) }
+    ensures { IfOk result (λ versions. AreTaken of.now.keytab.now (of.now.realm.now ∷ of.now.who.now.components)
+        etypes.now versions.items) }
 {
     let mut versions = Vec::new(alloc);
     let mut bound = None;
-    while let Some(number) = number_below(keytab.entries(), realm, who, bound) {
-        let keys = keys_at(alloc, keytab, realm, who, etypes, number)?;
+    while let Some(number) = number_below(of.keytab.entries(), of.realm, of.who, bound) {
+        let keys = keys_at(alloc, of, etypes, number)?;
         push_version(alloc, &mut versions, number, &keys)?;
         bound = Some(number);
     }
@@ -170,17 +176,16 @@ fn is_entry_of(entry: &KeytabEntry, realm: &[u8], who: &Name) -> bool
 /// Returns the keys of a version with these types, in their order.
 fn keys_at(
     alloc: Global,
-    keytab: &Keytab,
-    realm: &[u8],
-    who: &Name,
+    of: &KeytabKeys<'_>,
     etypes: &[Etype],
     number: u32,
 ) -> Result<Vec<Key>, AllocError>
-    ensures { IfOk result (λ keys. keys.items ≡ keys_at keytab.now (realm.now ∷ who.now.components) etypes.now number) }
+    ensures { IfOk result (λ keys. keys.items
+        ≡ keys_at of.now.keytab.now (of.now.realm.now ∷ of.now.who.now.components) etypes.now number) }
 {
     let mut keys = Vec::new(alloc);
     for etype in etypes {
-        if let Some(key) = key_at(keytab, realm, who, *etype, number) {
+        if let Some(key) = key_at(of, *etype, number) {
             keys.push(key)?;
         }
     }
@@ -188,10 +193,10 @@ fn keys_at(
 }
 
 /// Returns the key with a version and a type.
-fn key_at(keytab: &Keytab, realm: &[u8], who: &Name, etype: Etype, number: u32) -> Option<Key>
-    ensures { result ≡ key_at keytab.now (realm.now ∷ who.now.components) number etype }
+fn key_at(of: &KeytabKeys<'_>, etype: Etype, number: u32) -> Option<Key>
+    ensures { result ≡ key_at of.now.keytab.now (of.now.realm.now ∷ of.now.who.now.components) number etype }
 {
-    match keytab.find(realm, who, etype, Some(number)) {
+    match of.keytab.find(of.realm, of.who, etype, Some(number)) {
         Ok(key) => Some(*key),
         Err(_) => None,
     }

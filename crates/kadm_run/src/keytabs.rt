@@ -1,18 +1,19 @@
 //! The command that writes a keytab.
-ghost use Rattle.std.specs.Prelude.{◌≡◌, IfOk, IsFalse, OnOk, OnErr, map, option_map};
+ghost use Rattle.std.specs.Prelude.{◌≡◌, IfOk, IsFalse, OnOk, OnErr, option_map};
 ghost use Rattle.program.specs.World.{IsRead, IsThere, with_file};
-ghost use Rattle.kadm_run.specs.Keytabs.{IsBehind, IsFreePath, IsKeytabFor, IsKeytabStart, IsNewKeytab, IsOldKeytab, entry_of, lock_of};
+ghost use Rattle.kadm_run.specs.Keytabs.{IsBehind, IsFreePath, IsKeytabFor, IsKeytabStart, IsNewKeytab, IsOldKeytab, entries_of, lock_of};
 ghost use Rattle.kadm_run.specs.Worlds.{WroteKeytab};
 
+use crate::command::{Command, KeytabArgs};
+use crate::context::Context;
 use crate::databases::{change_file, lock_database, read_database};
 use crate::joining::joined;
-use crate::order::{KeytabOrder, Order};
 use crate::reason::Reason;
 use crate::stop::Stop;
 use cred_files::{Keytab, KeytabEntry};
-use enctypes::Key;
 use krb_elements::KerberosString;
 use krb_fields::Name;
+use principal_rows::KeyVersion;
 use principals::{ChangeFault, Database};
 use program::{FileCause, FileFault, Store, first_octet, has_file, read_file, write_file};
 use std::alloc::{AllocError, Global};
@@ -26,22 +27,22 @@ const KEYTAB_START: u8 = 5;
 
 /// Writes a keytab of a principal's current keys. With `append` the keytab keeps its content, before the new entries,
 /// and its owner and group.
-pub(crate) fn write_keytab<'p, T: Store, E: Write>(
-    alloc: Global,
-    order: &Order<'p>,
+pub(crate) fn write_keytab<'p, T: Store, W: Write, E: Write>(
+    context: &mut Context<W, E>,
     store: &mut T,
-    errors: &mut E,
-    to: KeytabOrder<'p>,
+    command: &Command<'p>,
+    to: KeytabArgs<'p>,
 ) -> Result<(), Stop<'p>>
-    ensures done { OnOk result (WroteKeytab (T.world store.old) order.now.db.now to.entry (T.world store.new)) }
+    ensures done { OnOk result (WroteKeytab (T.world store.old) command.now.db.now to.entry (T.world store.new)) }
     ensures kept { OnErr result (T.world store.new ≡ T.world store.old) }
 {
+    let alloc = context.alloc;
     let name = Name::from_text(alloc, to.name)?;
-    lock_database(alloc, order.db, store, errors)?;
-    let database = read_database(alloc, store, errors, order.db)?;
+    lock_database(context, store, command)?;
+    let database = read_database(context, store, command.db)?;
     check_path(alloc, store, to.out)?;
     let octets = new_octets(alloc, store, &database, &name, to)?;
-    put_octets(alloc, store, order, to, &octets)
+    put_octets(alloc, store, command, to, &octets)
 }
 
 /// Refuses the path of a lock, a path with a lock beside it, and a file that is neither empty nor a keytab. Each
@@ -94,7 +95,7 @@ fn new_octets<'p, T: Store>(
     store: &mut T,
     database: &Database,
     name: &Name,
-    to: KeytabOrder<'p>,
+    to: KeytabArgs<'p>,
 ) -> Result<Vec<u8>, Stop<'p>>
     ensures holds { IfOk result (λ octets. IsKeytabFor (T.world store.old) to.entry name.now.components database.now octets.items) }
     ensures kept { T.world store.new ≡ T.world store.old }
@@ -108,15 +109,15 @@ fn new_octets<'p, T: Store>(
 fn put_octets<'p, T: Store>(
     alloc: Global,
     store: &mut T,
-    order: &Order<'p>,
-    to: KeytabOrder<'p>,
+    command: &Command<'p>,
+    to: KeytabArgs<'p>,
     octets: &[u8],
 ) -> Result<(), Stop<'p>>
     ensures written { OnOk result (T.world store.new ≡ option_map (with_file to.entry.out.now octets.now) (T.world store.old)) }
     ensures kept { OnErr result (T.world store.new ≡ T.world store.old) }
 {
     if to.append {
-        return change_file(alloc, store, to.out, octets, order.keep_mode);
+        return change_file(alloc, store, to.out, octets, command.keep_mode);
     }
     write_file(alloc, store, to.out, octets)?;
     Ok(())
@@ -175,8 +176,7 @@ fn keytab_of(alloc: Global, database: &Database, name: &Name) -> Result<Vec<u8>,
         return Err(Stop::from(ChangeFault::Absent));
     };
     let current = row.versions.current();
-    let keys = current.keys.keys();
-    let entries = entries_of(alloc, database.realm(), name, current.number, keys)?;
+    let entries = entries_of(alloc, database.realm(), name, current)?;
     Ok(Keytab::new(alloc, &entries)?.write(alloc)?)
 }
 
@@ -185,31 +185,19 @@ fn entries_of(
     alloc: Global,
     realm: &[u8],
     name: &Name,
-    version: u32,
-    keys: &[Key],
+    version: &KeyVersion,
 ) -> Result<Vec<KeytabEntry>, AllocError>
-    ensures { IfOk result (λ entries. entries.items ≡ map (entry_of realm.now name.now version) keys.now) }
+    ensures { IfOk result (λ entries. entries.items ≡ entries_of realm.now name.now version.now) }
 {
     let mut entries = Vec::new(alloc);
+    let keys = version.keys.keys();
     for key in keys {
-        entries.push(entry_of(alloc, realm, name, version, key)?)?;
+        entries.push(KeytabEntry {
+            realm: KerberosString::from_slice(alloc, realm)?,
+            name: name.copy(alloc)?,
+            version: version.number,
+            key: *key,
+        })?;
     }
     Ok(entries)
-}
-
-fn entry_of(
-    alloc: Global,
-    realm: &[u8],
-    name: &Name,
-    version: u32,
-    key: &Key,
-) -> Result<KeytabEntry, AllocError>
-    ensures { IfOk result (λ entry. entry ≡ entry_of realm.now name.now version key.now) }
-{
-    Ok(KeytabEntry {
-        realm: KerberosString::from_slice(alloc, realm)?,
-        name: name.copy(alloc)?,
-        version,
-        key: *key,
-    })
 }

@@ -1,6 +1,7 @@
 //! The command that prints what an administrator should check.
 ghost use Rattle.std.specs.Prelude.{◌≡◌};
 
+use crate::context::Context;
 use crate::databases::read_database;
 use crate::listing::print_lines;
 use crate::quoting::shell_word;
@@ -28,20 +29,24 @@ const KRBTGT: &[u8] = b"krbtgt";
 /// Prints a line for each thing to check, with the command that mends it behind a `#`: first those of the file, which
 /// begin with `@database`, as no name does, and then those of principals, in the order of the names' texts.
 pub(crate) fn print_lint<'p, T: Store, W: Write, E: Write>(
-    alloc: Global,
-    db: &'p str,
+    context: &mut Context<W, E>,
     store: &mut T,
-    out: &mut W,
-    errors: &mut E,
+    db: &'p str,
 ) -> Result<(), Stop<'p>>
     ensures kept { T.world store.new ≡ T.world store.old }
 {
-    let database = read_database(alloc, store, errors, db)?;
+    let alloc = context.alloc;
+    let database = read_database(context, store, db)?;
     let rights = file_rights(store, db)?;
     let now = read_clock(store)?;
     let db = shell_word(alloc, db)?;
-    print_lines(&file_findings(alloc, &db, rights)?, out)?;
-    Ok(print_lines(&sorted_findings(alloc, &database, &db, now)?, out)?)
+    print_lines(&file_findings(alloc, &db, rights)?, &mut context.out)?;
+    let place = Place {
+        alloc,
+        db: &db,
+        now,
+    };
+    Ok(print_lines(&sorted_findings(&place, &database)?, &mut context.out)?)
 }
 
 /// Returns what is wrong with the rights on the database.
@@ -63,13 +68,18 @@ fn stranger_to(rights: FileRights) -> Option<u32> {
         .filter(|user| *user != ROOT && *user != rights.owner)
 }
 
-fn sorted_findings(
+/// Where principals are looked at, and when.
+#[derive(Clone, Copy)]
+struct Place<'a> {
     alloc: Global,
-    database: &Database,
-    db: &str,
+    /// The path of the database, as a word of a shell.
+    db: &'a str,
+    /// The second of the look.
     now: u64,
-) -> Result<Vec<String>, AllocError> {
-    let mut lines = findings(alloc, database, db, now)?;
+}
+
+fn sorted_findings(place: &Place<'_>, database: &Database) -> Result<Vec<String>, AllocError> {
+    let mut lines = findings(place, database)?;
     // no text of a name has a byte as low as the space after it, so lines have the order of names
     lines.sort()?;
     Ok(lines)
@@ -85,16 +95,11 @@ struct Subject<'a> {
     options: &'a str,
 }
 
-fn findings(
-    alloc: Global,
-    database: &Database,
-    db: &str,
-    now: u64,
-) -> Result<Vec<String>, AllocError> {
-    let mut lines = Vec::new(alloc);
-    for place in 0..database.len() {
-        if let Some((name, row)) = database.at(place) {
-            push_findings(alloc, &mut lines, name, row, db, now)?;
+fn findings(place: &Place<'_>, database: &Database) -> Result<Vec<String>, AllocError> {
+    let mut lines = Vec::new(place.alloc);
+    for i in 0..database.len() {
+        if let Some((name, row)) = database.at(i) {
+            push_findings(place, &mut lines, name, row)?;
         }
     }
     Ok(lines)
@@ -102,13 +107,12 @@ fn findings(
 
 /// Adds what to check of one principal.
 fn push_findings(
-    alloc: Global,
+    place: &Place<'_>,
     lines: &mut Vec<String>,
     name: &Name,
     row: &Row,
-    db: &str,
-    now: u64,
 ) -> Result<(), AllocError> {
+    let (alloc, db) = (place.alloc, place.db);
     let text = name.to_text(alloc)?;
     let word = shell_word(alloc, &text)?;
     let options = format!(in alloc; "--db {db} --name {word}")?;
@@ -117,7 +121,7 @@ fn push_findings(
         row,
         options: &options,
     };
-    push_times(alloc, lines, &subject, now)?;
+    push_times(alloc, lines, &subject, place.now)?;
     push_keys(alloc, lines, &subject)?;
     push_service(alloc, lines, &subject, name)
 }

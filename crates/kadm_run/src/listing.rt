@@ -1,9 +1,10 @@
 //! The commands that print the contents of a database, without keys.
 ghost use Rattle.std.specs.Prelude.{◌≡◌};
 
+use crate::command::ListArgs;
+use crate::context::Context;
 use crate::databases::read_database;
 use crate::json_lines::{json_line, print_json};
-use crate::order::ListArgs;
 use crate::patterns::is_like;
 use crate::stop::Stop;
 use krb_fields::{Name, Second};
@@ -18,22 +19,20 @@ use text_fields::{Setting, UtcDate};
 /// Prints `NAME VERSION TYPES` for each principal whose name fits, in the order of the names' texts. A long line
 /// continues with `EXPIRES PASSWORD_EXPIRES DISABLED VERSIONS SERVICE`.
 pub(crate) fn print_list<'p, T: Store, W: Write, E: Write>(
-    alloc: Global,
+    context: &mut Context<W, E>,
+    store: &mut T,
     db: &'p str,
     list: ListArgs<'_>,
-    store: &mut T,
-    out: &mut W,
-    errors: &mut E,
 ) -> Result<(), Stop<'p>>
     ensures kept { T.world store.new ≡ T.world store.old }
 {
-    let database = read_database(alloc, store, errors, db)?;
+    let database = read_database(context, store, db)?;
     if list.json {
-        let lines = sorted_json(alloc, &database, list)?;
-        return Ok(print_json(&lines, out)?);
+        let lines = sorted_json(context.alloc, &database, list)?;
+        return Ok(print_json(&lines, &mut context.out)?);
     }
-    let lines = sorted_lines(alloc, &database, list)?;
-    Ok(print_lines(&lines, out)?)
+    let lines = sorted_lines(context.alloc, &database, list)?;
+    Ok(print_lines(&lines, &mut context.out)?)
 }
 
 pub(crate) fn print_lines<W: Write>(lines: &[String], out: &mut W) -> io::Result<()> {
@@ -144,19 +143,17 @@ fn types_of(alloc: Global, keys: &KeyList) -> Result<String, AllocError> {
 /// Prints a principal's policy, with one field on each line as `policy` accepts it, and then `version NUMBER TYPES` for
 /// each version, the current one first.
 pub(crate) fn print_row<'p, T: Store, W: Write, E: Write>(
-    alloc: Global,
+    context: &mut Context<W, E>,
     store: &mut T,
     db: &'p str,
     name: &str,
-    out: &mut W,
-    errors: &mut E,
 ) -> Result<(), Stop<'p>>
     ensures kept { T.world store.new ≡ T.world store.old }
 {
-    let name = Name::from_text(alloc, name)?;
-    let database = read_database(alloc, store, errors, db)?;
+    let name = Name::from_text(context.alloc, name)?;
+    let database = read_database(context, store, db)?;
     match database.get(&name) {
-        Some(row) => print_found(alloc, row, out),
+        Some(row) => print_found(context.alloc, row, &mut context.out),
         None => Err(Stop::from(ChangeFault::Absent)),
     }
 }

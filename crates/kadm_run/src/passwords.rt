@@ -3,8 +3,9 @@ ghost use Rattle.std.specs.Prelude.{◌≡◌, IfOk};
 ghost use Rattle.kadm_run.specs.Updates.{IsPasswordOf, IsSecretOf};
 ghost use Rattle.kadm_run.specs.Words.{path_of};
 
+use crate::command::{PasswordArgs, RowArgs, RowUpdate};
+use crate::context::Context;
 use crate::databases::read_database;
-use crate::order::{Order, PasswordArgs, RowUpdate};
 use crate::reason::Reason;
 use crate::stop::Stop;
 use krb_fields::component_to_text;
@@ -14,39 +15,45 @@ use std::io::Write;
 
 /// Gets the password that a change takes, before the database is locked: from its file, or from standard input. It is
 /// empty if the change takes none.
-pub(crate) fn new_password<'p, T: Store, E: Write>(
-    alloc: Global,
-    order: &Order<'p>,
+pub(crate) fn new_password<'p, T: Store, W: Write, E: Write>(
+    context: &mut Context<W, E>,
     store: &mut T,
-    errors: &mut E,
-    name: &str,
-    how: &RowUpdate<'p>,
+    db: &'p str,
+    row: &RowArgs<'p>,
 ) -> Result<Vec<u8>, Stop<'p>>
-    ensures given { IfOk result (λ pass. IsSecretOf (T.world store.old) how.now pass.items) }
+    ensures given { IfOk result (λ pass. IsSecretOf (T.world store.old) row.now.how pass.items) }
     ensures kept { T.world store.new ≡ T.world store.old }
 {
-    match how {
-        RowUpdate::Password(to) => any_password(alloc, order, store, errors, name, to.password),
-        RowUpdate::Random(_) => Ok(Vec::new(alloc)),
-        RowUpdate::Import { keytab: _ } => Ok(Vec::new(alloc)),
+    match &row.how {
+        RowUpdate::Password(to) => {
+            let asked = Asked { db, name: row.name };
+            any_password(context, store, asked, to.password)
+        }
+        RowUpdate::Random(_) => Ok(Vec::new(context.alloc)),
+        RowUpdate::Import { keytab: _ } => Ok(Vec::new(context.alloc)),
     }
 }
 
+/// The principal whose password is asked for, and the path of the database that says its realm.
+#[derive(Clone, Copy)]
+struct Asked<'p> {
+    db: &'p str,
+    name: &'p str,
+}
+
 /// Gets the password from its file, or from standard input.
-fn any_password<'p, T: Store, E: Write>(
-    alloc: Global,
-    order: &Order<'p>,
+fn any_password<'p, T: Store, W: Write, E: Write>(
+    context: &mut Context<W, E>,
     store: &mut T,
-    errors: &mut E,
-    name: &str,
+    asked: Asked<'p>,
     args: PasswordArgs<'p>,
 ) -> Result<Vec<u8>, Stop<'p>>
     ensures given { IfOk result (λ pass. IsPasswordOf (T.world store.old) (path_of args.entry.file) pass.items) }
     ensures kept { T.world store.new ≡ T.world store.old }
 {
     let pass = match args.file {
-        Some(path) => read_password(alloc, store, path)?,
-        None => asked_password(alloc, order, store, errors, name)?,
+        Some(path) => read_password(context.alloc, store, path)?,
+        None => asked_password(context, store, asked)?,
     };
     likely(pass, args.any)
 }
@@ -101,20 +108,18 @@ fn is_unlikely(pass: &[u8]) -> bool {
 }
 
 /// Asks for the password of a principal, with its name and realm.
-fn asked_password<'p, T: Store, E: Write>(
-    alloc: Global,
-    order: &Order<'p>,
+fn asked_password<'p, T: Store, W: Write, E: Write>(
+    context: &mut Context<W, E>,
     store: &mut T,
-    errors: &mut E,
-    name: &str,
+    asked: Asked<'p>,
 ) -> Result<Vec<u8>, Stop<'p>>
     ensures kept { T.world store.new ≡ T.world store.old }
 {
-    let realm = realm_text(alloc, order, store, errors)?;
+    let realm = realm_text(context, store, asked.db)?;
     if store.is_terminal() {
-        warn_of_echo(errors);
+        warn_of_echo(&mut context.errors);
     }
-    ask_twice(alloc, store, name, &realm)
+    ask_twice(context.alloc, store, asked.name, &realm)
 }
 
 /// Warns that the terminal shows the password, and says how to hide it. Ignores a failed write.
@@ -127,16 +132,15 @@ fn warn_of_echo<E: Write>(errors: &mut E) {
 }
 
 /// Returns the text of the realm's name.
-fn realm_text<'p, T: Store, E: Write>(
-    alloc: Global,
-    order: &Order<'p>,
+fn realm_text<'p, T: Store, W: Write, E: Write>(
+    context: &mut Context<W, E>,
     store: &mut T,
-    errors: &mut E,
+    db: &'p str,
 ) -> Result<String, Stop<'p>>
     ensures kept { T.world store.new ≡ T.world store.old }
 {
-    let database = read_database(alloc, store, errors, order.db)?;
-    Ok(component_to_text(alloc, database.realm())?)
+    let database = read_database(context, store, db)?;
+    Ok(component_to_text(context.alloc, database.realm())?)
 }
 
 /// Asks twice at a terminal. Both answers have to be the same.

@@ -1,20 +1,24 @@
 //! One command line: from its words to the files.
 ghost use Rattle.std.specs.Prelude.{◌≡◌, IfErr, IfOk, OnErr, map, string_bytes, true};
-ghost use Rattle.kadm_run.specs.Ends.{IsEnd, IsOrderEnd, IsOrderStopped, IsStopped, IsWorkDone, IsWorkEnd, IsWorkStopped};
+ghost use Rattle.kadm_run.specs.Ends.{IsCommandEnd, IsCommandStopped, IsEnd, IsStopped, IsWriteDone, IsWriteEnd};
+ghost use Rattle.kadm_run.specs.Ends.{IsWriteStopped};
 ghost use Rattle.kadm_run.specs.Words.{asks_help, path_of, texts, with_db};
 ghost use Rattle.kadm_run.specs.declared.status.Status.TheVariants.{Done, Failed};
 
 use crate::batch::run_batch;
 use crate::changes::make_realm;
+use crate::command::{Command, CommandKind, PrintCommand, WriteCommand};
+use crate::command_words::read_command;
+use crate::context::{Context, Progress};
 use crate::dump_import::import_dump;
 use crate::keytabs::write_keytab;
 use crate::linting::print_lint;
 use crate::listing::{print_list, print_row};
-use crate::order::{Order, Print, Task, Work, read_args, read_order};
+use crate::options::read_args;
 use crate::status::Status;
 use crate::stop::{Stop, Subject, report};
 use crate::updates::update;
-use crate::usage::{print_help, report_order_fault};
+use crate::usage::{print_help, report_command_fault};
 use crate::words::{with_db, words_of};
 use clap::ArgMatches;
 use clap::error::Error;
@@ -49,15 +53,23 @@ pub fn kadm_run<T: Store, W: Write + Drop, E: Write + Drop>(
     let Ok(words) = words_with_db(alloc, line) else {
         return Status::Failed;
     };
-    let Ok(mut out) = BufWriter::new(alloc, writer) else {
+    let Ok(out) = BufWriter::new(alloc, writer) else {
         return Status::Failed;
     };
-    let Ok(mut errors) = BufWriter::new(alloc, errors) else {
+    let Ok(errors) = BufWriter::new(alloc, errors) else {
         return Status::Failed;
     };
-    run_and_report(alloc, &words, line.is_watched, store, &mut out, &mut errors).unwrap_or(
-        Status::Failed,
-    )
+    let progress = Progress {
+        watched: line.is_watched,
+        second: None,
+    };
+    let mut context = Context {
+        alloc,
+        out,
+        errors,
+        progress,
+    };
+    run_and_report(&mut context, store, &words).unwrap_or(Status::Failed)
 }
 
 /// Returns the words of a command line, with the database that is its default if they name none.
@@ -71,79 +83,69 @@ fn words_with_db<'a>(alloc: Global, line: CommandLine<'a>) -> Result<Vec<&'a str
 /// Returns the status, or the error of a failed write to the output.
 #[tactic(auto, using(crate::proofs::Ending::stopped_end, crate::proofs::Ending::stopped_failed, crate::proofs::Ending::end_failed))]
 fn run_and_report<'a, T: Store, W: Write, E: Write>(
-    alloc: Global,
-    words: &'a [&'a str],
-    watched: bool,
+    context: &mut Context<W, E>,
     store: &mut T,
-    out: &mut W,
-    errors: &mut E,
+    words: &'a [&'a str],
 ) -> io::Result<Status>
     ensures ended { IfOk result (λ status. IsEnd (texts words.entry.now) (T.world store.old) status (T.world store.new)) }
     ensures failed { OnErr result (IsEnd (texts words.entry.now) (T.world store.old) Failed (T.world store.new)) }
 {
-    let status = match run_to_end(alloc, words, watched, store, out, errors) {
+    let status = match run_to_end(context, store, words) {
         Ok(status) => status,
         Err(stop) => {
             let subject = Subject { words, line: None };
-            report(out, errors, &subject, stop)?
+            report(context, &subject, stop)?
         }
     };
     // the errors first: they may say that the output failed
-    let _ = errors.flush();
-    out.flush()?;
+    let _ = context.errors.flush();
+    context.out.flush()?;
     Ok(status)
 }
 
 /// Runs the command, and flushes what it prints.
 #[tactic(auto, using(crate::proofs::Ending::failed_after))]
 fn run_to_end<'a, T: Store, W: Write, E: Write>(
-    alloc: Global,
-    words: &'a [&'a str],
-    watched: bool,
+    context: &mut Context<W, E>,
     store: &mut T,
-    out: &mut W,
-    errors: &mut E,
+    words: &'a [&'a str],
 ) -> Result<Status, Stop<'a>>
     ensures done { IfOk result (λ status. IsEnd (texts words.entry.now) (T.world store.old) status (T.world store.new)) }
     ensures stopped { IfErr result (λ stop. IsStopped (texts words.entry.now) (T.world store.old) stop (T.world store.new)) }
 {
-    let status = run_words(alloc, words, watched, store, out, errors)?;
-    out.flush()?;
+    let status = run_words(context, store, words)?;
+    context.out.flush()?;
     Ok(status)
 }
 
 /// Runs the command, or prints the help that it asks for.
 fn run_words<'a, T: Store, W: Write, E: Write>(
-    alloc: Global,
-    words: &'a [&'a str],
-    watched: bool,
+    context: &mut Context<W, E>,
     store: &mut T,
-    out: &mut W,
-    errors: &mut E,
+    words: &'a [&'a str],
 ) -> Result<Status, Stop<'a>>
     ensures done { IfOk result (λ status. IsEnd (texts words.entry.now) (T.world store.old) status (T.world store.new)) }
     ensures stopped { IfErr result (λ stop. IsStopped (texts words.entry.now) (T.world store.old) stop (T.world store.new)) }
 {
-    let matches = read_args(alloc, words);
-    if asks(&matches, words, out, errors)? {
+    let matches = read_args(context.alloc, words);
+    if asks(context, &matches, words)? {
         return Ok(Status::Done);
     }
-    run_read(alloc, words, watched, store, out, errors)
+    run_read(context, store, words)
 }
 
 /// Prints the help, and returns whether the words ask for it.
 fn asks<'a, W: Write, E: Write>(
+    context: &mut Context<W, E>,
     matches: &Result<ArgMatches<'a>, Error>,
     words: &[&str],
-    out: &mut W,
-    errors: &mut E,
 ) -> Result<bool, Stop<'static>>
     ensures { IfOk result (λ asks. asks ≡ true → asks_help (texts words.now) ≡ true) }
 {
     match matches {
         Ok(_) => Ok(false),
         Err(error) => {
-            print_help(out, errors, words, error)?;
+            print_help(context, words, error)?;
             Ok(true)
         }
     }
@@ -152,112 +154,97 @@ fn asks<'a, W: Write, E: Write>(
 /// Runs the command that the parser has read.
 #[tactic(auto, using(crate::proofs::Ending::spelled_end, crate::proofs::Ending::spelled_stop))]
 fn run_read<'a, T: Store, W: Write, E: Write>(
-    alloc: Global,
-    words: &'a [&'a str],
-    watched: bool,
+    context: &mut Context<W, E>,
     store: &mut T,
-    out: &mut W,
-    errors: &mut E,
+    words: &'a [&'a str],
 ) -> Result<Status, Stop<'a>>
     ensures done { IfOk result (λ status. IsEnd (texts words.entry.now) (T.world store.old) status (T.world store.new)) }
     ensures stopped { IfErr result (λ stop. IsStopped (texts words.entry.now) (T.world store.old) stop (T.world store.new)) }
 {
-    match read_order(alloc, words) {
-        Ok(order) => run_order(alloc, &order, watched, store, out, errors),
-        Err(fault) => Err(report_order_fault(errors, fault)),
+    match read_command(context.alloc, words) {
+        Ok(command) => run_command(context, store, &command),
+        Err(fault) => Err(report_command_fault(&mut context.errors, fault)),
     }
 }
 
-#[tactic(auto, using(crate::proofs::Ending::work_end, crate::proofs::Ending::work_stop, crate::proofs::Ending::print_end))]
-fn run_order<'a, T: Store, W: Write, E: Write>(
-    alloc: Global,
-    order: &Order<'a>,
-    watched: bool,
+/// Runs a command that was read.
+#[tactic(auto, using(crate::proofs::Ending::write_end, crate::proofs::Ending::write_stop, crate::proofs::Ending::print_end))]
+fn run_command<'a, T: Store, W: Write, E: Write>(
+    context: &mut Context<W, E>,
     store: &mut T,
-    out: &mut W,
-    errors: &mut E,
+    command: &Command<'a>,
 ) -> Result<Status, Stop<'a>>
-    ensures done { IfOk result (λ status. IsOrderEnd (T.world store.old) order.now status (T.world store.new)) }
-    ensures stopped { IfErr result (λ stop. IsOrderStopped (T.world store.old) order.now stop (T.world store.new)) }
+    ensures done { IfOk result (λ status. IsCommandEnd (T.world store.old) command.now status (T.world store.new)) }
+    ensures stopped { IfErr result (λ stop. IsCommandStopped (T.world store.old) command.now stop (T.world store.new)) }
 {
-    match order.task {
-        Task::Print(print) => run_print(alloc, order.db, print, store, out, errors),
-        Task::Write(work) => run_work(alloc, order, work, watched, store, out, errors),
+    match command.kind {
+        CommandKind::Print(print) => run_print(context, store, command.db, print),
+        CommandKind::Write(write) => run_write(context, store, command, write),
     }
 }
 
 /// Runs a command that only prints.
 fn run_print<'a, T: Store, W: Write, E: Write>(
-    alloc: Global,
-    db: &'a str,
-    print: Print<'a>,
+    context: &mut Context<W, E>,
     store: &mut T,
-    out: &mut W,
-    errors: &mut E,
+    db: &'a str,
+    print: PrintCommand<'a>,
 ) -> Result<Status, Stop<'a>>
     ensures done { IfOk result (λ status. status ≡ Done) }
     ensures kept { T.world store.new ≡ T.world store.old }
 {
     match print {
-        Print::List(list) => print_list(alloc, db, list, store, out, errors)?,
-        Print::Lint => print_lint(alloc, db, store, out, errors)?,
-        Print::Show { name } => print_row(alloc, store, db, name, out, errors)?,
+        PrintCommand::List(list) => print_list(context, store, db, list)?,
+        PrintCommand::Lint => print_lint(context, store, db)?,
+        PrintCommand::Show { name } => print_row(context, store, db, name)?,
     }
     Ok(Status::Done)
 }
 
 /// Runs a command that writes a file, and prints `ok` if it was done.
-fn run_work<'a, T: Store, W: Write, E: Write>(
-    alloc: Global,
-    order: &Order<'a>,
-    work: Work<'a>,
-    watched: bool,
+fn run_write<'a, T: Store, W: Write, E: Write>(
+    context: &mut Context<W, E>,
     store: &mut T,
-    out: &mut W,
-    errors: &mut E,
+    command: &Command<'a>,
+    write: WriteCommand<'a>,
 ) -> Result<Status, Stop<'a>>
-    ensures done { IfOk result (λ status. IsWorkEnd (T.world store.old) order.now work.entry status (T.world store.new)) }
-    ensures stopped { IfErr result (λ stop. IsWorkStopped (T.world store.old) order.now work.entry stop (T.world store.new)) }
+    ensures done { IfOk result (λ status. IsWriteEnd (T.world store.old) command.now write.entry status (T.world store.new)) }
+    ensures stopped { IfErr result (λ stop. IsWriteStopped (T.world store.old) command.now write.entry stop (T.world store.new)) }
 {
-    if !write_files(alloc, order, work, watched, store, out, errors)? {
+    if !write_files(context, store, command, write)? {
         return Ok(Status::Refused);
     }
-    writeln!(out, "ok")?;
+    writeln!(context.out, "ok")?;
     Ok(Status::Done)
 }
 
 /// Writes the files of a command. Returns whether all was done: a batch that keeps going may have been done in part.
-#[tactic(auto, using(crate::proofs::Ending::batch_work))]
+#[tactic(auto, using(crate::proofs::Ending::batch_write))]
 fn write_files<'a, T: Store, W: Write, E: Write>(
-    alloc: Global,
-    order: &Order<'a>,
-    work: Work<'a>,
-    watched: bool,
+    context: &mut Context<W, E>,
     store: &mut T,
-    out: &mut W,
-    errors: &mut E,
+    command: &Command<'a>,
+    write: WriteCommand<'a>,
 ) -> Result<bool, Stop<'a>>
-    ensures done { IfOk result (λ whole. IsWorkDone (T.world store.old) order.now work.entry whole (T.world store.new)) }
+    ensures done { IfOk result (λ whole. IsWriteDone (T.world store.old) command.now write.entry whole (T.world store.new)) }
     ensures kept { OnErr result (T.world store.new ≡ T.world store.old) }
 {
-    match work {
-        Work::Batch { keep_going } => {
-            run_batch(alloc, order, keep_going, watched, store, out, errors)
-        }
-        Work::Init { realm, seed } => {
-            make_realm(alloc, order, store, errors, realm, seed)?;
+    match write {
+        WriteCommand::Batch { keep_going } => run_batch(context, store, command, keep_going),
+        WriteCommand::Init(new) => {
+            make_realm(context, store, command, new)?;
             Ok(true)
         }
-        Work::Update(changes) => {
-            update(alloc, order, store, errors, changes)?;
+        WriteCommand::Update(changes) => {
+            update(context, store, command, changes)?;
             Ok(true)
         }
-        Work::Keytab(to) => {
-            write_keytab(alloc, order, store, errors, to)?;
+        WriteCommand::Keytab(to) => {
+            write_keytab(context, store, command, to)?;
             Ok(true)
         }
-        Work::Dump(from) => {
-            import_dump(alloc, order, store, errors, from)?;
+        WriteCommand::Dump(from) => {
+            import_dump(context, store, command, from)?;
             Ok(true)
         }
     }

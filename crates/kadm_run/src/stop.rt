@@ -3,6 +3,7 @@ ghost use Rattle.std.specs.Prelude.{◌≡◌, IfOk};
 ghost use Rattle.kadm_run.specs.Ends.{IsFailed, IsStatusOf};
 ghost use Rattle.kadm_run.specs.declared.status.Status.TheVariants.{Failed, Refused};
 
+use crate::context::Context;
 use crate::reason::{KEYTAB, Reason};
 use crate::status::Status;
 use crate::words::value_of;
@@ -170,11 +171,11 @@ pub(crate) struct Subject<'a> {
     pub line: Option<usize>,
 }
 
-/// Reports why a command ended early: a word for programs on `out`, and the subject and reason on `errors`. Returns the
+/// Reports why a command ended early: a word for programs on standard output, and the subject and reason on
+/// standard error. Returns the
 /// status.
 pub(crate) fn report<W: Write, E: Write>(
-    out: &mut W,
-    errors: &mut E,
+    context: &mut Context<W, E>,
     subject: &Subject<'_>,
     stop: Stop<'_>,
 ) -> io::Result<Status>
@@ -186,20 +187,20 @@ pub(crate) fn report<W: Write, E: Write>(
         Stop::LineFailed => Ok(Status::Failed),
         Stop::Refused(reason) => {
             let word = word_of(subject.words, reason.option());
-            report_reason(errors, subject, reason, word);
-            print_refusal(out, reason.name())
+            report_reason(&mut context.errors, subject, reason, word);
+            print_refusal(&mut context.out, reason.name())
         }
         Stop::RefusedOf { word, reason } => {
-            report_reason(errors, subject, reason, some_text(word));
-            print_refusal(out, reason.name())
+            report_reason(&mut context.errors, subject, reason, some_text(word));
+            print_refusal(&mut context.out, reason.name())
         }
         Stop::File(fault) => {
-            begin_line(errors, subject);
-            name_imported(errors, subject, fault.path);
-            let _ = writeln!(errors, "{fault}");
+            begin_line(&mut context.errors, subject);
+            name_imported(&mut context.errors, subject, fault.path);
+            let _ = writeln!(context.errors, "{fault}");
             match (fault.cause, fault.cause.refusal()) {
-                (FileCause::Failed(_), _) | (_, None) => print_failure(out),
-                (_, Some(name)) => print_refusal(out, name),
+                (FileCause::Failed(_), _) | (_, None) => print_failure(&mut context.out),
+                (_, Some(name)) => print_refusal(&mut context.out, name),
             }
         }
     }

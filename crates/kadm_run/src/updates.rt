@@ -6,11 +6,13 @@ ghost use Rattle.kadm_run.specs.Words.{texts};
 ghost use Rattle.kadm_run.specs.Worlds.{Rewritten, Updated};
 
 use crate::changes::{change_all, check_names, migrate_rows, set_all};
+use crate::command::{Changes, Command, Grant, RowArgs, RowUpdate, Update};
+use crate::context::Context;
 use crate::databases::{lock_database, read_database, write_database};
 use crate::denying::is_user;
-use crate::granting::{give_password, give_random};
+use crate::draft::Draft;
+use crate::granting::{Recipient, give_password, give_random};
 use crate::importing::import;
-use crate::order::{ChangeArgs, Grant, Order, RowOrder, RowUpdate, Update};
 use crate::passwords::{batch_password, new_password};
 use crate::stop::{Stop, Subject, begin_line};
 use enctypes::Etype;
@@ -21,171 +23,185 @@ use std::alloc::Global;
 use std::io::Write;
 
 /// Changes the database.
-pub(crate) fn update<'p, T: Store, E: Write>(
-    alloc: Global,
-    order: &Order<'p>,
+pub(crate) fn update<'p, T: Store, W: Write, E: Write>(
+    context: &mut Context<W, E>,
     store: &mut T,
-    errors: &mut E,
+    command: &Command<'p>,
     update: Update<'p>,
 ) -> Result<(), Stop<'p>>
     ensures done { OnOk result
-        (Updated (T.world store.old) order.now.db.now order.now.etypes.items update.entry (T.world store.new)) }
+        (Updated (T.world store.old) command.now.db.now command.now.etypes.items update.entry (T.world store.new)) }
     ensures kept { OnErr result (T.world store.new ≡ T.world store.old) }
 {
     match update {
-        Update::Row(to) => update_row(alloc, order, store, errors, &to),
-        Update::Changes { words, how } => update_rows(alloc, order, store, errors, words, how),
+        Update::Row(to) => update_row(context, store, command, &to),
+        Update::Changes(changes) => update_rows(context, store, command, &changes),
         Update::Migrate {
             users_are_no_services,
-        } => migrate(alloc, order, store, errors, users_are_no_services),
+        } => migrate(context, store, command, users_are_no_services),
     }
 }
 
 /// Changes the row of a principal. It reads a password before it locks the database.
-fn update_row<'p, T: Store, E: Write>(
-    alloc: Global,
-    order: &Order<'p>,
+fn update_row<'p, T: Store, W: Write, E: Write>(
+    context: &mut Context<W, E>,
     store: &mut T,
-    errors: &mut E,
-    to: &RowOrder<'p>,
+    command: &Command<'p>,
+    to: &RowArgs<'p>,
 ) -> Result<(), Stop<'p>>
-    ensures done { OnOk result (Rewritten (T.world store.old) order.now.db.now
-        (IsRowUpdated (T.world store.old) order.now.etypes.items to.now) (T.world store.new)) }
+    ensures done { OnOk result (Rewritten (T.world store.old) command.now.db.now
+        (IsRowUpdated (T.world store.old) command.now.etypes.items to.now) (T.world store.new)) }
     ensures kept { OnErr result (T.world store.new ≡ T.world store.old) }
 {
+    let alloc = context.alloc;
     let who = Name::from_text(alloc, to.name)?;
-    let pass = new_password(alloc, order, store, errors, to.name, &to.how)?;
-    let locked = lock_database(alloc, order.db, store, errors)?;
-    let mut database = read_database(alloc, store, errors, order.db)?;
-    let expires = password_expires(&database, &who);
-    change_row(alloc, store, &mut database, &order.etypes, &who, to, &pass)?;
-    write_database(alloc, store, &locked, &database, order.keep_mode)?;
+    let pass = new_password(context, store, command.db, to)?;
+    let locked = lock_database(context, store, command)?;
+    let database = read_database(context, store, command.db)?;
+    let mut draft = Draft { alloc, database };
+    let expires = password_expires(&draft.database, &who);
+    let recipient = Recipient {
+        who: &who,
+        etypes: &command.etypes,
+        pass: &pass,
+    };
+    change_row(store, &mut draft, &recipient, to)?;
+    write_database(alloc, store, &locked, &draft.database)?;
     let subject = Subject {
         words: &[],
         line: None,
     };
-    report_change(errors, &subject, to, &database, &who, expires);
+    let change = RowChanged {
+        to,
+        who: &who,
+        database: &draft.database,
+        expires,
+    };
+    report_change(&mut context.errors, &subject, &change);
     Ok(())
 }
 
 /// Changes each principal that the words of the command line name, without new keys.
-fn update_rows<'p, T: Store, E: Write>(
-    alloc: Global,
-    order: &Order<'p>,
+fn update_rows<'p, T: Store, W: Write, E: Write>(
+    context: &mut Context<W, E>,
     store: &mut T,
-    errors: &mut E,
-    words: &'p [&'p str],
-    how: ChangeArgs,
+    command: &Command<'p>,
+    changes: &Changes<'p>,
 ) -> Result<(), Stop<'p>>
-    ensures done { OnOk result (Rewritten (T.world store.old) order.now.db.now
-        (AreChanged (T.world store.old) (texts words.entry.now) how) (T.world store.new)) }
+    ensures done { OnOk result (Rewritten (T.world store.old) command.now.db.now
+        (AreChanged (T.world store.old) (texts changes.now.words.now) changes.now.how) (T.world store.new)) }
     ensures kept { OnErr result (T.world store.new ≡ T.world store.old) }
 {
-    check_names(alloc, words)?;
-    let locked = lock_database(alloc, order.db, store, errors)?;
-    let mut database = read_database(alloc, store, errors, order.db)?;
-    change_all(alloc, store, &mut database, words, how)?;
-    write_database(alloc, store, &locked, &database, order.keep_mode)
+    let alloc = context.alloc;
+    check_names(alloc, changes.words)?;
+    let locked = lock_database(context, store, command)?;
+    let database = read_database(context, store, command.db)?;
+    let mut draft = Draft { alloc, database };
+    change_all(store, &mut draft, changes)?;
+    write_database(alloc, store, &locked, &draft.database)
 }
 
 /// Writes the database in the current version of the format.
-fn migrate<'p, T: Store, E: Write>(
-    alloc: Global,
-    order: &Order<'p>,
+fn migrate<'p, T: Store, W: Write, E: Write>(
+    context: &mut Context<W, E>,
     store: &mut T,
-    errors: &mut E,
+    command: &Command<'p>,
     users_are_no_services: bool,
 ) -> Result<(), Stop<'p>>
-    ensures done { OnOk result (Rewritten (T.world store.old) order.now.db.now
+    ensures done { OnOk result (Rewritten (T.world store.old) command.now.db.now
         (IsMigrated users_are_no_services) (T.world store.new)) }
     ensures kept { OnErr result (T.world store.new ≡ T.world store.old) }
 {
-    let locked = lock_database(alloc, order.db, store, errors)?;
-    let mut database = read_database(alloc, store, errors, order.db)?;
-    migrate_rows(alloc, &mut database, users_are_no_services)?;
-    write_database(alloc, store, &locked, &database, order.keep_mode)
+    let alloc = context.alloc;
+    let locked = lock_database(context, store, command)?;
+    let database = read_database(context, store, command.db)?;
+    let mut draft = Draft { alloc, database };
+    migrate_rows(&mut draft, users_are_no_services)?;
+    write_database(alloc, store, &locked, &draft.database)
 }
 
 /// Makes the change of a line of a batch in a database that was read.
 pub(crate) fn update_in_batch<'p, T: Store, E: Write>(
-    alloc: Global,
-    store: &mut T,
-    database: &mut Database,
     errors: &mut E,
+    store: &mut T,
+    draft: &mut Draft,
     etypes: &[Etype],
     update: Update<'p>,
     subject: &Subject<'_>,
 ) -> Result<(), Stop<'p>>
-    ensures done { OnOk result (IsUpdated (T.world store.old) etypes.now update.entry database.old database.new) }
+    ensures done { OnOk result (IsUpdated (T.world store.old) etypes.now update.entry draft.old.database draft.new.database) }
     ensures kept { T.world store.new ≡ T.world store.old }
 {
     match update {
-        Update::Row(to) => row_in_batch(alloc, store, database, errors, etypes, &to, subject),
-        Update::Changes { words, how } => change_all(alloc, store, database, words, how),
+        Update::Row(to) => row_in_batch(errors, store, draft, etypes, &to, subject),
+        Update::Changes(changes) => change_all(store, draft, &changes),
         Update::Migrate {
             users_are_no_services,
-        } => Ok(migrate_rows(alloc, database, users_are_no_services)?),
+        } => Ok(migrate_rows(draft, users_are_no_services)?),
     }
 }
 
+/// Changes the row of a principal, as a line of a batch orders.
 fn row_in_batch<'p, T: Store, E: Write>(
-    alloc: Global,
-    store: &mut T,
-    database: &mut Database,
     errors: &mut E,
+    store: &mut T,
+    draft: &mut Draft,
     etypes: &[Etype],
-    to: &RowOrder<'p>,
+    to: &RowArgs<'p>,
     subject: &Subject<'_>,
 ) -> Result<(), Stop<'p>>
-    ensures done { OnOk result (IsRowUpdated (T.world store.old) etypes.now to.now database.old database.new) }
+    ensures done { OnOk result (IsRowUpdated (T.world store.old) etypes.now to.now draft.old.database draft.new.database) }
     ensures kept { T.world store.new ≡ T.world store.old }
 {
-    let who = Name::from_text(alloc, to.name)?;
-    let pass = batch_password(alloc, store, &to.how)?;
-    let expires = password_expires(database, &who);
-    change_row(alloc, store, database, etypes, &who, to, &pass)?;
-    report_change(errors, subject, to, database, &who, expires);
+    let who = Name::from_text(draft.alloc, to.name)?;
+    let pass = batch_password(draft.alloc, store, &to.how)?;
+    let expires = password_expires(&draft.database, &who);
+    let recipient = Recipient {
+        who: &who,
+        etypes,
+        pass: &pass,
+    };
+    change_row(store, draft, &recipient, to)?;
+    let change = RowChanged {
+        to,
+        who: &who,
+        database: &draft.database,
+        expires,
+    };
+    report_change(errors, subject, &change);
     Ok(())
 }
 
 /// Gives keys to a principal, and then makes the settings of the command line. After an `Err` it may be changed in part.
 fn change_row<'p, T: Store>(
-    alloc: Global,
     store: &mut T,
-    database: &mut Database,
-    etypes: &[Etype],
-    who: &Name,
-    to: &RowOrder<'p>,
-    pass: &[u8],
+    draft: &mut Draft,
+    recipient: &Recipient<'_>,
+    to: &RowArgs<'p>,
 ) -> Result<(), Stop<'p>>
-    ensures changed { OnOk result (IsRowChanged (T.world store.old) etypes.now pass.now to.now who.now.components
-        database.old database.new) }
+    ensures changed { OnOk result (IsRowChanged (T.world store.old) recipient.now.etypes.now recipient.now.pass.now to.now
+        recipient.now.who.now.components draft.old.database draft.new.database) }
     ensures kept { T.world store.new ≡ T.world store.old }
 {
-    give_row(alloc, store, database, etypes, who, &to.how, pass)?;
-    set_all(alloc, store, database, who, to.words)
+    give_row(store, draft, recipient, &to.how)?;
+    set_all(store, draft, recipient.who, to.words)
 }
 
 /// Gives keys to a principal. After an `Err` it may be changed in part.
 fn give_row<'p, T: Store>(
-    alloc: Global,
     store: &mut T,
-    database: &mut Database,
-    etypes: &[Etype],
-    who: &Name,
+    draft: &mut Draft,
+    recipient: &Recipient<'_>,
     how: &RowUpdate<'p>,
-    pass: &[u8],
 ) -> Result<(), Stop<'p>>
-    ensures given { OnOk result (IsRowGiven (T.world store.old) etypes.now pass.now how.now who.now.components
-        database.old database.new) }
+    ensures given { OnOk result (IsRowGiven (T.world store.old) recipient.now.etypes.now recipient.now.pass.now how.now
+        recipient.now.who.now.components draft.old.database draft.new.database) }
     ensures kept { T.world store.new ≡ T.world store.old }
 {
     match how {
-        RowUpdate::Password(to) => {
-            give_password(alloc, store, database, etypes, who, to.grant, pass)
-        }
-        RowUpdate::Random(to) => give_random(alloc, store, database, etypes, who, *to),
-        RowUpdate::Import { keytab } => import(alloc, store, database, etypes, who, *keytab),
+        RowUpdate::Password(to) => give_password(store, draft, recipient, to.grant),
+        RowUpdate::Random(to) => give_random(store, draft, recipient, *to),
+        RowUpdate::Import { keytab } => import(store, draft, recipient, *keytab),
     }
 }
 
@@ -197,23 +213,27 @@ fn password_expires(database: &Database, who: &Name) -> bool {
     }
 }
 
-/// Reports what an administrator may not expect of a change. `expires` says whether the password did before. Ignores a
-/// failed write.
-fn report_change<E: Write>(
-    errors: &mut E,
-    subject: &Subject<'_>,
-    to: &RowOrder<'_>,
-    database: &Database,
-    who: &Name,
+/// A principal that was given keys.
+#[derive(Clone, Copy)]
+struct RowChanged<'a, 'p> {
+    to: &'a RowArgs<'p>,
+    who: &'a Name,
+    /// The database after the change.
+    database: &'a Database,
+    /// Whether the password expired before the change.
     expires: bool,
-) {
-    let name = to.name;
-    match &to.how {
-        RowUpdate::Password(_) if expires && !password_expires(database, who) => {
+}
+
+/// Reports what an administrator may not expect of a change. Ignores a failed write.
+fn report_change<E: Write>(errors: &mut E, subject: &Subject<'_>, change: &RowChanged<'_, '_>) {
+    let name = change.to.name;
+    match &change.to.how {
+        RowUpdate::Password(_)
+            if change.expires && !password_expires(change.database, change.who) => {
             begin_line(errors, subject);
             let _ = writeln!(errors, "{name}: password_expires was past; it is now never");
         }
-        RowUpdate::Random(to) => report_version(errors, subject, name, to.grant, database, who),
+        RowUpdate::Random(to) => report_version(errors, subject, change, to.grant),
         _ => (),
     }
 }
@@ -222,12 +242,11 @@ fn report_change<E: Write>(
 fn report_version<E: Write>(
     errors: &mut E,
     subject: &Subject<'_>,
-    name: &str,
+    change: &RowChanged<'_, '_>,
     grant: Grant,
-    database: &Database,
-    who: &Name,
 ) {
-    let Some(row) = database.get(who) else {
+    let (name, who) = (change.to.name, change.who);
+    let Some(row) = change.database.get(who) else {
         return;
     };
     if let Grant::New | Grant::NewUser = grant {

@@ -2,7 +2,8 @@
 ghost use Rattle.std.specs.Prelude.{◌≡◌, OnOk, true};
 ghost use Rattle.kadm_run.specs.Words.{asks_help, texts};
 
-use crate::order::OrderFault;
+use crate::command::CommandFault;
+use crate::context::Context;
 use crate::stop::Stop;
 use crate::values::accepted_by;
 use crate::words::asks_help;
@@ -10,20 +11,19 @@ use clap::error::{Error, ErrorKind};
 use std::alloc::AllocError;
 use std::io::Write;
 
-/// Prints the help that the command line asks for to `out`, or what is wrong with it to `errors`. That is an `Err`.
+/// Prints the help that the command line asks for, or what is wrong with it to standard error. That is an `Err`.
 pub(crate) fn print_help<'a, W: Write, E: Write>(
-    out: &mut W,
-    errors: &mut E,
+    context: &mut Context<W, E>,
     words: &[&str],
     error: &Error,
 ) -> Result<(), Stop<'a>>
     ensures { OnOk result (asks_help (texts words.now) ≡ true) }
 {
     if error.exit_code() == 0 && asks_help(words) {
-        write!(out, "{error}")?;
+        write!(context.out, "{error}")?;
         return Ok(());
     }
-    Err(report_fault(errors, error))
+    Err(report_fault(&mut context.errors, error))
 }
 
 /// Reports what the parser says of a command line. Returns how it ends. Ignores a failed write.
@@ -36,16 +36,19 @@ pub(crate) fn report_fault<E: Write>(errors: &mut E, error: &Error) -> Stop<'sta
 }
 
 /// Reports what is wrong with the options of a subcommand. Returns how it ends. Ignores a failed write.
-pub(crate) fn report_order_fault<E: Write>(errors: &mut E, fault: OrderFault<'_>) -> Stop<'static> {
+pub(crate) fn report_command_fault<E: Write>(
+    errors: &mut E,
+    fault: CommandFault<'_>,
+) -> Stop<'static> {
     let _ = match fault {
-        OrderFault::BadValue(fault) => writeln!(errors, "error: {fault}"),
-        OrderFault::NoField(setting) => writeln!(
+        CommandFault::BadValue(fault) => writeln!(errors, "error: {fault}"),
+        CommandFault::NoField(setting) => writeln!(
             errors,
             "error: {}: a policy has no field {}; 'kadm policy --help' lists the fields",
             setting.form.field_option(),
             setting.field
         ),
-        OrderFault::NoSetting(setting) => writeln!(
+        CommandFault::NoSetting(setting) => writeln!(
             errors,
             "error: {}: {} takes {}, not '{}'",
             setting.form.value_option(),
@@ -53,7 +56,7 @@ pub(crate) fn report_order_fault<E: Write>(errors: &mut E, fault: OrderFault<'_>
             accepted_by(setting.field).unwrap_or("another value"),
             setting.value
         ),
-        OrderFault::Memory => return Stop::from(AllocError),
+        CommandFault::Memory => return Stop::from(AllocError),
     };
     Stop::Usage
 }

@@ -8,8 +8,8 @@ use Rattle.kadm_run.proofs.changes.change_all.Given as goal
 abbrev pub invariant-loop-rest : goal.invariant-loop-rest
 invariant-loop-rest g l =
     (g.T.Store.world l.store ≡ g.T.Store.world l.fn.store)
-    × ((new : Principals) → AreMade (ChangedBy (g.T.Store.world l.fn.store) (texts l.words) l.how) (texts l.rest) l.database new
-    → AreMade (ChangedBy (g.T.Store.world l.fn.store) (texts l.words) l.how) (texts l.words) l.fn.database new)
+    × ((new : Principals) → AreMade (ChangedBy (g.T.Store.world l.fn.store) (texts l.changes.words.now) l.changes.how) (texts l.rest) l.draft.database new
+    → AreMade (ChangedBy (g.T.Store.world l.fn.store) (texts l.changes.words.now) l.changes.how) (texts l.changes.words.now) l.fn.draft.database new)
 
 abbrev pub decreases-loop-rest : goal.decreases-loop-rest
 decreases-loop-rest g l = length l.rest

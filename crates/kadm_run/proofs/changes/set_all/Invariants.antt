@@ -8,8 +8,8 @@ use Rattle.kadm_run.proofs.changes.set_all.Given as goal
 abbrev pub invariant-loop-rest : goal.invariant-loop-rest
 invariant-loop-rest g l =
     (g.T.Store.world l.store ≡ g.T.Store.world l.fn.store)
-    × ((new : Principals) → AreMade (SetBy (g.T.Store.world l.fn.store) (texts l.words) l.who.components) (texts l.rest) l.database new
-    → AreMade (SetBy (g.T.Store.world l.fn.store) (texts l.words) l.who.components) (texts l.words) l.fn.database new)
+    × ((new : Principals) → AreMade (SetBy (g.T.Store.world l.fn.store) (texts l.words) l.who.components) (texts l.rest) l.draft.database new
+    → AreMade (SetBy (g.T.Store.world l.fn.store) (texts l.words) l.who.components) (texts l.words) l.fn.draft.database new)
 
 abbrev pub decreases-loop-rest : goal.decreases-loop-rest
 decreases-loop-rest g l = length l.rest

@@ -4,5 +4,5 @@ use Rattle.kadm_run.proofs.importing.keys_at.Given as goal
 
 abbrev pub invariant-loop-etype : goal.invariant-loop-etype
 invariant-loop-etype l =
-    l.keys.items ++ filter_map (key_at l.keytab (l.realm ∷ l.who.components) l.number) (drop l.etype-index l.etypes)
-    ≡ filter_map (key_at l.keytab (l.realm ∷ l.who.components) l.number) l.etypes
+    l.keys.items ++ filter_map (key_at l.of.keytab.now (l.of.realm.now ∷ l.of.who.now.components) l.number) (drop l.etype-index l.etypes)
+    ≡ filter_map (key_at l.of.keytab.now (l.of.realm.now ∷ l.of.who.now.components) l.number) l.etypes

@@ -8,9 +8,9 @@ pub returns-clause-changed : goal.returns-clause-changed
 returns-clause-changed g c =
     on_ok_weaker c.set_all.result
     (λ set. (
-      c.give_row.new.database,
+      c.give_row.new.draft.database,
       c.in_ok-give_row.ensures.given,
-      subst (λ world. AreSet world (texts c.args.to.now.words.now) c.args.who.now.components c.give_row.new.database c.set_all.new.database)
+      subst (λ world. AreSet world (texts c.args.to.now.words.now) c.args.recipient.now.who.now.components c.give_row.new.draft.database c.set_all.new.draft.database)
           c.in_ok-give_row.ensures.kept set,
     ))
     c.set_all.ensures.set
