@@ -18,10 +18,10 @@ WORDS = (
 # The manual pages, and the files with the names of what a program refuses.
 REFUSALS = {
     "kadm.8": ["kadm_run/src/reason.rt", "program/src/faults.rt"], "kclient.1": ["client_files/src/words.rt"],
-    "kdcd.8": ["kdcd_run/src/files.rt", "kdcd_run/src/sealing.rt"],
+    "kdcd.8": ["program/src/faults.rt", "kdcd_run/src/files.rt", "kdcd_run/src/sealing.rt"],
 }
-# Names that only a program of the library `client_files` meets.
-OF_LIBRARY = {"NoLogin", "NotValid"}
+# Names there that the program never meets: those of a program over `client_files`, and of a password's file.
+NEVER = {"kclient.1": {"NoLogin", "NotValid"}, "kdcd.8": {"LongPassword"}}
 # Names in the tables of PROMISES.md that no source has.
 NO_NAMES = {"grep", "rn", "NAME", "crates"}
 # Pages whose names of items and files are those of this repository, and names there of other ones.
@@ -271,7 +271,7 @@ def refusals(trial):
     """The manual page of a program has each name that it prints after `refused`."""
     for page, sources in REFUSALS.items():
         names = {name for source in sources for name in re.findall(r'"([A-Z][A-Za-z]+)"', read(f"crates/{source}"))}
-        lacking = names - OF_LIBRARY - set(re.findall(r"\w+", read(f"docs/man/{page}")))
+        lacking = names - NEVER.get(page, set()) - set(re.findall(r"\w+", read(f"docs/man/{page}")))
         fault = ", ".join(sorted(lacking)) or "there is none" * (not names)
         trial.note(f"{page}: the names of refusals, {len(names)}", fault)
 

@@ -3,7 +3,6 @@ ghost use Rattle.std.specs.Prelude.{◌≡◌, IfOk, IfSome};
 ghost use Rattle.client_core.specs.Taken.{AreSame};
 ghost use Rattle.client_login.specs.Verifying.{IsTicketOf};
 
-use crate::moment::now;
 use crate::socket_network::SocketNetwork;
 use client_files::{
     Cause, Config, Defaults, Fault, Variable, at_file, name_of, principal_text, read_keytab,
@@ -14,7 +13,7 @@ use client_login::{
 use cred_files::{Credential, Keytab, Principal};
 use krb_elements::Octets;
 use krb_fields::{Moment, Name, component_to_text};
-use program::{FileCause, FileStore, ask_password, draw_seed};
+use program::{FileCause, FileStore, ask_password, draw_seed, now};
 use rand_chacha::ChaCha20Rng;
 use rand_core::SeedableRng;
 use std::alloc::Global;

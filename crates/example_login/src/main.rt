@@ -6,20 +6,15 @@
 use client_files::Fault;
 use client_sockets::Client;
 use cred_files::Credential;
+use program::Status;
 use std::process::ExitCode;
 use std::{env, io};
-
-/// The status if a login is refused, gets no reply, or is not verified.
-const REFUSED: u8 = 1;
-
-/// The status of a usage error.
-const USAGE: u8 = 2;
 
 fn main(rt: HostRuntime) -> io::Result<ExitCode> {
     let args: Vec<String> = env::args(&rt)?.collect(rt.alloc())?;
     let [_, name, service, keytab] = args.as_slice() else {
         println!(rt; "usage: example_login NAME SERVICE KEYTAB")?;
-        return Ok(ExitCode::from(USAGE));
+        return Ok(ExitCode::from(Status::Usage.code()));
     };
     match get_ticket(&rt, name.as_str(), service.as_str(), keytab.as_str()) {
         Ok(ticket) => {
@@ -28,7 +23,7 @@ fn main(rt: HostRuntime) -> io::Result<ExitCode> {
         }
         Err(fault) => {
             println!(rt; "{fault}")?;
-            Ok(ExitCode::from(REFUSED))
+            Ok(ExitCode::from(Status::Refused.code()))
         }
     }
 }

@@ -6,19 +6,15 @@ use ap_accept::{Accepted, Acceptor, AcceptorOptions, ApFault, Opening};
 use cred_files::{Keytab, Principal};
 use hex::FromHexError;
 use krb_der::KTime;
-use krb_fields::{Moment, component_to_text};
+use krb_fields::component_to_text;
+use program::{Status, now};
 use std::alloc::{AllocError, Global};
 use std::fs::Metadata;
 use std::io::{BufRead, Error, ErrorKind};
 use std::os::unix::fs::MetadataExt;
 use std::process::ExitCode;
 use std::random::RandomSource;
-use std::rt::Clock;
-use std::time::{SystemTime, UNIX_EPOCH};
 use std::{env, fs, io};
-
-/// The exit status of a usage error.
-const USAGE: u8 = 2;
 
 fn main(rt: HostRuntime) -> io::Result<ExitCode> {
     let args: Vec<String> = match env::args(&rt) {
@@ -38,7 +34,7 @@ fn main(rt: HostRuntime) -> io::Result<ExitCode> {
 
 fn usage(rt: &HostRuntime) -> io::Result<ExitCode> {
     println!(rt; "usage: example_service KEYTAB [first]")?;
-    Ok(ExitCode::from(USAGE))
+    Ok(ExitCode::from(Status::Usage.code()))
 }
 
 fn serve(rt: &HostRuntime, keytab: &str, opening: Opening) -> io::Result<ExitCode> {
@@ -117,15 +113,6 @@ fn take_new_keys(
         Err(error) => eprintln!(rt; "example_service: {}: {error}", file.path)?,
     }
     Ok(())
-}
-
-/// Returns the current moment.
-fn now(clock: &impl Clock) -> io::Result<Moment> {
-    let Ok(since) = SystemTime::now(clock)?.duration_since(UNIX_EPOCH) else {
-        return Err(Error::from(ErrorKind::InvalidData));
-    };
-    let sec = i64::try_from(since.as_secs()).unwrap_or(i64::MAX);
-    Moment::new(sec, since.subsec_micros()).ok_or(Error::from(ErrorKind::InvalidData))
 }
 
 fn answer_lines(

@@ -1,11 +1,11 @@
 //! The administration tool: `kadm COMMAND --db FILE ..`. `kadm --help` lists the commands.
 #![tactic(auto)]
 
-use kadm_run::{CommandLine, Status, kadm_run};
-use program::FileStore;
+use kadm_run::{CommandLine, kadm_run};
+use program::{FileStore, Status, read_words, report_failure};
 use std::alloc::AllocError;
 use std::env::VarError;
-use std::io::IsTerminal;
+use std::io::{ErrorKind, IsTerminal};
 use std::process::ExitCode;
 use std::{env, io};
 
@@ -13,28 +13,29 @@ use std::{env, io};
 const KADM_DB: &str = "KADM_DB";
 
 fn main(rt: HostRuntime) -> ExitCode {
-    match run(&rt) {
-        Ok(status) => ExitCode::from(status.code()),
-        // if these can't be written, there is nowhere to report it
-        Err(error) if error.kind() == io::ErrorKind::InvalidData => {
-            let _ = eprintln!(rt; "error: an argument or {KADM_DB} is not UTF-8");
-            ExitCode::from(Status::Usage.code())
-        }
+    let status = match run(&rt) {
+        Ok(status) => status,
         Err(error) => {
-            let _ = println!(rt; "failed");
-            let _ = eprintln!(rt; "kadm: cannot read the command line: {error}");
-            ExitCode::from(Status::Failed.code())
+            let why = format_args!("cannot read the command line: {error}");
+            report_failure(&rt, "kadm", &why)
         }
-    }
+    };
+    ExitCode::from(status.code())
 }
 
-/// Returns the exit status. Fails if the command line can't be read, with `InvalidData` if an argument or the variable is
-/// not UTF-8.
+/// Runs the command line. Fails if it can't be read.
 fn run(rt: &HostRuntime) -> io::Result<Status> {
-    let alloc = rt.alloc();
-    let args: Vec<String> = env::args(rt)?.collect(alloc)?;
+    let Some(args) = read_words(rt)? else {
+        return Ok(report_not_utf8(rt));
+    };
     let named = env::var(rt, KADM_DB);
-    let db = default_db(&named)?;
+    let db = match default_db(&named) {
+        Ok(db) => db,
+        Err(error) if error.kind() == ErrorKind::InvalidData => {
+            return Ok(report_not_utf8(rt));
+        }
+        Err(error) => return Err(error),
+    };
     let mut store = FileStore::new(rt);
     let errors = rt.stderr();
     let line = CommandLine {
@@ -42,16 +43,23 @@ fn run(rt: &HostRuntime) -> io::Result<Status> {
         db,
         is_watched: errors.is_terminal(),
     };
-    Ok(kadm_run(alloc, line, &mut store, rt.stdout(), errors))
+    Ok(kadm_run(rt.alloc(), line, &mut store, rt.stdout(), errors))
 }
 
-/// Returns the path that the variable has. An empty one is none.
+/// Reports that a word, or the path in the environment, is not UTF-8. If that can't be written, there is nowhere to report
+/// it.
+fn report_not_utf8(rt: &HostRuntime) -> Status {
+    let _ = eprintln!(rt; "error: an argument or {KADM_DB} is not UTF-8");
+    Status::Usage
+}
+
+/// Returns the path that the variable has. An empty one is none. The error is `InvalidData` if it is not UTF-8.
 fn default_db(named: &Result<String, VarError>) -> io::Result<Option<&str>> {
     match named {
         Ok(path) if path.is_empty() => Ok(None),
         Ok(path) => Ok(Some(path.as_str())),
         Err(VarError::NotPresent) => Ok(None),
-        Err(VarError::NotUnicode) => Err(io::Error::from(io::ErrorKind::InvalidData)),
+        Err(VarError::NotUnicode) => Err(io::Error::from(ErrorKind::InvalidData)),
         Err(VarError::OutOfMemory) => Err(io::Error::from(AllocError)),
     }
 }

@@ -12,8 +12,8 @@ use Rattle.kadm_run.specs.declared.command.PrintCommand.{PrintCommand}
 use Rattle.kadm_run.specs.declared.command.CommandKind.TheVariants as kinds
 use Rattle.kadm_run.specs.declared.command.WriteCommand.{WriteCommand}
 use Rattle.kadm_run.specs.declared.command.WriteCommand.TheVariants as writes
-use Rattle.kadm_run.specs.declared.status.Status.{Status}
-use Rattle.kadm_run.specs.declared.status.Status.TheVariants as statuses
+use Rattle.program.specs.declared.status.Status.{Status}
+use Rattle.program.specs.declared.status.Status.TheVariants as statuses
 use Rattle.kadm_run.specs.declared.stop.Stop.{Stop}
 use Rattle.kadm_run.specs.declared.stop.Stop.TheVariants as stops
 

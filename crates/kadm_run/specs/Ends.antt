@@ -11,17 +11,10 @@ use Rattle.kadm_run.specs.declared.command.CommandKind.{CommandKind}
 use Rattle.kadm_run.specs.declared.command.CommandKind.TheVariants.{Print, Write}
 use Rattle.kadm_run.specs.declared.command.WriteCommand.{WriteCommand}
 use Rattle.kadm_run.specs.declared.command.WriteCommand.TheVariants as writes
-use Rattle.kadm_run.specs.declared.status.Status.{Status}
-use Rattle.kadm_run.specs.declared.status.Status.TheVariants as statuses
+use Rattle.program.specs.declared.status.Status.{Status}
+use Rattle.program.specs.declared.status.Status.TheVariants as statuses
 use Rattle.kadm_run.specs.declared.stop.Stop.{Stop}
 use Rattle.kadm_run.specs.declared.stop.Stop.TheVariants.{Usage, LineRefused, LineFailed, Refused, RefusedOf, File}
-
--- the exit status of the program
-abbrev pub status_code : Status → ℕ
-status_code statuses.Done = 0
-status_code statuses.Refused = 1
-status_code statuses.Usage = 2
-status_code statuses.Failed = 3
 
 abbrev pub IsFailure : FileCause → Type 0
 IsFailure LongFile = ⊥

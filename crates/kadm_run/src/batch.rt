@@ -12,14 +12,13 @@ use crate::draft::Draft;
 use crate::line_words::{LineFault, line_words};
 use crate::options::read_args;
 use crate::reason::Reason;
-use crate::status::Status;
 use crate::stop::{Stop, Subject, begin_line, report};
 use crate::updates::update_in_batch;
 use crate::usage::{report_command_fault, report_fault};
 use crate::words::{has_flag, in_batch};
 use clap::ArgMatches;
 use clap::error::Error;
-use program::{FileCause, FileFault, Store};
+use program::{FileCause, FileFault, Status, Store};
 use std::alloc::{AllocError, Global};
 use std::io::{ErrorKind, Write};
 

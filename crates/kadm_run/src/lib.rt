@@ -28,7 +28,6 @@ mod patterns;
 mod quoting;
 mod reason;
 mod run;
-mod status;
 mod stop;
 mod updates;
 mod usage;
@@ -36,4 +35,3 @@ mod values;
 mod words;
 
 pub use run::{CommandLine, kadm_run};
-pub use status::Status;

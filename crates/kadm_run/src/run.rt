@@ -3,7 +3,7 @@ ghost use Rattle.std.specs.Prelude.{◌≡◌, IfErr, IfOk, OnErr, map, string_b
 ghost use Rattle.kadm_run.specs.Ends.{IsCommandEnd, IsCommandStopped, IsEnd, IsStopped, IsWriteDone, IsWriteEnd};
 ghost use Rattle.kadm_run.specs.Ends.{IsWriteStopped};
 ghost use Rattle.kadm_run.specs.Words.{asks_help, path_of, texts, with_db};
-ghost use Rattle.kadm_run.specs.declared.status.Status.TheVariants.{Done, Failed};
+ghost use Rattle.program.specs.declared.status.Status.TheVariants.{Done, Failed};
 
 use crate::batch::run_batch;
 use crate::changes::make_realm;
@@ -15,14 +15,13 @@ use crate::keytabs::write_keytab;
 use crate::linting::print_lint;
 use crate::listing::{print_list, print_row};
 use crate::options::read_args;
-use crate::status::Status;
 use crate::stop::{Stop, Subject, report};
 use crate::updates::update;
 use crate::usage::{print_help, report_command_fault};
 use crate::words::{with_db, words_of};
 use clap::ArgMatches;
 use clap::error::Error;
-use program::Store;
+use program::{Status, Store};
 use std::alloc::{AllocError, Global};
 use std::io;
 use std::io::{BufWriter, Write};

@@ -1,17 +1,16 @@
 //! Why a command ends early, and what it then prints.
 ghost use Rattle.std.specs.Prelude.{◌≡◌, IfOk};
 ghost use Rattle.kadm_run.specs.Ends.{IsFailed, IsStatusOf};
-ghost use Rattle.kadm_run.specs.declared.status.Status.TheVariants.{Failed, Refused};
+ghost use Rattle.program.specs.declared.status.Status.TheVariants.{Failed, Refused};
 
 use crate::context::Context;
 use crate::reason::{KEYTAB, Reason};
-use crate::status::Status;
 use crate::words::value_of;
 use krb_fields::NameFault;
 use principal_rows::KeyListFault;
 use principals::{ChangeFault, FirstFault};
 use principals_text::ReadFault;
-use program::{FileCause, FileFault};
+use program::{FileCause, FileFault, Status};
 use std::alloc::{AllocError, AllocFailed};
 use std::io;
 use std::io::Write;

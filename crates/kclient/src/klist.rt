@@ -5,7 +5,7 @@ ghost use Rattle.kclient.specs.Worlds.{Removed};
 use crate::context::Context;
 use crate::listing::{lines_of_cache, lines_of_keytab};
 use crate::places::cache_path;
-use crate::run::{Printed, Status};
+use crate::run::Printed;
 use crate::words::keytab_path;
 use clap::ArgMatches;
 use client_files::{
@@ -13,6 +13,7 @@ use client_files::{
 };
 use client_login::granting_service;
 use krb_fields::Moment;
+use program::Status;
 use std::alloc::Global;
 
 const SILENT_KEYTAB: &str = "-s and --keytab don't go together";

@@ -14,12 +14,12 @@ mod run;
 mod words;
 
 use crate::context::Context;
-use crate::run::{FAILED, USAGE, kclient_run};
+use crate::run::kclient_run;
 use client_files::{Defaults, Variable};
 use client_login::{KdcClient, Kdcs, Transports};
-use client_sockets::{SocketNetwork, now};
+use client_sockets::SocketNetwork;
 use krb_fields::Moment;
-use program::FileStore;
+use program::{FileStore, NOT_UTF8, Status, now, read_words, report_failure, report_usage};
 use std::alloc::AllocError;
 use std::env::VarError;
 use std::process::ExitCode;
@@ -30,8 +30,9 @@ use std::{env, fmt, io};
 enum Fault {
     /// The clock can't be read, or shows no moment of the years 1970 to 9999.
     Clock(io::Error),
-    /// The words of the command line can't be read; `InvalidData` if one is not UTF-8.
+    /// The words of the command line can't be read.
     Args(io::Error),
+    NotUtf8,
     Memory,
 }
 
@@ -40,6 +41,7 @@ impl fmt::Display for Fault {
         match self {
             Fault::Clock(error) => write!(f, "the clock: {error}"),
             Fault::Args(error) => write!(f, "the words of the command line: {error}"),
+            Fault::NotUtf8 => f.write_str(NOT_UTF8),
             Fault::Memory => f.write_str("out of memory"),
         }
     }
@@ -65,7 +67,7 @@ impl Given {
     fn read(rt: &HostRuntime) -> Result<Given, Fault> {
         Ok(Given {
             at: now(rt).map_err(Fault::Clock)?,
-            args: env::args(rt).map_err(Fault::Args)?.collect(rt.alloc())?,
+            args: read_words(rt).map_err(Fault::Args)?.ok_or(Fault::NotUtf8)?,
             cache: env::var(rt, "KRB5CCNAME"),
             config: env::var(rt, "KRB5_CONFIG"),
             user: env::var(rt, "LOGNAME"),
@@ -84,31 +86,26 @@ impl Given {
 fn main(rt: HostRuntime) -> ExitCode {
     let given = match Given::read(&rt) {
         Ok(given) => given,
-        Err(fault) => return ended(&rt, fault),
+        Err(fault) => return ended(&rt, &fault),
     };
     let defaults = match given.defaults() {
         Ok(defaults) => defaults,
-        Err(fault) => return ended(&rt, fault),
+        Err(fault) => return ended(&rt, &fault),
     };
     let network = SocketNetwork::for_command(&rt);
     let kdcs = Kdcs::new(network, Vec::new(rt.alloc()), Transports::UdpFirst);
     let client = KdcClient::new(kdcs, given.at);
     let mut context = Context::new(rt.alloc(), FileStore::new(&rt), client);
     let args = given.args.as_slice();
-    ExitCode::from(kclient_run(&mut context, args, &defaults, rt.stdout(), rt.stderr()))
+    let status = kclient_run(&mut context, args, &defaults, rt.stdout(), rt.stderr());
+    ExitCode::from(status.code())
 }
 
 /// Reports why the command line can't be used. If that can't be written, there is nowhere to report it.
-fn ended(rt: &HostRuntime, fault: Fault) -> ExitCode {
-    match fault {
-        Fault::Args(error) if error.kind() == io::ErrorKind::InvalidData => {
-            let _ = println!(rt; "error: a word is not UTF-8");
-            ExitCode::from(USAGE)
-        }
-        fault => {
-            let _ = println!(rt; "failed");
-            let _ = eprintln!(rt; "kclient: {fault}");
-            ExitCode::from(FAILED)
-        }
-    }
+fn ended(rt: &HostRuntime, fault: &Fault) -> ExitCode {
+    let status = match fault {
+        Fault::NotUtf8 => report_usage(rt, fault).unwrap_or(Status::Usage),
+        _ => report_failure(rt, "kclient", fault),
+    };
+    ExitCode::from(status.code())
 }

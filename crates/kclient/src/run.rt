@@ -1,5 +1,5 @@
 //! Running one command line: from its words to what is printed.
-ghost use Rattle.std.specs.Prelude.{◌≡◌, ◌≤◌, IfOk};
+ghost use Rattle.std.specs.Prelude.{◌≡◌};
 ghost use Rattle.kclient.specs.Worlds.{CameFirst, CameFurther, Did};
 
 use crate::context::Context;
@@ -12,43 +12,11 @@ use crate::words::renewal;
 use clap::error::{Error, ErrorKind};
 use client_files::{Cause, ClientStore, Defaults, Fault};
 use client_login::{AnyMessage, LoginError};
+use program::Status;
 use std::alloc::{AllocError, Global};
 use std::convert::AsStr;
 use std::io;
 use std::io::{BufWriter, Write};
-
-/// The status of a command that succeeded.
-pub const DONE: u8 = 0;
-
-/// The status of a command that was refused because of a word, a file, the KDC or the client.
-pub const REFUSED: u8 = 1;
-
-/// The status of a usage error.
-pub const USAGE: u8 = 2;
-
-/// The status of a command that failed because of a file, because no KDC replied, or because memory ran out.
-pub const FAILED: u8 = 3;
-
-#[derive(Clone, Copy)]
-pub(crate) enum Status {
-    Done,
-    Refused,
-    Usage,
-    Failed,
-}
-
-impl Status {
-    fn number(self) -> u8
-        ensures { result ≤ 3 }
-    {
-        match self {
-            Status::Done => DONE,
-            Status::Refused => REFUSED,
-            Status::Usage => USAGE,
-            Status::Failed => FAILED,
-        }
-    }
-}
 
 /// What a command prints on standard output if no fault ends it, and its status.
 #[derive(Drop)]
@@ -78,17 +46,17 @@ impl Printed {
 }
 
 /// Runs a command line, whose first word is the program's name, at the context's moment. It writes the result to
-/// `writer`, and explains failures on `errors`. The status is `DONE`, `REFUSED`, `USAGE` or `FAILED`. Unless it is
-/// `DONE`, the cache is unchanged, with two exceptions: if only the printing failed, the status is `FAILED` and the cache
-/// is written; and of several names, one that fails keeps the tickets of those before it.
+/// `writer`, and explains failures on `errors`. The status is `Refused` because of a word, a file, the KDC or the client,
+/// and `Failed` because of a file, because no KDC replied, or because memory ran out. Unless it is `Done`, the cache is
+/// unchanged, with two exceptions: if only the printing failed, the status is `Failed` and the cache is written; and of
+/// several names, one that fails keeps the tickets of those before it.
 pub fn kclient_run<S: AsStr, T: ClientStore, X: AnyMessage, W: Write + Drop, E: Write + Drop>(
     context: &mut Context<T, X>,
     args: &[S],
     defaults: &Defaults<'_>,
     writer: W,
     errors: E,
-) -> u8
-    ensures status { result ≤ 3 }
+) -> Status
     // The files are as before, or one path has what the command is for.
     ensures world { Did (CameFirst X.finds X.carries X.answers) (CameFurther X.finds X.carries X.answers)
         (T.world context.old.store) (T.world context.new.store) }
@@ -97,20 +65,20 @@ pub fn kclient_run<S: AsStr, T: ClientStore, X: AnyMessage, W: Write + Drop, E: 
     let ended = run_command(context, args, defaults);
     note_hosts(context, &ended);
     let Ok(mut errors) = BufWriter::new(context.alloc, errors) else {
-        return FAILED;
+        return Status::Failed;
     };
     let mut out = match BufWriter::new(context.alloc, writer) {
         Ok(out) => out,
         Err(error) => {
             report_unwritten(&mut errors, error);
-            return FAILED;
+            return Status::Failed;
         }
     };
     match print(&mut out, &mut errors, context.notes(), &ended) {
         Ok(status) => status,
         Err(error) => {
             report_unwritten(&mut errors, error);
-            FAILED
+            Status::Failed
         }
     }
 }
@@ -180,9 +148,7 @@ fn print<W: Write, E: Write>(
     errors: &mut E,
     notes: &str,
     ended: &Result<Printed, Fault>,
-) -> io::Result<u8>
-    ensures { IfOk result (λ status. status ≤ 3) }
-{
+) -> io::Result<Status> {
     write!(errors, "{notes}")?;
     let status = match ended {
         Ok(printed) => print_text(out, printed)?,
@@ -190,7 +156,7 @@ fn print<W: Write, E: Write>(
     };
     out.flush()?;
     errors.flush()?;
-    Ok(status.number())
+    Ok(status)
 }
 
 fn print_text<W: Write>(out: &mut W, printed: &Printed) -> io::Result<Status> {

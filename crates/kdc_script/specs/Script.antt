@@ -4,6 +4,8 @@ use Rattle.std.specs.Prelude.{Option, None, codes, decimal}
 use Rattle.std.specs.Io.BufRead.{strip_last}
 use Rattle.std.specs.Io.KnownBytes.{Appends}
 use Rattle.hex.specs.Hex.{encode_lower}
+use Rattle.program.specs.declared.status.Status.{Status}
+use Rattle.program.specs.declared.status.Status.TheVariants as statuses
 use Rattle.principals.specs.FaultName.{fault_name}
 use Rattle.kdc_state.specs.declared.state.State.{State}
 use Rattle.kdc_script.specs.Line.{IsLineText}
@@ -75,6 +77,10 @@ IsRun kdc number before (line ∷ lines) printed status =
 -- what a script prints, and its status; no KDC is open at first
 abbrev pub IsScript : List ℕ → List ℕ → ℕ → Type 0
 IsScript octets printed status = IsRun None 0 0 (lines_of octets) printed status
+
+-- a run is done, is refused at a line, or failed
+abbrev pub IsRunStatus : Status → Type 0
+IsRunStatus status = (status ≡ statuses.Done) ⊎ ((status ≡ statuses.Refused) ⊎ (status ≡ statuses.Failed))
 
 -- the writer's contents, if they are known, grow by what a script prints
 abbrev pub PrintsScript : List ℕ → Option (List ℕ) → Option (List ℕ) → ℕ → Type 0

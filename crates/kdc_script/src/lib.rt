@@ -12,4 +12,4 @@ mod line;
 mod octets;
 mod run;
 
-pub use run::{DONE, FAILED, FAULT, run_script};
+pub use run::run_script;

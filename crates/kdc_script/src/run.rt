@@ -2,9 +2,11 @@
 ghost use Rattle.std.specs.Prelude.{◌≡◌, ◌≢◌, ◌⊎◌, IfOk, IfSome, OnOk, None, Some};
 ghost use Rattle.std.specs.FinMap as map;
 ghost use Rattle.std.specs.Io.KnownBytes.{Appends};
+ghost use Rattle.program.specs.Status.{status_code};
+ghost use Rattle.program.specs.declared.status.Status.TheVariants as statuses;
 ghost use Rattle.kdc_script.specs.Octets.{octets_of};
 ghost use Rattle.kdc_script.specs.Run.{CannotRun, Changes, Runs, policy_of, row_change, stop_of};
-ghost use Rattle.kdc_script.specs.Script.{fault_text, IsFaultText, PrintsScript, PrintsText, PrintsUpToFault, read_part};
+ghost use Rattle.kdc_script.specs.Script.{fault_text, IsFaultText, IsRunStatus, PrintsScript, PrintsText, PrintsUpToFault, read_part};
 ghost use Rattle.kdc_script.specs.declared.line.Line.TheVariants as lines;
 ghost use Rattle.kdc_script.specs.declared.run.Stop.TheVariants.{Failed, Fault};
 ghost use Rattle.krb_fields.specs.NameLimits.{IsComponent};
@@ -21,18 +23,10 @@ use krb_elements::KerberosString;
 use krb_fields::{Moment, Name};
 use principal_rows::{KeyList, Limits, Policy};
 use principals::{Change, ChangeFault, Database, FirstFault, RowChange};
+use program::Status;
 use std::alloc::{AllocError, Global};
 use std::io;
 use std::io::{Read, Write};
-
-/// The status of a run that reached the end of its input.
-pub const DONE: u8 = 0;
-
-/// The status of a run that ended at a line in none of the forms.
-pub const FAULT: u8 = 1;
-
-/// The status of a run that ended because a read or write failed or memory ran out.
-pub const FAILED: u8 = 3;
 
 /// Why a run ended early.
 #[derive(Clone, Copy, PartialEq, Eq)]
@@ -70,40 +64,41 @@ impl From<LineFault> for Stop {
     }
 }
 
-/// Runs the script that a reader returns and prints its answers. Returns `DONE`, `FAULT` or `FAILED`.
+/// Runs the script that a reader returns and prints its answers. Returns `Done` at the end of the input, `Refused` at a
+/// line in none of the forms, and `Failed` if a read or write fails or memory runs out.
 ///
-/// Unless it is `FAILED`, the whole output was written, and the status is the script's. Nothing is promised about a
+/// Unless it is `Failed`, the whole output was written, and the status is the script's. Nothing is promised about a
 /// failed run.
-pub fn run_script<R: Read + Drop, W: Write>(alloc: Global, reader: R, writer: &mut W) -> u8
-    ensures status { (result ≡ 0) ⊎ ((result ≡ 1) ⊎ (result ≡ 3)) }
-    ensures run { result ≢ 3
+pub fn run_script<R: Read + Drop, W: Write>(alloc: Global, reader: R, writer: &mut W) -> Status
+    ensures status { IsRunStatus result }
+    ensures run { result ≢ statuses.Failed
         → IfSome (R.remaining reader) (λ octets.
-        PrintsScript octets (W.contents writer.old) (W.contents writer.new) result) }
+        PrintsScript octets (W.contents writer.old) (W.contents writer.new) (status_code result)) }
     // The bytes after the limit change nothing. The first of them shows that the input is too long.
-    ensures bounded { result ≢ 3
+    ensures bounded { result ≢ statuses.Failed
         → IfSome (R.remaining reader) (λ octets.
-        PrintsScript (read_part octets) (W.contents writer.old) (W.contents writer.new) result) }
+        PrintsScript (read_part octets) (W.contents writer.old) (W.contents writer.new) (status_code result)) }
 {
     run_input(alloc, reader, writer)
 }
 
 /// Runs the lines, and prints the number of the one that is a fault.
-fn run_input<R: Read + Drop, W: Write>(alloc: Global, reader: R, writer: &mut W) -> u8
-    ensures status { (result ≡ 0) ⊎ ((result ≡ 1) ⊎ (result ≡ 3)) }
-    ensures run { result ≢ 3
+fn run_input<R: Read + Drop, W: Write>(alloc: Global, reader: R, writer: &mut W) -> Status
+    ensures status { IsRunStatus result }
+    ensures run { result ≢ statuses.Failed
         → IfSome (R.remaining reader) (λ octets.
-        PrintsScript octets (W.contents writer.old) (W.contents writer.new) result) }
+        PrintsScript octets (W.contents writer.old) (W.contents writer.new) (status_code result)) }
 {
     let Ok(mut input) = Input::new(alloc, reader) else {
-        return FAILED;
+        return Status::Failed;
     };
     match run_lines(alloc, &mut input, writer) {
-        Ok(()) => DONE,
+        Ok(()) => Status::Done,
         Err(Stop::Fault) => match print_fault(writer, input.number()) {
-            Ok(()) => FAULT,
-            Err(_) => FAILED,
+            Ok(()) => Status::Refused,
+            Err(_) => Status::Failed,
         },
-        Err(Stop::Failed) => FAILED,
+        Err(Stop::Failed) => Status::Failed,
     }
 }
 

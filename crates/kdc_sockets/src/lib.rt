@@ -15,12 +15,10 @@
 mod bind_fault;
 mod connection;
 mod connections;
-mod moment;
 mod ports;
 mod ready;
 mod sockets;
 mod wire;
 
 pub use bind_fault::BindFault;
-pub use moment::now;
 pub use wire::SocketWire;

@@ -6,12 +6,12 @@ ghost use Rattle.kdc_sockets.specs.Table.{HasEnded, IsDone, IsLost, KeepsOthersO
 
 use crate::bind_fault::BindFault;
 use crate::connections::Connections;
-use crate::moment::now;
 use crate::ports::Ports;
 use crate::ready::Ready;
 use kdc_hub::{Action, Event, Peer};
 use krb_elements::Octets;
 use krb_fields::Moment;
+use program::now;
 use std::alloc::{AllocError, Global};
 use std::io;
 use std::io::ErrorKind;

@@ -1,7 +1,7 @@
 //! The system as the host of a server.
 ghost use Rattle.std.specs.Prelude.{None};
 
-use kdc_sockets::{BindFault, SocketWire, now};
+use kdc_sockets::{BindFault, SocketWire};
 use kdcd_run::{
     FileFault, FileJournal, Host, JournalBeginning, JournalNews, Journals, MetricsFile,
     OpenedJournals, RowsFile, ServeOptions, StartNews, Started, SystemJournal, begin_journal,
@@ -10,12 +10,11 @@ use kdcd_run::{
 use krb_fields::Moment;
 use principal_rows::Limits;
 use principals::Database;
-use program::SharedWriter;
+use program::{LONGEST_FILE, SharedWriter, now, random_octets};
 use std::alloc::{AllocError, Global};
 use std::io;
 use std::io::{Error, ErrorKind, Stderr, Write};
 use std::net::SocketAddr;
-use std::random::RandomSource;
 use std::time::Duration;
 
 /// Standard error, whose reader may stop reading while the server goes on. All that write to it hold the same one.
@@ -26,9 +25,6 @@ type SystemFiles<'a> = SystemJournal<'a, HostRuntime, Errors>;
 
 /// How many milliseconds a round waits if nothing arrives.
 const WAIT: u64 = 100;
-
-/// The greatest size of a seed file, in bytes. Only the first 32 are used.
-const LONGEST_SEED: usize = 16_777_216;
 
 /// The system, with the file of the database. It keeps no record.
 #[derive(Drop)]
@@ -92,7 +88,7 @@ impl<'a> Host for SystemHost<'a> {
 
     fn read_rows(&mut self, alloc: Global) -> Result<Database, FileFault> {
         let Some(rows) = &mut self.rows else {
-            return Err(FileFault::Failed(Error::from(ErrorKind::NotFound)));
+            return Err(FileFault::from(Error::from(ErrorKind::NotFound)));
         };
         let read = rows.read(alloc);
         if read.is_err() {
@@ -104,13 +100,11 @@ impl<'a> Host for SystemHost<'a> {
     fn read_seed(&mut self, alloc: Global, path: &str) -> Result<Vec<u8>, FileFault> {
         let file = open_plain(self.rt, path)?;
         say_rights(self.rt, &mut self.errors, "seed", path, &file.metadata()?);
-        read_at_most(alloc, file, LONGEST_SEED)
+        read_at_most(alloc, file, LONGEST_FILE)
     }
 
     fn draw(&mut self) -> io::Result<[u8; 32]> {
-        let mut octets = [0; 32];
-        self.rt.fill_bytes(&mut octets)?;
-        Ok(octets)
+        random_octets(self.rt)
     }
 
     fn hold(

@@ -7,33 +7,30 @@ mod sealing;
 mod serving;
 
 use crate::sealing::seal;
-use crate::serving::{report, serve_realm};
+use crate::serving::serve_realm;
 use clap::error::ErrorKind;
-use kdc_script::{FAILED, run_script};
+use kdc_script::run_script;
 use kdcd_run::{ArgsFault, path_beside, read_args, serve_options};
+use program::{NOT_UTF8, Status, read_words, report_end, report_failure, report_usage};
+use std::io;
 use std::process::ExitCode;
-use std::{env, io};
 
-/// The status of a usage error.
-const USAGE: u8 = 2;
+/// The name of the program, in front of what it says on standard error.
+const PROGRAM: &str = "kdcd";
 
 fn main(rt: HostRuntime) -> ExitCode {
-    match run(&rt) {
-        Ok(status) => ExitCode::from(status),
-        Err(error) => {
-            // A failed write may be the reason, so these may fail as well.
-            let _ = println!(rt; "failed");
-            let _ = eprintln!(rt; "kdcd: {error}");
-            ExitCode::from(FAILED)
-        }
-    }
+    let status = match run(&rt) {
+        Ok(status) => status,
+        Err(error) => report_failure(&rt, PROGRAM, &error),
+    };
+    ExitCode::from(status.code())
 }
 
 /// Runs the program and returns its status. Fails if a write fails or memory runs out.
-fn run(rt: &HostRuntime) -> io::Result<u8> {
+fn run(rt: &HostRuntime) -> io::Result<Status> {
     let alloc = rt.alloc();
-    let Some(args) = words(rt)? else {
-        return Ok(USAGE);
+    let Some(args) = read_words(rt)? else {
+        return report_usage(rt, &NOT_UTF8);
     };
     let beside = path_beside(alloc, &args)?;
     let matches = match read_args(alloc, &args, &beside) {
@@ -43,7 +40,11 @@ fn run(rt: &HostRuntime) -> io::Result<u8> {
         }
         Err(error) => {
             print!(rt; "{error}")?;
-            return Ok(if error.exit_code() == 0 { 0 } else { USAGE });
+            return Ok(if error.exit_code() == 0 {
+                Status::Done
+            } else {
+                Status::Usage
+            });
         }
     };
     match matches.subcommand() {
@@ -51,27 +52,12 @@ fn run(rt: &HostRuntime) -> io::Result<u8> {
         Some(("serve", args)) => match serve_options(alloc, args) {
             Ok(options) => match serve_realm(rt, &options) {
                 Ok(status) => status,
-                Err(fault) => report(rt, &fault),
+                Err(fault) => report_end(rt, PROGRAM, &fault, fault.refusal()),
             },
-            Err(ArgsFault::BadUsage(fault)) => {
-                println!(rt; "error: {fault}")?;
-                Ok(USAGE)
-            }
+            Err(ArgsFault::BadUsage(fault)) => report_usage(rt, &fault),
             Err(ArgsFault::Memory) => Err(io::Error::from(io::ErrorKind::OutOfMemory)),
         },
         Some(("seal", args)) => seal(rt, args.get_str("journal")),
-        _ => Ok(USAGE),
-    }
-}
-
-/// Returns the words of the command line. If one is not UTF-8, it says so and returns nothing.
-fn words(rt: &HostRuntime) -> io::Result<Option<Vec<String>>> {
-    match env::args(rt) {
-        Ok(args) => Ok(Some(args.collect(rt.alloc())?)),
-        Err(error) if error.kind() == io::ErrorKind::InvalidData => {
-            println!(rt; "error: a word is not UTF-8")?;
-            Ok(None)
-        }
-        Err(error) => Err(error),
+        _ => Ok(Status::Usage),
     }
 }

@@ -4,19 +4,10 @@ use kdc_sockets::BindFault;
 use kdcd_run::{
     CountedLog, FaultCount, Host, Outlets, Ran, RequestLines, ServeOptions, run_server,
 };
-use program::{ReadyWriter, SharedWriter};
+use program::{ReadyWriter, SharedWriter, Status};
 use std::alloc::AllocError;
 use std::io;
 use std::io::Write;
-
-/// The status of a run that served all its rounds.
-const DONE: u8 = 0;
-
-/// The status where a file is refused.
-const REFUSED: u8 = 1;
-
-/// The status where a file, a socket, the clock or memory failed.
-const FAILED: u8 = 3;
 
 /// Why a server did not start.
 pub type StartFault<'a> = kdcd_run::StartFault<'a, BindFault>;
@@ -36,7 +27,7 @@ type SystemRan<'a> = Ran<
 pub fn serve_realm<'a>(
     rt: &'a HostRuntime,
     options: &ServeOptions<'a>,
-) -> Result<io::Result<u8>, StartFault<'a>> {
+) -> Result<io::Result<Status>, StartFault<'a>> {
     let mut errors = errors_of(rt)?;
     let mut host = SystemHost::new(rt, options, &errors)?;
     let outlets = Outlets {
@@ -49,7 +40,7 @@ pub fn serve_realm<'a>(
 }
 
 /// Says how much was served, and how many lines of the log were lost, if any.
-fn say_served(rt: &HostRuntime, errors: &mut Errors, ran: &SystemRan<'_>) -> io::Result<u8> {
+fn say_served(rt: &HostRuntime, errors: &mut Errors, ran: &SystemRan<'_>) -> io::Result<Status> {
     let totals = &ran.totals;
     println!(rt;
         "served {} {} {}",
@@ -66,22 +57,7 @@ fn say_served(rt: &HostRuntime, errors: &mut Errors, ran: &SystemRan<'_>) -> io:
         // If that fails, there is nobody to be told.
         let _ = writeln!(errors, "kdcd: log: {lost} lines are lost");
     }
-    Ok(DONE)
-}
-
-/// Says why a server did not start, and gives the status.
-pub fn report(rt: &HostRuntime, fault: &StartFault<'_>) -> io::Result<u8> {
-    let _ = eprintln!(rt; "kdcd: {fault}");
-    match fault.refusal() {
-        Some(name) => {
-            println!(rt; "refused {name}")?;
-            Ok(REFUSED)
-        }
-        None => {
-            println!(rt; "failed")?;
-            Ok(FAILED)
-        }
-    }
+    Ok(Status::Done)
 }
 
 fn errors_of<'a>(rt: &HostRuntime) -> Result<Errors, StartFault<'a>> {

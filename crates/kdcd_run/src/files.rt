@@ -1,12 +1,14 @@
 //! The files that a server reads: what it takes from them, and why it refuses them.
-ghost use Rattle.std.specs.Prelude.{◌≡◌, ◌≤◌, ◌<◌, IfErr, IfOk, Ok, length, option_map, take, vec_len};
+ghost use Rattle.std.specs.Prelude.{◌≡◌, ◌≤◌, IfErr, IfOk, Ok, option_map, vec_len};
+ghost use Rattle.program.specs.declared.faults.FileCause.TheVariants.{Failed};
 ghost use Rattle.principals_text.specs.Value.{text_database};
 ghost use Rattle.kdcd_run.specs.Refusal.{RefusesDatabase, refusal};
-ghost use Rattle.kdcd_run.specs.declared.files.FileFault.TheVariants.{Failed, ShortSeed};
+ghost use Rattle.kdcd_run.specs.declared.files.FileFault.TheVariants.{File};
 
 use crate::journal_parts::JournalPart;
 use principals::Database;
 use principals_text::{LONGEST_TEXT, ReadFault, fault_place};
+use program::{FileCause, read_within};
 use std::alloc::{AllocError, Global};
 use std::io::Read;
 use std::{fmt, io, str};
@@ -14,18 +16,14 @@ use std::{fmt, io, str};
 /// Why a file is refused, or could not be read.
 #[derive(Debug, Drop)]
 pub enum FileFault {
-    /// The file is too long.
-    LongFile,
-    /// The file of the seed has fewer than 32 bytes.
-    ShortSeed,
+    /// What is wrong with a file of any kind.
+    File(FileCause),
     /// Something else than a journal has the name of one of its files.
     NotJournal(JournalPart),
     /// The file is a database, and the journal of a server that had one is beside it.
     Journal,
     /// The text denotes no database.
     Database(ReadFault),
-    /// The file could not be read, or memory ran out.
-    Failed(io::Error),
 }
 
 impl FileFault {
@@ -34,12 +32,10 @@ impl FileFault {
         ensures { option_map (λ word. word.now) result ≡ refusal self.now }
     {
         match self {
-            FileFault::LongFile => Some("LongFile"),
-            FileFault::ShortSeed => Some("ShortSeed"),
+            FileFault::File(cause) => cause.refusal(),
             FileFault::NotJournal(_) => Some("NotJournal"),
             FileFault::Journal => Some("Journal"),
             FileFault::Database(fault) => fault.refusal(),
-            FileFault::Failed(_) => None,
         }
     }
 }
@@ -47,29 +43,29 @@ impl FileFault {
 impl fmt::Display for FileFault {
     fn fmt<W: fmt::Write>(&self, f: &mut fmt::Formatter<W>) -> fmt::Result {
         match self {
-            FileFault::LongFile => f.write_str("it is longer than the maximum"),
-            FileFault::ShortSeed => f.write_str("it has fewer than 32 bytes"),
+            FileFault::File(FileCause::LongFile) => f.write_str("it is longer than the maximum"),
+            FileFault::File(FileCause::ShortSeed) => f.write_str("it has fewer than 32 bytes"),
+            FileFault::File(cause) => write!(f, "{cause}"),
             FileFault::NotJournal(part) => write!(f, "{part}"),
             FileFault::Journal => f.write_str(
                 "its journal is beside it; start with --journal to go on with that, or with --no-journal to remove it",
             ),
             FileFault::Database(fault) => write!(f, "{fault}"),
-            FileFault::Failed(error) => write!(f, "{error}"),
         }
     }
 }
 
 impl From<io::Error> for FileFault {
-    ghost from_gives = { λ error fault. fault ≡ Failed error };
+    ghost from_gives = { λ error fault. fault ≡ File (Failed error) };
 
     fn from(error: io::Error) -> FileFault {
-        FileFault::Failed(error)
+        FileFault::File(FileCause::Failed(error))
     }
 }
 
 impl From<AllocError> for FileFault {
     fn from(error: AllocError) -> FileFault {
-        FileFault::Failed(io::Error::from(error))
+        FileFault::from(io::Error::from(error))
     }
 }
 
@@ -80,7 +76,7 @@ pub fn read_whole<R: Read + Drop>(alloc: Global, file: R) -> Result<Vec<u8>, Fil
     read_at_most(alloc, file, LONGEST_TEXT)
 }
 
-/// Reads a whole file of at most `most` bytes. It asks for one more, to see whether the file is longer.
+/// Reads a whole file of at most `most` bytes.
 pub fn read_at_most<R: Read + Drop>(
     alloc: Global,
     file: R,
@@ -88,13 +84,10 @@ pub fn read_at_most<R: Read + Drop>(
 ) -> Result<Vec<u8>, FileFault>
     ensures { IfOk result (λ octets. vec_len octets ≤ most) }
 {
-    let mut octets = Vec::new(alloc);
-    file.take((most as u64).saturating_add(1))
-        .read_to_end(&mut octets)?;
-    if octets.len() > most {
-        return Err(FileFault::LongFile);
+    match read_within(alloc, file, most)? {
+        Some(octets) => Ok(octets),
+        None => Err(FileFault::File(FileCause::LongFile)),
     }
-    Ok(octets)
 }
 
 /// Reads the bytes of a file as a database. Bytes that are not UTF-8 are no JSON.
@@ -122,16 +115,5 @@ pub fn place_of(alloc: Global, octets: &[u8], fault: &FileFault) -> Option<Strin
     match fault_place(alloc, text) {
         Ok(place) if !place.is_empty() => Some(place),
         Ok(_) | Err(AllocError) => None,
-    }
-}
-
-/// Returns the seed that a file holds: its first 32 octets.
-pub fn seed_of(octets: &[u8]) -> Result<[u8; 32], FileFault>
-    ensures seed { IfOk result (λ seed. (32 ≤ length octets.now) × (seed ≡ take 32 octets.now)) }
-    ensures short { IfErr result (λ fault. (length octets.now < 32) × (fault ≡ ShortSeed)) }
-{
-    match octets.first_chunk::<32>() {
-        Some(seed) => Ok(*seed),
-        None => Err(FileFault::ShortSeed),
     }
 }

@@ -5,6 +5,7 @@ use crate::journal_store::SystemJournal;
 use crate::plain_files::{open_plain, open_plain_with, own_user};
 use journal::{FileText, FilesFault, Found, JournalFiles, Part, read_part};
 use krb_elements::Octets;
+use program::FileCause;
 use std::alloc::{AllocError, Global};
 use std::fs::{File, OpenOptions, TryLockError};
 use std::io;
@@ -63,7 +64,7 @@ fn found<F: Files<File = File>, W: Write + Drop>(
 ) -> Result<Found, FileFault> {
     match read_part(alloc, held, part) {
         Ok(found) => Ok(found),
-        Err(FilesFault::Files(error)) => Err(FileFault::Failed(error)),
+        Err(FilesFault::Files(error)) => Err(FileFault::from(error)),
         Err(FilesFault::Memory | FilesFault::Unfit) => Err(FileFault::from(AllocError)),
     }
 }
@@ -142,7 +143,7 @@ pub(crate) fn text_in<F: Files<File = File>>(
     }
     match read_whole(alloc, file) {
         Ok(text) => Ok(FileText::Octets(text)),
-        Err(FileFault::Failed(error)) => Err(error),
+        Err(FileFault::File(FileCause::Failed(error))) => Err(error),
         Err(_) => Ok(FileText::Unusable),
     }
 }

@@ -2,6 +2,7 @@
 use crate::files::FileFault;
 use crate::plain_files::open_plain;
 use journal::{HEAD, may_be_journal};
+use program::FileCause;
 use std::alloc::{AllocError, Global};
 use std::io::{Error, ErrorKind, Read};
 use std::rt::Files;
@@ -104,7 +105,7 @@ fn check_short<F: Files>(
         Ok(file) if file.is_file() && file.len() <= most => Ok(()),
         Ok(_) => Err(FileFault::NotJournal(part)),
         Err(error) if error.kind() == ErrorKind::NotFound => Ok(()),
-        Err(error) => Err(FileFault::Failed(error)),
+        Err(error) => Err(FileFault::from(error)),
     }
 }
 
@@ -120,7 +121,7 @@ pub(crate) fn require_replaceable<F: Files>(
             ErrorKind::AlreadyExists,
             "a file that is no journal has the name of one of its files",
         )),
-        Err(FileFault::Failed(error)) => Err(error),
+        Err(FileFault::File(FileCause::Failed(error))) => Err(error),
         Err(_) => Err(Error::from(ErrorKind::InvalidData)),
     }
 }
@@ -131,7 +132,7 @@ fn may_be_replaced<F: Files>(alloc: Global, files: &F, path: &str) -> Result<boo
         Ok(file) if file.is_file() => begins_as_journal(alloc, files, path),
         Ok(_) => Ok(false),
         Err(error) if error.kind() == ErrorKind::NotFound => Ok(true),
-        Err(error) => Err(FileFault::Failed(error)),
+        Err(error) => Err(FileFault::from(error)),
     }
 }
 

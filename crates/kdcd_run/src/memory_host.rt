@@ -138,7 +138,7 @@ impl Host for MemoryHost {
 
     fn read_rows(&mut self, alloc: Global) -> Result<Database, FileFault> {
         let Some(rows) = self.rows.take() else {
-            return Err(FileFault::Failed(Error::from(ErrorKind::NotFound)));
+            return Err(FileFault::from(Error::from(ErrorKind::NotFound)));
         };
         self.note(rows_read(alloc, &rows));
         Ok(rows)

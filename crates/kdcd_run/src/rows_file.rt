@@ -4,8 +4,8 @@ ghost use Rattle.std.specs.Prelude.{None};
 use crate::files::{FileFault, database_of, place_of, read_whole};
 use crate::plain_files::{open_plain, say_rights};
 use kdc_hub::{Look, OtherRealm, RowSource, RowsState};
-use kdc_sockets::now;
 use principals::Database;
+use program::now;
 use std::alloc::Global;
 use std::fs::{Metadata, OpenFile};
 use std::io::Write;
@@ -113,7 +113,7 @@ impl<'a, F: Files + Clock, W: Write + Drop> RowsFile<'a, F, W> {
             Ok(metadata) => metadata,
             // That there is no file is said once.
             Err(_) if seen.is_none() => return Ok(None),
-            Err(error) => return Err(FileFault::Failed(error)),
+            Err(error) => return Err(FileFault::from(error)),
         };
         let stamp = stamp_of(&metadata);
         self.seen = Some(stamp);

@@ -73,7 +73,7 @@ pub fn seal_at_path<F: Files<File = File>, W: Write + Drop>(
     match seal_journal(&mut files, &place, &journals.older, &journals.newer) {
         Ok(()) => Ok(()),
         Err(NotSealed::Doubted(doubt)) => Err(SealFault::Doubted(doubt)),
-        Err(NotSealed::Failed(error)) => Err(SealFault::File(FileFault::Failed(error))),
+        Err(NotSealed::Failed(error)) => Err(SealFault::File(FileFault::from(error))),
     }
 }
 

@@ -151,7 +151,7 @@ fn begin_journal<'a, H: Host>(
     };
     match host.begin_journal(alloc, path, beginning) {
         Ok(journal) => Ok(journal),
-        Err(error) => Err(StartFault::File(path, FileFault::Failed(error))),
+        Err(error) => Err(StartFault::File(path, FileFault::from(error))),
     }
 }
 

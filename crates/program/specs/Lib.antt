@@ -1,4 +1,6 @@
 pub mod Counting
 pub mod Inputs
 pub mod Memory
+pub mod Refusal
+pub mod Status
 pub mod World

@@ -1,4 +1,7 @@
 //! What is wrong with a file.
+ghost use Rattle.std.specs.Prelude.{◌≡◌, option_map};
+ghost use Rattle.program.specs.Refusal.{cause_refusal};
+
 use std::error::Error;
 use std::{fmt, io};
 
@@ -25,7 +28,9 @@ pub enum FileCause {
 
 impl FileCause {
     /// Returns the word for it, if the file was read and is refused.
-    pub fn refusal(self) -> Option<&'static str> {
+    pub fn refusal(self) -> Option<&'static str>
+        ensures { option_map (λ word. word.now) result ≡ cause_refusal self }
+    {
         match self {
             FileCause::LongFile => Some("LongFile"),
             FileCause::ShortSeed => Some("ShortSeed"),

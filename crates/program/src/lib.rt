@@ -1,4 +1,5 @@
-//! What each program of this repository is made of, whatever it does: its options, its files, and its standard error.
+//! What each program of this repository is made of, whatever it does: its options, its files, its clock,
+//! its standard error, and its status.
 //!
 //! Subcommands and their options are tables ([`SubcommandRow`]). A program uses a [`Store`] for its files, and for what
 //! it takes if no file is named: random bytes, and a password from standard input. So its tests run with files in
@@ -15,9 +16,13 @@ mod counting;
 mod faults;
 mod inputs;
 mod memory_store;
+mod moment;
 mod readiness;
+mod reading;
 mod ready_writer;
 mod shared_writer;
+mod shell;
+mod status;
 mod store;
 mod system_store;
 
@@ -33,7 +38,11 @@ pub use crate::inputs::{
     seed_of, update_file, update_private_file, write_file,
 };
 pub use crate::memory_store::MemoryStore;
+pub use crate::moment::now;
+pub use crate::reading::read_within;
 pub use crate::ready_writer::ReadyWriter;
 pub use crate::shared_writer::SharedWriter;
+pub use crate::shell::{NOT_UTF8, read_words, report_end, report_failure, report_usage};
+pub use crate::status::Status;
 pub use crate::store::{FileRights, LONGEST_FILE, Store};
-pub use crate::system_store::FileStore;
+pub use crate::system_store::{FileStore, random_octets};

@@ -2,6 +2,7 @@
 ghost use Rattle.std.specs.Prelude.{◌≤◌, None, IfOk, IfSome, vec_len};
 
 use crate::counting::counted;
+use crate::reading::read_within;
 use crate::store::{FileRights, Store};
 use std::alloc::Global;
 use std::fs::{File, Metadata, OpenFile, OpenOptions, Permissions, TryLockError};
@@ -163,14 +164,7 @@ impl<'a, R: Files> FileStore<'a, R> {
         if there.len() > most as u64 {
             return Ok(None);
         }
-        // reads one byte past the limit, to notice a file that grows or has no known length
-        let mut octets = Vec::new(alloc);
-        file.take((most as u64).saturating_add(1))
-            .read_to_end(&mut octets)?;
-        if octets.len() > most {
-            return Ok(None);
-        }
-        Ok(Some(octets))
+        read_within(alloc, file, most)
     }
 }
 
@@ -318,7 +312,8 @@ fn seconds_of(clock: &impl Clock) -> io::Result<u64> {
     }
 }
 
-fn random_octets(source: &impl RandomSource) -> io::Result<[u8; 32]> {
+/// Draws 32 bytes from the system's own source.
+pub fn random_octets(source: &impl RandomSource) -> io::Result<[u8; 32]> {
     let mut octets = [0; 32];
     source.fill_bytes(&mut octets)?;
     Ok(octets)

@@ -1,17 +1,17 @@
-//! How a command line ends.
+//! How a program ends.
 ghost use Rattle.std.specs.Prelude.{◌≡◌};
-ghost use Rattle.kadm_run.specs.Ends.{status_code};
+ghost use Rattle.program.specs.Status.{status_code};
 
-/// How a command line ends.
+/// How a program ends.
 #[derive(Clone, Copy)]
 pub enum Status {
-    /// The command succeeded.
+    /// It did what the command line says.
     Done,
-    /// The command is refused because of the database or of a file that it reads.
+    /// It refuses that, because of what it read or was answered.
     Refused,
     /// The command line is wrong.
     Usage,
-    /// A file failed, or memory ran out.
+    /// A call of the system failed, or memory ran out.
     Failed,
 }
 
