@@ -3,6 +3,7 @@ pub mod Holders
 pub mod Promised
 pub mod Known
 pub mod Reading
+pub mod Recording
 pub mod Replied
 pub mod Runs
 pub mod Changes

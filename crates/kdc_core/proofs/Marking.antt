@@ -50,8 +50,8 @@ use Rattle.kdc_core.specs.Request.{request_of}
 use Rattle.kdc_core.specs.Run.{after_event, run, unless_faulty}
 use Rattle.kdc_core.specs.Tickets.{bears_ticket}
 use Rattle.kdc_core.specs.View.{View, as_view, cache_named, named, tgs_view, view}
-use Rattle.kdc_core.specs.declared.contents.Contents.{Contents}
-use Rattle.kdc_core.specs.declared.contents.Contents.TheVariants.{NoRequest, AsReq, RefusedTgsReq, TgsReq}
+use Rattle.kdc_core.specs.Held.{Contents}
+use Rattle.kdc_core.specs.Held.Contents.{NoRequest, AsReq, RefusedTgsReq, TgsReq}
 use Rattle.kdc_core.specs.declared.run.Event.{Event}
 use Rattle.kdc_core.specs.declared.run.Event.TheVariants.{Request, Change, Replace, Tidy, Restart, Reopen, Resume}
 

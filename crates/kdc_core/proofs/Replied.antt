@@ -1,56 +1,67 @@
 -- What is promised of an answer, from the contents of its request and from the reply to these.
-use Rattle.std.proofs.Common.{◌≡◌, ◌≤◌, ◌<◌, ℕ, Bool, List, length, get_or, Option, Result, Ok, ap, sym, subst, ◌∙◌}
+use Rattle.std.proofs.Common.{◌≡◌, ◌≤◌, ◌<◌, ℕ, Bool, true, false, List, length, get_or, Option, Some, None, Result, Ok, refl, ap, sym, subst, ◌∙◌}
+use Rattle.std.specs.Bool.{then_some}
 use Rattle.kdc_replies.specs.Incoming.{Incoming}
 use Rattle.kdc_state.specs.declared.state.State.{State}
 use Rattle.kdc_core.proofs.Promised.{is_answered}
-use Rattle.kdc_core.specs.Account.{Account, AccountSpelled, account_if, account_of}
+use Rattle.kdc_core.specs.Account.{Account, AccountSpelled, account_if}
 use Rattle.kdc_core.specs.AccountLaws.{account_answered, account_spelled}
 use Rattle.kdc_core.specs.After.{after_reply, seen_left}
-use Rattle.kdc_core.specs.Answer.{IsReply, IsReplyTo, OpensOf, answer_of, keep}
+use Rattle.kdc_core.specs.Answer.{IsReply}
 use Rattle.kdc_core.specs.Answered.{IsAnswered}
-use Rattle.kdc_core.specs.Contents.{contents, names_answered}
+use Rattle.kdc_core.specs.Contents.{contents}
 use Rattle.kdc_core.specs.ContentsLaws.{leaves_so, opens_held, replies_so, spells_so}
-use Rattle.kdc_core.specs.NewlySeen.{newly_seen_of}
+use Rattle.kdc_core.proofs.Reading.{none_read}
+use Rattle.kdc_core.specs.Held.{Contents}
+use Rattle.kdc_core.specs.Held.Contents.{NoRequest}
 use Rattle.kdc_core.specs.NewlySeenLaws.{newly_seen_answered}
+use Rattle.kdc_core.specs.Replied.{IsReplied}
 use Rattle.kdc_core.specs.Request.{request_of}
-use Rattle.kdc_core.specs.View.{view, view_of}
+use Rattle.kdc_core.specs.View.{view}
+use Rattle.kdc_core.specs.declared.account.Account.TheVariants.{NoRequest as NothingAsked}
 use Rattle.kdc_core.specs.declared.account.Answer.{Answer}
-use Rattle.kdc_core.specs.declared.contents.Contents.{Contents}
 use Rattle.kdc_core.specs.declared.mark.Mark.{Mark}
 
-module _ {A : Type 0} (before : State) (q : Incoming) (held : Contents) (reply : A) (octets : A → Option (List ℕ))
-    (mark : A → Option (Option Mark)) (account : A → Account) where
-  -- what is known of the reply to these contents
-  pub record IsReplied : Type 0 where
-    pub octets_are : octets reply ≡ (answer_of (view_of before (names_answered held)) q held).reply
-    pub left : after_reply before (mark reply)
-        ≡ keep before (names_answered held).client (answer_of (view_of before (names_answered held)) q held).kept
-    pub account_is : account reply ≡ account_of (view_of before (names_answered held)) q held
-    pub seen : seen_left (mark reply) ≡ newly_seen_of (view_of before (names_answered held)) q held
-    pub spelled : IsReplyTo (view_of before (names_answered held)) q.at q.random (octets reply) held
-    pub outcome : AccountSpelled (view_of before (names_answered held)) q (octets reply) held
-    pub opens : OpensOf (view_of before (names_answered held)) q.at q.random held
-
-  -- what the answer takes over from it
+module _ (before : State) (q : Incoming) (held : Contents) (octets : Option (List ℕ)) (mark : Option (Option Mark))
+    (account : Account) where
+  -- what the answer takes over from the reply
   pub record IsMadeOf (wants_account : Bool) (given : Answer) (after : State) : Type 0 where
-    pub sent : given.reply ≡ octets reply
-    pub account_is : given.account ≡ account_if wants_account (account reply)
-    pub seen : given.newly_seen ≡ seen_left (mark reply)
-    pub left : after ≡ after_reply before (mark reply)
+    pub sent : given.reply ≡ octets
+    pub account_is : given.account ≡ account_if wants_account account
+    pub seen : given.newly_seen ≡ seen_left mark
+    pub left : after ≡ after_reply before mark
 
   pub answered_from : (old : State) (wants_account : Bool) (given : Answer) (after : State) → before ≡ old → 32 ≤ length q.random
-      → ((i : ℕ) → get_or q.octets i 0 < 256) → held ≡ contents (view before q.octets) (request_of q.octets) → IsReplied
-      → IsMadeOf wants_account given after → IsAnswered old q wants_account given after
+      → ((i : ℕ) → get_or q.octets i 0 < 256) → held ≡ contents (view before q.octets) (request_of q.octets)
+      → IsReplied before q held octets mark account → IsMadeOf wants_account given after → IsAnswered old q wants_account given after
   answered_from old wants_account given after same long bytes is r made =
-      let whole : Result A Bool = Ok reply in
+      let whole : Result Bool Bool = Ok true in
       let given_whole : Result Answer Bool = Ok given in
       is_answered before old q wants_account given_whole after same long bytes
-      (made.sent ∙ replies_so before q whole held is octets r.octets_are)
-      (made.account_is ∙ ap (account_if wants_account) (account_answered before q whole held is account r.account_is))
-      (made.seen ∙ newly_seen_answered before q whole held is (λ a. seen_left (mark a)) r.seen)
+      (made.sent ∙ replies_so before q whole held is (λ _. octets) r.reply)
+      (made.account_is ∙ ap (account_if wants_account) (account_answered before q whole held is (λ _. account) r.account_is))
+      (made.seen ∙ newly_seen_answered before q whole held is (λ _. seen_left mark) r.seen)
       (subst (λ (o : Option (List ℕ)). IsReply (view before q.octets) q.at q.random (request_of q.octets) o)
-      (sym made.sent) (spells_so before q whole held is octets r.spelled))
+      (sym made.sent) (spells_so before q whole held is (λ _. octets) r.spelled))
       (subst (λ (o : Option (List ℕ)). AccountSpelled (view before q.octets) q o (contents (view before q.octets) (request_of q.octets)))
-      (sym made.sent) (account_spelled before q whole held is octets r.outcome))
+      (sym made.sent) (account_spelled before q whole held is (λ _. octets) r.outcome))
       (opens_held before q whole held is r.opens)
-      (made.left ∙ leaves_so before q whole held is mark r.left)
+      (made.left ∙ leaves_so before q whole held is (λ _. mark) r.left)
+
+-- ---- if the bytes encode no request
+
+module _ (before : State) (q : Incoming) where
+  nothing_replied : IsReplied before q NoRequest None None NothingAsked
+  nothing_replied = record { reply = refl; left = refl; account_is = refl; seen = refl; spelled = refl; outcome = refl; opens = tt }
+
+  if_wanted : (wants_account : Bool) → then_some wants_account NothingAsked ≡ account_if wants_account NothingAsked
+  if_wanted true = refl
+  if_wanted false = refl
+
+  pub unread_answered : (old : State) (wants_account : Bool) (given : Answer) → before ≡ old → 32 ≤ length q.random
+      → ((i : ℕ) → get_or q.octets i 0 < 256) → None ≡ request_of q.octets
+      → given.reply ≡ None → given.account ≡ then_some wants_account NothingAsked → given.newly_seen ≡ None
+      → IsAnswered old q wants_account given old
+  unread_answered old wants_account given same long bytes none reply account seen =
+      answered_from before q NoRequest None None NothingAsked old wants_account given old same long bytes (none_read before q.octets none)
+      nothing_replied (record { sent = reply; account_is = account ∙ if_wanted wants_account; seen = seen; left = sym same })

@@ -57,8 +57,8 @@ use Rattle.kdc_core.specs.Struck.{is_client}
 use Rattle.kdc_core.proofs.Marking.{error_bears_none}
 use Rattle.kdc_core.specs.Tickets.{bears_ticket, OneTicket, RestartsFollow, RestartsFrom, ResumesFollow, ResumesWithAll, ticket_by, ticket_to}
 use Rattle.kdc_core.specs.View.{Named, View, as_view, components_of, cache_named, named, presented_view, tgs_view, view, view_of}
-use Rattle.kdc_core.specs.declared.contents.Contents.{Contents}
-use Rattle.kdc_core.specs.declared.contents.Contents.TheVariants.{NoRequest, AsReq, RefusedTgsReq, TgsReq}
+use Rattle.kdc_core.specs.Held.{Contents}
+use Rattle.kdc_core.specs.Held.Contents.{NoRequest, AsReq, RefusedTgsReq, TgsReq}
 use Rattle.kdc_core.specs.declared.run.Event.{Event}
 use Rattle.kdc_core.specs.declared.run.Event.TheVariants.{Request, Change, Replace, Tidy, Restart, Reopen, Resume}
 

@@ -46,8 +46,8 @@ use Rattle.kdc_core.specs.Run.{after_event, event_reply, unless_faulty}
 use Rattle.kdc_core.specs.Struck.{is_request, replies_to}
 use Rattle.kdc_core.specs.Unseen.{RequestsFollow, RequestsFrom, TidiesUnseen, untidied}
 use Rattle.kdc_core.specs.View.{View, as_view, cache_named, named, tgs_view, view}
-use Rattle.kdc_core.specs.declared.contents.Contents.{Contents}
-use Rattle.kdc_core.specs.declared.contents.Contents.TheVariants.{NoRequest, AsReq, RefusedTgsReq, TgsReq}
+use Rattle.kdc_core.specs.Held.{Contents}
+use Rattle.kdc_core.specs.Held.Contents.{NoRequest, AsReq, RefusedTgsReq, TgsReq}
 use Rattle.kdc_core.specs.declared.run.Event.{Event}
 use Rattle.kdc_core.specs.declared.run.Event.TheVariants.{Request, Change, Replace, Tidy, Restart, Reopen, Resume}
 

@@ -20,8 +20,8 @@ use Rattle.kdc_core.specs.Request.{Request, request_of}
 use Rattle.kdc_core.specs.View.{Named, View, as_view, components_of, tgs_view}
 use Rattle.kdc_core.specs.declared.account.Account.{Account as AccountOf}
 use Rattle.kdc_core.specs.declared.account.Account.TheVariants.{NoRequest as NothingAsked, As, Tgs}
-use Rattle.kdc_core.specs.declared.contents.Contents.{Contents}
-use Rattle.kdc_core.specs.declared.contents.Contents.TheVariants.{NoRequest, AsReq, RefusedTgsReq, TgsReq}
+use Rattle.kdc_core.specs.Held.{Contents}
+use Rattle.kdc_core.specs.Held.Contents.{NoRequest, AsReq, RefusedTgsReq, TgsReq}
 
 -- ---- its definition
 

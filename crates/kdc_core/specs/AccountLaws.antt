@@ -27,8 +27,8 @@ use Rattle.kdc_core.specs.Request.{Request, request_of}
 use Rattle.kdc_core.specs.View.{Named, View, as_view, client_of, components_of, named, named_by, named_in, opening_view}
 use Rattle.kdc_core.specs.View.{tgs_view, ticket_view, view, view_in, view_of}
 use Rattle.kdc_core.specs.declared.account.Account.TheVariants.{NoRequest as NothingAsked}
-use Rattle.kdc_core.specs.declared.contents.Contents.{Contents}
-use Rattle.kdc_core.specs.declared.contents.Contents.TheVariants.{NoRequest, AsReq, RefusedTgsReq, TgsReq}
+use Rattle.kdc_core.specs.Held.{Contents}
+use Rattle.kdc_core.specs.Held.Contents.{NoRequest, AsReq, RefusedTgsReq, TgsReq}
 
 -- ---- it is the account, with the names that the contents give
 

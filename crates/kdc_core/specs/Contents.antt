@@ -1,7 +1,7 @@
 -- The contents of a request: what its bytes encode, with its ticket and authenticator as far as they can be decrypted.
 -- The answer, its encoding, the keys that decrypt it and the ticket that is issued are each read from the contents,
 -- with one line for each case.
-use Rattle.std.specs.Prelude.{◌<◌, ⊤, IfSome, length, Option, Some, None, Result, Ok, Err}
+use Rattle.std.specs.Prelude.{◌<◌, IfSome, length, Option, Some, None, Result, Ok, Err}
 use Rattle.krb_elements.specs.Codec.{list_of}
 use Rattle.krb_fields.specs.PrincipalName.{name}
 use Rattle.krb_fields.specs.Typed.{typed}
@@ -13,8 +13,8 @@ use Rattle.tgs_opening.specs.declared.presented.Presented.{Presented}
 use Rattle.tgs_opening.specs.declared.rejection.Rejection.{Rejection}
 use Rattle.kdc_core.specs.Request.{Request}
 use Rattle.kdc_core.specs.View.{Named, View, components_of, names_presented, opening_view}
-use Rattle.kdc_core.specs.declared.contents.Contents.{Contents}
-use Rattle.kdc_core.specs.declared.contents.Contents.TheVariants.{NoRequest, AsReq, RefusedTgsReq, TgsReq}
+use Rattle.kdc_core.specs.Held.{Contents}
+use Rattle.kdc_core.specs.Held.Contents.{NoRequest, AsReq, RefusedTgsReq, TgsReq}
 
 abbrev pub tgs_contents : Received → Result Presented Rejection → Contents
 tgs_contents message (Ok p) = TgsReq message p
@@ -53,9 +53,3 @@ IsShortName message = IfSome message.body.value.sname (λ n. length (name.text n
 
 abbrev pub IsShortData : Presented → Type 0
 IsShortData p = IfSome p.ticket.authorization_data (λ list. length ((list_of typed).text list) < 2147483648)
-
-abbrev pub AreShort : Contents → Type 0
-AreShort NoRequest = ⊤
-AreShort (AsReq message) = IsShortName message
-AreShort (RefusedTgsReq message rejected) = IsShortName message
-AreShort (TgsReq message p) = IsShortName message × IsShortData p

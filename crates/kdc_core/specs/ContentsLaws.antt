@@ -3,29 +3,26 @@ use Rattle.std.proofs.Common.{◌≡◌, ℕ, List, Option, Some, None, Result, 
 use Rattle.std.specs.Prelude.{⊤, IfOk}
 use Rattle.krb_fields.specs.Name.{Components}
 use Rattle.krb_types.specs.EncTicketPart.{EncTicketPart}
-use Rattle.krb_fields.specs.declared.moment.Moment.{Moment}
 use Rattle.krb_types.specs.declared.kdc_req.Exchange.{Exchange}
 use Rattle.krb_types.specs.declared.kdc_req.Exchange.TheVariants.{As, Tgs}
 use Rattle.krb_types.specs.KdcReq.{Received}
-use Rattle.replay.specs.declared.keep.Kept.{Kept}
 use Rattle.kdc_replies.specs.Incoming.{Incoming}
 use Rattle.tgs_opening.specs.Opening.{opened_ticket, presented}
 use Rattle.tgs_opening.specs.OpeningLaws.{ticket_opened}
 use Rattle.tgs_opening.specs.View.{TicketView}
 use Rattle.tgs_opening.specs.declared.presented.Presented.{Presented}
 use Rattle.tgs_opening.specs.declared.rejection.Rejection.{Rejection}
-use Rattle.kdc_state.specs.State.{cache_of}
 use Rattle.kdc_state.specs.declared.state.State.{State}
-use Rattle.kdc_core.specs.After.{after, after_reply, stamped_of}
-use Rattle.kdc_core.specs.Answer.{answer_of, answer_to, keep, after_incoming, stamped}
+use Rattle.kdc_core.specs.After.{after_reply}
+use Rattle.kdc_core.specs.Answer.{answer_of, answer_to, keep, after_incoming}
 use Rattle.kdc_core.specs.Answer.{IsReply, IsReplyTo, ReplyOpens}
 use Rattle.kdc_core.specs.Answer.{OpensOf}
 use Rattle.kdc_core.specs.Contents.{contents, contents_in, names_answered, tgs_contents}
 use Rattle.kdc_core.specs.Request.{Request, request_of}
 use Rattle.kdc_core.specs.View.{Named, client_of, components_of, named, named_by, named_in}
 use Rattle.kdc_core.specs.View.{ticket_view, view, view_of}
-use Rattle.kdc_core.specs.declared.contents.Contents.{Contents}
-use Rattle.kdc_core.specs.declared.contents.Contents.TheVariants.{NoRequest, AsReq, RefusedTgsReq, TgsReq}
+use Rattle.kdc_core.specs.Held.{Contents}
+use Rattle.kdc_core.specs.Held.Contents.{NoRequest, AsReq, RefusedTgsReq, TgsReq}
 use Rattle.kdc_core.specs.declared.mark.Mark.{Mark}
 
 -- ---- what is presented has the client of the decrypted ticket
@@ -175,11 +172,3 @@ module _ {A E : Type 0} (state : State) (incoming : Incoming) (r : Result A E) (
       → IfOk r (λ a. ReplyOpens (view state incoming.octets) incoming.at incoming.random
       (request_of incoming.octets))
   opens_held h = subst (λ (h : Contents). Opens state incoming r names h) is (opens_so state incoming r names held names_are h)
-
--- ---- what is stored for an authenticator
-
-pub stamped_after : (state : State) (at : Moment) (p : Presented) (kept : Option Kept)
-    → after state (stamped_of at p kept) ≡ keep state (Some p.ticket.cname.components)
-    (stamped (cache_of state p.ticket.cname.components) at.sec p kept)
-stamped_after state at p (Some kept) = refl
-stamped_after state at p None = refl

@@ -10,8 +10,8 @@ use Rattle.kdc_core.specs.Contents.{contents}
 use Rattle.kdc_core.specs.Issued.{IsReplyOf, issued, issued_of}
 use Rattle.kdc_core.specs.Request.{Request}
 use Rattle.kdc_core.specs.View.{View, as_view, tgs_view}
-use Rattle.kdc_core.specs.declared.contents.Contents.{Contents}
-use Rattle.kdc_core.specs.declared.contents.Contents.TheVariants.{NoRequest, AsReq, RefusedTgsReq, TgsReq}
+use Rattle.kdc_core.specs.Held.{Contents}
+use Rattle.kdc_core.specs.Held.Contents.{NoRequest, AsReq, RefusedTgsReq, TgsReq}
 
 module _ (v : View) (at : Moment) (random octets : List ℕ) where
   sent_so : (held : Contents) → SpelledOf v at random held octets → OpensOf v at random held

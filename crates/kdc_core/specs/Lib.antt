@@ -1,5 +1,6 @@
 pub mod Request
 pub mod View
+pub mod Held
 pub mod Contents
 pub mod Answer
 pub mod Shown
@@ -17,6 +18,7 @@ pub mod Unaffected
 pub mod Unseen
 -- private clauses and proofs cite these; no reader of a public contract needs them
 pub mod After
+pub mod Replied
 pub mod ContentsLaws
 pub mod AgreementLaws
 pub mod RequestLaws

@@ -9,8 +9,8 @@ use Rattle.kdc_core.specs.ContentsLaws.{AreNamesOf, are_names_of}
 use Rattle.kdc_core.specs.NewlySeen.{newly_seen_of, newly_seen_to}
 use Rattle.kdc_core.specs.Request.{request_of}
 use Rattle.kdc_core.specs.View.{Named, View, named, view, view_of}
-use Rattle.kdc_core.specs.declared.contents.Contents.{Contents}
-use Rattle.kdc_core.specs.declared.contents.Contents.TheVariants.{NoRequest, AsReq, RefusedTgsReq, TgsReq}
+use Rattle.kdc_core.specs.Held.{Contents}
+use Rattle.kdc_core.specs.Held.Contents.{NoRequest, AsReq, RefusedTgsReq, TgsReq}
 
 module _ {A E : Type 0} (state : State) (incoming : Incoming) (r : Result A E) where
   abbrev Records : (A → Option Seen) → Named → Contents → Type 0

@@ -14,8 +14,11 @@ pub record Request : Type 0 where
 abbrev pub SpellsRequest : Request → List ℕ → Type 0
 SpellsRequest r bytes = SpellsReceived (r.exchange, r.message) bytes
 
+abbrev pub requested : Exchange × Received → Request
+requested found = record { exchange = found.0; message = found.1 }
+
 abbrev pub if_read : Result (Exchange × Received) DerFault → Option Request
-if_read (Ok found) = Some (record { exchange = found.0; message = found.1 })
+if_read (Ok found) = Some (requested found)
 if_read (Err fault) = None
 
 -- the request that all of the bytes encode; more than 2147483647 bytes are no request

@@ -10,8 +10,8 @@ use Rattle.kdc_core.specs.ContentsLaws.{AreNamesOf, are_names_of}
 use Rattle.kdc_core.specs.Issued.{issued, issued_of}
 use Rattle.kdc_core.specs.Request.{request_of}
 use Rattle.kdc_core.specs.View.{Named, as_view, named, tgs_view, view, view_of}
-use Rattle.kdc_core.specs.declared.contents.Contents.{Contents}
-use Rattle.kdc_core.specs.declared.contents.Contents.TheVariants.{NoRequest, AsReq, RefusedTgsReq, TgsReq}
+use Rattle.kdc_core.specs.Held.{Contents}
+use Rattle.kdc_core.specs.Held.Contents.{NoRequest, AsReq, RefusedTgsReq, TgsReq}
 
 module _ (state : State) (at : Moment) (random : List ℕ) where
   -- what is issued with the rows of these names

@@ -61,9 +61,9 @@ fn bytes_of(reply: Option<Octets>) -> Option<Vec<u8>>
 }
 
 impl Account<NameRef<'_>> {
-    /// Returns the same account with names of its own.
-    pub fn into_owned(self, alloc: Global) -> Result<Account, AllocError>
-        ensures { IfOk result (λ account. account ≡ self.entry) }
+    /// Returns a copy with names of its own.
+    fn to_owned(&self, alloc: Global) -> Result<Account, AllocError>
+        ensures { IfOk result (λ account. account ≡ self.now) }
     {
         match self {
             Account::NoRequest => Ok(Account::NoRequest),
@@ -77,7 +77,7 @@ impl Account<NameRef<'_>> {
                 Ok(Account::As {
                     client,
                     service,
-                    outcome,
+                    outcome: *outcome,
                 })
             }
             Account::Tgs {
@@ -85,27 +85,28 @@ impl Account<NameRef<'_>> {
                 service,
                 outcome,
             } => {
+                let client = copied_name(alloc, client)?;
                 let service = owned_name(alloc, service.as_ref())?;
                 Ok(Account::Tgs {
                     client,
                     service,
-                    outcome,
+                    outcome: *outcome,
                 })
             }
         }
     }
 }
 
-/// Returns the account with names of its own, if it is wanted.
+/// Returns a copy of the account with names of its own, if it is wanted.
 pub fn account_if(
     alloc: Global,
     is_wanted: bool,
-    account: Account<NameRef<'_>>,
+    account: &Account<NameRef<'_>>,
 ) -> Result<Option<Account>, AllocError>
-    ensures { IfOk result (λ owned. owned ≡ account_if is_wanted account.entry) }
+    ensures { IfOk result (λ owned. owned ≡ account_if is_wanted account.now) }
 {
     if is_wanted {
-        Ok(Some(account.into_owned(alloc)?))
+        Ok(Some(account.to_owned(alloc)?))
     } else {
         Ok(None)
     }

@@ -1,27 +1,25 @@
-//! The reply to the contents of a request, with its account and the change of the client's replay cache.
-ghost use Rattle.std.specs.Prelude.{◌≡◌, None, IfOk, IfSome, option_map};
-ghost use Rattle.std.specs.Option.{unwrap_or};
+//! The reply to a request, with its account and the change of the client's replay cache.
+ghost use Rattle.std.specs.Prelude.{◌≡◌, ◌<◌, length, None, Some, IfOk, IfSome};
 ghost use Rattle.krb_types.specs.KrbError.{krb_error};
 ghost use Rattle.tgs_exchange.specs.Answer.{tgs_error};
+ghost use Rattle.tgs_opening.specs.Tickets.{tgs_data};
 ghost use Rattle.krb_elements.specs.Codec.{written};
-ghost use Rattle.kdc_core.specs.Account.{account_of, AccountSpelled};
-ghost use Rattle.kdc_core.specs.After.{after_reply, seen_left, MayStay};
-ghost use Rattle.kdc_core.specs.Answer.{answer_of, keep, IsReplyTo, OpensOf};
-ghost use Rattle.kdc_core.specs.Contents.{AreShort, IsShortName, names_answered};
-ghost use Rattle.kdc_core.specs.NewlySeen.{newly_seen_of};
-ghost use Rattle.kdc_core.specs.View.{view_of};
-ghost use Rattle.kdc_core.specs.declared.account.Account.TheVariants.{NoRequest, Tgs};
+ghost use Rattle.kdc_core.specs.After.{MayStay};
+ghost use Rattle.kdc_core.specs.Contents.{IsShortName, contents_in};
+ghost use Rattle.kdc_core.specs.Replied.{IsReplied};
+ghost use Rattle.kdc_core.specs.View.{view_in};
+ghost use Rattle.kdc_core.specs.declared.account.Account.TheVariants.{Tgs};
 ghost use Rattle.tgs_exchange.specs.declared.outcome.TgsOutcome.TheVariants.{Refused};
 
 use crate::account::{Account, lent_name};
 use crate::as_replies::as_reply;
-use crate::contents::Contents;
+use crate::contents::open_presented;
 use crate::mark::Mark;
 use crate::tgs_replies::tgs_reply;
 use kdc_replies::Incoming;
 use kdc_state::State;
 use krb_fields::NameRef;
-use krb_types::KdcReqRef;
+use krb_types::{Exchange, KdcReqRef};
 use std::alloc::{AllocError, Global};
 use tgs_exchange::{TgsOutcome, tgs_error};
 use tgs_opening::Rejection;
@@ -34,45 +32,28 @@ pub struct Answered<'q> {
     pub account: Account<NameRef<'q>>,
 }
 
-/// Returns the reply to the contents of a request, if there is one.
+/// Returns the reply to a request of this exchange.
 pub fn reply_to<'q>(
     state: &State,
     alloc: Global,
     incoming: &Incoming<'_>,
-    held: Contents<'q>,
-) -> Result<Option<Answered<'q>>, AllocError>
-    requires { AreShort held }
-    ensures reply { IfOk result (λ reply.
-        option_map (λ r. r.octets.items) reply
-        ≡ (answer_of (view_of state.now (names_answered held.entry)) incoming.now held.entry).reply) }
-    ensures after { IfOk result (λ reply.
-        after_reply state.now (option_map (λ r. r.mark) reply)
-        ≡ keep state.now (names_answered held.entry).client
-        (answer_of (view_of state.now (names_answered held.entry)) incoming.now held.entry).kept) }
-    ensures account { IfOk result (λ reply.
-        unwrap_or (option_map (λ r. r.account) reply) NoRequest
-        ≡ account_of (view_of state.now (names_answered held.entry)) incoming.now held.entry) }
-    ensures newly_seen { IfOk result (λ reply.
-        seen_left (option_map (λ r. r.mark) reply)
-        ≡ newly_seen_of (view_of state.now (names_answered held.entry)) incoming.now held.entry) }
-    ensures spelled { IfOk result (λ reply.
-        IsReplyTo (view_of state.now (names_answered held.entry)) incoming.now.at incoming.now.random
-        (option_map (λ r. r.octets.items) reply) held.entry) }
-    ensures outcome_spelled { IfOk result (λ reply.
-        AccountSpelled (view_of state.now (names_answered held.entry)) incoming.now
-        (option_map (λ r. r.octets.items) reply) held.entry) }
-    ensures same { IfOk result (λ reply.
-        OpensOf (view_of state.now (names_answered held.entry)) incoming.now.at incoming.now.random held.entry) }
-    ensures stays { IfOk result (λ reply. IfSome reply (λ r. IfSome r.mark (MayStay state.now))) }
+    exchange: Exchange,
+    message: &KdcReqRef<'q>,
+) -> Result<Answered<'q>, AllocError>
+    requires sname { IsShortName message.now }
+    requires value { IfSome (tgs_data message.now) (λ value. length value < 2147483648) }
+    ensures replied { IfOk result (λ reply.
+        IsReplied state.now incoming.now (contents_in (view_in state.now exchange message.now) exchange message.now)
+        (Some reply.octets.items) (Some reply.mark) reply.account) }
+    ensures stays { IfOk result (λ reply. IfSome reply.mark (MayStay state.now)) }
 {
-    match held {
-        Contents::NoRequest => Ok(None),
-        Contents::AsReq(message) => Ok(Some(as_reply(state, alloc, incoming, &message)?)),
-        Contents::RefusedTgsReq(message, rejection) => {
-            Ok(Some(refused(state, alloc, incoming, &message, rejection)?))
-        }
-        Contents::TgsReq(message, presented) => {
-            Ok(Some(tgs_reply(state, alloc, incoming, &message, presented)?))
+    match exchange {
+        Exchange::As => as_reply(state, alloc, incoming, message),
+        Exchange::Tgs => {
+            match open_presented(state, alloc, incoming.ready, message)? {
+                Ok(presented) => tgs_reply(state, alloc, incoming, message, presented),
+                Err(rejection) => refused(state, alloc, incoming, message, rejection),
+            }
         }
     }
 }

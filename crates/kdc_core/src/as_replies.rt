@@ -7,7 +7,7 @@ ghost use Rattle.kdc_core.specs.After.{after, counted_of, seen_in, MayStay};
 ghost use Rattle.kdc_core.specs.Answer.{answer_of, keep, OpensOf, SpelledOf};
 ghost use Rattle.kdc_core.specs.Contents.{IsShortName};
 ghost use Rattle.kdc_core.specs.View.{as_view, components_of, cache_named, view_in};
-ghost use Rattle.kdc_core.specs.declared.contents.Contents.TheVariants.{AsReq};
+ghost use Rattle.kdc_core.specs.Held.Contents.{AsReq};
 ghost use Rattle.kdc_state.specs.declared.state.State as states;
 
 use crate::account::{Account, lent_name};

@@ -29,7 +29,7 @@ ghost use Rattle.principals.specs.Change.{refusal, changed};
 
 use crate::account::{Account, Answer, account_if, reply_alone};
 use crate::answering::reply_to;
-use crate::contents::contents_of;
+use crate::contents::read_request;
 use crate::mark::keep_mark;
 use kdc_replies::{Incoming, error_reply};
 use kdc_state::{CacheSizes, Opening, State};
@@ -198,19 +198,26 @@ impl Kdc {
     /// Answers as [`Kdc::handle`] does, with an account of the request, if it is wanted, and with the authenticator that
     /// is recorded for it. The names of an account are copied before anything changes. A call that runs out of memory
     /// changes nothing.
-    pub fn answer(
+    pub fn answer<'q>(
         &mut self,
         alloc: Global,
         at: Moment,
-        random: &[u8; 64],
+        random: &'q [u8; 64],
         room: u32,
-        request: &[u8],
+        request: &'q [u8],
         wants_account: bool,
     ) -> Result<Answer, AllocError>
         ensures answered { IfOk result (λ given.
             IsAnswered self.old (asked at random.now room request.now) wants_account given self.new) }
         ensures err { OnErr result (self.new ≡ self.old) }
     {
+        let Some((exchange, message)) = read_request(request) else {
+            return Ok(Answer {
+                reply: None,
+                account: wants_account.then_some(Account::NoRequest),
+                newly_seen: None,
+            });
+        };
         let incoming = Incoming {
             at,
             random,
@@ -218,15 +225,8 @@ impl Kdc {
             octets: request,
             ready: &self.ready,
         };
-        let held = contents_of(&self.state, alloc, incoming.ready, request)?;
-        let Some(answered) = reply_to(&self.state, alloc, &incoming, held)? else {
-            return Ok(Answer {
-                reply: None,
-                account: account_if(alloc, wants_account, Account::NoRequest)?,
-                newly_seen: None,
-            });
-        };
-        let account = account_if(alloc, wants_account, answered.account)?;
+        let answered = reply_to(&self.state, alloc, &incoming, exchange, &message)?;
+        let account = account_if(alloc, wants_account, &answered.account)?;
         Ok(Answer {
             reply: Some(Octets::new(answered.octets)),
             account,

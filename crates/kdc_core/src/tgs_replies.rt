@@ -1,8 +1,6 @@
 //! The TGS exchange of a KDC.
 ghost use Rattle.std.specs.Prelude.{◌≡◌, Some, IfOk, IfSome};
-ghost use Rattle.tgs_exchange.specs.Answer.{tgs_answer, Opens, Spelled};
 ghost use Rattle.tgs_exchange.specs.Known.{IsKnown};
-ghost use Rattle.tgs_exchange.specs.Outcome.{tgs_outcome, OutcomeSpelled};
 ghost use Rattle.replay.specs.Tidied.{empty_cache};
 ghost use Rattle.kdc_state.specs.State.{cache_of};
 ghost use Rattle.kdc_core.specs.Account.{account_of, AccountSpelledOf};
@@ -11,7 +9,7 @@ ghost use Rattle.kdc_core.specs.Answer.{answer_of, keep, OpensOf, SpelledOf};
 ghost use Rattle.kdc_core.specs.Contents.{IsShortData, IsShortName};
 ghost use Rattle.kdc_core.specs.NewlySeen.{newly_seen_of, seen_of};
 ghost use Rattle.kdc_core.specs.View.{presented_view, tgs_view};
-ghost use Rattle.kdc_core.specs.declared.contents.Contents.TheVariants.{TgsReq};
+ghost use Rattle.kdc_core.specs.Held.Contents.{TgsReq};
 
 use crate::account::{Account, lent_name};
 use crate::answering::Answered;
@@ -61,11 +59,13 @@ pub fn tgs_reply<'q>(
         (TgsReq message.now presented)) }
     ensures stays { IfOk result (λ reply. IfSome reply.mark (MayStay state.now)) }
 {
+    let unstored = ReplayCache::empty(alloc, state.floor);
+    let view = tgs_view(state, message, &presented, &unstored);
     let TgsAnswer {
         reply,
         outcome,
         kept,
-    } = answered(state, alloc, incoming, message, &presented)?;
+    } = tgs_answer(alloc, &view, incoming, &message.body.value, &presented)?;
     let mark = stamped_of(alloc, incoming.at, &presented, kept)?;
     Ok(Answered {
         octets: reply,
@@ -84,45 +84,6 @@ fn client_of(presented: Presented) -> Name
 {
     let ticket = presented.ticket;
     ticket.cname
-}
-
-/// Returns the answer to a TGS-REQ that presents this decrypted ticket and authenticator.
-fn answered(
-    state: &State,
-    alloc: Global,
-    incoming: &Incoming<'_>,
-    message: &KdcReqRef<'_>,
-    presented: &Presented,
-) -> Result<TgsAnswer, AllocError>
-    requires sname { IsShortName message.now }
-    requires authorization { IsShortData presented.now }
-    ensures reply { IfOk result (λ answer.
-        answer.reply.items
-        ≡ (tgs_answer (tgs_view (presented_view state.now message.now presented.now)) incoming.now
-        message.now.body.value presented.now).reply) }
-    ensures kept { IfOk result (λ answer.
-        answer.kept
-        ≡ (tgs_answer (tgs_view (presented_view state.now message.now presented.now)) incoming.now
-        message.now.body.value presented.now).kept) }
-    ensures outcome { IfOk result (λ answer.
-        answer.outcome
-        ≡ tgs_outcome (tgs_view (presented_view state.now message.now presented.now)) incoming.now
-        message.now.body.value presented.now) }
-    ensures outcome_spelled { IfOk result (λ answer.
-        OutcomeSpelled (tgs_view (presented_view state.now message.now presented.now)) incoming.now.at incoming.now.random
-        message.now.body.value presented.now answer.outcome answer.reply.items) }
-    ensures spelled { IfOk result (λ answer.
-        Spelled (tgs_view (presented_view state.now message.now presented.now)) incoming.now.at
-        incoming.now.random message.now.body.value presented.now answer.reply.items) }
-    ensures same { IfOk result (λ answer.
-        Opens (tgs_view (presented_view state.now message.now presented.now)) incoming.now.at
-        incoming.now.random message.now.body.value presented.now) }
-    ensures stays { IfOk result (λ answer.
-        IfSome (stamped_of incoming.now.at presented.now answer.kept) (MayStay state.now)) }
-{
-    let unstored = ReplayCache::empty(alloc, state.floor);
-    let view = tgs_view(state, message, presented, &unstored);
-    tgs_answer(alloc, &view, incoming, &message.body.value, presented)
 }
 
 /// Returns the part of the state that a TGS-REQ is answered from. `unstored` is the cache of a client that has none.

@@ -10,8 +10,8 @@ use Rattle.kdc_core.specs.Issued.{issued, issued_of}
 use Rattle.kdc_core.specs.IssuedLaws.{reply_is_issued}
 use Rattle.kdc_core.specs.Request.{Request}
 use Rattle.kdc_core.specs.View.{View}
-use Rattle.kdc_core.specs.declared.contents.Contents.{Contents}
-use Rattle.kdc_core.specs.declared.contents.Contents.TheVariants.{NoRequest, AsReq, RefusedTgsReq, TgsReq}
+use Rattle.kdc_core.specs.Held.{Contents}
+use Rattle.kdc_core.specs.Held.Contents.{NoRequest, AsReq, RefusedTgsReq, TgsReq}
 use Rattle.kdc_replies.specs.Incoming.{Incoming}
 use Rattle.kdc_replies.specs.Issue.{Issue}
 use Rattle.client_core.specs.declared.asked.Asked.{Asked}
