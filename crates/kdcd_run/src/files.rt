@@ -1,6 +1,6 @@
 //! The files that a server reads: what it takes from them, and why it refuses them.
-ghost use Rattle.std.specs.Prelude.{◌≡◌, ◌≤◌, IfErr, IfOk, Ok, option_map, vec_len};
-ghost use Rattle.program.specs.declared.faults.FileCause.TheVariants.{Failed};
+ghost use Rattle.std.specs.Prelude.{◌≡◌, ◌≤◌, ◌<◌, IfErr, IfOk, Ok, length, option_map, take, vec_len};
+ghost use Rattle.program.specs.declared.faults.FileCause.TheVariants.{Failed, ShortSeed};
 ghost use Rattle.principals_text.specs.Value.{text_database};
 ghost use Rattle.kdcd_run.specs.Refusal.{RefusesDatabase, refusal};
 ghost use Rattle.kdcd_run.specs.declared.files.FileFault.TheVariants.{File};
@@ -8,7 +8,7 @@ ghost use Rattle.kdcd_run.specs.declared.files.FileFault.TheVariants.{File};
 use crate::journal_parts::JournalPart;
 use principals::Database;
 use principals_text::{LONGEST_TEXT, ReadFault, fault_place};
-use program::{FileCause, read_within};
+use program::{FileCause, read_within, seed_of};
 use std::alloc::{AllocError, Global};
 use std::io::Read;
 use std::{fmt, io, str};
@@ -115,5 +115,16 @@ pub fn place_of(alloc: Global, octets: &[u8], fault: &FileFault) -> Option<Strin
     match fault_place(alloc, text) {
         Ok(place) if !place.is_empty() => Some(place),
         Ok(_) | Err(AllocError) => None,
+    }
+}
+
+/// Returns the seed that a file holds: its first 32 octets.
+pub fn seed_in(octets: &[u8]) -> Result<[u8; 32], FileFault>
+    ensures seed { IfOk result (λ seed. (32 ≤ length octets.now) × (seed ≡ take 32 octets.now)) }
+    ensures short { IfErr result (λ fault. (length octets.now < 32) × (fault ≡ File ShortSeed)) }
+{
+    match seed_of(octets) {
+        Some(seed) => Ok(seed),
+        None => Err(FileFault::File(FileCause::ShortSeed)),
     }
 }

@@ -42,7 +42,7 @@ pub use crate::args::{
 };
 pub use crate::clock_watch::{ClockWatch, Refused};
 pub use crate::counted_log::{CountedLog, LogNumbers};
-pub use crate::files::{FileFault, database_of, read_at_most, read_whole};
+pub use crate::files::{FileFault, database_of, read_at_most, read_whole, seed_in};
 pub use crate::host::{Host, JournalBeginning, Journals, StartNews};
 pub use crate::journal_file::{FileJournal, begin_journal, begun};
 pub use crate::journal_files::{OpenedJournals, open_journals};

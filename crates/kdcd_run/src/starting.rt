@@ -9,7 +9,7 @@ ghost use Rattle.kdcd_run.specs.Resuming.{IsReady};
 ghost use Rattle.kdcd_run.specs.Starting.{IsSeed, opened_by};
 
 use crate::args::ServeOptions;
-use crate::files::FileFault;
+use crate::files::{FileFault, seed_in};
 use crate::host::{Host, JournalBeginning};
 use crate::key_places::placed;
 use crate::resuming::{decide, floor_by, open, read_journals};
@@ -17,7 +17,6 @@ use kdc_core::Opening;
 use kdc_hub::Hub;
 use krb_elements::Octets;
 use krb_fields::Moment;
-use program::{FileCause, seed_of};
 use rand_chacha::ChaCha20Rng;
 use rand_core::SeedableRng;
 use std::alloc::{AllocError, Global};
@@ -163,10 +162,7 @@ fn read_seed<H: Host>(alloc: Global, host: &mut H, path: &str) -> Result<[u8; 32
     ensures { IfOk result (λ seed. IsSeed (Some path.now) (H.recorded host.old) (H.recorded host.new) seed) }
 {
     let octets = host.read_seed(alloc, path)?;
-    match seed_of(&octets) {
-        Some(seed) => Ok(seed),
-        None => Err(FileFault::File(FileCause::ShortSeed)),
-    }
+    seed_in(&octets)
 }
 
 /// Returns how the KDC starts where it does not resume.
