@@ -8,7 +8,8 @@ use crate::words::{add_round_key, inverse_round, last_inverse_round, last_round,
 
 /// Encrypts the state in place (CIPHER), with 10 or 14 rounds: the first, then groups of four, then the last.
 // The rounds are unrolled: as a loop they take a fifth more instructions, because words change registers at its end.
-// They are also inlined into each loop over blocks, so that the words of a block stay in registers.
+// They are also inlined into each loop over blocks, each round with them, so that the words of a block stay in registers:
+// calls of `round` take a third more instructions.
 #[inline(always)]
 pub fn cipher(state: &mut [u32; 4], schedule: &[u32], round_count: usize)
     requires some { 10 ≤ round_count }
@@ -28,8 +29,8 @@ pub fn cipher(state: &mut [u32; 4], schedule: &[u32], round_count: usize)
     last_round(state, &schedule[last..last + 4]);
 }
 
-// Computes four rounds, after `DONE` rounds. `DONE` is a constant, so each group of four has its own code, which is
-// called once and inlined into `cipher`.
+// Computes four rounds, after `DONE` rounds. `DONE` is a constant, so each group of four has its own code.
+#[inline(always)]
 fn four_rounds<const DONE: usize>(state: &mut [u32; 4], schedule: &[u32])
     requires { 4 * DONE + 20 ≤ length schedule.now }
     ensures { (s : List ℕ) → octets state.old ≡ rounds (octets schedule.now) s DONE
@@ -64,6 +65,7 @@ pub fn inverse_cipher(state: &mut [u32; 4], schedule: &[u32], round_count: usize
 }
 
 // Computes four of `round_count` rounds, after `DONE` rounds.
+#[inline(always)]
 fn four_inverse_rounds<const DONE: usize>(
     state: &mut [u32; 4],
     schedule: &[u32],

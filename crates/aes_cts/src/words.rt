@@ -70,6 +70,7 @@ fn unmixed_column(key: u32, a: u8, b: u8, c: u8, d: u8) -> u32
 }
 
 /// Computes SubBytes, ShiftRows, MixColumns and AddRoundKey.
+#[inline(always)]
 pub fn round(state: &mut [u32; 4], round_key: &[u32])
     requires { length round_key.now ≡ 4 }
     ensures { octets state.new
@@ -89,6 +90,7 @@ pub fn round(state: &mut [u32; 4], round_key: &[u32])
 }
 
 /// Computes SubBytes, ShiftRows and AddRoundKey.
+#[inline(always)]
 pub fn last_round(state: &mut [u32; 4], round_key: &[u32])
     requires { length round_key.now ≡ 4 }
     ensures { octets state.new
@@ -109,6 +111,7 @@ pub fn last_round(state: &mut [u32; 4], round_key: &[u32])
 
 /// Computes InvShiftRows, InvSubBytes, InvMixColumns and AddRoundKey, with a round key that went through
 /// InvMixColumns.
+#[inline(always)]
 pub fn inverse_round(state: &mut [u32; 4], round_key: &[u32])
     requires { length round_key.now ≡ 4 }
     ensures { octets state.new
@@ -129,6 +132,7 @@ pub fn inverse_round(state: &mut [u32; 4], round_key: &[u32])
 }
 
 /// Computes InvShiftRows, InvSubBytes and AddRoundKey.
+#[inline(always)]
 pub fn last_inverse_round(state: &mut [u32; 4], round_key: &[u32])
     requires { length round_key.now ≡ 4 }
     ensures { octets state.new
