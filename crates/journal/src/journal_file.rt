@@ -42,6 +42,14 @@ struct Tail {
     left: u64,
 }
 
+/// What a file is begun with, and how many octets are appended to it at most.
+#[derive(Drop)]
+struct Next<'a> {
+    place: Place<'a>,
+    floor: Option<i64>,
+    most: u64,
+}
+
 /// What was appended: how many octets, and the check that they end with.
 #[derive(Clone, Copy)]
 struct Appended {
@@ -127,26 +135,21 @@ impl<F: JournalFiles> JournalFile<F> {
         };
         let left = self.most.saturating_sub(len);
         if let Some((tail, floor)) = tail_behind(start, newer, place.boot, left) {
-            self.tail = turn_if_due(
-                alloc,
-                &mut self.files,
-                &place,
-                Some(floor),
-                self.most,
-                Some(tail),
-            );
             self.floor = Some(floor);
+            let next = Next {
+                place,
+                floor: self.floor,
+                most: self.most,
+            };
+            self.tail = turn_if_due(alloc, &mut self.files, &next, Some(tail));
             return Ok(());
         }
-        match begin(
-            alloc,
-            &mut self.files,
-            &place,
-            self.floor,
-            self.most,
-            &[],
-            Begun::Anew,
-        ) {
+        let next = Next {
+            place,
+            floor: self.floor,
+            most: self.most,
+        };
+        match begin(alloc, &mut self.files, &next, &[], Begun::Anew) {
             Ok(tail) => {
                 self.tail = Some(tail);
                 Ok(())
@@ -171,14 +174,12 @@ impl<F: JournalFiles> JournalFile<F> {
             seal: &[],
             at,
         };
-        let tail = turn_if_due(
-            alloc,
-            &mut self.files,
-            &place,
-            self.floor,
-            self.most,
-            self.tail,
-        );
+        let next = Next {
+            place,
+            floor: self.floor,
+            most: self.most,
+        };
+        let tail = turn_if_due(alloc, &mut self.files, &next, self.tail);
         let floor = raised(self.floor, seen.ctime);
         let tail = append(alloc, &mut self.files, &mut self.is_said, at, seen, tail);
         self.floor = floor;
@@ -205,14 +206,12 @@ impl<F: JournalFiles> JournalFile<F> {
             seal: &[],
             at,
         };
-        let tail = begin_anew(
-            alloc,
-            &mut self.files,
-            &mut self.is_said,
-            &place,
-            self.floor,
-            self.most,
-        );
+        let next = Next {
+            place,
+            floor: self.floor,
+            most: self.most,
+        };
+        let tail = begin_anew(alloc, &mut self.files, &mut self.is_said, &next);
         self.tail = tail;
         match tail {
             Some(_) => Ok(()),
@@ -252,27 +251,25 @@ fn last_second(journal: &Journal, boot: &[u8]) -> i64 {
     }
 }
 
-/// Begins a file with this floor and this link.
+/// Begins a file with this link.
 fn begin<F: JournalFiles>(
     alloc: Global,
     files: &mut F,
-    place: &Place<'_>,
-    floor: Option<i64>,
-    most: u64,
+    next: &Next<'_>,
     link: &[u8],
     how: Begun,
 ) -> Result<Tail, NotBegun<FilesFault<F::Fault>>>
-    ensures { HasBegun place.now floor link.now how (F.world files.old) result (F.world files.new) }
+    ensures { HasBegun next.now.place next.now.floor link.now how (F.world files.old) result (F.world files.new) }
 {
-    let written = match beginning(alloc, place, floor, link) {
+    let written = match beginning(alloc, &next.place, next.floor, link) {
         Ok(written) => written,
         Err(fault) => return Err(NotBegun::Unchanged(FilesFault::from(fault))),
     };
     match files.begin(alloc, &written.text, how) {
         Ok(()) => Ok(Tail {
             check: written.check,
-            last: place.at.sec.saturating_add(TURN),
-            left: most.saturating_sub(written.text.len() as u64),
+            last: next.place.at.sec.saturating_add(TURN),
+            left: next.most.saturating_sub(written.text.len() as u64),
         }),
         Err(NotBegun::Unchanged(fault)) => Err(NotBegun::Unchanged(FilesFault::Files(fault))),
         Err(NotBegun::Torn(fault)) => Err(NotBegun::Torn(FilesFault::Files(fault))),
@@ -298,19 +295,17 @@ fn beginning(
 fn turn_if_due<F: JournalFiles>(
     alloc: Global,
     files: &mut F,
-    place: &Place<'_>,
-    floor: Option<i64>,
-    most: u64,
+    next: &Next<'_>,
     tail: Option<Tail>,
 ) -> Option<Tail>
-    ensures { MayTurn place.now floor tail (F.world files.old) result (F.world files.new) }
+    ensures { MayTurn next.now.place next.now.floor tail (F.world files.old) result (F.world files.new) }
 {
     match tail {
         Some(tail) => {
-            if place.at.sec <= tail.last && tail.left > 0 {
+            if next.place.at.sec <= tail.last && tail.left > 0 {
                 Some(tail)
             } else {
-                turn(alloc, files, place, floor, most, tail)
+                turn(alloc, files, next, tail)
             }
         }
         None => None,
@@ -318,24 +313,17 @@ fn turn_if_due<F: JournalFiles>(
 }
 
 /// Begins a file that links to the newer one, which becomes the older one.
-fn turn<F: JournalFiles>(
-    alloc: Global,
-    files: &mut F,
-    place: &Place<'_>,
-    floor: Option<i64>,
-    most: u64,
-    tail: Tail,
-) -> Option<Tail>
-    ensures { HasTurned place.now floor tail (F.world files.old) result (F.world files.new) }
+fn turn<F: JournalFiles>(alloc: Global, files: &mut F, next: &Next<'_>, tail: Tail) -> Option<Tail>
+    ensures { HasTurned next.now.place next.now.floor tail (F.world files.old) result (F.world files.new) }
 {
-    match begin(alloc, files, place, floor, most, &tail.check, Begun::Linked) {
-        Ok(next) => Some(next),
+    match begin(alloc, files, next, &tail.check, Begun::Linked) {
+        Ok(end) => Some(end),
         Err(NotBegun::Unchanged(fault)) => {
             files.say(News::NotTurned(fault));
             Some(Tail {
                 check: tail.check,
-                last: place.at.sec.saturating_add(BETWEEN_TURNS),
-                left: most,
+                last: next.place.at.sec.saturating_add(BETWEEN_TURNS),
+                left: next.most,
             })
         }
         Err(NotBegun::Torn(fault)) => {
@@ -425,13 +413,11 @@ fn begin_anew<F: JournalFiles>(
     alloc: Global,
     files: &mut F,
     is_said: &mut bool,
-    place: &Place<'_>,
-    floor: Option<i64>,
-    most: u64,
+    next: &Next<'_>,
 ) -> Option<Tail>
-    ensures { HasMended place.now floor (F.world files.old) result (F.world files.new) }
+    ensures { HasMended next.now.place next.now.floor (F.world files.old) result (F.world files.new) }
 {
-    match begin(alloc, files, place, floor, most, &[], Begun::Anew) {
+    match begin(alloc, files, next, &[], Begun::Anew) {
         Ok(tail) => {
             say_mended(files, is_said);
             Some(tail)
