@@ -32,6 +32,21 @@ use krb_types::KdcRepRef;
 use rand_core::Rng;
 use std::alloc::Global;
 
+/// A request for a first ticket, and the secret of its client.
+#[derive(Clone, Copy)]
+struct FirstRequest<'a> {
+    asked: &'a Asked,
+    secret: &'a Secret,
+}
+
+/// A request with a timestamp under a key of the client.
+#[derive(Clone, Copy)]
+struct StampedRequest<'a> {
+    asked: &'a Asked,
+    secret: &'a Secret,
+    key: &'a Key,
+}
+
 impl<X: Network> KdcClient<X> {
     /// Gets a first ticket. The client sends a request without a timestamp, and another with one if the KDC requires
     /// preauthentication. It derives its key as the KDC says, but with no fewer iterations of string-to-key than the
@@ -71,7 +86,11 @@ impl<X: Network> KdcClient<X> {
             return Err(LoginFault::new(LoginError::NoClientKey));
         }
         let asked = first_asked(alloc, login, etypes, self.at, nonce)?;
-        ask_plainly(alloc, self, rng, &asked, secret)
+        let first = FirstRequest {
+            asked: &asked,
+            secret,
+        };
+        ask_plainly(alloc, self, rng, &first)
     }
 }
 
@@ -81,51 +100,52 @@ fn ask_plainly<X: Network, R: Rng>(
     alloc: Global,
     client: &mut KdcClient<X>,
     rng: &mut R,
-    asked: &Asked,
-    secret: &Secret,
+    first: &FirstRequest<'_>,
 ) -> Result<Credential, LoginFault>
-    requires { CarriesFirst X.carries secret.now asked.now client.old.at (R.stream rng.old) }
+    requires { CarriesFirst X.carries first.now.secret.now first.now.asked.now client.old.at (R.stream rng.old) }
     ensures ok { IfOk result (λ credential.
         IsFirst (IsExchanged X.finds client.old.kdcs.places.items X.carries X.answers)
-        secret.now asked.now client.old.at.sec credential) }
+        first.now.secret.now first.now.asked.now client.old.at.sec credential) }
     ensures err { IfErr result (λ fault.
         IsFirstFault (IsExchanged X.finds client.old.kdcs.places.items X.carries X.answers)
-        secret.now asked.now client.old.at.sec fault.why fault.kdc) }
+        first.now.secret.now first.now.asked.now client.old.at.sec fault.why fault.kdc) }
     ensures moved { IsMoved client.old.at client.new.at }
     ensures within { AreWithin X.finds client.old.kdcs.places.items client.new.kdcs.places.items }
     ensures clock { client.new.is_by_kdc ≡ client.old.is_by_kdc }
 {
-    if !asked.is_askable() {
+    if !first.asked.is_askable() {
         return Err(LoginFault::new(LoginError::NotAskable));
     }
-    let request = as_request(alloc, asked)?;
+    let request = as_request(alloc, first.asked)?;
     let reply = ask(alloc, &mut client.kdcs, &request)?;
     let Some(refusal) = &reply.refusal else {
-        return said_by(
-            reply.kdc,
-            take_plain(alloc, asked, secret, client.at, &reply),
-        );
+        return said_by(reply.kdc, take_plain(alloc, first, client.at, &reply));
     };
-    let key = said_by(reply.kdc, key_for_timestamp(alloc, secret, asked, refusal))?;
-    ask_with_timestamp(alloc, client, rng, asked, secret, &key)
+    let key = said_by(reply.kdc, key_for_timestamp(alloc, first, refusal))?;
+    let stamped = StampedRequest {
+        asked: first.asked,
+        secret: first.secret,
+        key: &key,
+    };
+    ask_with_timestamp(alloc, client, rng, &stamped)
 }
 
 /// Returns the key for preauthentication, or why there is no ticket.
 fn key_for_timestamp(
     alloc: Global,
-    secret: &Secret,
-    asked: &Asked,
+    first: &FirstRequest<'_>,
     refusal: &Refusal,
 ) -> Result<Key, LoginError>
-    ensures own { IfOk result (λ key. IsOwnKey secret.now asked.now.realm asked.now.client key) }
-    ensures err { IfErr result (λ why. SaysRefused secret.now asked.now refusal.now why) }
+    ensures own { IfOk result (λ key.
+        IsOwnKey first.now.secret.now first.now.asked.now.realm first.now.asked.now.client key) }
+    ensures err { IfErr result (λ why. SaysRefused first.now.secret.now first.now.asked.now refusal.now why) }
 {
     let error = refusal.error;
     if error.code != Code::KdcErrPreauthRequired as i32 {
         return Err(LoginError::Refused(error));
     }
     let info = info_of_refusal(alloc, &refusal.e_data)?;
-    key_wanted(alloc, secret, asked, &info)
+    key_wanted(alloc, first.secret, first.asked, &info)
 }
 
 /// Sends the request with a timestamp under the client's key.
@@ -134,29 +154,26 @@ fn ask_with_timestamp<X: Network, R: Rng>(
     alloc: Global,
     client: &mut KdcClient<X>,
     rng: &mut R,
-    asked: &Asked,
-    secret: &Secret,
-    key: &Key,
+    stamped: &StampedRequest<'_>,
 ) -> Result<Credential, LoginFault>
-    requires askable { IsAskable asked.now }
-    requires own { IsOwnKey secret.now asked.now.realm asked.now.client key.now }
-    requires carried { CarriesFirst X.carries secret.now asked.now client.old.at (R.stream rng.old) }
+    requires askable { IsAskable stamped.now.asked.now }
+    requires own { IsOwnKey stamped.now.secret.now stamped.now.asked.now.realm stamped.now.asked.now.client
+        stamped.now.key.now }
+    requires carried { CarriesFirst X.carries stamped.now.secret.now stamped.now.asked.now client.old.at
+        (R.stream rng.old) }
     ensures ok { IfOk result (λ credential.
         IsFirst (IsExchanged X.finds client.old.kdcs.places.items X.carries X.answers)
-        secret.now asked.now client.old.at.sec credential) }
+        stamped.now.secret.now stamped.now.asked.now client.old.at.sec credential) }
     ensures err { IfErr result (λ fault. IsFirstFault
-        (IsExchanged X.finds client.old.kdcs.places.items X.carries X.answers) secret.now asked.now
-        client.old.at.sec fault.why fault.kdc) }
+        (IsExchanged X.finds client.old.kdcs.places.items X.carries X.answers)
+        stamped.now.secret.now stamped.now.asked.now client.old.at.sec fault.why fault.kdc) }
     ensures moved { IsMoved client.old.at client.new.at }
     ensures within { AreWithin X.finds client.old.kdcs.places.items client.new.kdcs.places.items }
     ensures clock { client.new.is_by_kdc ≡ client.old.is_by_kdc }
 {
     let at = client.at;
-    let reply = send_stamped(alloc, client, rng, asked, secret, key)?;
-    said_by(
-        reply.kdc,
-        take_stamped(alloc, asked, secret, key, at, &reply),
-    )
+    let reply = send_stamped(alloc, client, rng, stamped)?;
+    said_by(reply.kdc, take_stamped(alloc, stamped, at, &reply))
 }
 
 /// Returns the reply to the request with a timestamp. A KDC that has seen another request of the client with the same
@@ -166,13 +183,13 @@ fn send_stamped<X: Network, R: Rng>(
     alloc: Global,
     client: &mut KdcClient<X>,
     rng: &mut R,
-    asked: &Asked,
-    secret: &Secret,
-    key: &Key,
+    stamped: &StampedRequest<'_>,
 ) -> Result<Reply, LoginFault>
-    requires askable { IsAskable asked.now }
-    requires own { IsOwnKey secret.now asked.now.realm asked.now.client key.now }
-    requires carried { CarriesFirst X.carries secret.now asked.now client.old.at (R.stream rng.old) }
+    requires askable { IsAskable stamped.now.asked.now }
+    requires own { IsOwnKey stamped.now.secret.now stamped.now.asked.now.realm stamped.now.asked.now.client
+        stamped.now.key.now }
+    requires carried { CarriesFirst X.carries stamped.now.secret.now stamped.now.asked.now client.old.at
+        (R.stream rng.old) }
     ensures ok { IfOk result (λ reply. IsReply
         (IsExchanged X.finds client.old.kdcs.places.items X.carries X.answers) reply) }
     ensures err { IfErr result (λ fault. IsUnheard
@@ -181,9 +198,9 @@ fn send_stamped<X: Network, R: Rng>(
     ensures within { AreWithin X.finds client.old.kdcs.places.items client.new.kdcs.places.items }
     ensures clock { client.new.is_by_kdc ≡ client.old.is_by_kdc }
 {
-    let reply = send_timestamp(alloc, client, rng, asked, key)?;
+    let reply = send_timestamp(alloc, client, rng, stamped)?;
     if reply.is_error(Code::KrbApErrRepeat) {
-        return send_timestamp(alloc, client, rng, asked, key);
+        return send_timestamp(alloc, client, rng, stamped);
     }
     Ok(reply)
 }
@@ -192,12 +209,12 @@ fn send_timestamp<X: Network, R: Rng>(
     alloc: Global,
     client: &mut KdcClient<X>,
     rng: &mut R,
-    asked: &Asked,
-    key: &Key,
+    stamped: &StampedRequest<'_>,
 ) -> Result<Reply, LoginFault>
-    requires askable { IsAskable asked.now }
+    requires askable { IsAskable stamped.now.asked.now }
     requires stamped { X.carries
-        (stamped_request asked.now key.now client.old.at (drawn_confounder (R.stream rng.old))) }
+        (stamped_request stamped.now.asked.now stamped.now.key.now client.old.at
+        (drawn_confounder (R.stream rng.old))) }
     ensures ok { IfOk result (λ reply. IsReply
         (IsExchanged X.finds client.old.kdcs.places.items X.carries X.answers) reply) }
     ensures err { IfErr result (λ fault. IsUnheard
@@ -209,7 +226,7 @@ fn send_timestamp<X: Network, R: Rng>(
 {
     let at = client.take_moment();
     let confounder = draw_confounder(rng);
-    let request = with_timestamp(alloc, asked, key, at, &confounder)?;
+    let request = with_timestamp(alloc, stamped.asked, stamped.key, at, &confounder)?;
     ask(alloc, &mut client.kdcs, &request)
 }
 
@@ -217,38 +234,38 @@ fn send_timestamp<X: Network, R: Rng>(
 #[tactic(auto, using(crate::proofs::Takings::took_first, crate::proofs::Takings::rejected_first, crate::proofs::Takings::keyless_first))]
 fn take_plain(
     alloc: Global,
-    asked: &Asked,
-    secret: &Secret,
+    first: &FirstRequest<'_>,
     at: Moment,
     reply: &Reply,
 ) -> Result<Credential, LoginError>
     requires { replies.refusal_in reply.now.octets.items ≡ found.NotAReply }
     ensures ok { IfOk result (λ credential.
-        TakesFirst secret.now asked.now at.sec credential reply.now.octets.items) }
-    ensures err { IfErr result (λ why. SaysFirst secret.now asked.now at.sec why reply.now.octets.items) }
+        TakesFirst first.now.secret.now first.now.asked.now at.sec credential reply.now.octets.items) }
+    ensures err { IfErr result (λ why.
+        SaysFirst first.now.secret.now first.now.asked.now at.sec why reply.now.octets.items) }
 {
     let Some(ticket) = ticket_reply_in(&reply.octets) else {
         return Err(LoginError::NotAReply);
     };
-    let key = key_of_reply(alloc, secret, asked, &ticket)?;
-    take(alloc, asked, &key, at, &ticket)
+    let key = key_of_reply(alloc, first.secret, first.asked, &ticket)?;
+    take(alloc, first.asked, &key, at, &ticket)
 }
 
 /// Returns the ticket of a reply to a request with a timestamp under a key of the client.
 #[tactic(auto, using(crate::proofs::Takings::took_first, crate::proofs::Takings::rejected_first, crate::proofs::Takings::keyless_first))]
 fn take_stamped(
     alloc: Global,
-    asked: &Asked,
-    secret: &Secret,
-    key: &Key,
+    stamped: &StampedRequest<'_>,
     at: Moment,
     reply: &Reply,
 ) -> Result<Credential, LoginError>
-    requires own { IsOwnKey secret.now asked.now.realm asked.now.client key.now }
+    requires own { IsOwnKey stamped.now.secret.now stamped.now.asked.now.realm stamped.now.asked.now.client
+        stamped.now.key.now }
     requires read { replies.refusal_in reply.now.octets.items ≡ said_of reply.now.refusal }
     ensures ok { IfOk result (λ credential.
-        TakesFirst secret.now asked.now at.sec credential reply.now.octets.items) }
-    ensures err { IfErr result (λ why. SaysFirst secret.now asked.now at.sec why reply.now.octets.items) }
+        TakesFirst stamped.now.secret.now stamped.now.asked.now at.sec credential reply.now.octets.items) }
+    ensures err { IfErr result (λ why.
+        SaysFirst stamped.now.secret.now stamped.now.asked.now at.sec why reply.now.octets.items) }
 {
     if let Some(refusal) = &reply.refusal {
         return Err(LoginError::Refused(refusal.error));
@@ -256,8 +273,8 @@ fn take_stamped(
     let Some(ticket) = ticket_reply_in(&reply.octets) else {
         return Err(LoginError::NotAReply);
     };
-    let key = key_of_next_reply(secret, asked, key, &ticket)?;
-    take(alloc, asked, &key, at, &ticket)
+    let key = key_of_next_reply(stamped.secret, stamped.asked, stamped.key, &ticket)?;
+    take(alloc, stamped.asked, &key, at, &ticket)
 }
 
 fn take(

@@ -20,7 +20,7 @@ use crate::client::KdcClient;
 use crate::draws::{draw_confounder, draw_nonce};
 use crate::faults::{LoginError, LoginFault, said_by};
 use crate::network::Network;
-use crate::ticket_requests::{Renewal, further_asked, renewal_options};
+use crate::ticket_requests::{FurtherTicket, Renewal, further_asked, renewal_options};
 use client_core::{
     Asked, ClientFault, is_presentable, judge_tgs_reply, session_key, tgs_request, ticket_reply_in,
 };
@@ -30,6 +30,13 @@ use krb_fields::{Code, Flags, Moment, Name};
 use krb_types::KdcRepRef;
 use rand_core::Rng;
 use std::alloc::Global;
+
+/// A request for a further ticket, and the ticket that it presents.
+#[derive(Clone, Copy)]
+struct FurtherRequest<'a> {
+    granting: &'a Credential,
+    asked: &'a Asked,
+}
 
 impl<X: Network> KdcClient<X> {
     /// Gets a ticket for a service of the client's realm, with a ticket-granting ticket. It ends as late as that one.
@@ -61,9 +68,17 @@ impl<X: Network> KdcClient<X> {
     {
         self.kdcs.network.begin();
         let nonce = draw_nonce(rng);
-        let options = Flags::from_bits(0);
-        let asked = further_asked(alloc, options, &granting.client, service, nonce)?;
-        ask_with_ticket(alloc, self, rng, granting, &asked)
+        let wanted = FurtherTicket {
+            options: Flags::from_bits(0),
+            client: &granting.client,
+            service,
+        };
+        let asked = further_asked(alloc, &wanted, nonce)?;
+        let further = FurtherRequest {
+            granting,
+            asked: &asked,
+        };
+        ask_with_ticket(alloc, self, rng, &further)
     }
 
     /// Gets a ticket again: renewed, with a new start; or validated, if it was postdated (RFC 4120, sections 2.3 and 2.4).
@@ -95,10 +110,17 @@ impl<X: Network> KdcClient<X> {
     {
         self.kdcs.network.begin();
         let nonce = draw_nonce(rng);
-        let options = renewal_options(renewal, granting.flags);
-        let service = &granting.server.name;
-        let asked = further_asked(alloc, options, &granting.client, service, nonce)?;
-        ask_with_ticket(alloc, self, rng, granting, &asked)
+        let wanted = FurtherTicket {
+            options: renewal_options(renewal, granting.flags),
+            client: &granting.client,
+            service: &granting.server.name,
+        };
+        let asked = further_asked(alloc, &wanted, nonce)?;
+        let further = FurtherRequest {
+            granting,
+            asked: &asked,
+        };
+        ask_with_ticket(alloc, self, rng, &further)
     }
 }
 
@@ -108,32 +130,35 @@ fn ask_with_ticket<X: Network, R: Rng>(
     alloc: Global,
     client: &mut KdcClient<X>,
     rng: &mut R,
-    granting: &Credential,
-    asked: &Asked,
+    further: &FurtherRequest<'_>,
 ) -> Result<Credential, LoginFault>
-    requires { CarriesPresented X.carries granting.now asked.now client.old.at (R.stream rng.old) }
+    requires { CarriesPresented X.carries further.now.granting.now further.now.asked.now client.old.at
+        (R.stream rng.old) }
     ensures ok { IfOk result (λ credential.
         IsFurther (IsExchanged X.finds client.old.kdcs.places.items X.carries X.answers)
-        granting.now asked.now client.old.at.sec credential) }
+        further.now.granting.now further.now.asked.now client.old.at.sec credential) }
     ensures err { IfErr result (λ fault. IsFurtherFault
-        (IsExchanged X.finds client.old.kdcs.places.items X.carries X.answers) granting.now asked.now
-        client.old.at.sec fault.why fault.kdc) }
+        (IsExchanged X.finds client.old.kdcs.places.items X.carries X.answers)
+        further.now.granting.now further.now.asked.now client.old.at.sec fault.why fault.kdc) }
     ensures moved { IsMoved client.old.at client.new.at }
     ensures within { AreWithin X.finds client.old.kdcs.places.items client.new.kdcs.places.items }
     ensures clock { client.new.is_by_kdc ≡ client.old.is_by_kdc }
 {
-    let Some(key) = session_key(granting) else {
+    let Some(key) = session_key(further.granting) else {
         return Err(LoginFault::new(LoginError::NotPresentable));
     };
-    if !is_presentable(granting) {
+    if !is_presentable(further.granting) {
         return Err(LoginFault::new(LoginError::NotPresentable));
     }
-    if !asked.is_askable() {
+    if !further.asked.is_askable() {
         return Err(LoginFault::new(LoginError::NotAskable));
     }
     let at = client.at;
-    let reply = send_presented(alloc, client, rng, granting, asked)?;
-    said_by(reply.kdc, take_presented(alloc, asked, &key, at, &reply))
+    let reply = send_presented(alloc, client, rng, further)?;
+    said_by(
+        reply.kdc,
+        take_presented(alloc, further.asked, &key, at, &reply),
+    )
 }
 
 /// Returns the reply to the request with the ticket. A KDC that has seen another authenticator of the client with the
@@ -143,12 +168,12 @@ fn send_presented<X: Network, R: Rng>(
     alloc: Global,
     client: &mut KdcClient<X>,
     rng: &mut R,
-    granting: &Credential,
-    asked: &Asked,
+    further: &FurtherRequest<'_>,
 ) -> Result<Reply, LoginFault>
-    requires askable { IsAskable asked.now }
-    requires presentable { sessions.IsPresentable granting.now }
-    requires carried { CarriesPresented X.carries granting.now asked.now client.old.at (R.stream rng.old) }
+    requires askable { IsAskable further.now.asked.now }
+    requires presentable { sessions.IsPresentable further.now.granting.now }
+    requires carried { CarriesPresented X.carries further.now.granting.now further.now.asked.now client.old.at
+        (R.stream rng.old) }
     ensures ok { IfOk result (λ reply. IsReply
         (IsExchanged X.finds client.old.kdcs.places.items X.carries X.answers) reply) }
     ensures err { IfErr result (λ fault. IsUnheard
@@ -157,9 +182,9 @@ fn send_presented<X: Network, R: Rng>(
     ensures within { AreWithin X.finds client.old.kdcs.places.items client.new.kdcs.places.items }
     ensures clock { client.new.is_by_kdc ≡ client.old.is_by_kdc }
 {
-    let reply = send_ticket(alloc, client, rng, granting, asked)?;
+    let reply = send_ticket(alloc, client, rng, further)?;
     if reply.is_error(Code::KrbApErrRepeat) {
-        return send_ticket(alloc, client, rng, granting, asked);
+        return send_ticket(alloc, client, rng, further);
     }
     Ok(reply)
 }
@@ -168,13 +193,13 @@ fn send_ticket<X: Network, R: Rng>(
     alloc: Global,
     client: &mut KdcClient<X>,
     rng: &mut R,
-    granting: &Credential,
-    asked: &Asked,
+    further: &FurtherRequest<'_>,
 ) -> Result<Reply, LoginFault>
-    requires askable { IsAskable asked.now }
-    requires presentable { sessions.IsPresentable granting.now }
-    requires presented { (held : session.Session) → sessions.session granting.now ≡ Some held → X.carries
-        (presented_request granting.now asked.now held client.old.at (drawn_confounder (R.stream rng.old))) }
+    requires askable { IsAskable further.now.asked.now }
+    requires presentable { sessions.IsPresentable further.now.granting.now }
+    requires presented { (held : session.Session) → sessions.session further.now.granting.now ≡ Some held → X.carries
+        (presented_request further.now.granting.now further.now.asked.now held client.old.at
+        (drawn_confounder (R.stream rng.old))) }
     ensures ok { IfOk result (λ reply. IsReply
         (IsExchanged X.finds client.old.kdcs.places.items X.carries X.answers) reply) }
     ensures err { IfErr result (λ fault. IsUnheard
@@ -186,7 +211,14 @@ fn send_ticket<X: Network, R: Rng>(
 {
     let at = client.take_moment();
     let confounder = draw_confounder(rng);
-    let request = tgs_request(alloc, asked, granting, None, at, &confounder)?;
+    let request = tgs_request(
+        alloc,
+        further.asked,
+        further.granting,
+        None,
+        at,
+        &confounder,
+    )?;
     ask(alloc, &mut client.kdcs, &request)
 }
 

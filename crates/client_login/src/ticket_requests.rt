@@ -89,21 +89,29 @@ pub(crate) fn first_asked(
     })
 }
 
+/// A ticket that a client wants with a ticket-granting ticket.
+#[derive(Clone, Copy)]
+pub(crate) struct FurtherTicket<'a> {
+    /// Its named bits are those of `krb_fields::KdcOption`.
+    pub options: Flags,
+    pub client: &'a Principal,
+    pub service: &'a Name,
+}
+
 /// Returns the request for a ticket with a ticket-granting ticket. It is to end as late as that one.
 pub(crate) fn further_asked(
     alloc: Global,
-    options: Flags,
-    client: &Principal,
-    service: &Name,
+    wanted: &FurtherTicket<'_>,
     nonce: u32,
 ) -> Result<Asked, AllocError>
-    ensures { IfOk result (λ asked. asked ≡ further_asked options client.now service.now nonce) }
+    ensures { IfOk result (λ asked.
+        asked ≡ further_asked wanted.now.options wanted.now.client.now wanted.now.service.now nonce) }
 {
     Ok(Asked {
-        options,
-        client: client.name.copy(alloc)?,
-        realm: client.realm.copy(alloc)?,
-        service: service.copy(alloc)?,
+        options: wanted.options,
+        client: wanted.client.name.copy(alloc)?,
+        realm: wanted.client.realm.copy(alloc)?,
+        service: wanted.service.copy(alloc)?,
         from: None,
         till: KTime::of(0),
         rtime: None,

@@ -6,5 +6,5 @@ use Rattle.client_login.proofs.first_tickets.take_plain.Goals as goal
 pub returns-clause-ok : goal.returns-clause-ok
 returns-clause-ok c =
     let read : ticket_reply_in 11 c.args.reply.now.octets.items ≡ Some c.in-Some.ticket = search rules in
-    took_first c.args.secret.now c.args.asked.now c.args.at.sec c.in_ok-key.key c.args.reply.now.octets.items
+    took_first c.args.first.now.secret.now c.args.first.now.asked.now c.args.at.sec c.in_ok-key.key c.args.reply.now.octets.items
     c.in-Some.ticket c.take.result c.in_ok-key.ensures.own read c.take.ensures.ok
