@@ -1,9 +1,9 @@
 //! Accepts or refuses the bytes of an AP-REQ, and records new authenticators in the replay caches.
-ghost use Rattle.std.specs.Prelude.{◌≡◌, false, None, IfOk, IfNone, IfSome, OnOk, OnErr};
+ghost use Rattle.std.specs.Prelude.{◌≡◌, false, None, IfOk, IfNone, IfSome};
 ghost use Rattle.std.specs.FinMap as map;
 ghost use Rattle.replay.specs.ReplayCache.{verdict_copied};
 ghost use Rattle.replay.specs.Stamp.{is_beyond_clock_skew};
-ghost use Rattle.ap_accept.specs.Accepts.{accepted_with, accepts, cache_for, recorded_by, recording, stamp_of};
+ghost use Rattle.ap_accept.specs.Accepts.{accepted_with, accepts, cache_for, recorded_by, stamp_of};
 ghost use Rattle.ap_accept.specs.Accepts.{IsAfter, IsAnswer};
 ghost use Rattle.ap_accept.specs.Reply.{IsApReply};
 ghost use Rattle.ap_accept.specs.Stages.{accepted_if, cache_refusal, refusal_by, unless_seen};
@@ -11,6 +11,7 @@ ghost use Rattle.ap_accept.specs.Stages.{accepted_if, cache_refusal, refusal_by,
 use crate::accepted::Accepted;
 use crate::clients::{Clients, empty_cache};
 use crate::fault::ApFault;
+use crate::judging::Judging;
 use crate::opening::open_request;
 use crate::presented::Presented;
 use crate::replies::reply_if;
@@ -22,7 +23,7 @@ use krb_elements::Octets;
 use krb_fields::{ApOption, Moment};
 use krb_types::{Authenticator, EncTicketPart, read_ap_req};
 use replay::Verdict;
-use std::alloc::{AllocError, Global};
+use std::alloc::Global;
 
 /// Accepts or refuses the bytes of an AP-REQ, and records a new authenticator in the replay cache.
 pub fn accept(
@@ -42,28 +43,31 @@ pub fn accept(
     };
     let wanted = request.ap_options.has(ApOption::MutualRequired);
     let presented = open_request(alloc, &state.keytab, &request)?;
-    judge(state, alloc, at, confounder, wanted, presented)
+    let judging = Judging {
+        at,
+        confounder: *confounder,
+        wanted,
+    };
+    judge(state, alloc, &judging, presented)
 }
 
 /// Accepts or refuses a decrypted ticket and authenticator.
 fn judge(
     state: &mut State,
     alloc: Global,
-    at: Moment,
-    confounder: &[u8; 16],
-    wanted: bool,
+    judging: &Judging,
     presented: Presented,
 ) -> Result<Accepted, ApFault>
     ensures answer { IsAnswer result
-        (unless_seen state.old at.sec confounder.now wanted presented
-        (cache_refusal state.old at.sec presented)).answer }
+        (unless_seen state.old judging.now.at.sec judging.now.confounder judging.now.wanted presented
+        (cache_refusal state.old judging.now.at.sec presented)).answer }
     ensures state { IsAfter result state.old state.new
-        (unless_seen state.old at.sec confounder.now wanted presented
-        (cache_refusal state.old at.sec presented)).state }
+        (unless_seen state.old judging.now.at.sec judging.now.confounder judging.now.wanted presented
+        (cache_refusal state.old judging.now.at.sec presented)).state }
     ensures reply { IfOk result (λ accepted. IfSome accepted.ap_rep (λ octets.
-        IsApReply presented.session_key confounder.now presented.authenticator octets)) }
+        IsApReply presented.session_key judging.now.confounder presented.authenticator octets)) }
 {
-    match admit(state, alloc, at, confounder, wanted, &presented) {
+    match admit(state, alloc, judging, &presented) {
         Ok(reply) => Ok(accepted_with(reply, presented)),
         Err(fault) => Err(fault),
     }
@@ -73,32 +77,29 @@ fn judge(
 fn admit(
     state: &mut State,
     alloc: Global,
-    at: Moment,
-    confounder: &[u8; 16],
-    wanted: bool,
+    judging: &Judging,
     presented: &Presented,
 ) -> Result<Option<Octets>, ApFault>
     ensures answer { IsAnswer (accepted_if presented.now result)
-        (unless_seen state.old at.sec confounder.now wanted presented.now
-        (cache_refusal state.old at.sec presented.now)).answer }
+        (unless_seen state.old judging.now.at.sec judging.now.confounder judging.now.wanted presented.now
+        (cache_refusal state.old judging.now.at.sec presented.now)).answer }
     ensures state { IsAfter (accepted_if presented.now result) state.old state.new
-        (unless_seen state.old at.sec confounder.now wanted presented.now
-        (cache_refusal state.old at.sec presented.now)).state }
+        (unless_seen state.old judging.now.at.sec judging.now.confounder judging.now.wanted presented.now
+        (cache_refusal state.old judging.now.at.sec presented.now)).state }
     ensures reply { IfOk result (λ reply. IfSome reply (λ octets.
-        IsApReply presented.now.session_key confounder.now presented.now.authenticator octets)) }
+        IsApReply presented.now.session_key judging.now.confounder presented.now.authenticator octets)) }
 {
-    if let Some(refusal) = cache_refusal(state, alloc, at, presented) {
+    if let Some(refusal) = cache_refusal(state, alloc, judging.at, presented) {
         return Err(ApFault::Refused(refusal));
     }
-    match ticket_refusal(&ticket_terms(&presented.ticket), at) {
+    match ticket_refusal(&ticket_terms(&presented.ticket), judging.at) {
         Some(refusal) => {
-            record_seen(state, alloc, at, presented)?;
+            state.record_seen(alloc, judging.at, presented)?;
             Err(ApFault::Refused(refusal))
         }
         None => {
-            let key = &presented.session_key;
-            let reply = reply_if(alloc, wanted, key, confounder, &presented.authenticator)?;
-            record_seen(state, alloc, at, presented)?;
+            let reply = reply_if(alloc, judging, presented)?;
+            state.record_seen(alloc, judging.at, presented)?;
             Ok(reply)
         }
     }
@@ -134,25 +135,6 @@ fn refusal_by(verdict: Verdict<&()>) -> Option<ApRefusal>
         Verdict::Repeat(_) => Some(ApRefusal::Repeated),
         Verdict::Full => Some(ApRefusal::Full),
     }
-}
-
-/// Records the authenticator in the replay cache. Changes nothing if memory runs out.
-fn record_seen(
-    state: &mut State,
-    alloc: Global,
-    at: Moment,
-    presented: &Presented,
-) -> Result<(), AllocError>
-    requires timely { is_beyond_clock_skew (cache_for state.old presented.now).floor at.sec presented.now.authenticator.ctime
-        ≡ false }
-    requires new { map.get (cache_for state.old presented.now).pairs (stamp_of presented.now) ≡ None }
-    ensures ok { OnOk result (state.new ≡ recording state.old at.sec presented.now) }
-    ensures err { OnErr result (state.new ≡ state.old) }
-{
-    let client = &presented.ticket.cname;
-    let ctime = presented.authenticator.ctime.seconds();
-    let cusec = presented.authenticator.cusec.get();
-    state.record_seen(alloc, &presented.service, client, at, ctime, cusec)
 }
 
 /// Returns the result for an accepted request, with the bytes of the AP-REP if it was asked for.

@@ -3,9 +3,11 @@ ghost use Rattle.std.specs.Prelude.{◌≡◌, false, None, OnOk, OnErr};
 ghost use Rattle.std.specs.FinMap as map;
 ghost use Rattle.replay.specs.Stamp.{is_beyond_clock_skew};
 ghost use Rattle.replay.specs.ReplayCache.{recorded};
+ghost use Rattle.ap_accept.specs.Accepts.{stamp_of};
 ghost use Rattle.ap_accept.specs.Clients.{empty_cache, floor_for, lasts, drop_expired, cache_among, cache_in};
 ghost use Rattle.ap_accept.specs.Clients.{opened_clients, with_cache};
 
+use crate::presented::Presented;
 use krb_fields::{Moment, Name, SKEW};
 use principal_rows::{NameMap, ValueTest};
 use replay::{Failures, Opening, Pairs, ReplayCache};
@@ -47,24 +49,26 @@ impl Clients {
         }
     }
 
-    /// Records an authenticator of the client. It must be within the clock skew and new. Drops entries that can't be
+    /// Records an authenticator of its client. It must be within the clock skew and new. Drops entries that can't be
     /// replayed any more. Changes nothing if memory runs out.
     pub fn record_seen(
         &mut self,
         alloc: Global,
-        client: &Name,
         at: Moment,
-        ctime: i64,
-        cusec: u32,
+        presented: &Presented,
     ) -> Result<(), AllocError>
-        requires timely { is_beyond_clock_skew (cache_in self.old client.now.components).floor at.sec ctime ≡ false }
-        requires new { map.get (cache_in self.old client.now.components).pairs (ctime, cusec) ≡ None }
-        ensures ok { OnOk result (self.new ≡ drop_expired at.sec (with_cache self.old client.now.components
-            (recorded (cache_in self.old client.now.components) at.sec (ctime, cusec) tt))) }
+        requires timely { is_beyond_clock_skew (cache_in self.old presented.now.ticket.cname.components).floor at.sec
+            presented.now.authenticator.ctime
+            ≡ false }
+        requires new { map.get (cache_in self.old presented.now.ticket.cname.components).pairs (stamp_of presented.now)
+            ≡ None }
+        ensures ok { OnOk result (self.new
+            ≡ drop_expired at.sec (with_cache self.old presented.now.ticket.cname.components
+            (recorded (cache_in self.old presented.now.ticket.cname.components) at.sec (stamp_of presented.now) tt))) }
         ensures err { OnErr result (self.new ≡ self.old) }
     {
         let floor = self.floor;
-        record_among(alloc, &mut self.caches, floor, client, at, ctime, cusec)?;
+        record_among(alloc, &mut self.caches, floor, at, presented)?;
         self.drop_expired(at);
         Ok(())
     }
@@ -104,26 +108,47 @@ fn record_among(
     alloc: Global,
     caches: &mut NameMap<ReplayCache<()>>,
     floor: i64,
-    client: &Name,
     at: Moment,
-    ctime: i64,
-    cusec: u32,
+    presented: &Presented,
 ) -> Result<(), AllocError>
-    requires timely { is_beyond_clock_skew (cache_among floor caches.old client.now.components).floor at.sec ctime ≡ false }
-    requires new { map.get (cache_among floor caches.old client.now.components).pairs (ctime, cusec) ≡ None }
-    ensures ok { OnOk result (caches.new ≡ map.insert caches.old client.now.components
-        (recorded (cache_among floor caches.old client.now.components) at.sec (ctime, cusec) tt)) }
+    requires timely { is_beyond_clock_skew
+        (cache_among floor caches.old presented.now.ticket.cname.components).floor at.sec
+        presented.now.authenticator.ctime
+        ≡ false }
+    requires new { map.get (cache_among floor caches.old presented.now.ticket.cname.components).pairs
+        (stamp_of presented.now)
+        ≡ None }
+    ensures ok { OnOk result (caches.new ≡ map.insert caches.old presented.now.ticket.cname.components
+        (recorded (cache_among floor caches.old presented.now.ticket.cname.components) at.sec
+        (stamp_of presented.now) tt)) }
     ensures err { OnErr result (caches.new ≡ caches.old) }
 {
+    let client = &presented.ticket.cname;
     let mut cache = empty_cache(alloc, floor);
     if caches.replace(client, &mut cache) {
-        let done = cache.record_seen(at, ctime, cusec, ());
+        let done = record_in(&mut cache, at, presented);
         let _ = caches.replace(client, &mut cache);
         done
     } else {
-        cache.record_seen(at, ctime, cusec, ())?;
+        record_in(&mut cache, at, presented)?;
         caches.put(client.copy(alloc)?, cache)
     }
+}
+
+/// Records an authenticator in the replay cache of its client.
+fn record_in(
+    cache: &mut ReplayCache<()>,
+    at: Moment,
+    presented: &Presented,
+) -> Result<(), AllocError>
+    requires timely { is_beyond_clock_skew cache.old.floor at.sec presented.now.authenticator.ctime ≡ false }
+    requires new { map.get cache.old.pairs (stamp_of presented.now) ≡ None }
+    ensures ok { OnOk result (cache.new ≡ recorded cache.old at.sec (stamp_of presented.now) tt) }
+    ensures err { OnErr result (cache.new ≡ cache.old) }
+{
+    let ctime = presented.authenticator.ctime.seconds();
+    let cusec = presented.authenticator.cusec.get();
+    cache.record_seen(at, ctime, cusec, ())
 }
 
 /// The test for replay caches that refuse more than an empty one with this floor.

@@ -18,6 +18,7 @@ mod acceptor;
 mod authenticators;
 mod clients;
 mod fault;
+mod judging;
 mod laws;
 mod opening;
 mod options;

@@ -2,11 +2,12 @@
 ghost use Rattle.std.specs.Prelude.{◌≡◌, false, None, OnOk, OnErr};
 ghost use Rattle.std.specs.FinMap as map;
 ghost use Rattle.replay.specs.Stamp.{is_beyond_clock_skew};
-ghost use Rattle.replay.specs.ReplayCache.{recorded};
-ghost use Rattle.ap_accept.specs.Clients.{drop_expired, opened_clients, with_cache};
-ghost use Rattle.ap_accept.specs.State.{clients_of, cache_of, with_clients};
+ghost use Rattle.ap_accept.specs.Accepts.{cache_for, recording, stamp_of};
+ghost use Rattle.ap_accept.specs.Clients.{opened_clients};
+ghost use Rattle.ap_accept.specs.State.{clients_of};
 
 use crate::clients::Clients;
+use crate::presented::Presented;
 use crate::state::State;
 use krb_fields::{Moment, Name};
 use std::alloc::{AllocError, Global};
@@ -23,34 +24,29 @@ impl State {
         }
     }
 
-    /// Records an authenticator of the client. It must be within the clock skew and new. Drops entries that can't be
-    /// replayed any more. Changes nothing if memory runs out.
+    /// Records an authenticator. It must be within the clock skew and new. Drops entries that can't be replayed any
+    /// more. Changes nothing if memory runs out.
     pub fn record_seen(
         &mut self,
         alloc: Global,
-        service: &Name,
-        client: &Name,
         at: Moment,
-        ctime: i64,
-        cusec: u32,
+        presented: &Presented,
     ) -> Result<(), AllocError>
-        requires timely { is_beyond_clock_skew
-            (cache_of self.old service.now.components client.now.components).floor at.sec ctime
+        requires timely { is_beyond_clock_skew (cache_for self.old presented.now).floor at.sec
+            presented.now.authenticator.ctime
             ≡ false }
-        requires new { map.get (cache_of self.old service.now.components client.now.components).pairs (ctime, cusec)
-            ≡ None }
-        ensures ok { OnOk result (self.new ≡ with_clients self.old service.now.components
-            (drop_expired at.sec (with_cache (clients_of self.old service.now.components) client.now.components
-            (recorded (cache_of self.old service.now.components client.now.components) at.sec (ctime, cusec) tt)))) }
+        requires new { map.get (cache_for self.old presented.now).pairs (stamp_of presented.now) ≡ None }
+        ensures ok { OnOk result (self.new ≡ recording self.old at.sec presented.now) }
         ensures err { OnErr result (self.new ≡ self.old) }
     {
+        let service = &presented.service;
         let mut clients = Clients::opened(alloc, self.opening);
         if self.services.replace(service, &mut clients) {
-            let done = clients.record_seen(alloc, client, at, ctime, cusec);
+            let done = clients.record_seen(alloc, at, presented);
             let _ = self.services.replace(service, &mut clients);
             done
         } else {
-            clients.record_seen(alloc, client, at, ctime, cusec)?;
+            clients.record_seen(alloc, at, presented)?;
             self.services.put(service.copy(alloc)?, clients)
         }
     }

@@ -6,6 +6,8 @@ ghost use Rattle.krb_types.specs.EncApRepPart.{enc_ap_rep_part};
 ghost use Rattle.sealed_parts.specs.Encrypted.{decrypted};
 ghost use Rattle.ap_accept.specs.Reply.{IsApReply, reply_if, reply_of, reply_part};
 
+use crate::judging::Judging;
+use crate::presented::Presented;
 use enctypes::{Key, KeyUsage};
 use krb_elements::Octets;
 use krb_fields::EncryptedData;
@@ -13,22 +15,22 @@ use krb_types::{ApRep, Authenticator, EncApRepPart, encode_ap_rep};
 use sealed_parts::seal_part;
 use std::alloc::{AllocError, Global};
 
-/// Returns the bytes of the AP-REP, if it is asked for. `confounder` is 16 random bytes.
+/// Returns the bytes of the AP-REP, if it is asked for.
 pub fn reply_if(
     alloc: Global,
-    asked: bool,
-    key: &Key,
-    confounder: &[u8; 16],
-    authenticator: &Authenticator,
+    judging: &Judging,
+    presented: &Presented,
 ) -> Result<Option<Octets>, AllocError>
-    ensures value { IfOk result (λ reply. reply ≡ reply_if asked key.now confounder.now authenticator.now) }
-    ensures opens { IfOk result (λ reply.
-        IfSome reply (λ octets. IsApReply key.now confounder.now authenticator.now octets)) }
+    ensures value { IfOk result (λ reply. reply ≡ reply_if judging.now.wanted
+        presented.now.session_key judging.now.confounder presented.now.authenticator) }
+    ensures opens { IfOk result (λ reply. IfSome reply (λ octets.
+        IsApReply presented.now.session_key judging.now.confounder presented.now.authenticator octets)) }
 {
-    if !asked {
+    if !judging.wanted {
         return Ok(None);
     }
-    let reply = reply_of(alloc, key, confounder, authenticator)?;
+    let key = &presented.session_key;
+    let reply = reply_of(alloc, key, &judging.confounder, &presented.authenticator)?;
     Ok(Some(Octets::new(encode_ap_rep(alloc, &reply)?)))
 }
 
