@@ -4,17 +4,41 @@ ghost use Rattle.ap_accept_c.specs.Buffers.{IsGiven, texted};
 
 use crate::status::Status;
 
-/// Copies the bytes to the front of the buffer, if they fit, and sets `len` to their number.
-pub fn give(octets: &[u8], to: &mut [u8], len: &mut usize) -> Status
-    ensures given { IsGiven result octets.now to.old to.new }
-    ensures len { len.new ≡ length octets.now }
+/// The result of a call that copies bytes into a buffer.
+#[derive(Clone, Copy)]
+pub struct Given {
+    pub status: Status,
+    /// How many bytes there are, whether they fit or not.
+    pub len: usize,
+}
+
+impl Given {
+    /// Returns the result of a call that has no bytes to copy.
+    pub fn none(status: Status) -> Given
+        ensures status { result.status ≡ status }
+        ensures len { result.len ≡ 0 }
+    {
+        Given { status, len: 0 }
+    }
+}
+
+/// Copies the bytes to the front of the buffer, if they fit.
+pub fn give(octets: &[u8], to: &mut [u8]) -> Given
+    ensures given { IsGiven result.status octets.now to.old to.new }
+    ensures len { result.len ≡ length octets.now }
 {
-    *len = octets.len();
+    let len = octets.len();
     if to.len() < octets.len() {
-        return Status::TooSmall;
+        return Given {
+            status: Status::TooSmall,
+            len,
+        };
     }
     to[..octets.len()].copy_from_slice(octets);
-    Status::Done
+    Given {
+        status: Status::Done,
+        len,
+    }
 }
 
 /// Writes a text and a NUL to a buffer, cut to its size, and returns the length of the whole text.

@@ -6,6 +6,7 @@ ghost use Rattle.ap_accept_c.specs.Holder.{IsHolder};
 ghost use Rattle.ap_accept_c.specs.Part.{part_numbered};
 ghost use Rattle.ap_accept_c.specs.Service.{IsOpened, IsOpenFault};
 
+use crate::buffers::Given;
 use crate::holder::Holder;
 use crate::numbers::Numbers;
 use crate::part::Part;
@@ -15,25 +16,43 @@ use ap_accept::Opening;
 use krb_fields::Moment;
 use std::alloc::Global;
 
-/// Opens a closed acceptor at the moment that these numbers name, if there is one.
-pub fn open_at(
-    holder: &mut Holder,
-    alloc: Global,
-    keytab: &[u8],
-    remembered: u32,
-    is_first: bool,
-    sec: i64,
-    usec: u32,
-) -> Status
+/// A time of C: two numbers, which name a moment or none.
+#[derive(Clone, Copy)]
+pub struct Time {
+    pub sec: i64,
+    pub usec: u32,
+}
+
+/// What C says of an acceptor that opens, besides its keys.
+#[derive(Clone, Copy)]
+pub struct Start {
+    /// How many authenticators of each client it remembers.
+    pub remembered: u32,
+    /// Whether the service never ran before.
+    pub is_first: bool,
+    pub time: Time,
+}
+
+/// What accepting an AP-REQ came to.
+#[derive(Clone, Copy)]
+pub struct Outcome {
+    pub status: Status,
+    /// The numbers of the AP-REQ, or [`Numbers::NONE`] if it isn't accepted.
+    pub numbers: Numbers,
+}
+
+/// Opens a closed acceptor at the moment that C names, if it names one.
+pub fn open_at(holder: &mut Holder, alloc: Global, keytab: &[u8], start: &Start) -> Status
     requires { IsHolder holder.old }
     ensures holder { IsHolder holder.new }
     ensures opened { IsOpenAt result holder.old.held.value holder.new.held.value
-        keytab.now remembered is_first sec usec }
+        keytab.now start.now.remembered start.now.is_first start.now.time.sec start.now.time.usec }
 {
-    let Some(at) = Moment::new(sec, usec) else {
+    let Some(at) = Moment::new(start.time.sec, start.time.usec) else {
         return Status::BadArgument;
     };
-    open(holder, alloc, keytab, remembered, opening_at(is_first, at))
+    let opening = opening_at(start.is_first, at);
+    open(holder, alloc, keytab, start.remembered, opening)
 }
 
 fn opening_at(is_first: bool, at: Moment) -> Opening
@@ -100,26 +119,26 @@ pub fn replace_keytab(holder: &mut Holder, alloc: Global, keytab: &[u8]) -> Stat
     status
 }
 
-/// Accepts the bytes of an AP-REQ at the moment that these numbers name, or returns the reason to refuse it.
+/// Accepts the bytes of an AP-REQ at the moment that C names, or returns the reason to refuse it.
 pub fn accept_at(
     holder: &mut Holder,
     alloc: Global,
-    sec: i64,
-    usec: u32,
+    time: Time,
     confounder: &[u8; 16],
     ap_req: &[u8],
-    numbers: &mut Numbers,
-) -> Status
+) -> Outcome
     requires { IsHolder holder.old }
     ensures holder { IsHolder holder.new }
-    ensures accepted { IsAcceptedAt result holder.old.held.value holder.new.held.value
-        sec usec confounder.now ap_req.now numbers.new }
+    ensures accepted { IsAcceptedAt result.status holder.old.held.value holder.new.held.value
+        time.sec time.usec confounder.now ap_req.now result.numbers }
 {
-    *numbers = Numbers::NONE;
-    let Some(at) = Moment::new(sec, usec) else {
-        return Status::BadArgument;
+    let Some(at) = Moment::new(time.sec, time.usec) else {
+        return Outcome {
+            status: Status::BadArgument,
+            numbers: Numbers::NONE,
+        };
     };
-    accept(holder, alloc, at, confounder, ap_req, numbers)
+    accept(holder, alloc, at, confounder, ap_req)
 }
 
 fn accept(
@@ -128,54 +147,47 @@ fn accept(
     at: Moment,
     confounder: &[u8; 16],
     ap_req: &[u8],
-    numbers: &mut Numbers,
-) -> Status
+) -> Outcome
     requires { IsHolder holder.old }
     ensures holder { IsHolder holder.new }
-    ensures accepted { IsAccepted result holder.old.held.value holder.new.held.value
-        at confounder.now ap_req.now numbers.new }
+    ensures accepted { IsAccepted result.status holder.old.held.value holder.new.held.value
+        at confounder.now ap_req.now result.numbers }
 {
-    *numbers = Numbers::NONE;
     let Some(mut service) = holder.take(alloc) else {
-        return Status::Closed;
+        return Outcome {
+            status: Status::Closed,
+            numbers: Numbers::NONE,
+        };
     };
     let status = service.accept(alloc, at, confounder, ap_req);
-    *numbers = Numbers::of(service.accepted.as_ref());
+    let numbers = Numbers::of(service.accepted.as_ref());
     holder.put(service);
-    status
+    Outcome { status, numbers }
 }
 
 /// Copies a part, given by its number, of the AP-REQ that was accepted last.
-pub fn fetch_numbered(
-    holder: &mut Holder,
-    alloc: Global,
-    part: u32,
-    to: &mut [u8],
-    len: &mut usize,
-) -> Status
+pub fn fetch_numbered(holder: &mut Holder, alloc: Global, part: u32, to: &mut [u8]) -> Given
     requires { IsHolder holder.old }
     ensures holder { IsHolder holder.new × (holder.new.held.value ≡ holder.old.held.value) }
-    ensures fetched { IsFetchPart result (part_numbered part) holder.old.held.value to.old to.new len.new }
+    ensures fetched { IsFetchPart result.status (part_numbered part) holder.old.held.value to.old to.new result.len }
 {
-    *len = 0;
     let Some(part) = Part::numbered(part) else {
-        return Status::BadArgument;
+        return Given::none(Status::BadArgument);
     };
-    fetch(holder, alloc, part, to, len)
+    fetch(holder, alloc, part, to)
 }
 
-fn fetch(holder: &mut Holder, alloc: Global, part: Part, to: &mut [u8], len: &mut usize) -> Status
+fn fetch(holder: &mut Holder, alloc: Global, part: Part, to: &mut [u8]) -> Given
     requires { IsHolder holder.old }
     ensures holder { IsHolder holder.new × (holder.new.held.value ≡ holder.old.held.value) }
-    ensures fetched { IsFetched result holder.old.held.value part to.old to.new len.new }
+    ensures fetched { IsFetched result.status holder.old.held.value part to.old to.new result.len }
 {
-    *len = 0;
     let Some(service) = holder.take(alloc) else {
-        return Status::Closed;
+        return Given::none(Status::Closed);
     };
-    let status = service.fetch(alloc, part, to, len);
+    let given = service.fetch(alloc, part, to);
     holder.put(service);
-    status
+    given
 }
 
 /// Closes an acceptor and frees its replay caches.

@@ -9,6 +9,7 @@ ghost use Rattle.ap_accept_c.specs.Holder.{IsHolder};
 
 use crate::buffers::give_text;
 use crate::calls;
+use crate::calls::{Start, Time};
 use crate::holder::Holder;
 use crate::numbers::Numbers;
 use crate::texts::text_of;
@@ -33,7 +34,12 @@ pub extern "C" fn ap_accept_c_open(
     ensures opened { IsOpenCall result holder.old.held.value holder.new.held.value
         keytab.now remembered is_first sec usec }
 {
-    calls::open_at(holder, alloc, keytab, remembered, is_first, sec, usec).number()
+    let start = Start {
+        remembered,
+        is_first,
+        time: Time { sec, usec },
+    };
+    calls::open_at(holder, alloc, keytab, &start).number()
 }
 
 /// Replaces the keys of an open acceptor with those in the bytes of a keytab.
@@ -66,7 +72,9 @@ pub extern "C" fn ap_accept_c_accept(
     ensures accepted { IsAcceptCall result holder.old.held.value holder.new.held.value
         sec usec confounder.now ap_req.now numbers.new }
 {
-    calls::accept_at(holder, alloc, sec, usec, confounder, ap_req, numbers).number()
+    let outcome = calls::accept_at(holder, alloc, Time { sec, usec }, confounder, ap_req);
+    *numbers = outcome.numbers;
+    outcome.status.number()
 }
 
 /// Copies a part of the AP-REQ that was accepted last, and sets `len` to its length.
@@ -82,7 +90,9 @@ pub extern "C" fn ap_accept_c_octets(
     ensures holder { IsHolder holder.new × (holder.new.held.value ≡ holder.old.held.value) }
     ensures fetched { IsFetchCall result holder.old.held.value part to.old to.new len.new }
 {
-    calls::fetch_numbered(holder, alloc, part, to, len).number()
+    let given = calls::fetch_numbered(holder, alloc, part, to);
+    *len = given.len;
+    given.status.number()
 }
 
 /// Closes an acceptor and frees its replay caches.

@@ -6,7 +6,7 @@ ghost use Rattle.ap_accept_c.specs.Calls.{IsFetchedFrom, IsFetchedOf};
 ghost use Rattle.ap_accept_c.specs.Part.{octets_of};
 ghost use Rattle.ap_accept_c.specs.Service.{IsKeytabFault, IsOpened, IsOpenFault, IsRekeyed, IsTaken};
 
-use crate::buffers::give;
+use crate::buffers::{Given, give};
 use crate::part::Part;
 use crate::status::Status;
 use ap_accept::{Accepted, Acceptor, AcceptorOptions, Opening};
@@ -82,13 +82,12 @@ impl Service {
     }
 
     /// Copies a part of the AP-REQ that was accepted last.
-    pub fn fetch(&self, alloc: Global, part: Part, to: &mut [u8], len: &mut usize) -> Status
-        requires { len.old ≡ 0 }
-        ensures { IsFetchedFrom result self.now.accepted part to.old to.new len.new }
+    pub fn fetch(&self, alloc: Global, part: Part, to: &mut [u8]) -> Given
+        ensures { IsFetchedFrom result.status self.now.accepted part to.old to.new result.len }
     {
         match &self.accepted {
-            Some(accepted) => fetch_from(accepted, alloc, part, to, len),
-            None => Status::Absent,
+            Some(accepted) => fetch_from(accepted, alloc, part, to),
+            None => Given::none(Status::Absent),
         }
     }
 }
@@ -103,19 +102,12 @@ fn keytab_in(alloc: Global, octets: &[u8]) -> Result<Keytab, Status>
     }
 }
 
-fn fetch_from(
-    accepted: &Accepted,
-    alloc: Global,
-    part: Part,
-    to: &mut [u8],
-    len: &mut usize,
-) -> Status
-    requires { len.old ≡ 0 }
-    ensures { IsFetchedOf result (octets_of part accepted.now) to.old to.new len.new }
+fn fetch_from(accepted: &Accepted, alloc: Global, part: Part, to: &mut [u8]) -> Given
+    ensures { IsFetchedOf result.status (octets_of part accepted.now) to.old to.new result.len }
 {
     match part.octets(alloc, accepted) {
-        Ok(Some(octets)) => give(octets.as_slice(), to, len),
-        Ok(None) => Status::Absent,
-        Err(_) => Status::NoMemory,
+        Ok(Some(octets)) => give(octets.as_slice(), to),
+        Ok(None) => Given::none(Status::Absent),
+        Err(_) => Given::none(Status::NoMemory),
     }
 }
