@@ -1,3 +1,4 @@
 pub mod Reading
 pub mod Credential
+pub mod Obtaining
 pub mod Joined

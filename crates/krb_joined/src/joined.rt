@@ -1,13 +1,10 @@
 //! A ticket's whole path.
 ghost use Rattle.std.specs.Prelude.{◌≡◌, ℕ, List, Some, IfErr, IfOk, IfSome};
 ghost use Rattle.client_core.specs.Presenting.{IsShortChecksum};
-ghost use Rattle.kdc_core.specs.Answer.{after_request, answer};
-ghost use Rattle.kdc_core.specs.Issued.{issued};
-ghost use Rattle.kdc_core.specs.Request.{request_of};
-ghost use Rattle.kdc_core.specs.View.{view};
 ghost use Rattle.kdc_replies.specs.Issue.{Issue, IsIssued};
 ghost use Rattle.krb_joined.specs.Joined.{IsEnded, IsJoined, IsKeptOn, IsPresented, IsRuled, IsServed, MayBeAccepted};
 ghost use Rattle.krb_joined.specs.Joined.{key_of, ruled, taken_of};
+ghost use Rattle.krb_joined.specs.Obtaining.{issue_for, reply_to, state_after};
 ghost use Rattle.krb_joined.specs.Reading.{IsReader, reads_reply};
 
 use crate::client::Client;
@@ -17,6 +14,13 @@ use crate::presenting::{Sealing, present};
 use ap_accept::{Accepted, Acceptor};
 use kdc_core::Kdc;
 use std::alloc::Global;
+
+/// When a KDC and a service answer, and their random bytes.
+#[derive(Clone, Copy)]
+pub struct Answering {
+    pub issuing: Issuing,
+    pub accepting: Sealing,
+}
 
 /// Sends a request to a KDC, reads the reply, presents the ticket to a service, and reads the AP-REP if one was asked
 /// for.
@@ -28,63 +32,46 @@ use std::alloc::Global;
 pub fn end_to_end(
     alloc: Global,
     kdc: &mut Kdc,
-    issuing: &Issuing,
+    acceptor: &mut Acceptor,
+    answering: &Answering,
     request: &[u8],
     client: &Client,
-    acceptor: &mut Acceptor,
-    accepting: &Sealing,
 ) -> Result<Accepted, JoinedFault>
     requires { IsShortChecksum client.now.wanted.checksum }
-    ensures value { IfSome
-        (issued (view kdc.old request.now) issuing.now.at issuing.now.random (request_of request.now))
-        (λ issue. IsReader client.now.reader issue
-        → MayBeAccepted issue acceptor.old accepting.now.at.sec client.now.presenting.at
+    ensures value { IfSome (issue_for kdc.old answering.now.issuing request.now) (λ issue.
+        IsReader client.now.reader issue
+        → MayBeAccepted issue acceptor.old answering.now.accepting.at.sec client.now.presenting.at
         → IsJoined issue client.now.wanted client.now.presenting.at result) }
     // The same holds if the KDC sends a kept reply again, for the ticket that it issued then.
     ensures repeated { (issue : Issue) (octets : List ℕ)
-        → (answer (view kdc.old request.now) issuing.now.at issuing.now.random issuing.now.room request.now).reply
-        ≡ Some octets
+        → reply_to kdc.old answering.now.issuing request.now ≡ Some octets
         → IsIssued issue octets → IsReader client.now.reader issue
-        → MayBeAccepted issue acceptor.old accepting.now.at.sec client.now.presenting.at
+        → MayBeAccepted issue acceptor.old answering.now.accepting.at.sec client.now.presenting.at
         → IsJoined issue client.now.wanted client.now.presenting.at result }
     // For every reply that the client accepts, either its ticket can't be presented, or the client also reads the
     // AP-REP before anything counts as accepted.
-    ensures presented { IfSome
-        (answer (view kdc.old request.now) issuing.now.at issuing.now.random issuing.now.room request.now).reply
-        (λ octets. IfOk (reads_reply client.now.reader client.now.asked octets) (λ credential.
+    ensures presented { IfSome (reply_to kdc.old answering.now.issuing request.now) (λ octets.
+        IfOk (reads_reply client.now.reader client.now.asked octets) (λ credential.
         IsPresented credential client.now.presenting.at result)) }
     // The path ends before the service is asked if the KDC sends no reply, if the client rejects the reply, or if the
     // credential can't be presented.
-    ensures ended { IfErr result (IsEnded
-        (answer (view kdc.old request.now) issuing.now.at issuing.now.random issuing.now.room request.now).reply
+    ensures ended { IfErr result (IsEnded (reply_to kdc.old answering.now.issuing request.now)
         client.now.asked client.now.reader) }
     // Whatever the KDC issued, the service's answer and new state are those that its rules prescribe for the AP-REQ
     // that the client makes from the reply.
     ensures ruled { IsRuled
-        (key_of (taken_of
-        (answer (view kdc.old request.now) issuing.now.at issuing.now.random issuing.now.room request.now).reply
-        client.now.asked client.now.reader))
+        (key_of (taken_of (reply_to kdc.old answering.now.issuing request.now) client.now.asked client.now.reader))
         client.now.presenting.at
-        (ruled acceptor.old client.now.wanted client.now.presenting accepting.now (taken_of
-        (answer (view kdc.old request.now) issuing.now.at issuing.now.random issuing.now.room request.now).reply
-        client.now.asked client.now.reader)) result }
+        (ruled acceptor.old client.now.wanted client.now.presenting answering.now.accepting
+        (taken_of (reply_to kdc.old answering.now.issuing request.now) client.now.asked client.now.reader)) result }
     ensures served { IsServed acceptor.old acceptor.new
-        (ruled acceptor.old client.now.wanted client.now.presenting accepting.now (taken_of
-        (answer (view kdc.old request.now) issuing.now.at issuing.now.random issuing.now.room request.now).reply
-        client.now.asked client.now.reader)) result }
+        (ruled acceptor.old client.now.wanted client.now.presenting answering.now.accepting
+        (taken_of (reply_to kdc.old answering.now.issuing request.now) client.now.asked client.now.reader)) result }
     // The KDC's state is the one after this request, or the old one if the KDC ran out of memory.
-    ensures kept { IsKeptOn kdc.old kdc.new
-        (after_request kdc.old issuing.now.at issuing.now.random issuing.now.room request.now) result }
+    ensures kept { IsKeptOn kdc.old kdc.new (state_after kdc.old answering.now.issuing request.now) result }
 {
-    match obtain(alloc, kdc, issuing, request, &client.asked, &client.reader) {
-        Ok(credential) => present(
-            alloc,
-            &credential,
-            &client.wanted,
-            &client.presenting,
-            acceptor,
-            accepting,
-        ),
+    match obtain(alloc, kdc, &answering.issuing, request, client) {
+        Ok(credential) => present(alloc, &credential, client, acceptor, &answering.accepting),
         Err(fault) => Err(fault),
     }
 }

@@ -11,7 +11,7 @@ mod reading;
 
 pub use client::Client;
 pub use fault::JoinedFault;
-pub use joined::end_to_end;
+pub use joined::{Answering, end_to_end};
 pub use obtaining::{Issuing, obtain};
 pub use presenting::Sealing;
 pub use reading::Reader;

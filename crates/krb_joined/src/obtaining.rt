@@ -1,18 +1,18 @@
 //! From a request to the credential in its reply.
 ghost use Rattle.std.specs.Prelude.{◌≡◌, ◌≤◌, ℕ, List, length, Some, IfOk, IfErr, IfSome, OnOk, OnErr, option_map};
 ghost use Rattle.kdc_core.specs.Answer.{after_request, answer, OneTicketTwoKeys};
-ghost use Rattle.kdc_core.specs.Issued.{issued};
 ghost use Rattle.kdc_core.specs.Request.{request_of};
 ghost use Rattle.kdc_core.specs.View.{view};
 ghost use Rattle.kdc_replies.specs.Issue.{Issue, IsIssued};
 ghost use Rattle.krb_joined.specs.Credential.{IsCredentialOf};
 ghost use Rattle.krb_der.specs.Spelling.{IsBytes};
 ghost use Rattle.krb_joined.specs.Joined.{IsBefore, IsEnded, IsKept, IsRead};
+ghost use Rattle.krb_joined.specs.Obtaining.{issue_for, reply_to, state_after};
 ghost use Rattle.krb_joined.specs.Reading.{IsReader};
 
+use crate::client::Client;
 use crate::fault::JoinedFault;
-use crate::reading::{Reader, read_reply};
-use client_core::Asked;
+use crate::reading::read_reply;
 use cred_files::Credential;
 use kdc_core::Kdc;
 use krb_fields::Moment;
@@ -32,36 +32,31 @@ pub fn obtain(
     kdc: &mut Kdc,
     issuing: &Issuing,
     request: &[u8],
-    asked: &Asked,
-    reader: &Reader,
+    client: &Client,
 ) -> Result<Credential, JoinedFault>
     // If the KDC issues a ticket and the client reads the reply with its key, it gets the credential of that ticket.
     ensures obtained { IfOk result (λ credential.
-        IfSome (issued (view kdc.old request.now) issuing.now.at issuing.now.random (request_of request.now)) (λ issue.
-        IsReader reader.now issue → IsCredentialOf issue credential)) }
+        IfSome (issue_for kdc.old issuing.now request.now) (λ issue.
+        IsReader client.now.reader issue → IsCredentialOf issue credential)) }
     // The same holds for a kept reply, with the ticket that was issued then.
     ensures repeated { (issue : Issue) (octets : List ℕ)
-        → (answer (view kdc.old request.now) issuing.now.at issuing.now.random issuing.now.room request.now).reply
-        ≡ Some octets
-        → IsIssued issue octets → IsReader reader.now issue → IfOk result (IsCredentialOf issue) }
-    ensures read { IfOk result (IsRead
-        (answer (view kdc.old request.now) issuing.now.at issuing.now.random issuing.now.room request.now).reply
-        asked.now reader.now) }
+        → reply_to kdc.old issuing.now request.now ≡ Some octets
+        → IsIssued issue octets → IsReader client.now.reader issue → IfOk result (IsCredentialOf issue) }
+    ensures read { IfOk result
+        (IsRead (reply_to kdc.old issuing.now request.now) client.now.asked client.now.reader) }
     // Otherwise it fails before a service is asked: there is no reply, or the client rejects it.
     ensures before { IfErr result IsBefore }
-    ensures ended { IfErr result (IsEnded
-        (answer (view kdc.old request.now) issuing.now.at issuing.now.random issuing.now.room request.now).reply
-        asked.now reader.now) }
+    ensures ended { IfErr result
+        (IsEnded (reply_to kdc.old issuing.now request.now) client.now.asked client.now.reader) }
     // The KDC's state is the one after this request, or the old one if the KDC ran out of memory.
-    ensures kept { IsKept kdc.old kdc.new
-        (after_request kdc.old issuing.now.at issuing.now.random issuing.now.room request.now) result }
+    ensures kept { IsKept kdc.old kdc.new (state_after kdc.old issuing.now request.now) result }
 {
     let reply = replied(alloc, kdc, issuing, request)?;
     let Some(octets) = reply else {
         return Err(JoinedFault::NoReply);
     };
     look(&issuing.random, &octets);
-    match read_reply(alloc, asked, reader, &octets) {
+    match read_reply(alloc, &client.asked, &client.reader, &octets) {
         Ok(credential) => Ok(credential),
         Err(fault) => Err(JoinedFault::NotTaken(fault)),
     }

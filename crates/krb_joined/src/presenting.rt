@@ -8,9 +8,10 @@ ghost use Rattle.client_core.specs.Sessions as definitions;
 ghost use Rattle.krb_joined.specs.Joined.{IsHeard, IsJoined, IsLater, IsPresented, IsRuled, IsServed, MayBeAccepted};
 ghost use Rattle.krb_joined.specs.Joined.{ruled};
 
+use crate::client::Client;
 use crate::fault::JoinedFault;
 use ap_accept::{Accepted, Acceptor};
-use client_core::{ServiceAsked, ap_request, is_presentable, read_ap_reply, session_key};
+use client_core::{ap_request, is_presentable, read_ap_reply, session_key};
 use cred_files::Credential;
 use enctypes::Key;
 use krb_fields::Moment;
@@ -27,26 +28,25 @@ pub struct Sealing {
 pub fn present(
     alloc: Global,
     credential: &Credential,
-    asked: &ServiceAsked,
-    presenting: &Sealing,
+    client: &Client,
     acceptor: &mut Acceptor,
     accepting: &Sealing,
 ) -> Result<Accepted, JoinedFault>
-    requires { IsShortChecksum asked.now.checksum }
+    requires { IsShortChecksum client.now.wanted.checksum }
     // A service accepts the credential of an issued ticket.
     ensures value { (issue : Issue) → IsCredentialOf issue credential.now
-        → MayBeAccepted issue acceptor.old accepting.now.at.sec presenting.now.at
-        → IsJoined issue asked.now presenting.now.at result }
-    ensures presented { IsPresented credential.now presenting.now.at result }
+        → MayBeAccepted issue acceptor.old accepting.now.at.sec client.now.presenting.at
+        → IsJoined issue client.now.wanted client.now.presenting.at result }
+    ensures presented { IsPresented credential.now client.now.presenting.at result }
     // For any credential, the service's answer and new state are those that its rules prescribe for the client's
     // AP-REQ.
-    ensures ruled { IsRuled (definitions.session_key credential.now) presenting.now.at
-        (ruled acceptor.old asked.now presenting.now accepting.now (Some credential.now)) result }
+    ensures ruled { IsRuled (definitions.session_key credential.now) client.now.presenting.at
+        (ruled acceptor.old client.now.wanted client.now.presenting accepting.now (Some credential.now)) result }
     ensures served { IsServed acceptor.old acceptor.new
-        (ruled acceptor.old asked.now presenting.now accepting.now (Some credential.now)) result }
+        (ruled acceptor.old client.now.wanted client.now.presenting accepting.now (Some credential.now)) result }
     ensures later { IfErr result IsLater }
 {
-    look(asked.subkey);
+    look(client.wanted.subkey);
     if !is_presentable(credential) {
         return Err(JoinedFault::NotPresentable);
     }
@@ -54,12 +54,12 @@ pub fn present(
     let octets = ap_request(
         alloc,
         credential,
-        presenting.at,
-        asked,
-        &presenting.confounder,
+        client.presenting.at,
+        &client.wanted,
+        &client.presenting.confounder,
     )?;
     match acceptor.accept(alloc, accepting.at, &accepting.confounder, &octets) {
-        Ok(accepted) => hear(alloc, &key, presenting.at, accepted),
+        Ok(accepted) => hear(alloc, &key, client.presenting.at, accepted),
         Err(fault) => Err(JoinedFault::NotAccepted(fault)),
     }
 }

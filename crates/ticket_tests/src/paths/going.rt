@@ -14,7 +14,7 @@ use cred_files::Credential;
 use enctypes::Key;
 use kdc_core::Kdc;
 use krb_fields::Moment;
-use krb_joined::{Client, Issuing, JoinedFault, Reader, Sealing, end_to_end, obtain};
+use krb_joined::{Answering, Client, Issuing, JoinedFault, Reader, Sealing, end_to_end, obtain};
 use std::alloc::{AllocError, Global};
 use std::test::Fail;
 
@@ -264,20 +264,15 @@ fn is_due(alloc: Global, accepted: &Accepted, step: Step<'_>) -> bool {
 fn arrive(alloc: Global, realm: &mut Realm, step: Step<'_>, asking: &Asking, request: &[u8]) -> End
     requires { IsShortChecksum asking.now.client.wanted.checksum }
 {
-    let accepting = Sealing {
-        at: moment(i64::from(step.leg.at.wrapping_add(step.way.accepted)), 7),
-        confounder: up(step.trip.choice.first),
+    let answering = Answering {
+        issuing: asking.issuing,
+        accepting: Sealing {
+            at: moment(i64::from(step.leg.at.wrapping_add(step.way.accepted)), 7),
+            confounder: up(step.trip.choice.first),
+        },
     };
     let (kdc, acceptor) = (&mut realm.kdc, &mut realm.acceptor);
-    match end_to_end(
-        alloc,
-        kdc,
-        &asking.issuing,
-        request,
-        &asking.client,
-        acceptor,
-        &accepting,
-    ) {
+    match end_to_end(alloc, kdc, acceptor, &answering, request, &asking.client) {
         Ok(accepted) => {
             if is_due(alloc, &accepted, step) {
                 End::Accepted
@@ -291,15 +286,8 @@ fn arrive(alloc: Global, realm: &mut Realm, step: Step<'_>, asking: &Asking, req
 
 /// Takes a leg before the last one with this request, and keeps its credential.
 fn take(alloc: Global, realm: &mut Realm, asking: &Asking, request: &[u8]) -> Result<End, Fail> {
-    let client = &asking.client;
-    match obtain(
-        alloc,
-        &mut realm.kdc,
-        &asking.issuing,
-        request,
-        &client.asked,
-        &client.reader,
-    ) {
+    let (kdc, issuing) = (&mut realm.kdc, &asking.issuing);
+    match obtain(alloc, kdc, issuing, request, &asking.client) {
         Ok(credential) => {
             realm.found.push(credential)?;
             Ok(End::Accepted)

@@ -17,18 +17,18 @@ returns-in-Ok-clause-obtained c =
     let random = c.args.issuing.now.random in
     let keys : OneTicketTwoKeys v at random request (Some octets) = rw c.in-Some.is at c.in_ok-reply.ensures.keys in
     let fits : IsBytes octets = subst IsBytes c.deref.ensures.value c.look.ensures.octets in
-    let reader = c.args.reader.now in
-    let taken : IsTakenBy c.args.reader.now c.args.asked.now octets c.in-Ok.credential = subst (λ (l : List ℕ). IsTakenBy c.args.reader.now c.args.asked.now l c.in-Ok.credential) c.deref-2.ensures.value c.in-Ok.ensures.taken in
-    obtained v at random octets request c.look.ensures.random fits keys c.args.reader.now c.args.asked.now c.in-Ok.credential taken
+    let reader = c.args.client.now.reader in
+    let taken : IsTakenBy c.args.client.now.reader c.args.client.now.asked octets c.in-Ok.credential = subst (λ (l : List ℕ). IsTakenBy c.args.client.now.reader c.args.client.now.asked l c.in-Ok.credential) c.deref-2.ensures.value c.in-Ok.ensures.taken in
+    obtained v at random octets request c.look.ensures.random fits keys c.args.client.now.reader c.args.client.now.asked c.in-Ok.credential taken
 
 pub returns-in-Ok-clause-read : goal.returns-in-Ok-clause-read
 returns-in-Ok-clause-read c =
     let octets = c.in-Some.octets.items in
     let reply = (answer (view c.args.kdc.now c.args.request.now) c.args.issuing.now.at c.args.issuing.now.random c.args.issuing.now.room c.args.request.now).reply in
     let same : Some octets ≡ reply = rw c.in-Some.is at c.in_ok-reply.ensures.reply in
-    let read : reads_reply c.args.reader.now c.args.asked.now octets ≡ Ok c.in-Ok.credential =
-    subst (λ (l : List ℕ). reads_reply c.args.reader.now c.args.asked.now l ≡ Ok c.in-Ok.credential) c.deref-2.ensures.value c.in-Ok.ensures.value in
-    taken_reply c.args.reader.now c.args.asked.now octets reply c.in-Ok.credential same read
+    let read : reads_reply c.args.client.now.reader c.args.client.now.asked octets ≡ Ok c.in-Ok.credential =
+    subst (λ (l : List ℕ). reads_reply c.args.client.now.reader c.args.client.now.asked l ≡ Ok c.in-Ok.credential) c.deref-2.ensures.value c.in-Ok.ensures.value in
+    taken_reply c.args.client.now.reader c.args.client.now.asked octets reply c.in-Ok.credential same read
 
 pub returns-in-Ok-clause-repeated : goal.returns-in-Ok-clause-repeated
 returns-in-Ok-clause-repeated c issue octets sent is reader =
