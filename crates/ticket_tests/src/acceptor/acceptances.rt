@@ -71,19 +71,6 @@ const CACHE_TRIALS: &[Trial] = &[
     },
 ];
 
-/// Returns why an AP-REQ is not accepted, or whether its contents are these, if there are any. The confounder of an
-/// AP-REP is the bytes 48 to 63.
-fn answer(
-    alloc: Global,
-    acceptor: &mut Acceptor,
-    at: Moment,
-    octets: &[u8],
-    made: Option<&Made>,
-) -> Result<bool, ApFault> {
-    let found = acceptor.accept(alloc, at, &up(48), octets);
-    compared(alloc, found, made)
-}
-
 /// Returns the fault, or whether the contents are these, if there are any.
 fn compared(
     alloc: Global,
@@ -99,23 +86,6 @@ fn compared(
     }
 }
 
-/// Returns the same, by a second call if memory ran out in the first one.
-fn answer_at_last(
-    alloc: Global,
-    acceptor: &mut Acceptor,
-    at: Moment,
-    octets: &[u8],
-    made: Option<&Made>,
-) -> Result<bool, ApFault> {
-    mark(alloc, BEGIN);
-    let found = acceptor.accept(alloc, at, &up(48), octets);
-    mark(alloc, END);
-    match found {
-        Err(ApFault::Memory) => answer(alloc, acceptor, at, octets, made),
-        found => compared(alloc, found, made),
-    }
-}
-
 /// Inverts the lowest bit of a byte.
 fn flip(octets: &mut [u8], place: usize) {
     if let Some(octet) = octets.get_mut(place) {
@@ -123,107 +93,133 @@ fn flip(octets: &mut [u8], place: usize) {
     }
 }
 
-/// Checks whether this rule refuses the AP-REQ with any one byte of the cipher changed.
-fn is_sealed(
+/// An acceptor, and the moment at which AP-REQs come to it.
+#[derive(Drop)]
+struct Service {
     alloc: Global,
-    acceptor: &mut Acceptor,
+    acceptor: Acceptor,
     at: Moment,
-    octets: &mut [u8],
-    (start, end): (usize, usize),
-    rule: ApRefusal,
-) -> bool {
-    for place in start..end {
-        flip(octets, place);
-        let found = answer(alloc, acceptor, at, octets, None);
-        flip(octets, place);
-        if found != Err(ApFault::Refused(rule)) {
-            return false;
-        }
-    }
-    start < end
 }
 
-/// Checks whether no proper prefix is an AP-REQ.
-fn is_whole(alloc: Global, acceptor: &mut Acceptor, at: Moment, octets: &[u8]) -> bool {
-    for end in 0..octets.len() {
-        let found = answer(alloc, acceptor, at, &octets[..end], None);
-        if found != Err(ApFault::NotAnApReq) {
-            return false;
+impl Service {
+    /// Returns why an AP-REQ is not accepted, or whether its contents are these, if there are any. The confounder of an
+    /// AP-REP is the bytes 48 to 63.
+    fn answer(&mut self, octets: &[u8], made: Option<&Made>) -> Result<bool, ApFault> {
+        let (alloc, at) = (self.alloc, self.at);
+        let found = self.acceptor.accept(alloc, at, &up(48), octets);
+        compared(alloc, found, made)
+    }
+
+    /// Returns the same, by a second call if memory ran out in the first one.
+    fn answer_at_last(&mut self, octets: &[u8], made: Option<&Made>) -> Result<bool, ApFault> {
+        let (alloc, at) = (self.alloc, self.at);
+        mark(alloc, BEGIN);
+        let found = self.acceptor.accept(alloc, at, &up(48), octets);
+        mark(alloc, END);
+        match found {
+            Err(ApFault::Memory) => self.answer(octets, made),
+            found => compared(alloc, found, made),
         }
     }
-    true
-}
 
-/// Checks whether an AP-REQ is accepted once. If `changed`, parts of it and changed ones come first.
-fn is_judged(
-    alloc: Global,
-    acceptor: &mut Acceptor,
-    at: Moment,
-    made: &Made,
-    changed: bool,
-) -> Result<bool, Fail> {
-    let (ticket, authenticator) = (made.ticket_cipher, made.authenticator_cipher);
-    let mut octets = octets(alloc, made.ap_req)?;
-    let is_safe = !changed
-        || is_sealed(
-            alloc,
-            acceptor,
-            at,
-            &mut octets,
-            ticket,
-            ApRefusal::TicketNotOpened,
-        ) && is_sealed(
-            alloc,
-            acceptor,
-            at,
-            &mut octets,
-            authenticator,
-            ApRefusal::AuthenticatorNotOpened,
-        ) && is_whole(alloc, acceptor, at, &octets);
-    let repeated = Err(ApFault::Refused(ApRefusal::Repeated));
-    Ok(
-        is_safe
-            && answer_at_last(alloc, acceptor, at, &octets, Some(made)) == Ok(true)
-            && answer_at_last(alloc, acceptor, at, &octets, None) == repeated,
-    )
-}
-
-/// Returns the code of a refusal, or 0.
-fn code(alloc: Global, acceptor: &mut Acceptor, at: Moment, digits: &str) -> Result<i32, Fail> {
-    let octets = octets(alloc, digits)?;
-    Ok(match answer_at_last(alloc, acceptor, at, &octets, None) {
-        Ok(_) => 0,
-        Err(ApFault::Refused(refusal)) => refusal.code().number(),
-        Err(_) => -1,
-    })
-}
-
-fn is_passed_by(
-    alloc: Global,
-    acceptor: &mut Acceptor,
-    at: Moment,
-    trial: &Trial,
-    changed: bool,
-) -> Result<bool, Fail> {
-    for made in trial.made {
-        if !is_judged(alloc, acceptor, at, made, changed)? {
-            return Ok(false);
+    /// Checks whether this rule refuses the AP-REQ with any one byte of the cipher changed.
+    fn is_sealed(
+        &mut self,
+        octets: &mut [u8],
+        (start, end): (usize, usize),
+        rule: ApRefusal,
+    ) -> bool {
+        for place in start..end {
+            flip(octets, place);
+            let found = self.answer(octets, None);
+            flip(octets, place);
+            if found != Err(ApFault::Refused(rule)) {
+                return false;
+            }
         }
-        mark(alloc, JUDGED);
+        start < end
     }
-    for (wanted, digits) in trial.codes {
-        if code(alloc, acceptor, at, digits)? != *wanted {
-            return Ok(false);
+
+    /// Checks whether no proper prefix is an AP-REQ.
+    fn is_whole(&mut self, octets: &[u8]) -> bool {
+        for end in 0..octets.len() {
+            let found = self.answer(&octets[..end], None);
+            if found != Err(ApFault::NotAnApReq) {
+                return false;
+            }
         }
-        mark(alloc, JUDGED);
+        true
     }
-    Ok(true)
+
+    /// Checks whether an AP-REQ is accepted once. If `changed`, parts of it and changed ones come first.
+    fn is_judged(&mut self, made: &Made, changed: bool) -> Result<bool, Fail> {
+        let (ticket, authenticator) = (made.ticket_cipher, made.authenticator_cipher);
+        let mut octets = octets(self.alloc, made.ap_req)?;
+        let is_safe = !changed
+            || self.is_sealed(&mut octets, ticket, ApRefusal::TicketNotOpened)
+                && self.is_sealed(
+                    &mut octets,
+                    authenticator,
+                    ApRefusal::AuthenticatorNotOpened,
+                )
+                && self.is_whole(&octets);
+        let repeated = Err(ApFault::Refused(ApRefusal::Repeated));
+        Ok(
+            is_safe
+                && self.answer_at_last(&octets, Some(made)) == Ok(true)
+                && self.answer_at_last(&octets, None) == repeated,
+        )
+    }
+
+    /// Returns the code of a refusal, or 0.
+    fn code(&mut self, digits: &str) -> Result<i32, Fail> {
+        let octets = octets(self.alloc, digits)?;
+        Ok(match self.answer_at_last(&octets, None) {
+            Ok(_) => 0,
+            Err(ApFault::Refused(refusal)) => refusal.code().number(),
+            Err(_) => -1,
+        })
+    }
+
+    /// Checks whether the acceptor answers as it has to.
+    fn passes(&mut self, trial: &Trial, changed: bool) -> Result<bool, Fail> {
+        for made in trial.made {
+            if !self.is_judged(made, changed)? {
+                return Ok(false);
+            }
+            mark(self.alloc, JUDGED);
+        }
+        for (wanted, digits) in trial.codes {
+            if self.code(digits)? != *wanted {
+                return Ok(false);
+            }
+            mark(self.alloc, JUDGED);
+        }
+        Ok(true)
+    }
+
+    /// Checks whether the codes stay right while the keys are replaced.
+    fn is_rotated(&mut self) -> Result<bool, Fail> {
+        for (digits, codes) in ROTATION {
+            self.acceptor.replace(keytab(self.alloc, digits)?);
+            for (wanted, ap_req) in *codes {
+                if self.code(ap_req)? != *wanted {
+                    return Ok(false);
+                }
+            }
+        }
+        Ok(true)
+    }
 }
 
 /// Checks whether a new acceptor answers as it has to. Only this function owns one.
 fn is_passed(alloc: Global, trial: &Trial, changed: bool) -> Result<bool, Fail> {
-    let mut acceptor = opened(alloc, trial.keytab, trial.remembered)?;
-    is_passed_by(alloc, &mut acceptor, moment(trial.after, 0), trial, changed)
+    let mut service = Service {
+        alloc,
+        acceptor: opened(alloc, trial.keytab, trial.remembered)?,
+        at: moment(trial.after, 0),
+    };
+    service.passes(trial, changed)
 }
 
 fn are_passed(alloc: Global, trials: &[Trial]) -> Result<(), Fail> {
@@ -244,22 +240,14 @@ const ROTATION: &[(&str, &[(i32, &str)])] = &[
     (OWN, &[(34, MUTUAL), (0, SECOND), (34, SECOND)]),
 ];
 
-fn is_rotated_by(alloc: Global, acceptor: &mut Acceptor) -> Result<bool, Fail> {
-    for (digits, codes) in ROTATION {
-        acceptor.replace(keytab(alloc, digits)?);
-        for (wanted, ap_req) in *codes {
-            if code(alloc, acceptor, moment(0, 0), ap_req)? != *wanted {
-                return Ok(false);
-            }
-        }
-    }
-    Ok(true)
-}
-
 #[test]
 fn a_rotation_of_keys_keeps_the_replay_caches(rt: HostRuntime) -> Result<(), Fail> {
-    let mut acceptor = opened(rt.alloc(), OTHER_TYPE, 64)?;
-    if !is_rotated_by(rt.alloc(), &mut acceptor)? {
+    let mut service = Service {
+        alloc: rt.alloc(),
+        acceptor: opened(rt.alloc(), OTHER_TYPE, 64)?,
+        at: moment(0, 0),
+    };
+    if !service.is_rotated()? {
         return Err(Fail::from("another code"));
     }
     Ok(())
