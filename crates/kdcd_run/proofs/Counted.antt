@@ -5,7 +5,8 @@ use Rattle.std.proofs.lemmas.List.{map-append}
 use Rattle.kdc_hub.specs.Wire.{Records}
 use Rattle.request_log.specs.Counts.{AreCountsOf, Asked}
 use Rattle.request_log.specs.declared.counts.Counts.{Counts}
-use Rattle.kdcd_run.specs.Log.{LogEntry, asked_by}
+use Rattle.request_log.specs.Entry.{LogEntry}
+use Rattle.kdcd_run.specs.Log.{asked_by}
 use Rattle.kdcd_run.specs.Served.{IsNew}
 
 module _ (counts : Counts) where

@@ -14,7 +14,8 @@ use Rattle.kdc_hub.specs.declared.wires.WireFault.{WireFault}
 use Rattle.kdc_hub.specs.Wire.{Records, acted, is_fault, polled}
 use Rattle.kdc_hub.proofs.Rounds.{records_nothing, records_on}
 use Rattle.kdcd_run.specs.Journal.{Handed, handed_by, moment_after}
-use Rattle.kdcd_run.specs.Log.{LogEntry, LogsAll, asker_of, entries_of, reported}
+use Rattle.request_log.specs.Entry.{LogEntry}
+use Rattle.kdcd_run.specs.Log.{LogsAll, asker_of, entries_of, reported}
 use Rattle.kdcd_run.specs.Served.{HasServed, IsNew, Serves, handed_in, handed_of, in_order, last_came, said, said_of, says, succeeded}
 use Rattle.kdcd_run.specs.Withheld.{EndsOnly}
 use Rattle.kdcd_run.specs.declared.logging.Arrival.{Arrival}

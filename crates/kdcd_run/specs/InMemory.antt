@@ -2,7 +2,7 @@
 use Rattle.std.specs.Prelude.{ℕ, List, [], map, Option, option_map}
 use Rattle.journal.specs.declared.decision.Found.TheVariants.{Nothing}
 use Rattle.kdcd_run.specs.Journal.{Handed}
-use Rattle.kdcd_run.specs.Log.{LogEntry}
+use Rattle.request_log.specs.Entry.{LogEntry}
 use Rattle.kdcd_run.specs.Starting.{BeganJournal, Drew, HasNoJournal, Held, HostDid, ReadJournals, ReadRows, ReadSeed, Showed}
 use Rattle.kdcd_run.specs.declared.host.Journals.{Journals}
 use Rattle.kdcd_run.specs.declared.memory_host.HostCall.{HostCall}

@@ -10,7 +10,7 @@ use Rattle.kdc_hub.specs.declared.event.Action.TheVariants.{SendTo, Pass, Write,
 use Rattle.kdc_hub.specs.declared.event.CloseReason.{CloseReason}
 use Rattle.kdc_hub.specs.declared.event.CloseReason.TheVariants.{NoRequest, BadLength, Full, OutOfMemory}
 use Rattle.request_log.specs.Counts.{Asked}
-use Rattle.request_log.specs.Entry.{entry_fields}
+use Rattle.request_log.specs.Entry.{LogEntry, entry_fields}
 use Rattle.request_log.specs.Field.{Field}
 use Rattle.request_log.specs.Lines.{json_line, text_line}
 use Rattle.request_log.specs.declared.asker.Asker.{Asker}
@@ -21,14 +21,6 @@ use Rattle.kdcd_run.specs.declared.request_lines.LogFormat.TheVariants.{Text, Js
 use Rattle.kdcd_run.specs.declared.request_lines.RequestLines.{RequestLines}
 
 -- ---- the entries for an action
-
--- an entry: when the request came, who sent it, what the KDC made of it, or that memory ran out, and whether the reply
--- was sent
-pub record LogEntry : Type 0 where
-  pub at : Moment
-  pub asker : Asker
-  pub account : Option Account
-  pub is_sent : Bool
 
 -- what is counted of an entry
 abbrev pub asked_by : LogEntry → Asked
@@ -84,7 +76,7 @@ written Text fields = text_line fields
 written Json fields = json_line fields
 
 abbrev pub entry_line : LogFormat → LogEntry → List ℕ
-entry_line format entry = written format (entry_fields entry.at entry.asker entry.account entry.is_sent)
+entry_line format entry = written format (entry_fields entry)
 
 -- ---- lines that are lost
 

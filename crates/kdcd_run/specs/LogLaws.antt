@@ -1,7 +1,8 @@
 -- The record of a log that may be absent grows by each entry, if that of the log does.
 use Rattle.std.proofs.Common.{List, [], ◌∷◌, Option, Some, None, sym, subst}
 use Rattle.kdc_hub.specs.Wire.{Records}
-use Rattle.kdcd_run.specs.Log.{LogEntry, LogsIf}
+use Rattle.request_log.specs.Entry.{LogEntry}
+use Rattle.kdcd_run.specs.Log.{LogsIf}
 use Rattle.kdcd_run.specs.Served.{record_of}
 
 pub log_if_records : {L : Type 0} (logged : L → Option (List LogEntry)) (Logs : L → LogEntry → L → Type 0)

@@ -7,7 +7,8 @@ use Rattle.kdc_hub.specs.declared.wires.WireCall.{WireCall}
 use Rattle.kdc_hub.specs.declared.wires.WireCall.TheVariants.{Polled, Waited, Missed, Acted, Failed}
 use Rattle.kdc_hub.specs.Wire.{Records, is_fault}
 use Rattle.kdcd_run.specs.Journal.{Handed, handed_by, moment_after}
-use Rattle.kdcd_run.specs.Log.{LogEntry, reported}
+use Rattle.request_log.specs.Entry.{LogEntry}
+use Rattle.kdcd_run.specs.Log.{reported}
 
 -- the record of a part that may be absent, if it is there and keeps one
 abbrev pub record_of : {P X : Type 0} → (P → Option (List X)) → Option P → Option (List X)

@@ -7,9 +7,7 @@ ghost use Rattle.kdcd_run.specs.Served.{IsNew};
 use crate::logging::LogWriter;
 use crate::memory_parts::MemoryLog;
 use crate::request_lines::RequestLines;
-use kdc_hub::Account;
-use krb_fields::Moment;
-use request_log::{Asker, Counts};
+use request_log::{Counts, Entry};
 use std::alloc::Global;
 use std::io::Write;
 
@@ -59,16 +57,10 @@ impl<L: LogWriter> LogWriter for CountedLog<L> {
 
     ghost records = { λ old entry new is. L.records old.log entry new.log is.0 };
 
-    fn write_entry(
-        &mut self,
-        alloc: Global,
-        at: Moment,
-        asker: Asker,
-        account: Option<&Account>,
-        is_sent: bool,
-    ) {
-        self.log.write_entry(alloc, at, asker, account, is_sent);
-        self.counts.count(asker.transport, account, is_sent);
+    fn write_entry(&mut self, alloc: Global, entry: &Entry<'_>) {
+        self.log.write_entry(alloc, entry);
+        let transport = entry.asker.transport;
+        self.counts.count(transport, entry.account, entry.is_sent);
     }
 }
 

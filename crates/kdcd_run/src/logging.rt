@@ -2,14 +2,15 @@
 ghost use Rattle.std.specs.Prelude.{◌≡◌, ◌∷◌, [], Bool, List, Option, option_copied};
 ghost use Rattle.kdc_hub.specs.Wire.{Records, polled};
 ghost use Rattle.kdcd_run.specs.Journal.{moment_after};
-ghost use Rattle.kdcd_run.specs.Log.{LogEntry, LogsAll, LogsIf, asker_of, closing_reports, entries_by};
+ghost use Rattle.kdcd_run.specs.Log.{LogsAll, LogsIf, asker_of, closing_reports, entries_by};
 ghost use Rattle.kdcd_run.specs.Log.{entries_of, reports};
 ghost use Rattle.kdcd_run.specs.LogLaws.{log_if_records};
 ghost use Rattle.kdcd_run.specs.Served.{record_of};
+ghost use Rattle.request_log.specs.Entry.{LogEntry};
 
 use kdc_hub::{Account, Action, CloseReason, Event, Peers, Reply, WireFault};
 use krb_fields::Moment;
-use request_log::{Asker, Transport};
+use request_log::{Asker, Entry, Transport};
 use std::alloc::Global;
 use std::net::SocketAddr;
 
@@ -21,21 +22,9 @@ pub trait LogWriter {
     // What the writer becomes by an entry.
     ghost Logs: { Self → LogEntry → Self → Type 0 };
 
-    /// Writes the entry for a request, and whether its reply was sent. There is no account if memory ran out.
-    fn write_entry(
-        &mut self,
-        alloc: Global,
-        at: Moment,
-        asker: Asker,
-        account: Option<&Account>,
-        is_sent: bool,
-    )
-        ensures { Logs self.old (record {
-          at = at;
-          asker = asker;
-          account = option_copied account.entry;
-          is_sent = is_sent;
-        }) self.new };
+    /// Writes the entry for a request.
+    fn write_entry(&mut self, alloc: Global, entry: &Entry<'_>)
+        ensures { Logs self.old entry.now self.new };
 
     // By an entry its record grows by that one.
     ghost records: { (log : Self) (entry : LogEntry) (new : Self) → Logs log entry new
@@ -83,16 +72,9 @@ impl<L: LogWriter> LogWriter for Option<L> {
 
     ghost Logs = { LogsIf L.Logs };
 
-    fn write_entry(
-        &mut self,
-        alloc: Global,
-        at: Moment,
-        asker: Asker,
-        account: Option<&Account>,
-        is_sent: bool,
-    ) {
+    fn write_entry(&mut self, alloc: Global, entry: &Entry<'_>) {
         match self {
-            Some(log) => log.write_entry(alloc, at, asker, account, is_sent),
+            Some(log) => log.write_entry(alloc, entry),
             None => {}
         }
     }
@@ -100,78 +82,71 @@ impl<L: LogWriter> LogWriter for Option<L> {
     ghost records = { log_if_records L.logged L.Logs L.records };
 }
 
+/// An action that was tried, the event before it, and whether it was done.
+#[derive(Clone, Copy)]
+pub(crate) struct Tried<'a> {
+    pub came: Arrival,
+    pub action: &'a Action,
+    pub is_sent: bool,
+}
+
 /// Writes the entry for the request that an action answers, if it answers one.
-pub(crate) fn log_action<L: LogWriter>(
-    alloc: Global,
-    log: &mut L,
-    came: Arrival,
-    action: &Action,
-    is_sent: bool,
-)
-    ensures { LogsAll L.Logs log.old (entries_of came action.now is_sent) log.new }
+pub(crate) fn log_action<L: LogWriter>(alloc: Global, log: &mut L, tried: &Tried<'_>)
+    ensures { LogsAll L.Logs log.old (entries_of tried.now.came tried.now.action.now tried.now.is_sent) log.new }
 {
-    let at = came.at;
-    let asker = asker_of(came.source, action);
-    match action {
-        Action::SendTo { reply, .. } => log_reply(alloc, log, at, asker, reply, is_sent),
-        Action::Pass { .. } => log.write_entry(
-            alloc,
-            at,
-            asker,
-            Some(&Account::NoRequest),
-            is_sent,
-        ),
-        Action::Write { reply, .. } => log_reply(alloc, log, at, asker, reply, is_sent),
-        Action::Close { reason, .. } => log_close(alloc, log, at, asker, *reason, is_sent),
+    match tried.action {
+        Action::SendTo { reply, .. } => log_reply(alloc, log, tried, reply),
+        Action::Pass { .. } => log_account(alloc, log, tried, Some(&Account::NoRequest)),
+        Action::Write { reply, .. } => log_reply(alloc, log, tried, reply),
+        Action::Close { reason, .. } => log_close(alloc, log, tried, *reason),
     }
 }
 
 /// Writes the entry for the request that a reply answers. Without an account it answers no request.
-fn log_reply<L: LogWriter>(
-    alloc: Global,
-    log: &mut L,
-    at: Moment,
-    asker: Asker,
-    reply: &Reply,
-    is_sent: bool,
-)
-    ensures { LogsAll L.Logs log.old (entries_by at asker is_sent (reports reply.now.account)) log.new }
+fn log_reply<L: LogWriter>(alloc: Global, log: &mut L, tried: &Tried<'_>, reply: &Reply)
+    ensures { LogsAll L.Logs log.old (entries_by tried.now.came.at (asker_of tried.now.came.source tried.now.action.now)
+        tried.now.is_sent (reports reply.now.account)) log.new }
 {
     match &reply.account {
-        Some(account) => log.write_entry(alloc, at, asker, Some(account), is_sent),
+        Some(account) => log_account(alloc, log, tried, Some(account)),
         None => {}
     }
 }
 
 /// Writes the entry for the request for which a connection is closed, if it is closed for one.
-fn log_close<L: LogWriter>(
-    alloc: Global,
-    log: &mut L,
-    at: Moment,
-    asker: Asker,
-    reason: CloseReason,
-    is_sent: bool,
-)
-    ensures { LogsAll L.Logs log.old (entries_by at asker is_sent (closing_reports reason)) log.new }
+fn log_close<L: LogWriter>(alloc: Global, log: &mut L, tried: &Tried<'_>, reason: CloseReason)
+    ensures { LogsAll L.Logs log.old (entries_by tried.now.came.at (asker_of tried.now.came.source tried.now.action.now)
+        tried.now.is_sent (closing_reports reason)) log.new }
 {
     match reason {
-        CloseReason::NoRequest => log.write_entry(
-            alloc,
-            at,
-            asker,
-            Some(&Account::NoRequest),
-            is_sent,
-        ),
-        CloseReason::BadLength => log.write_entry(
-            alloc,
-            at,
-            asker,
-            Some(&Account::NoRequest),
-            is_sent,
-        ),
+        CloseReason::NoRequest => log_account(alloc, log, tried, Some(&Account::NoRequest)),
+        CloseReason::BadLength => log_account(alloc, log, tried, Some(&Account::NoRequest)),
         CloseReason::Full => {}
-        CloseReason::OutOfMemory => log.write_entry(alloc, at, asker, None, is_sent),
+        CloseReason::OutOfMemory => log_account(alloc, log, tried, None),
     }
+}
+
+/// Writes the entry for the request that an action answers, with this account.
+fn log_account<L: LogWriter>(
+    alloc: Global,
+    log: &mut L,
+    tried: &Tried<'_>,
+    account: Option<&Account>,
+)
+    ensures { L.Logs log.old (record {
+      at = tried.now.came.at;
+      asker = asker_of tried.now.came.source tried.now.action.now;
+      account = option_copied account.entry;
+      is_sent = tried.now.is_sent;
+    }) log.new }
+{
+    let entry = Entry {
+        at: tried.came.at,
+        asker: asker_of(tried.came.source, tried.action),
+        account,
+        is_sent: tried.is_sent,
+    };
+    log.write_entry(alloc, &entry);
 }
 
 /// Returns who sent the request that an action answers, by the address that its connection came from.

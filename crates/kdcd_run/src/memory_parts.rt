@@ -6,7 +6,7 @@ ghost use Rattle.std.proofs.Common.{ap};
 ghost use Rattle.kdc_hub.specs.Wire.{Records, acted, polled};
 ghost use Rattle.kdcd_run.specs.InMemory.{entry_by, handed_by, seen_as};
 ghost use Rattle.kdcd_run.specs.Journal.{Handed};
-ghost use Rattle.kdcd_run.specs.Log.{LogEntry};
+ghost use Rattle.request_log.specs.Entry.{LogEntry};
 ghost use Rattle.kdcd_run.specs.Served.{IsNew};
 
 use crate::keeping::JournalWriter;
@@ -18,7 +18,7 @@ use journal::NotKept;
 use kdc_core::{Account, Seen};
 use kdc_hub::{Action, Event, MemoryWire, Peers, Wire, WireCall, WireFault};
 use krb_fields::Moment;
-use request_log::Asker;
+use request_log::{Asker, Entry};
 use std::alloc::{AllocError, Global};
 use std::collections::VecDeque;
 use std::net::SocketAddr;
@@ -320,40 +320,22 @@ impl LogWriter for MemoryLog {
 
     ghost records = { λ old entry new is. is };
 
-    fn write_entry(
-        &mut self,
-        alloc: Global,
-        at: Moment,
-        asker: Asker,
-        account: Option<&Account>,
-        is_sent: bool,
-    ) {
-        self.note(entry_copy(alloc, at, asker, account, is_sent));
+    fn write_entry(&mut self, alloc: Global, entry: &Entry<'_>) {
+        self.note(entry_copy(alloc, entry));
     }
 }
 
-fn entry_copy(
-    alloc: Global,
-    at: Moment,
-    asker: Asker,
-    account: Option<&Account>,
-    is_sent: bool,
-) -> Result<MemoryEntry, AllocError>
-    ensures { IfOk result (λ entry. entry_by entry ≡ record {
-      at = at;
-      asker = asker;
-      account = option_copied account.entry;
-      is_sent = is_sent;
-    }) }
+fn entry_copy(alloc: Global, entry: &Entry<'_>) -> Result<MemoryEntry, AllocError>
+    ensures { IfOk result (λ copy. entry_by copy ≡ entry.now) }
 {
-    let account = match account {
+    let account = match entry.account {
         Some(account) => Some(account.copy(alloc)?),
         None => None,
     };
     Ok(MemoryEntry {
-        at,
-        asker,
+        at: entry.at,
+        asker: entry.asker,
         account,
-        is_sent,
+        is_sent: entry.is_sent,
     })
 }

@@ -1,12 +1,10 @@
 //! The lines of a server's log.
-ghost use Rattle.std.specs.Prelude.{◌≡◌, None, IfOk, OnOk, option_copied};
+ghost use Rattle.std.specs.Prelude.{◌≡◌, None, IfOk, OnOk};
 ghost use Rattle.std.specs.Io.KnownBytes.{Appends};
 ghost use Rattle.kdcd_run.specs.Log.{LogsLine, TriesLine, TriesLost, entry_line};
 
 use crate::logging::LogWriter;
-use kdc_hub::Account;
-use krb_fields::Moment;
-use request_log::{Asker, json_line, text_line};
+use request_log::{Entry, json_line, text_line};
 use std::alloc::{AllocError, Global};
 use std::io;
 use std::io::Write;
@@ -60,22 +58,10 @@ impl<W: Write + Drop> RequestLines<W> {
 
 impl<W: Write> RequestLines<W> {
     /// Writes the line of an entry, and in front of it how many lines were lost, if any were.
-    fn try_entry(
-        &mut self,
-        alloc: Global,
-        at: Moment,
-        asker: Asker,
-        account: Option<&Account>,
-        is_sent: bool,
-    ) -> io::Result<()>
-        ensures { TriesLine W.contents self.old self.new (entry_line self.old.format (record {
-          at = at;
-          asker = asker;
-          account = option_copied account.entry;
-          is_sent = is_sent;
-        })) result }
+    fn try_entry(&mut self, alloc: Global, entry: &Entry<'_>) -> io::Result<()>
+        ensures { TriesLine W.contents self.old self.new (entry_line self.old.format entry.now) result }
     {
-        let line = line_of(alloc, self.format, at, asker, account, is_sent)?;
+        let line = line_of(alloc, self.format, entry)?;
         self.report_lost()?;
         self.write_line(&line)
     }
@@ -107,39 +93,20 @@ impl<W: Write> LogWriter for RequestLines<W> {
 
     ghost records = { λ _ _ _ _. tt };
 
-    fn write_entry(
-        &mut self,
-        alloc: Global,
-        at: Moment,
-        asker: Asker,
-        account: Option<&Account>,
-        is_sent: bool,
-    ) {
-        if self.try_entry(alloc, at, asker, account, is_sent).is_err() {
+    fn write_entry(&mut self, alloc: Global, entry: &Entry<'_>) {
+        if self.try_entry(alloc, entry).is_err() {
             self.lost = self.lost.saturating_add(1);
             self.unreported = self.unreported.saturating_add(1);
         }
     }
 }
 
-/// Returns the line for a request that `asker` sent at a moment, and whether its reply was sent.
-fn line_of(
-    alloc: Global,
-    format: LogFormat,
-    at: Moment,
-    asker: Asker,
-    account: Option<&Account>,
-    is_sent: bool,
-) -> Result<Vec<u8>, AllocError>
-    ensures { IfOk result (λ line. line.items ≡ entry_line format (record {
-      at = at;
-      asker = asker;
-      account = option_copied account.entry;
-      is_sent = is_sent;
-    })) }
+/// Returns the line of an entry.
+fn line_of(alloc: Global, format: LogFormat, entry: &Entry<'_>) -> Result<Vec<u8>, AllocError>
+    ensures { IfOk result (λ line. line.items ≡ entry_line format entry.now) }
 {
     match format {
-        LogFormat::Text => text_line(alloc, at, asker, account, is_sent),
-        LogFormat::Json => json_line(alloc, at, asker, account, is_sent),
+        LogFormat::Text => text_line(alloc, entry),
+        LogFormat::Json => json_line(alloc, entry),
     }
 }

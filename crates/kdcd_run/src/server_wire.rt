@@ -13,7 +13,7 @@ ghost use Rattle.kdcd_run.specs.Withheld.{EndsOnly, may_send, withheld_after};
 
 use crate::clock_watch::{ClockWatch, watch};
 use crate::keeping::{JournalWriter, keep_for};
-use crate::logging::{Arrival, LogWriter, arrival_after, log_action};
+use crate::logging::{Arrival, LogWriter, Tried, arrival_after, log_action};
 use crate::memory_watch::{MemoryWatch, watch_memory};
 use crate::quiet::is_quiet;
 use crate::sockets::Sockets;
@@ -195,7 +195,12 @@ impl<S: Sockets, J: JournalWriter, L: LogWriter, E: Write, T: Tally> Wire
         self.withheld.note(is_kept, is_quiet);
         self.tally.add_act(alloc, action, outcome);
         self.memory.note(action);
-        log_action(alloc, &mut self.log, self.came, action, outcome.is_ok());
+        let tried = Tried {
+            came: self.came,
+            action,
+            is_sent: outcome.is_ok(),
+        };
+        log_action(alloc, &mut self.log, &tried);
         outcome
     }
 

@@ -34,6 +34,14 @@ use Rattle.request_log.specs.declared.field.FieldName.TheVariants.{Time, Peer, T
 use Rattle.request_log.specs.declared.field.FieldName.TheVariants.{Outcome, Lifetime, Code, Reason, Rule, Etype as Etypes}
 use Rattle.request_log.specs.declared.field.FieldName.TheVariants.{Flags, Until, Renew, Repeat, Sent}
 
+-- an entry: when the request came, who sent it, what the KDC made of it, or that memory ran out, and whether the reply
+-- was sent
+pub record LogEntry : Type 0 where
+  pub at : Moment
+  pub asker : Asker
+  pub account : Option Account
+  pub is_sent : Bool
+
 -- ---- values
 
 -- an address and its port, or a dash where it is not known
@@ -148,5 +156,9 @@ abbrev pub sent_fields : Bool → List Field
 sent_fields true = []
 sent_fields false = field Sent (codes "no") ∷ []
 
-abbrev pub entry_fields : Moment → Asker → Option Account → Bool → List Field
-entry_fields at asker account is_sent = head_fields at.sec asker ++ (account_fields account ++ sent_fields is_sent)
+-- what stands behind the head
+abbrev pub outcome_fields : LogEntry → List Field
+outcome_fields entry = account_fields entry.account ++ sent_fields entry.is_sent
+
+abbrev pub entry_fields : LogEntry → List Field
+entry_fields entry = head_fields entry.at.sec entry.asker ++ outcome_fields entry

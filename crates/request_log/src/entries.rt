@@ -1,7 +1,7 @@
 //! The entries of the log.
 ghost use Rattle.std.specs.Prelude.{◌≡◌, ◌++◌, ◌∷◌, [], List, OnOk, option_copied};
 ghost use Rattle.request_log.specs.Entry.{account_fields, carrier, entry_fields, head_fields, names_fields};
-ghost use Rattle.request_log.specs.Entry.{sent_fields};
+ghost use Rattle.request_log.specs.Entry.{outcome_fields, sent_fields};
 ghost use Rattle.request_log.specs.Field.{Field, field, with_fields};
 ghost use Rattle.request_log.specs.declared.field.FieldName.TheVariants as names;
 
@@ -15,37 +15,60 @@ use crate::values::USUAL_VALUE;
 use kdc_core::Account;
 use krb_fields::{Moment, Name};
 use std::alloc::{AllocError, Global};
+use std::marker::Model;
 
-/// Writes the fields of the log entry for a request that `asker` sent and that came in at `at`, and whether its reply was
-/// sent. There is no account if memory ran out.
+/// What one line of the log says of a request.
+#[derive(Drop)]
+pub struct Entry<'a> {
+    /// When the request came in.
+    pub at: Moment,
+    /// Who sent it.
+    pub asker: Asker,
+    /// What the KDC made of it. There is no account if memory ran out.
+    pub account: Option<&'a Account>,
+    /// Whether its reply was sent.
+    pub is_sent: bool,
+}
+
+impl<'a> Model for Entry<'a> {
+    ghost use Rattle.std.specs.Prelude.{option_copied};
+    ghost use Rattle.request_log.specs.Entry as trees;
+
+    ghost Value = { trees.LogEntry };
+
+    ghost view = { λ entry. record {
+      at = entry.at;
+      asker = entry.asker;
+      account = option_copied entry.account;
+      is_sent = entry.is_sent;
+    } };
+}
+
+/// Writes the fields of a log entry.
 pub fn put_entry<W: FieldWriter>(
     line: &mut W,
     alloc: Global,
-    at: Moment,
-    asker: Asker,
-    account: Option<&Account>,
-    is_sent: bool,
+    entry: &Entry<'_>,
 ) -> Result<(), AllocError>
-    ensures { (fields : List Field) → W.Holds line.old fields → OnOk result
-        (W.Holds line.new (with_fields fields (entry_fields at asker (option_copied account.entry) is_sent))) }
+    ensures { (fields : List Field) → W.Holds line.old fields
+        → OnOk result (W.Holds line.new (with_fields fields (entry_fields entry.now))) }
 {
     let mut value = Vec::with_capacity(alloc, USUAL_VALUE)?;
-    put_head(line, alloc, &mut value, at, asker)?;
-    put_outcome(line, alloc, &mut value, account, is_sent)
+    put_head(line, alloc, &mut value, entry)?;
+    put_outcome(line, alloc, &mut value, entry)
 }
 
 fn put_outcome<W: FieldWriter>(
     line: &mut W,
     alloc: Global,
     value: &mut Vec<u8>,
-    account: Option<&Account>,
-    is_sent: bool,
+    entry: &Entry<'_>,
 ) -> Result<(), AllocError>
-    ensures { (fields : List Field) → W.Holds line.old fields → OnOk result
-        (W.Holds line.new (with_fields fields (account_fields (option_copied account.entry) ++ sent_fields is_sent))) }
+    ensures { (fields : List Field) → W.Holds line.old fields
+        → OnOk result (W.Holds line.new (with_fields fields (outcome_fields entry.now))) }
 {
-    put_account(line, alloc, value, account)?;
-    put_sent(line, alloc, is_sent)
+    put_account(line, alloc, value, entry.account)?;
+    put_sent(line, alloc, entry.is_sent)
 }
 
 fn put_sent<W: FieldWriter>(line: &mut W, alloc: Global, is_sent: bool) -> Result<(), AllocError>
@@ -62,15 +85,14 @@ fn put_head<W: FieldWriter>(
     line: &mut W,
     alloc: Global,
     value: &mut Vec<u8>,
-    at: Moment,
-    asker: Asker,
+    entry: &Entry<'_>,
 ) -> Result<(), AllocError>
     ensures { (fields : List Field) → W.Holds line.old fields
-        → OnOk result (W.Holds line.new (with_fields fields (head_fields at.sec asker))) }
+        → OnOk result (W.Holds line.new (with_fields fields (head_fields entry.now.at.sec entry.now.asker))) }
 {
-    put_date(line, alloc, FieldName::Time, at.time())?;
-    put_peer(line, alloc, value, asker.peer)?;
-    put_transport(line, alloc, asker.transport)
+    put_date(line, alloc, FieldName::Time, entry.at.time())?;
+    put_peer(line, alloc, value, entry.asker.peer)?;
+    put_transport(line, alloc, entry.asker.transport)
 }
 
 fn put_transport<W: FieldWriter>(

@@ -1,5 +1,5 @@
 //! A log line of JSON.
-ghost use Rattle.std.specs.Prelude.{◌≡◌, ◌++◌, ◌∷◌, [], List, IfOk, OnOk, option_copied};
+ghost use Rattle.std.specs.Prelude.{◌≡◌, ◌++◌, ◌∷◌, [], List, IfOk, OnOk};
 ghost use Rattle.json.specs.Print.{print};
 ghost use Rattle.json.specs.Token.{begin_object, end_object, key, string};
 ghost use Rattle.std.specs.Str.{IsUtf8};
@@ -7,13 +7,10 @@ ghost use Rattle.request_log.specs.Entry.{entry_fields};
 ghost use Rattle.request_log.specs.Field.{Field};
 ghost use Rattle.request_log.specs.Lines.{HoldsJson, IsLine, json_line, shown};
 
-use crate::asker::Asker;
-use crate::entries::put_entry;
+use crate::entries::{Entry, put_entry};
 use crate::field::{FieldName, FieldWriter};
 use crate::text_lines::shown;
 use json::Writer;
-use kdc_core::Account;
-use krb_fields::Moment;
 use std::alloc::{AllocError, Global};
 use std::str;
 
@@ -44,17 +41,8 @@ impl FieldWriter for JsonFields {
 
 /// Returns the line for a request: its fields as one JSON object (RFC 8259), with each value as a string under its name,
 /// and a line feed. Non-printable bytes become question marks.
-///
-/// `at` is when the request came in. There is no account if memory ran out.
-pub fn json_line(
-    alloc: Global,
-    at: Moment,
-    asker: Asker,
-    account: Option<&Account>,
-    is_sent: bool,
-) -> Result<Vec<u8>, AllocError>
-    ensures text { IfOk result (λ line.
-        line.items ≡ json_line (entry_fields at asker (option_copied account.entry) is_sent)) }
+pub fn json_line(alloc: Global, entry: &Entry<'_>) -> Result<Vec<u8>, AllocError>
+    ensures text { IfOk result (λ line. line.items ≡ json_line (entry_fields entry.now)) }
     // The result is a single line, whatever the names contain.
     ensures one { IfOk result (λ line. IsLine line.items) }
 {
@@ -62,7 +50,7 @@ pub fn json_line(
         out: Writer::new(Vec::new(alloc)),
     };
     fields.out.begin_object()?;
-    put_entry(&mut fields, alloc, at, asker, account, is_sent)?;
+    put_entry(&mut fields, alloc, entry)?;
     fields.out.end_object()?;
     let mut line = fields.out.into_inner();
     line.push(b'\n')?;

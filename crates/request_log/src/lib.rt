@@ -31,6 +31,7 @@ mod words;
 pub use crate::asker::{Asker, Transport};
 pub use crate::count_laws::places_of_kinds;
 pub use crate::counts::Counts;
+pub use crate::entries::Entry;
 pub use crate::json_lines::json_line;
 pub use crate::kind::Kind;
 pub use crate::laws::rule_names;

@@ -1,16 +1,13 @@
 //! A log line as text.
-ghost use Rattle.std.specs.Prelude.{◌≡◌, ◌≤◌, ◌+◌, ◌++◌, [], List, length, IfOk, OnOk, option_copied};
+ghost use Rattle.std.specs.Prelude.{◌≡◌, ◌≤◌, ◌+◌, ◌++◌, [], List, length, IfOk, OnOk};
 ghost use Rattle.std.specs.List.{list_all};
 ghost use Rattle.request_log.specs.Entry.{entry_fields};
 ghost use Rattle.request_log.specs.Field.{Field};
 ghost use Rattle.request_log.specs.Lines.{HoldsText, IsLine, is_printable, label, longest, shown, shown_octet, spaced};
 ghost use Rattle.request_log.specs.Lines.{text_line, with_shown};
 
-use crate::asker::Asker;
-use crate::entries::put_entry;
+use crate::entries::{Entry, put_entry};
 use crate::field::{FieldName, FieldWriter};
-use kdc_core::Account;
-use krb_fields::Moment;
 use std::alloc::{AllocError, Global};
 
 /// The maximum length of a line, without its line feed, in bytes.
@@ -43,17 +40,8 @@ impl FieldWriter for TextFields {
 
 /// Returns the line for a request: its fields in order, separated by spaces: first the values with a fixed place, then
 /// `NAME=VALUE`. Non-printable bytes become question marks. The line is cut after 639 bytes.
-///
-/// `at` is when the request came in. There is no account if memory ran out.
-pub fn text_line(
-    alloc: Global,
-    at: Moment,
-    asker: Asker,
-    account: Option<&Account>,
-    is_sent: bool,
-) -> Result<Vec<u8>, AllocError>
-    ensures text { IfOk result (λ line.
-        line.items ≡ text_line (entry_fields at asker (option_copied account.entry) is_sent)) }
+pub fn text_line(alloc: Global, entry: &Entry<'_>) -> Result<Vec<u8>, AllocError>
+    ensures text { IfOk result (λ line. line.items ≡ text_line (entry_fields entry.now)) }
     // The result is a single line, whatever the names contain.
     ensures one { IfOk result (λ line. IsLine line.items) }
     ensures short { IfOk result (λ line. length line.items ≤ longest + 1) }
@@ -61,7 +49,7 @@ pub fn text_line(
     let mut fields = TextFields {
         text: Vec::with_capacity(alloc, LONGEST + 1)?,
     };
-    put_entry(&mut fields, alloc, at, asker, account, is_sent)?;
+    put_entry(&mut fields, alloc, entry)?;
     let mut line = fields.text;
     line.truncate(LONGEST);
     line.push(b'\n')?;

@@ -5,7 +5,7 @@ use kdc_core::{Account, ApRefusal, AsOutcome, AsRefusal, Bears, Granted, TgsOutc
 use kdcd_run::{LogFormat, LogWriter, RequestLines};
 use krb_der::KTime;
 use krb_fields::{Flags, Moment, Name};
-use request_log::{Asker, Transport};
+use request_log::{Asker, Entry, Transport};
 use std::alloc::Global;
 use std::net::{Ipv6Addr, SocketAddr};
 use std::test::Fail;
@@ -387,7 +387,13 @@ type Log = RequestLines<Vec<u8>>;
 /// Writes the line of a request.
 fn write(alloc: Global, log: &mut Log, asker: Asker, account: Option<Account>) {
     if let Some(now) = Moment::new(MIDNIGHT, 999_999) {
-        log.write_entry(alloc, now, asker, account.as_ref(), true);
+        let entry = Entry {
+            at: now,
+            asker,
+            account: account.as_ref(),
+            is_sent: true,
+        };
+        log.write_entry(alloc, &entry);
     }
 }
 

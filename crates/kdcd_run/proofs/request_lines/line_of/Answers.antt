@@ -1,8 +1,8 @@
-use Rattle.std.proofs.Common.{◌≡◌, IfOk, option_copied, sym, subst}
+use Rattle.std.proofs.Common.{◌≡◌, IfOk, sym, subst}
 use Rattle.kdcd_run.specs.Log.{entry_line}
 use Rattle.kdcd_run.proofs.request_lines.line_of.Goals as goal
 
 pub returns-in-Text : goal.returns-in-Text
 returns-in-Text c =
-    subst (λ format. IfOk c.text_line.result (λ line. line.items ≡ entry_line format (record { at = c.args.at; asker = c.args.asker; account = option_copied c.args.account; is_sent = c.args.is_sent })))
+    subst (λ format. IfOk c.text_line.result (λ line. line.items ≡ entry_line format c.args.entry.now))
     (sym c.in-Text.is) c.text_line.ensures.text

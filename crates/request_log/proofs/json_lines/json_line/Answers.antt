@@ -1,4 +1,4 @@
-use Rattle.std.proofs.Common.{rules, ◌≡◌, ◌++◌, ◌∷◌, [], option_copied, ap, sym, subst, ◌∙◌}
+use Rattle.std.proofs.Common.{rules, ◌≡◌, ◌++◌, ◌∷◌, [], ap, sym, subst, ◌∙◌}
 use Rattle.json.specs.Print.{print}
 use Rattle.json.specs.Token.{begin_object, end_object}
 use Rattle.request_log.specs.Entry.{entry_fields}
@@ -9,7 +9,7 @@ use Rattle.request_log.proofs.json_lines.json_line.Goals as goal
 
 pub returns-clause-text : goal.returns-clause-text
 returns-clause-text c =
-    let fields = entry_fields c.args.at c.args.asker (option_copied c.args.account) c.args.is_sent in
+    let fields = entry_fields c.args.entry.now in
     let begun : c.begin_object.new.self.tokens ≡ begin_object ∷ [] = search rules in
     let none : c.begin_object.new.self.before ≡ [] = search rules in
     let made = c.in_ok-put_entry.ensures [] (record { tokens = begun; before = none }) in
@@ -21,5 +21,5 @@ returns-clause-text c =
 
 pub returns-clause-one : goal.returns-clause-one
 returns-clause-one c =
-    let fields = entry_fields c.args.at c.args.asker (option_copied c.args.account) c.args.is_sent in
+    let fields = entry_fields c.args.entry.now in
     subst IsLine (sym (returns-clause-text c)) (is_json_line fields)
