@@ -3,9 +3,10 @@ ghost use Rattle.std.specs.Prelude.{None};
 
 use kdc_sockets::{BindFault, SocketWire};
 use kdcd_run::{
-    FileFault, FileJournal, Host, JournalBeginning, JournalNews, Journals, MetricsFile,
-    OpenedJournals, RowsFile, ServeOptions, StartNews, Started, SystemJournal, begin_journal,
-    journal_beside, open_journals, open_plain, read_at_most, refuse_journal, say_rights,
+    FileFault, FileJournal, Host, JournalBeginning, JournalNews, JournalPlace, Journals, KeyFile,
+    MetricsFile, MetricsPaths, OpenedJournals, RowsFile, ServeOptions, StartNews, Started,
+    SystemJournal, begin_journal, journal_beside, open_journals, open_plain, read_at_most,
+    refuse_journal, say_rights,
 };
 use krb_fields::Moment;
 use principal_rows::Limits;
@@ -99,7 +100,12 @@ impl<'a> Host for SystemHost<'a> {
 
     fn read_seed(&mut self, alloc: Global, path: &str) -> Result<Vec<u8>, FileFault> {
         let file = open_plain(self.rt, path)?;
-        say_rights(self.rt, &mut self.errors, "seed", path, &file.metadata()?);
+        let seed = KeyFile {
+            what: "seed",
+            path,
+            metadata: &file.metadata()?,
+        };
+        say_rights(self.rt, &mut self.errors, seed);
         read_at_most(alloc, file, LONGEST_FILE)
     }
 
@@ -121,16 +127,24 @@ impl<'a> Host for SystemHost<'a> {
     }
 
     fn read_journals(&mut self, alloc: Global, path: &str) -> Result<Journals, FileFault> {
-        let errors = self.errors.share()?;
-        let OpenedJournals { journals, files } = open_journals(alloc, self.rt, path, errors)?;
+        let place = JournalPlace {
+            files: self.rt,
+            path,
+            lines: self.errors.share()?,
+        };
+        let OpenedJournals { journals, files } = open_journals(alloc, place)?;
         self.held = Some(files);
         Ok(journals)
     }
 
     fn refuse_journal(&mut self, alloc: Global) -> Result<(), FileFault> {
         let path = journal_beside(alloc, self.db)?;
-        let errors = self.errors.share()?;
-        refuse_journal(alloc, self.rt, path.as_str(), self.removes_journal, errors)
+        let place = JournalPlace {
+            files: self.rt,
+            path: path.as_str(),
+            lines: self.errors.share()?,
+        };
+        refuse_journal(alloc, place, self.removes_journal)
     }
 
     fn begin_journal(
@@ -187,8 +201,11 @@ fn metrics_of<'a>(
     let Some(path) = options.metrics else {
         return Ok(None);
     };
-    let lines = errors.share()?;
-    let file = MetricsFile::new(rt.alloc(), rt, path, options.journal, lines)?;
+    let paths = MetricsPaths {
+        numbers: path,
+        journal: options.journal,
+    };
+    let file = MetricsFile::new(rt.alloc(), rt, paths, errors.share()?)?;
     Ok(Some(file))
 }
 

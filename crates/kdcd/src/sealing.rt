@@ -1,6 +1,6 @@
 //! Sealing a journal: `kdcd seal`.
 use crate::PROGRAM;
-use kdcd_run::seal_at_path;
+use kdcd_run::{JournalPlace, seal_at_path};
 use program::{Status, now, report_end};
 use std::io;
 
@@ -9,7 +9,12 @@ pub fn seal(rt: &HostRuntime, path: Option<&str>) -> io::Result<Status> {
     let Some(path) = path else {
         return Ok(Status::Usage);
     };
-    match seal_at_path(rt.alloc(), rt, path, rt.stderr(), now(rt)?) {
+    let place = JournalPlace {
+        files: rt,
+        path,
+        lines: rt.stderr(),
+    };
+    match seal_at_path(rt.alloc(), place, now(rt)?) {
         Ok(()) => {
             println!(rt; "ok")?;
             Ok(Status::Done)

@@ -1,7 +1,7 @@
 //! The files of a journal: which process holds them, and what is found in them.
 use crate::files::{FileFault, read_at_most, read_whole};
 use crate::host::Journals;
-use crate::journal_store::SystemJournal;
+use crate::journal_store::{JournalPlace, SystemJournal};
 use crate::plain_files::{open_plain, open_plain_with, own_user};
 use journal::{FileText, FilesFault, Found, JournalFiles, Part, read_part};
 use krb_elements::Octets;
@@ -32,15 +32,13 @@ pub struct OpenedJournals<'a, F, W> {
     pub files: SystemJournal<'a, F, W>,
 }
 
-/// Opens the journal at a path, and reads it with the one that went before it. What becomes of its files is said in these
-/// lines.
+/// Opens the journal at a place, and reads it with the one that went before it.
 pub fn open_journals<'a, F: Files<File = File>, W: Write + Drop>(
     alloc: Global,
-    files: &'a F,
-    path: &str,
-    lines: W,
+    place: JournalPlace<'a, '_, F, W>,
 ) -> Result<OpenedJournals<'a, F, W>, FileFault> {
-    let mut held = SystemJournal::open(alloc, files, path, lines)?;
+    let files = place.files;
+    let mut held = SystemJournal::open(alloc, place)?;
     let boot = boot_id(alloc, files)?;
     let older = found(alloc, &mut held, Part::Older)?;
     let newer = found(alloc, &mut held, Part::Newer)?;

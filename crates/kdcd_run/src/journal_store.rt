@@ -13,6 +13,14 @@ use std::os::unix::fs::OpenOptionsExt;
 use std::rt::Files;
 use std::{fs, io};
 
+/// Where a journal is, and where it is said what becomes of its files.
+#[derive(Drop)]
+pub struct JournalPlace<'a, 'p, F, W> {
+    pub files: &'a F,
+    pub path: &'p str,
+    pub lines: W,
+}
+
 /// The files of a journal, which this process holds. It keeps no record of what they hold, and says what becomes of them.
 #[derive(Drop)]
 pub struct SystemJournal<'a, F, W> {
@@ -27,14 +35,13 @@ pub struct SystemJournal<'a, F, W> {
 }
 
 impl<'a, F: Files<File = File>, W: Write + Drop> SystemJournal<'a, F, W> {
-    /// Locks the journal at a path, and opens it. If something else than a journal has one of its names, it is refused, and
+    /// Locks the journal at its place, and opens it. If something else than a journal has one of its names, it is refused, and
     /// nothing is changed.
     pub fn open(
         alloc: Global,
-        files: &'a F,
-        path: &str,
-        lines: W,
+        place: JournalPlace<'a, '_, F, W>,
     ) -> Result<SystemJournal<'a, F, W>, FileFault> {
+        let JournalPlace { files, path, lines } = place;
         let paths = Paths::new(alloc, path)?;
         paths.check(alloc, files)?;
         let lock = open_locked(files, paths.lock.as_str())?;

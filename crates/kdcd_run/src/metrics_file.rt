@@ -14,6 +14,13 @@ const HEAD: &[u8; 17] = b"# HELP kdcd_info ";
 /// Everybody may read the numbers: what collects them runs as another user.
 const READABLE: u32 = 0o644;
 
+/// The paths of a file of numbers, and of the journal whose length is one of them, if there is one.
+#[derive(Clone, Copy)]
+pub struct MetricsPaths<'a> {
+    pub numbers: &'a str,
+    pub journal: Option<&'a str>,
+}
+
 /// A file of numbers. Each text is written to a file beside it, which is then renamed: so no reader sees half a text.
 #[derive(Drop)]
 pub struct MetricsFile<'a, F, W> {
@@ -30,19 +37,19 @@ pub struct MetricsFile<'a, F, W> {
 }
 
 impl<'a, F: Files<File = File>, W: Write + Drop> MetricsFile<'a, F, W> {
-    /// The file at a path, for a server with this journal. It is written only later.
+    /// The file at its path. It is written only later.
     pub fn new(
         alloc: Global,
         files: &'a F,
-        path: &'a str,
-        journal: Option<&'a str>,
+        paths: MetricsPaths<'a>,
         lines: W,
     ) -> Result<MetricsFile<'a, F, W>, AllocError> {
+        let path = paths.numbers;
         Ok(MetricsFile {
             files,
             path,
             beside: format!(in alloc; "{path}.new")?,
-            journal: journal_paths(alloc, journal)?,
+            journal: journal_paths(alloc, paths.journal)?,
             lines,
             is_said: false,
         })

@@ -46,22 +46,26 @@ pub(crate) fn own_user<F: Files>(files: &F) -> io::Result<u32> {
     Ok(fs::metadata(files, SELF)?.uid())
 }
 
+/// A file of keys.
+#[derive(Clone, Copy)]
+pub struct KeyFile<'a> {
+    /// What it is, in a word.
+    pub what: &'a str,
+    pub path: &'a str,
+    pub metadata: &'a Metadata,
+}
+
 /// Logs that others than the user of this process have rights on a file of keys, or own it.
-pub fn say_rights<F: Files, W: Write>(
-    files: &F,
-    lines: &mut W,
-    what: &str,
-    path: &str,
-    file: &Metadata,
-) {
-    let mode = file.mode() & RIGHTS;
+pub fn say_rights<F: Files, W: Write>(files: &F, lines: &mut W, file: KeyFile<'_>) {
+    let (what, path) = (file.what, file.path);
+    let mode = file.metadata.mode() & RIGHTS;
     if mode & RIGHTS_OF_OTHERS != 0 {
         let _ = writeln!(
             lines,
             "kdcd: {what} {path}: its mode {mode:o} gives its group or others rights; make it 600"
         );
     }
-    let owner = file.uid();
+    let owner = file.metadata.uid();
     match own_user(files) {
         Ok(user) if user != owner => {
             let _ = writeln!(

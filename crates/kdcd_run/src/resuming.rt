@@ -6,6 +6,7 @@ ghost use Rattle.kdcd_run.specs.Resuming.{AreAt, IsDecided, is_there, known_by, 
 ghost use Rattle.kdcd_run.specs.Resuming.{started_state};
 ghost use Rattle.journal.specs.declared.decision.Found.TheVariants.{Nothing};
 
+use crate::args::ServeOptions;
 use crate::host::{Host, Journals};
 use crate::starting::StartFault;
 use journal::{Found, Place, Start, start_of};
@@ -16,28 +17,26 @@ use principal_rows::Limits;
 use principals::Database;
 use std::alloc::{AllocError, Global};
 
-/// Reads the journals at a path; without a path there are none, and none is beside the database. A start that is to be
-/// the first is refused if there are some.
+/// Reads the journals at the options' path; without a path there are none, and none is beside the database. A start that is
+/// to be the first is refused if there are some.
 pub(crate) fn read_journals<'a, H: Host>(
     alloc: Global,
     host: &mut H,
-    db: &'a str,
-    path: Option<&'a str>,
-    is_first: bool,
+    options: &ServeOptions<'a>,
 ) -> Result<Journals, StartFault<'a, H::SocketFault>>
     ensures reading { IfOk result (λ journals.
-        Records (H.recorded host.old) (reading (option_copied path.entry) journals) (H.recorded host.new)) }
-    ensures found { IfOk result (λ journals. AreAt (option_copied path.entry) journals) }
-    ensures first { IfOk result (λ journals. may_be_first is_first journals ≡ true) }
+        Records (H.recorded host.old) (reading (option_copied options.now.journal) journals) (H.recorded host.new)) }
+    ensures found { IfOk result (λ journals. AreAt (option_copied options.now.journal) journals) }
+    ensures first { IfOk result (λ journals. may_be_first options.now.is_first journals ≡ true) }
 {
-    let Some(path) = path else {
-        return without_journal(alloc, host, db);
+    let Some(path) = options.journal else {
+        return without_journal(alloc, host, options.db);
     };
     let journals = match host.read_journals(alloc, path) {
         Ok(journals) => journals,
         Err(fault) => return Err(StartFault::File(path, fault)),
     };
-    if !may_be_first(is_first, &journals) {
+    if !may_be_first(options.is_first, &journals) {
         return Err(StartFault::NotFirst(path));
     }
     Ok(journals)

@@ -2,7 +2,7 @@
 ghost use Rattle.std.specs.Prelude.{None};
 
 use crate::files::{FileFault, database_of, place_of, read_whole};
-use crate::plain_files::{open_plain, say_rights};
+use crate::plain_files::{KeyFile, open_plain, say_rights};
 use kdc_hub::{Look, OtherRealm, RowSource, RowsState};
 use principals::Database;
 use program::now;
@@ -86,13 +86,12 @@ impl<'a, F: Files + Clock, W: Write + Drop> RowsFile<'a, F, W> {
         let read = database_of(alloc, &octets);
         match &read {
             Ok(_) => {
-                say_rights(
-                    self.files,
-                    &mut self.lines,
-                    "database",
-                    self.path,
-                    &standing,
-                )
+                let file = KeyFile {
+                    what: "database",
+                    path: self.path,
+                    metadata: &standing,
+                };
+                say_rights(self.files, &mut self.lines, file)
             }
             Err(fault) => self.place = place_of(alloc, &octets, fault),
         }

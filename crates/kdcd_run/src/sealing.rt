@@ -2,7 +2,7 @@
 use crate::files::FileFault;
 use crate::journal_files::{OpenedJournals, open_journals};
 use crate::journal_parts::Paths;
-use crate::journal_store::SystemJournal;
+use crate::journal_store::{JournalPlace, SystemJournal};
 use journal::{Doubt, Found, NotSealed, Place, seal_journal};
 use krb_fields::Moment;
 use std::alloc::Global;
@@ -49,18 +49,16 @@ fn doubt_word(doubt: Doubt) -> &'static str {
     }
 }
 
-/// Seals the journal at a path at this moment, if no server has it open and a start would resume with it.
+/// Seals the journal at a place at this moment, if no server has it open and a start would resume with it.
 pub fn seal_at_path<F: Files<File = File>, W: Write + Drop>(
     alloc: Global,
-    files: &F,
-    path: &str,
-    lines: W,
+    journal: JournalPlace<'_, '_, F, W>,
     at: Moment,
 ) -> Result<(), SealFault> {
     let OpenedJournals {
         journals,
         mut files,
-    } = match open_journals(alloc, files, path, lines) {
+    } = match open_journals(alloc, journal) {
         Ok(opened) => opened,
         Err(fault) => return Err(SealFault::File(fault)),
     };
@@ -85,21 +83,19 @@ fn realm_of(found: &Found) -> &[u8] {
     }
 }
 
-/// Makes sure that no journal is at a path: one that is there is removed, or refused.
+/// Makes sure that no journal is at a place: one that is there is removed, or refused.
 pub fn refuse_journal<F: Files<File = File>, W: Write + Drop>(
     alloc: Global,
-    files: &F,
-    path: &str,
+    place: JournalPlace<'_, '_, F, W>,
     removes: bool,
-    lines: W,
 ) -> Result<(), FileFault> {
-    if !Paths::new(alloc, path)?.are_there(files)? {
+    if !Paths::new(alloc, place.path)?.are_there(place.files)? {
         return Ok(());
     }
     if !removes {
         return Err(FileFault::Journal);
     }
-    let mut journal = SystemJournal::open(alloc, files, path, lines)?;
+    let mut journal = SystemJournal::open(alloc, place)?;
     journal.remove(alloc)?;
     Ok(())
 }

@@ -18,7 +18,7 @@ use crate::host::{Host, JournalBeginning, StartNews};
 use crate::keeping::JournalWriter;
 use crate::logging::LogWriter;
 use crate::metrics::Reporter;
-use crate::server_wire::{Outlets, ServerWire};
+use crate::server_wire::{Outlets, ServerWire, StartTimes};
 use crate::started::{JournalFound, quiet_until};
 use crate::starting::{ReadyServer, StartFault, ready};
 use crate::tally::Tally;
@@ -122,10 +122,14 @@ pub fn start<'a, H: Host, L: LogWriter + Drop, E: Drop, T: Tally + Drop>(
     let found = found_at(options.journal, &beginning.start);
     let journal = begin_journal(alloc, host, options.journal, beginning)?;
     let refused = refused_at_start(floor, at);
-    let quiet_until = quiet_until(refused, options.is_quiet);
+    let times = StartTimes {
+        at,
+        floor,
+        quiet_until: quiet_until(refused, options.is_quiet),
+    };
     Ok(Server {
         hub,
-        wire: ServerWire::new(sockets, journal, outlets, quiet_until, floor, at),
+        wire: ServerWire::new(sockets, journal, outlets, times),
         news: StartNews {
             row_count,
             journal: found,

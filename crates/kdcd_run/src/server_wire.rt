@@ -33,6 +33,14 @@ pub struct Outlets<L, E, T> {
     pub tally: T,
 }
 
+/// When a server started, with which floor, and the second before which it is quiet, if the start is.
+#[derive(Clone, Copy)]
+pub struct StartTimes {
+    pub at: Moment,
+    pub floor: i64,
+    pub quiet_until: Option<i64>,
+}
+
 /// The sockets of a server. Before it sends a reply, it has its journal keep what the reply makes the KDC remember. It
 /// withholds a reply if the journal can't, or if the start is quiet and the reply is one that a quiet start withholds: then
 /// the act fails, and ends the connection that it was for. After each act it writes to its log.
@@ -58,14 +66,12 @@ pub struct ServerWire<S: Wire, J: JournalWriter, L: LogWriter, E, T: Tally> {
 }
 
 impl<S: Wire, J: JournalWriter, L: LogWriter, E, T: Tally> ServerWire<S, J, L, E, T> {
-    /// The wire of a server that started at this moment, with this floor.
+    /// The wire of a server with these times.
     pub fn new(
         sockets: S,
         journal: J,
         outlets: Outlets<L, E, T>,
-        quiet_until: Option<i64>,
-        floor: i64,
-        at: Moment,
+        times: StartTimes,
     ) -> ServerWire<S, J, L, E, T>
         requires sockets { IsNew (S.recorded sockets) }
         requires journal { IsNew (J.handed journal) }
@@ -75,23 +81,26 @@ impl<S: Wire, J: JournalWriter, L: LogWriter, E, T: Tally> ServerWire<S, J, L, E
         ensures journal { result.journal ≡ journal }
         ensures log { result.log ≡ outlets.log }
         ensures tally { result.tally ≡ outlets.tally }
-        ensures quiet { result.quiet_until ≡ quiet_until }
-        ensures clock { result.clock ≡ record { floor = floor; latest = None; said = None } }
+        ensures quiet { result.quiet_until ≡ times.quiet_until }
+        ensures clock { result.clock ≡ record { floor = times.floor; latest = None; said = None } }
         ensures memory { result.memory ≡ record { awaits = false; count = 0; reported = 0; said = None } }
         ensures withheld { result.withheld ≡ record { by_journal = 0; by_quiet_start = 0 } }
-        ensures came { result.came ≡ record { at = at; source = None } }
+        ensures came { result.came ≡ record { at = times.at; source = None } }
     {
         ServerWire {
             sockets,
             tally: outlets.tally,
             journal,
             log: outlets.log,
-            quiet_until,
-            clock: ClockWatch::new(floor),
+            quiet_until: times.quiet_until,
+            clock: ClockWatch::new(times.floor),
             memory: MemoryWatch::new(),
             withheld: Withheld::new(),
             errors: outlets.errors,
-            came: Arrival { at, source: None },
+            came: Arrival {
+                at: times.at,
+                source: None,
+            },
         }
     }
 

@@ -106,7 +106,7 @@ pub fn ready<'a, H: Host>(
         Ok(sockets) => sockets,
         Err(fault) => return Err(StartFault::Sockets(fault)),
     };
-    let journals = read_journals(alloc, host, options.db, options.journal, options.is_first)?;
+    let journals = read_journals(alloc, host, options)?;
     let at = match host.now() {
         Ok(at) => at,
         Err(error) => return Err(StartFault::Clock(error)),
