@@ -6,22 +6,18 @@ use std::{fmt, io};
 
 /// Why sockets could not be opened.
 #[derive(Debug, Drop)]
-pub enum BindFault {
-    /// The UDP socket at this address.
-    Udp(SocketAddr, io::Error),
-    /// The TCP listener at this address.
-    Tcp(SocketAddr, io::Error),
-    /// The poll for all sockets, or out of memory.
-    Other(io::Error),
+pub struct BindFault {
+    /// The transport and the address of the socket. Without one it is the poll for all sockets, or out of memory.
+    pub socket: Option<(&'static str, SocketAddr)>,
+    pub error: io::Error,
 }
 
 impl fmt::Display for BindFault {
     fn fmt<W: fmt::Write>(&self, f: &mut fmt::Formatter<W>) -> fmt::Result {
-        match self {
-            BindFault::Udp(address, error) => write!(f, "udp {address}: {error}"),
-            BindFault::Tcp(address, error) => write!(f, "tcp {address}: {error}"),
-            BindFault::Other(error) => write!(f, "{error}"),
+        if let Some((transport, address)) = &self.socket {
+            write!(f, "{transport} {address}: ")?;
         }
+        write!(f, "{}", self.error)
     }
 }
 
@@ -29,13 +25,16 @@ impl Error for BindFault {}
 
 impl From<io::Error> for BindFault {
     fn from(error: io::Error) -> BindFault {
-        BindFault::Other(error)
+        BindFault {
+            socket: None,
+            error,
+        }
     }
 }
 
 impl From<AllocError> for BindFault {
     fn from(error: AllocError) -> BindFault {
-        BindFault::Other(io::Error::from(error))
+        BindFault::from(io::Error::from(error))
     }
 }
 

@@ -97,7 +97,10 @@ fn bind_datagram(
             registry.register(&mut socket, Token(token), Interest::READABLE)?;
             Ok(socket)
         }
-        Err(error) => Err(BindFault::Udp(address, error)),
+        Err(error) => Err(BindFault {
+            socket: Some(("udp", address)),
+            error,
+        }),
     }
 }
 
@@ -128,6 +131,9 @@ fn bind_newcomer(
             registry.register(&mut socket, Token(token), Interest::READABLE)?;
             Ok(socket)
         }
-        Err(error) => Err(BindFault::Tcp(address, error)),
+        Err(error) => Err(BindFault {
+            socket: Some(("tcp", address)),
+            error,
+        }),
     }
 }

@@ -10,7 +10,7 @@ use crate::sealing::seal;
 use crate::serving::serve_realm;
 use clap::error::ErrorKind;
 use kdc_script::run_script;
-use kdcd_run::{ArgsFault, path_beside, read_args, serve_options};
+use kdcd_run::{path_beside, read_args, serve_options};
 use program::{NOT_UTF8, Status, read_words, report_end, report_failure, report_usage};
 use std::io;
 use std::process::ExitCode;
@@ -49,13 +49,12 @@ fn run(rt: &HostRuntime) -> io::Result<Status> {
     };
     match matches.subcommand() {
         Some(("script", _)) => Ok(run_script(alloc, rt.stdin(), &mut rt.stdout())),
-        Some(("serve", args)) => match serve_options(alloc, args) {
+        Some(("serve", args)) => match serve_options(alloc, args)? {
             Ok(options) => match serve_realm(rt, &options) {
                 Ok(status) => status,
                 Err(fault) => report_end(rt, PROGRAM, &fault, fault.refusal()),
             },
-            Err(ArgsFault::BadUsage(fault)) => report_usage(rt, &fault),
-            Err(ArgsFault::Memory) => Err(io::Error::from(io::ErrorKind::OutOfMemory)),
+            Err(fault) => report_usage(rt, &fault),
         },
         Some(("seal", args)) => seal(rt, args.get_str("journal")),
         _ => Ok(Status::Usage),

@@ -1,6 +1,6 @@
 //! Sealing a journal: `kdcd seal`.
 use crate::PROGRAM;
-use kdcd_run::{JournalPlace, seal_at_path};
+use kdcd_run::{JournalPlace, doubt_word, seal_at_path};
 use program::{Status, now, report_end};
 use std::io;
 
@@ -15,9 +15,17 @@ pub fn seal(rt: &HostRuntime, path: Option<&str>) -> io::Result<Status> {
         lines: rt.stderr(),
     };
     match seal_at_path(rt.alloc(), place, now(rt)?) {
-        Ok(()) => {
+        Ok(Ok(())) => {
             println!(rt; "ok")?;
             Ok(Status::Done)
+        }
+        Ok(Err(doubt)) => {
+            report_end(
+                rt,
+                PROGRAM,
+                &format_args!("journal {path}: not sealed: {doubt}"),
+                Some(doubt_word(doubt)),
+            )
         }
         Err(fault) => {
             report_end(

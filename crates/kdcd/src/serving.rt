@@ -63,7 +63,7 @@ fn say_served(rt: &HostRuntime, errors: &mut Errors, ran: &SystemRan<'_>) -> io:
 fn errors_of<'a>(rt: &HostRuntime) -> Result<Errors, StartFault<'a>> {
     match ReadyWriter::new(rt.alloc(), rt, rt.stderr()) {
         Ok(errors) => Ok(SharedWriter::new(rt.alloc(), errors)?),
-        Err(error) => Err(StartFault::Errors(error)),
+        Err(error) => Err(StartFault::System("standard error", error)),
     }
 }
 

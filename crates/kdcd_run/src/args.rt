@@ -5,7 +5,7 @@ use clap::error::Error;
 use clap::{Arg, ArgMatches, Command};
 use principal_rows::Limits;
 use program::{FlagRow, OptionRow, SubcommandRow, Times, subcommand, with_subcommands};
-use std::alloc::{AllocError, AllocFailed, Global};
+use std::alloc::{AllocError, Global};
 use std::net::SocketAddr;
 use text_fields::{lifetime, number_u32};
 
@@ -39,26 +39,6 @@ pub struct ServeOptions<'a> {
     pub is_fixed: bool,
     /// The format of the log on standard error, if there is one.
     pub log: Option<LogFormat>,
-}
-
-/// Why the words after `serve` are refused.
-#[derive(Clone, Copy, Debug)]
-pub enum ArgsFault {
-    /// A usage error, in words.
-    BadUsage(&'static str),
-    Memory,
-}
-
-impl From<AllocError> for ArgsFault {
-    fn from(_: AllocError) -> ArgsFault {
-        ArgsFault::Memory
-    }
-}
-
-impl<T: Drop> From<AllocFailed<T>> for ArgsFault {
-    fn from(_: AllocFailed<T>) -> ArgsFault {
-        ArgsFault::Memory
-    }
 }
 
 /// The greatest number of addresses of one server.
@@ -295,27 +275,21 @@ pub fn journal_beside(alloc: Global, db: &str) -> Result<String, AllocError> {
     format!(in alloc; "{db}.journal")
 }
 
-/// Reads the options after `serve`.
+/// Reads the options after `serve`. The inner error is a usage error, in words.
 pub fn serve_options<'a>(
     alloc: Global,
     args: &ArgMatches<'a>,
-) -> Result<ServeOptions<'a>, ArgsFault> {
-    let udp = addresses(
-        alloc,
-        args,
-        "udp",
-        "--udp takes an address and a port, as 127.0.0.1:88",
-    )?;
-    let tcp = addresses(
-        alloc,
-        args,
-        "tcp",
-        "--tcp takes an address and a port, as 127.0.0.1:88",
-    )?;
+) -> Result<Result<ServeOptions<'a>, &'static str>, AllocError> {
+    let Some(udp) = addresses(alloc, args, "udp")? else {
+        return Ok(Err("--udp takes an address and a port, as 127.0.0.1:88"));
+    };
+    let Some(tcp) = addresses(alloc, args, "tcp")? else {
+        return Ok(Err("--tcp takes an address and a port, as 127.0.0.1:88"));
+    };
     if let Some(fault) = count_fault(udp.len(), tcp.len()) {
-        return Err(ArgsFault::BadUsage(fault));
+        return Ok(Err(fault));
     }
-    with_addresses(args, udp, tcp)
+    Ok(with_addresses(args, udp, tcp))
 }
 
 /// Reads the other options, and adds the addresses.
@@ -323,19 +297,17 @@ fn with_addresses<'a>(
     args: &ArgMatches<'a>,
     udp: Vec<SocketAddr>,
     tcp: Vec<SocketAddr>,
-) -> Result<ServeOptions<'a>, ArgsFault> {
-    let db = args
-        .get_str("db")
-        .ok_or(ArgsFault::BadUsage("--db is missing"))?;
+) -> Result<ServeOptions<'a>, &'static str> {
+    let db = args.get_str("db").ok_or("--db is missing")?;
     let rounds = rounds(args)?;
     let limits = limits(args)?;
     if lacks_lock_time(args, &limits) {
-        return Err(ArgsFault::BadUsage(
+        return Err(
             "--lock-after needs --lock-seconds, for how long a client is locked, such as --lock-seconds 300",
-        ));
+        );
     }
     if args.get_flag("no-journal") && args.get_str("journal").is_some() {
-        return Err(ArgsFault::BadUsage("--journal and --no-journal exclude each other"));
+        return Err("--journal and --no-journal exclude each other");
     }
     let log = log_format(args)?;
     Ok(ServeOptions {
@@ -362,15 +334,15 @@ const JOURNAL_SIZE: u64 = 67_108_864;
 /// The greatest number of bytes that an option can say: a start reads two such files.
 const GREATEST_JOURNAL: u64 = 536_870_912;
 
-fn journal_size(args: &ArgMatches<'_>) -> Result<u64, ArgsFault> {
+fn journal_size(args: &ArgMatches<'_>) -> Result<u64, &'static str> {
     let Some(word) = args.get_str("journal-size") else {
         return Ok(JOURNAL_SIZE);
     };
     match size(word) {
         Some(size) if size <= GREATEST_JOURNAL => Ok(size),
-        Some(_) | None => Err(ArgsFault::BadUsage(
+        Some(_) | None => Err(
             "--journal-size takes a number of bytes up to 512M, such as 64M: K, M and G are allowed",
-        )),
+        ),
     }
 }
 
@@ -388,34 +360,33 @@ fn size(word: &str) -> Option<u64> {
 const UNITS: [(&str, u64); 3] = [("K", 1 << 10), ("M", 1 << 20), ("G", 1 << 30)];
 
 /// Reads the format of the log, if there is to be one.
-fn log_format(args: &ArgMatches<'_>) -> Result<Option<LogFormat>, ArgsFault> {
+fn log_format(args: &ArgMatches<'_>) -> Result<Option<LogFormat>, &'static str> {
     match args.get_str("log-format") {
         Some("text") => Ok(Some(LogFormat::Text)),
         Some("json") => Ok(Some(LogFormat::Json)),
-        Some(_) => Err(ArgsFault::BadUsage("--log-format takes text or json")),
+        Some(_) => Err("--log-format takes text or json"),
         None if args.get_flag("log") => Ok(Some(LogFormat::Text)),
         None => Ok(None),
     }
 }
 
-/// Reads the addresses of an option that may be given more than once.
+/// Reads the addresses of an option that may be given more than once, unless a word is none.
 fn addresses(
     alloc: Global,
     args: &ArgMatches<'_>,
     name: &str,
-    fault: &'static str,
-) -> Result<Vec<SocketAddr>, ArgsFault> {
+) -> Result<Option<Vec<SocketAddr>>, AllocError> {
     let mut addresses = Vec::new(alloc);
     let Some(texts) = args.get_strs(name) else {
-        return Ok(addresses);
+        return Ok(Some(addresses));
     };
     for text in texts {
         match text.parse() {
             Ok(address) => addresses.push(address)?,
-            Err(_) => return Err(ArgsFault::BadUsage(fault)),
+            Err(_) => return Ok(None),
         }
     }
-    Ok(addresses)
+    Ok(Some(addresses))
 }
 
 /// Returns what is wrong with these numbers of addresses, if anything is.
@@ -429,13 +400,13 @@ fn count_fault(udp: usize, tcp: usize) -> Option<&'static str> {
     None
 }
 
-fn rounds(args: &ArgMatches<'_>) -> Result<Option<u32>, ArgsFault> {
+fn rounds(args: &ArgMatches<'_>) -> Result<Option<u32>, &'static str> {
     let Some(word) = args.get_str("rounds") else {
         return Ok(None);
     };
     match number_u32(word) {
         Some(rounds) => Ok(Some(rounds)),
-        None => Err(ArgsFault::BadUsage("--rounds takes a number from 0 to 4294967295")),
+        None => Err("--rounds takes a number from 0 to 4294967295"),
     }
 }
 
@@ -443,7 +414,7 @@ const REMEMBERED_FAULT: &str = "--remembered takes a number from 1 to 65536";
 
 const KEPT_FAULT: &str = "--kept takes a number from 0 to 65535";
 
-fn limits(args: &ArgMatches<'_>) -> Result<Limits, ArgsFault> {
+fn limits(args: &ArgMatches<'_>) -> Result<Limits, &'static str> {
     let limits = Limits::new(
         limit(args, "remembered", 4_096, REMEMBERED_FAULT)?,
         limit(
@@ -471,11 +442,9 @@ fn limits(args: &ArgMatches<'_>) -> Result<Limits, ArgsFault> {
             "--greatest-renewable takes seconds (604800), or a number followed by s, m, h or d (7d)",
         )?,
     );
-    let limits = limits.ok_or(ArgsFault::BadUsage(REMEMBERED_FAULT))?;
+    let limits = limits.ok_or(REMEMBERED_FAULT)?;
     let kept = limit(args, "kept", 4_096, KEPT_FAULT)?;
-    limits
-        .with_kept(kept)
-        .ok_or(ArgsFault::BadUsage(KEPT_FAULT))
+    limits.with_kept(kept).ok_or(KEPT_FAULT)
 }
 
 /// Checks whether clients are to be locked, and no option says for how long. They would never be.
@@ -489,9 +458,9 @@ fn limit(
     name: &str,
     otherwise: u32,
     fault: &'static str,
-) -> Result<u32, ArgsFault> {
+) -> Result<u32, &'static str> {
     match args.get_str(name) {
-        Some(word) => number_u32(word).ok_or(ArgsFault::BadUsage(fault)),
+        Some(word) => number_u32(word).ok_or(fault),
         None => Ok(otherwise),
     }
 }
@@ -502,9 +471,9 @@ fn duration(
     name: &str,
     otherwise: u32,
     fault: &'static str,
-) -> Result<u32, ArgsFault> {
+) -> Result<u32, &'static str> {
     match args.get_str(name) {
-        Some(word) => lifetime(word).ok_or(ArgsFault::BadUsage(fault)),
+        Some(word) => lifetime(word).ok_or(fault),
         None => Ok(otherwise),
     }
 }

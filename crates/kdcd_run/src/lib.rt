@@ -37,9 +37,7 @@ mod starting;
 mod tally;
 mod withheld;
 
-pub use crate::args::{
-    ArgsFault, ServeOptions, journal_beside, path_beside, read_args, serve_options,
-};
+pub use crate::args::{ServeOptions, journal_beside, path_beside, read_args, serve_options};
 pub use crate::clock_watch::{ClockWatch, Refused};
 pub use crate::counted_log::{CountedLog, LogNumbers};
 pub use crate::files::{FileFault, database_of, read_at_most, read_whole, seed_in};
@@ -63,7 +61,7 @@ pub use crate::numbers::{Numbers, push_numbers};
 pub use crate::plain_files::{KeyFile, open_plain, say_rights};
 pub use crate::request_lines::{LogFormat, RequestLines};
 pub use crate::rows_file::RowsFile;
-pub use crate::sealing::{SealFault, refuse_journal, seal_at_path};
+pub use crate::sealing::{doubt_word, refuse_journal, seal_at_path};
 pub use crate::server::{Ran, Server, run_server};
 pub use crate::server_wire::{Outlets, ServerWire, StartTimes};
 pub use crate::sockets::Sockets;

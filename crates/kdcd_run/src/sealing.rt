@@ -6,40 +6,12 @@ use crate::journal_store::{JournalPlace, SystemJournal};
 use journal::{Doubt, Found, NotSealed, Place, seal_journal};
 use krb_fields::Moment;
 use std::alloc::Global;
-use std::fmt;
 use std::fs::File;
 use std::io::Write;
 use std::rt::Files;
 
-/// Why a journal was not sealed.
-#[derive(Debug, Drop)]
-pub enum SealFault {
-    /// A start would not resume with it.
-    Doubted(Doubt),
-    /// A file of it is refused, or failed.
-    File(FileFault),
-}
-
-impl SealFault {
-    /// Returns the word for the refusal, unless a file failed.
-    pub fn refusal(&self) -> Option<&'static str> {
-        match self {
-            SealFault::Doubted(doubt) => Some(doubt_word(*doubt)),
-            SealFault::File(fault) => fault.refusal(),
-        }
-    }
-}
-
-impl fmt::Display for SealFault {
-    fn fmt<W: fmt::Write>(&self, f: &mut fmt::Formatter<W>) -> fmt::Result {
-        match self {
-            SealFault::Doubted(doubt) => write!(f, "not sealed: {doubt}"),
-            SealFault::File(fault) => write!(f, "{fault}"),
-        }
-    }
-}
-
-fn doubt_word(doubt: Doubt) -> &'static str {
+/// Returns the word for why a start would not resume with a journal.
+pub fn doubt_word(doubt: Doubt) -> &'static str {
     match doubt {
         Doubt::Absent => "Absent",
         Doubt::Damaged => "Damaged",
@@ -49,19 +21,17 @@ fn doubt_word(doubt: Doubt) -> &'static str {
     }
 }
 
-/// Seals the journal at a place at this moment, if no server has it open and a start would resume with it.
+/// Seals the journal at a place at this moment, if no server has it open and a start would resume with it. If one would
+/// not, the inner error says why.
 pub fn seal_at_path<F: Files<File = File>, W: Write + Drop>(
     alloc: Global,
     journal: JournalPlace<'_, '_, F, W>,
     at: Moment,
-) -> Result<(), SealFault> {
+) -> Result<Result<(), Doubt>, FileFault> {
     let OpenedJournals {
         journals,
         mut files,
-    } = match open_journals(alloc, journal) {
-        Ok(opened) => opened,
-        Err(fault) => return Err(SealFault::File(fault)),
-    };
+    } = open_journals(alloc, journal)?;
     let place = Place {
         realm: realm_of(&journals.newer),
         boot: journals.boot.as_slice(),
@@ -69,9 +39,9 @@ pub fn seal_at_path<F: Files<File = File>, W: Write + Drop>(
         at,
     };
     match seal_journal(&mut files, &place, &journals.older, &journals.newer) {
-        Ok(()) => Ok(()),
-        Err(NotSealed::Doubted(doubt)) => Err(SealFault::Doubted(doubt)),
-        Err(NotSealed::Failed(error)) => Err(SealFault::File(FileFault::from(error))),
+        Ok(()) => Ok(Ok(())),
+        Err(NotSealed::Doubted(doubt)) => Ok(Err(doubt)),
+        Err(NotSealed::Failed(error)) => Err(FileFault::Failed(error)),
     }
 }
 

@@ -27,11 +27,8 @@ use std::{fmt, io};
 pub enum StartFault<'a, S> {
     /// The file at this path.
     File(&'a str, FileFault),
-    /// The system's source of random octets.
-    Random(io::Error),
-    /// Standard error.
-    Errors(io::Error),
-    Clock(io::Error),
+    /// A part of the system, by its name.
+    System(&'static str, io::Error),
     Sockets(S),
     /// The start is to be the first, and there is a journal at this path.
     NotFirst(&'a str),
@@ -42,9 +39,7 @@ impl<S: fmt::Display> fmt::Display for StartFault<'_, S> {
     fn fmt<W: fmt::Write>(&self, f: &mut fmt::Formatter<W>) -> fmt::Result {
         match self {
             StartFault::File(path, fault) => write!(f, "{path}: {fault}"),
-            StartFault::Random(error) => write!(f, "random octets: {error}"),
-            StartFault::Errors(error) => write!(f, "standard error: {error}"),
-            StartFault::Clock(error) => write!(f, "the clock: {error}"),
+            StartFault::System(part, error) => write!(f, "{part}: {error}"),
             StartFault::Sockets(fault) => write!(f, "{fault}"),
             StartFault::NotFirst(path) => {
                 write!(
@@ -109,7 +104,7 @@ pub fn ready<'a, H: Host>(
     let journals = read_journals(alloc, host, options)?;
     let at = match host.now() {
         Ok(at) => at,
-        Err(error) => return Err(StartFault::Clock(error)),
+        Err(error) => return Err(StartFault::System("the clock", error)),
     };
     let start = decide(alloc, &rows, &journals, at)?;
     let realm = Octets::from_slice(alloc, rows.realm())?;
@@ -149,7 +144,7 @@ fn take_seed<'a, H: Host>(
     let Some(path) = path else {
         return match host.draw() {
             Ok(seed) => Ok(seed),
-            Err(error) => Err(StartFault::Random(error)),
+            Err(error) => Err(StartFault::System("random octets", error)),
         };
     };
     match read_seed(alloc, host, path) {

@@ -10,7 +10,7 @@ invariant_of-self g c =
     let old = c.args.self.now in
     let entry = c.args.entry.now in
     let more : (asked : List Asked) → AreCountsOf old.counts asked → AreCountsOf c.count.new.self (asked ++ asked_by entry ∷ [])
-        = subst (λ e. (asked : List Asked) → AreCountsOf old.counts asked → AreCountsOf c.count.new.self (asked ++ asked_by e ∷ [])) c.entry.view_is c.count.ensures.all in
+    = subst (λ e. (asked : List Asked) → AreCountsOf old.counts asked → AreCountsOf c.count.new.self (asked ++ asked_by e ∷ [])) c.entry.view_is c.count.ensures.all in
     record {
       counted = ∥∥₁_map old.counted
           (one_counted old.counts c.count.new.self entry more (g.L.LogWriter.logged old.log) (g.L.LogWriter.logged c.write_entry.new.self)
