@@ -16,7 +16,7 @@ import typing
 TOP = pathlib.Path(__file__).resolve().parent.parent
 MADE = TOP / "docs" / "completion"
 # Where each program has its tables.
-TABLES = {"kadm": "kadm_run/src/options.rt", "kclient": "kclient/src/options.rt", "kdcd": "kdcd_run/src/args.rt"}
+TABLES = {"kadm": "kadm/src/options.rt", "kclient": "kclient/src/options.rt", "kdcd": "kdcd_run/src/args.rt"}
 # What a command takes besides its own table: the names of the constants, or of the function of an option whose value
 # may be left away.
 ADDED = {"kinit": ("KINIT_OPTIONS", "KINIT_FLAGS"), "serve": ("journal_option",)}

@@ -69,7 +69,7 @@ WIDE = {}
 
 # The manual pages, and where each program has its commands and options.
 MANUALS = {
-    "kdcd.8": "kdcd_run/src/args.rt", "kadm.8": "kadm_run/src/options.rt", "kclient.1": "kclient/src/options.rt"
+    "kdcd.8": "kdcd_run/src/args.rt", "kadm.8": "kadm/src/options.rt", "kclient.1": "kclient/src/options.rt"
 }
 # Options that each program has from the library of command lines.
 GENERAL = {"help", "version"}

@@ -1,7 +1,22 @@
 //! The administration tool: `kadm COMMAND --db FILE ..`. `kadm --help` lists the commands.
 #![tactic(auto)]
 
-use kadm_run::{CommandLine, kadm_run};
+mod batch;
+mod command_words;
+mod json_lines;
+mod line_words;
+mod linting;
+mod listing;
+mod options;
+mod patterns;
+mod quoting;
+mod reports;
+mod run;
+mod settings;
+mod usage;
+mod words;
+
+use crate::run::{CommandLine, kadm_run};
 use program::{FileStore, Status, read_words, report_failure};
 use std::alloc::AllocError;
 use std::env::VarError;
@@ -13,7 +28,7 @@ use std::{env, io};
 const KADM_DB: &str = "KADM_DB";
 
 fn main(rt: HostRuntime) -> ExitCode {
-    let status = match run(&rt) {
+    let status = match run_words(&rt) {
         Ok(status) => status,
         Err(error) => {
             let why = format_args!("cannot read the command line: {error}");
@@ -24,7 +39,7 @@ fn main(rt: HostRuntime) -> ExitCode {
 }
 
 /// Runs the command line. Fails if it can't be read.
-fn run(rt: &HostRuntime) -> io::Result<Status> {
+fn run_words(rt: &HostRuntime) -> io::Result<Status> {
     let Some(args) = read_words(rt)? else {
         return Ok(report_not_utf8(rt));
     };

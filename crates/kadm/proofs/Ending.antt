@@ -1,0 +1,161 @@
+-- How a command ends, and how the words end that spell it.
+use Rattle.std.proofs.Common.{◌≡◌, ◌∙◌, List, Bool, true, false, Option, Result, Ok, Err, IfErr, IfOk, OnErr, ap, subst, sym, inl, inr}
+use Rattle.std.specs.Result.{result_unwrap_or}
+use Rattle.program.specs.World.{World}
+use Rattle.program.specs.declared.faults.FileCause.{FileCause}
+use Rattle.program.specs.declared.faults.FileCause.TheVariants.{LongFile, ShortSeed, LongPassword, Failed}
+use Rattle.kadm.specs.Batches.{IsBatchDone}
+use Rattle.kadm_changes.specs.Stops.{IsFailed, IsFailure}
+use Rattle.kadm.specs.Ends.{IsEnd, IsFileCauseStatus, IsCommandEnd, IsCommandStopped, IsStatusOf, IsStopped, IsKindDone, IsWriteDone, IsWriteEnd, IsWriteStopped}
+use Rattle.kadm_changes.specs.Words.{Text}
+use Rattle.kadm.specs.Words.{Spells}
+use Rattle.kadm_changes.specs.declared.command.Command.{Command}
+use Rattle.kadm_changes.specs.declared.command.PrintCommand.{PrintCommand}
+use Rattle.kadm_changes.specs.declared.command.CommandKind.TheVariants as kinds
+use Rattle.kadm_changes.specs.declared.command.WriteCommand.{WriteCommand}
+use Rattle.kadm_changes.specs.declared.command.WriteCommand.TheVariants as writes
+use Rattle.program.specs.declared.status.Status.{Status}
+use Rattle.program.specs.declared.status.Status.TheVariants as statuses
+use Rattle.kadm_changes.specs.declared.stop.Stop.{Stop}
+use Rattle.kadm_changes.specs.declared.stop.Stop.TheVariants as stops
+
+-- ---- commands that write
+
+pub batch_write : {E : Type 0} (r : Result Bool E) (before : Option World) (command : Command) (keep : Bool) (after : Option World)
+    → IfOk r (λ whole. IsBatchDone before command.db.now keep whole after) → IfOk r (λ whole. IsWriteDone before command (writes.Batch keep) whole after)
+batch_write (Ok true) before command keep after done = done
+batch_write (Ok false) before command keep after (keeps, tried) = (ap writes.Batch keeps, tried)
+batch_write (Err e) before command keep after done = tt
+
+-- ---- commands
+
+pub write_end : {E : Type 0} (r : Result Status E) (before : Option World) (command : Command) (write : WriteCommand) (after : Option World)
+    → command.kind ≡ kinds.Write write → IfOk r (λ status. IsWriteEnd before command write status after) → IfOk r (λ status. IsCommandEnd before command status after)
+write_end (Ok statuses.Done) before command write after is done =
+    subst (λ kind. IsKindDone before command.db.now command.etypes.items kind after) (sym is) done
+write_end (Ok statuses.Refused) before command write after is (keeps, tried) = (is ∙ ap kinds.Write keeps, tried)
+write_end (Ok statuses.Usage) before command write after is done = done
+write_end (Ok statuses.Failed) before command write after is done = done
+write_end (Err e) before command write after is done = tt
+
+pub write_stop : {A : Type 0} (r : Result A Stop) (before : Option World) (command : Command) (write : WriteCommand) (after : Option World)
+    → command.kind ≡ kinds.Write write → IfErr r (λ stop. IsWriteStopped before command write stop after) → IfErr r (λ stop. IsCommandStopped before command stop after)
+write_stop (Ok x) before command write after is stopped = tt
+write_stop (Err stop) before command write after is (inl same) = inl same
+write_stop (Err stop) before command write after is (inr (failed, done)) =
+    inr (failed, subst (λ kind. IsKindDone before command.db.now command.etypes.items kind after) (sym is) done)
+
+pub print_end : {E : Type 0} (r : Result Status E) (before : Option World) (command : Command) (print : PrintCommand) (after : Option World)
+    → command.kind ≡ kinds.Print print → after ≡ before → IfOk r (λ status. status ≡ statuses.Done) → IfOk r (λ status. IsCommandEnd before command status after)
+print_end (Ok status) before command print after is same done =
+    subst (λ s. IsCommandEnd before command s after) (sym done)
+    (subst (λ kind. IsKindDone before command.db.now command.etypes.items kind after) (sym is) same)
+print_end (Err e) before command print after is same done = tt
+
+-- ---- words
+
+pub spelled_end : {E : Type 0} (r : Result Status E) (words : List Text) (before : Option World) (command : Command) (after : Option World)
+    → Spells words command → IfOk r (λ status. IsCommandEnd before command status after) → IfOk r (λ status. IsEnd words before status after)
+spelled_end (Ok statuses.Done) words before command after spelled done = inr (command, spelled, done)
+spelled_end (Ok statuses.Refused) words before command after spelled tried = inr (command, spelled, tried)
+spelled_end (Ok statuses.Usage) words before command after spelled none = absurd none
+spelled_end (Ok statuses.Failed) words before command after spelled none = absurd none
+spelled_end (Err e) words before command after spelled done = tt
+
+pub spelled_stop : {A : Type 0} (r : Result A Stop) (words : List Text) (before : Option World) (command : Command) (after : Option World)
+    → Spells words command → IfErr r (λ stop. IsCommandStopped before command stop after) → IfErr r (λ stop. IsStopped words before stop after)
+spelled_stop (Ok x) words before command after spelled stopped = tt
+spelled_stop (Err stop) words before command after spelled (inl same) = inl same
+spelled_stop (Err stop) words before command after spelled (inr (failed, done)) = inr (failed, inl (command, spelled, done))
+
+-- the output fails after a command
+pub failed_after : (words : List Text) (before : Option World) (status : Status) (stop : Stop) (after : Option World)
+    → IsEnd words before status after → IsFailed stop → IsStopped words before stop after
+failed_after words before statuses.Done stop after (inl (asks, same)) failed = inl same
+failed_after words before statuses.Done stop after (inr done) failed = inr (failed, inl done)
+failed_after words before statuses.Refused stop after (inl same) failed = inl same
+failed_after words before statuses.Refused stop after (inr tried) failed = inr (failed, inr tried)
+failed_after words before statuses.Usage stop after same failed = inl same
+failed_after words before statuses.Failed stop after (inl same) failed = inl same
+failed_after words before statuses.Failed stop after (inr done) failed = inr (failed, done)
+
+-- whatever the status, the output may fail at the end
+pub end_failed : (words : List Text) (before : Option World) (status : Status) (after : Option World)
+    → IsEnd words before status after → IsEnd words before statuses.Failed after
+end_failed words before statuses.Done after (inl (asks, same)) = inl same
+end_failed words before statuses.Done after (inr done) = inr (inl done)
+end_failed words before statuses.Refused after (inl same) = inl same
+end_failed words before statuses.Refused after (inr tried) = inr (inr tried)
+end_failed words before statuses.Usage after same = inl same
+end_failed words before statuses.Failed after left = left
+
+-- every status but `Done`
+abbrev IsOther : Status → Type 0
+IsOther statuses.Done = ⊥
+IsOther statuses.Refused = Unit {0}
+IsOther statuses.Usage = Unit {0}
+IsOther statuses.Failed = Unit {0}
+
+cause_other : (cause : FileCause) (status : Status) → IsFileCauseStatus cause status → IsOther status
+cause_other LongFile statuses.Refused is = tt
+cause_other LongFile statuses.Failed is = tt
+cause_other LongFile statuses.Done is = absurd is
+cause_other LongFile statuses.Usage is = tt
+cause_other ShortSeed statuses.Refused is = tt
+cause_other ShortSeed statuses.Failed is = tt
+cause_other ShortSeed statuses.Done is = absurd is
+cause_other ShortSeed statuses.Usage is = tt
+cause_other LongPassword statuses.Refused is = tt
+cause_other LongPassword statuses.Failed is = tt
+cause_other LongPassword statuses.Done is = absurd is
+cause_other LongPassword statuses.Usage is = tt
+cause_other (Failed error) status is = subst IsOther (sym is) tt
+
+other : (stop : Stop) (status : Status) → IsStatusOf stop status → IsOther status
+other stops.Usage status is = subst IsOther (sym is) tt
+other stops.LineRefused status is = subst IsOther (sym is) tt
+other stops.LineFailed status is = subst IsOther (sym is) tt
+other (stops.Refused reason) status is = subst IsOther (sym is) tt
+other (stops.RefusedOf word reason) status is = subst IsOther (sym is) tt
+other (stops.File fault) status is = cause_other fault.cause status is
+
+same_end : (words : List Text) (before : Option World) (status : Status) (after : Option World) → IsOther status → after ≡ before
+    → IsEnd words before status after
+same_end words before statuses.Done after is same = absurd is
+same_end words before statuses.Refused after is same = inl same
+same_end words before statuses.Usage after is same = same
+same_end words before statuses.Failed after is same = inl same
+
+failed_cause : (cause : FileCause) (status : Status) → IsFailure cause → IsFileCauseStatus cause status → status ≡ statuses.Failed
+failed_cause LongFile status failed is = absurd failed
+failed_cause ShortSeed status failed is = absurd failed
+failed_cause LongPassword status failed is = absurd failed
+failed_cause (Failed error) status failed is = is
+
+failed_status : (stop : Stop) (status : Status) → IsFailed stop → IsStatusOf stop status → status ≡ statuses.Failed
+failed_status stops.Usage status failed is = absurd failed
+failed_status stops.LineRefused status failed is = absurd failed
+failed_status stops.LineFailed status failed is = absurd failed
+failed_status (stops.Refused reason) status failed is = absurd failed
+failed_status (stops.RefusedOf word reason) status failed is = absurd failed
+failed_status (stops.File fault) status failed is = failed_cause fault.cause status failed is
+
+-- a command that stopped early, with the status of what stopped it
+pub stopped_end : (words : List Text) (before : Option World) (stop : Stop) (status : Status) (after : Option World)
+    → IsStopped words before stop after → IsStatusOf stop status → IsEnd words before status after
+stopped_end words before stop status after (inl same) is = same_end words before status after (other stop status is) same
+stopped_end words before stop status after (inr (failed, done)) is =
+    subst (λ s. IsEnd words before s after) (sym (failed_status stop status failed is)) (inr done)
+
+-- the report of it fails
+pub stopped_failed : (words : List Text) (before : Option World) (stop : Stop) (after : Option World)
+    → IsStopped words before stop after → IsEnd words before statuses.Failed after
+stopped_failed words before stop after (inl same) = inl same
+stopped_failed words before stop after (inr (failed, done)) = inr done
+
+-- whatever the output says at the end
+pub ended : {E : Type 0} (r : Result Status E) (words : List Text) (before after : Option World)
+    → IfOk r (λ status. IsEnd words before status after) → OnErr r (IsEnd words before statuses.Failed after)
+    → IsEnd words before (result_unwrap_or r statuses.Failed) after
+ended (Ok status) words before after done failed = done
+ended (Err e) words before after done failed = failed

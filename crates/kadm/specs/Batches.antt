@@ -1,0 +1,17 @@
+-- The lines of a batch.
+use Rattle.std.specs.Prelude.{◌≡◌, Bool, true, false, List, map, Option, string_bytes}
+use Rattle.program.specs.World.{World}
+use Rattle.kadm_changes.specs.Words.{Text}
+use Rattle.kadm.specs.Lines.{Batched, Tried}
+use Rattle.kadm.specs.declared.batch.BatchLine.{BatchLine}
+
+abbrev pub line_text : BatchLine → List Text
+line_text line = map string_bytes line.words.items
+
+abbrev pub line_texts : List BatchLine → List (List Text)
+line_texts lines = map line_text lines
+
+-- the changes of all lines, or of some of them if it keeps going
+abbrev pub IsBatchDone : Option World → Text → Bool → Bool → Option World → Type 0
+IsBatchDone before db keep_going true after = Batched before db after
+IsBatchDone before db keep_going false after = (keep_going ≡ true) × Tried before db after

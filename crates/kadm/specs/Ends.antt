@@ -1,0 +1,115 @@
+-- How a command line ends, and what it leaves.
+use Rattle.std.specs.Prelude.{◌≡◌, ◌⊎◌, ℕ, Bool, true, false, List, Option}
+use Rattle.enctypes.specs.declared.etype.Etype.{Etype}
+use Rattle.program.specs.World.{World}
+use Rattle.program.specs.declared.faults.FileCause.{FileCause}
+use Rattle.program.specs.declared.faults.FileCause.TheVariants.{LongFile, ShortSeed, LongPassword, Failed}
+use Rattle.kadm_changes.specs.Stops.{IsFailed}
+use Rattle.kadm_changes.specs.Words.{Text, path_of}
+use Rattle.kadm.specs.Words.{Spells, asks_help}
+use Rattle.kadm_changes.specs.Worlds.{MadeFromDump, MadeRealm, Updated, WroteKeytab}
+use Rattle.kadm.specs.Lines.{Batched, Tried}
+use Rattle.kadm_changes.specs.declared.command.Command.{Command}
+use Rattle.kadm_changes.specs.declared.command.CommandKind.{CommandKind}
+use Rattle.kadm_changes.specs.declared.command.CommandKind.TheVariants.{Print, Write}
+use Rattle.kadm_changes.specs.declared.command.WriteCommand.{WriteCommand}
+use Rattle.kadm_changes.specs.declared.command.WriteCommand.TheVariants as writes
+use Rattle.program.specs.declared.status.Status.{Status}
+use Rattle.program.specs.declared.status.Status.TheVariants as statuses
+use Rattle.kadm_changes.specs.declared.stop.Stop.{Stop}
+use Rattle.kadm_changes.specs.declared.stop.Stop.TheVariants.{Usage, LineRefused, LineFailed, Refused, RefusedOf, File}
+
+-- refused or failed
+abbrev pub IsNotDone : Status → Type 0
+IsNotDone statuses.Done = ⊥
+IsNotDone statuses.Refused = Unit {0}
+IsNotDone statuses.Usage = ⊥
+IsNotDone statuses.Failed = Unit {0}
+
+abbrev pub IsFileCauseStatus : FileCause → Status → Type 0
+IsFileCauseStatus LongFile status = IsNotDone status
+IsFileCauseStatus ShortSeed status = IsNotDone status
+IsFileCauseStatus LongPassword status = IsNotDone status
+IsFileCauseStatus (Failed error) status = status ≡ statuses.Failed
+
+abbrev pub IsStatusOf : Stop → Status → Type 0
+IsStatusOf Usage status = status ≡ statuses.Usage
+IsStatusOf LineRefused status = status ≡ statuses.Refused
+IsStatusOf LineFailed status = status ≡ statuses.Failed
+IsStatusOf (Refused reason) status = status ≡ statuses.Refused
+IsStatusOf (RefusedOf word reason) status = status ≡ statuses.Refused
+IsStatusOf (File fault) status = IsFileCauseStatus fault.cause status
+
+-- ---- what is done
+
+-- the effect of each command, from the world before it to the one after it
+abbrev pub Did : Option World → List ℕ → List Etype → WriteCommand → Option World → Type 0
+Did before db etypes (writes.Init new) after = MadeRealm before db etypes new.realm.now (path_of new.seed) after
+Did before db etypes (writes.Update update) after = Updated before db etypes update after
+Did before db etypes (writes.Batch keep_going) after = Batched before db after
+Did before db etypes (writes.Keytab to) after = WroteKeytab before db to after
+Did before db etypes (writes.Dump from) after = MadeFromDump before db from after
+
+abbrev pub IsKindDone : Option World → List ℕ → List Etype → CommandKind → Option World → Type 0
+IsKindDone before db etypes (Print what) after = after ≡ before
+IsKindDone before db etypes (Write write) after = Did before db etypes write after
+
+abbrev pub IsDone : Option World → Command → Option World → Type 0
+IsDone before command after = IsKindDone before command.db.now command.etypes.items command.kind after
+
+-- the command is a batch that keeps going, and some of its lines were done
+abbrev pub IsWriteTried : Option World → List ℕ → WriteCommand → Option World → Type 0
+IsWriteTried before db write after = (write ≡ writes.Batch true) × Tried before db after
+
+-- all was done, or some lines of a batch were
+abbrev pub IsWriteDone : Option World → Command → WriteCommand → Bool → Option World → Type 0
+IsWriteDone before command write true after = Did before command.db.now command.etypes.items write after
+IsWriteDone before command write false after = IsWriteTried before command.db.now write after
+
+abbrev pub IsWriteEnd : Option World → Command → WriteCommand → Status → Option World → Type 0
+IsWriteEnd before command write statuses.Done after = Did before command.db.now command.etypes.items write after
+IsWriteEnd before command write statuses.Refused after = IsWriteTried before command.db.now write after
+IsWriteEnd before command write statuses.Usage after = ⊥
+IsWriteEnd before command write statuses.Failed after = ⊥
+
+-- a command that stops early leaves the files unchanged, unless it was done and then the output failed
+abbrev pub IsWriteStopped : Option World → Command → WriteCommand → Stop → Option World → Type 0
+IsWriteStopped before command write stop after =
+    (after ≡ before) ⊎ (IsFailed stop × Did before command.db.now command.etypes.items write after)
+
+-- the command is a batch that keeps going, and some of its lines were done
+abbrev pub IsTried : Option World → Command → Option World → Type 0
+IsTried before command after = (command.kind ≡ Write (writes.Batch true)) × Tried before command.db.now after
+
+abbrev pub IsCommandEnd : Option World → Command → Status → Option World → Type 0
+IsCommandEnd before command statuses.Done after = IsDone before command after
+IsCommandEnd before command statuses.Refused after = IsTried before command after
+IsCommandEnd before command statuses.Usage after = ⊥
+IsCommandEnd before command statuses.Failed after = ⊥
+
+abbrev pub IsCommandStopped : Option World → Command → Stop → Option World → Type 0
+IsCommandStopped before command stop after = (after ≡ before) ⊎ (IsFailed stop × IsDone before command after)
+
+-- ---- the words of a command line
+
+-- what the words order was done
+abbrev pub IsSpelledDone : List Text → Option World → Option World → Type 0
+IsSpelledDone words before after = (command : Command) × Spells words command × IsDone before command after
+
+-- the words order a batch that keeps going, and some of its lines were done
+abbrev pub IsSpelledTried : List Text → Option World → Option World → Type 0
+IsSpelledTried words before after = (command : Command) × Spells words command × IsTried before command after
+
+abbrev pub IsStopped : List Text → Option World → Stop → Option World → Type 0
+IsStopped words before stop after =
+    (after ≡ before) ⊎ (IsFailed stop × (IsSpelledDone words before after ⊎ IsSpelledTried words before after))
+
+-- `Done`: what the words order was done, or they ask for help. `Refused` and `Usage`: the files are unchanged, unless
+-- the words order a batch that keeps going. `Failed`: they are unchanged, or at most the output failed
+abbrev pub IsEnd : List Text → Option World → Status → Option World → Type 0
+IsEnd words before statuses.Done after =
+    ((asks_help words ≡ true) × (after ≡ before)) ⊎ IsSpelledDone words before after
+IsEnd words before statuses.Refused after = (after ≡ before) ⊎ IsSpelledTried words before after
+IsEnd words before statuses.Usage after = after ≡ before
+IsEnd words before statuses.Failed after =
+    (after ≡ before) ⊎ (IsSpelledDone words before after ⊎ IsSpelledTried words before after)

@@ -1,0 +1,4 @@
+pub mod Batches
+pub mod Ends
+pub mod Lines
+pub mod Words

@@ -1,0 +1,139 @@
+-- The words of a command line, and the command that they spell.
+use Rattle.std.specs.Prelude.{◌≡◌, ◌&&◌, ◌||◌, Bool, true, false, not, List, [], ◌∷◌, slice_get}
+use Rattle.std.specs.Prelude.{Option, Some, None, is_some, unwrap_or, codes, bytes_eq, if◌then◌else◌}
+use Rattle.std.specs.Str.Parse.{IsNumeral, digits_value}
+use Rattle.kadm_changes.specs.Words.{Text, path_of, texts, value_of}
+use Rattle.kadm_changes.specs.declared.command.ChangeArgs.{ChangeArgs}
+use Rattle.kadm_changes.specs.declared.command.ChangeArgs.TheVariants.{Drop, DropOlder, Policy, Remove}
+use Rattle.kadm_changes.specs.declared.command.Grant.{Grant}
+use Rattle.kadm_changes.specs.declared.command.Grant.TheVariants.{New, NewUser, Next, Replace, Either}
+use Rattle.kadm_changes.specs.declared.command.Command.{Command}
+use Rattle.kadm_changes.specs.declared.command.PrintCommand.{PrintCommand}
+use Rattle.kadm_changes.specs.declared.command.PrintCommand.TheVariants as prints
+use Rattle.kadm_changes.specs.declared.command.RowUpdate.{RowUpdate}
+use Rattle.kadm_changes.specs.declared.command.RowUpdate.TheVariants as rows
+use Rattle.kadm_changes.specs.declared.command.CommandKind.{CommandKind}
+use Rattle.kadm_changes.specs.declared.command.CommandKind.TheVariants as kinds
+use Rattle.kadm_changes.specs.declared.command.Update.{Update}
+use Rattle.kadm_changes.specs.declared.command.Update.TheVariants as updates
+use Rattle.kadm_changes.specs.declared.command.WriteCommand.{WriteCommand}
+use Rattle.kadm_changes.specs.declared.command.WriteCommand.TheVariants as writes
+
+-- ---- words
+
+-- the option is there, as a flag without a value
+abbrev pub has_flag : List Text → Text → Bool
+has_flag [] flag = false
+has_flag (word ∷ others) flag = bytes_eq word flag || has_flag others flag
+
+-- the name of the subcommand, after that of the program
+abbrev pub command_of : List Text → Option Text
+command_of words = slice_get words 1
+
+-- with a database after the command
+abbrev pub behind_command : Text → List Text → List Text
+behind_command db (program ∷ command ∷ others) = program ∷ command ∷ codes "--db" ∷ db ∷ others
+behind_command db words = words
+
+-- the words name no database, and don't begin with `help`, which takes none
+abbrev pub lacks_db : List Text → Bool
+lacks_db words =
+    not (is_some (value_of words (codes "--db"))) && not (bytes_eq (unwrap_or (command_of words) []) (codes "help"))
+
+-- the words of a command line; if it names no database, then with the one that the environment names
+abbrev pub with_db : Option Text → List Text → List Text
+with_db None words = words
+with_db (Some db) words = if lacks_db words then behind_command db words else words
+
+-- the words of a line of a batch, as a command line with the batch's database
+abbrev pub in_batch : Text → List Text → List Text
+in_batch db [] = codes "kadm" ∷ []
+in_batch db (command ∷ others) = codes "kadm" ∷ command ∷ codes "--db" ∷ db ∷ others
+
+-- the help or the version is asked for
+abbrev pub asks_help : List Text → Bool
+asks_help words =
+    has_flag words (codes "help") || (has_flag words (codes "--help") || (has_flag words (codes "-h")
+    || (has_flag words (codes "--version") || has_flag words (codes "-V"))))
+
+-- ---- the settings of a policy
+
+-- there is a setting, by --field and --value or by --set; and neither --field nor --value is alone
+abbrev pub sets_some : List Text → Bool
+sets_some words =
+    if is_some (value_of words (codes "--field")) then is_some (value_of words (codes "--value"))
+    else not (is_some (value_of words (codes "--value"))) && is_some (value_of words (codes "--set"))
+
+-- ---- the command that words spell
+
+-- the principal to add is new, or has keys already
+abbrev pub IsPasswordGrant : List Text → Grant → Type 0
+IsPasswordGrant words New = (command_of words ≡ Some (codes "add")) × (has_flag words (codes "--service") ≡ true)
+IsPasswordGrant words NewUser = (command_of words ≡ Some (codes "add")) × (has_flag words (codes "--service") ≡ false)
+IsPasswordGrant words Next = (command_of words ≡ Some (codes "passwd")) × (has_flag words (codes "--replace") ≡ false)
+IsPasswordGrant words Replace = (command_of words ≡ Some (codes "passwd")) × (has_flag words (codes "--replace") ≡ true)
+IsPasswordGrant words Either = ⊥
+
+abbrev pub IsRandomGrant : List Text → Grant → Type 0
+IsRandomGrant words New = (command_of words ≡ Some (codes "add")) × (has_flag words (codes "--random") ≡ true)
+IsRandomGrant words NewUser = ⊥
+IsRandomGrant words Next = (command_of words ≡ Some (codes "random")) × (has_flag words (codes "--existing") ≡ true)
+IsRandomGrant words Replace = (command_of words ≡ Some (codes "random")) × (has_flag words (codes "--replace") ≡ true)
+IsRandomGrant words Either =
+    (command_of words ≡ Some (codes "random")) × (has_flag words (codes "--replace") ≡ false)
+    × (has_flag words (codes "--existing") ≡ false)
+
+abbrev pub IsChangeSpelled : List Text → ChangeArgs → Type 0
+IsChangeSpelled words (Drop version) =
+    (command_of words ≡ Some (codes "drop")) × (text : Text) × (value_of words (codes "--version") ≡ Some text)
+    × IsNumeral 10 text × (version ≡ digits_value 10 text)
+IsChangeSpelled words DropOlder = (command_of words ≡ Some (codes "drop")) × (has_flag words (codes "--older") ≡ true)
+IsChangeSpelled words Policy = (command_of words ≡ Some (codes "policy")) × (sets_some words ≡ true)
+IsChangeSpelled words Remove = command_of words ≡ Some (codes "remove")
+
+abbrev pub IsRowSpelled : List Text → RowUpdate → Type 0
+IsRowSpelled words (rows.Password to) =
+    IsPasswordGrant words to.grant × (path_of to.password.file ≡ value_of words (codes "--password-file"))
+IsRowSpelled words (rows.Random to) = IsRandomGrant words to.grant × (path_of to.seed ≡ value_of words (codes "--seed"))
+IsRowSpelled words (rows.Import keytab) =
+    (command_of words ≡ Some (codes "import")) × (value_of words (codes "--keytab") ≡ Some keytab.now)
+
+abbrev pub IsUpdateSpelled : List Text → Update → Type 0
+IsUpdateSpelled words (updates.Row to) =
+    (value_of words (codes "--name") ≡ Some to.name.now) × (texts to.words.now ≡ words) × IsRowSpelled words to.how
+IsUpdateSpelled words (updates.Changes changes) =
+    (is_some (value_of words (codes "--name")) ≡ true) × (texts changes.words.now ≡ words)
+    × IsChangeSpelled words changes.how
+IsUpdateSpelled words (updates.Migrate users_are_no_services) =
+    (command_of words ≡ Some (codes "migrate")) × (users_are_no_services ≡ has_flag words (codes "--users-are-no-services"))
+
+abbrev pub IsWriteSpelled : List Text → WriteCommand → Type 0
+IsWriteSpelled words (writes.Init new) =
+    (command_of words ≡ Some (codes "init")) × (value_of words (codes "--realm") ≡ Some new.realm.now)
+    × (path_of new.seed ≡ value_of words (codes "--seed"))
+IsWriteSpelled words (writes.Update update) = IsUpdateSpelled words update
+IsWriteSpelled words (writes.Batch keep_going) =
+    (command_of words ≡ Some (codes "batch")) × (keep_going ≡ has_flag words (codes "--keep-going"))
+IsWriteSpelled words (writes.Keytab to) =
+    (command_of words ≡ Some (codes "keytab")) × (value_of words (codes "--name") ≡ Some to.name.now)
+    × (value_of words (codes "--out") ≡ Some to.out.now) × (to.append ≡ has_flag words (codes "--append"))
+IsWriteSpelled words (writes.Dump from) =
+    (command_of words ≡ Some (codes "import")) × (value_of words (codes "--dump") ≡ Some from.dump.now)
+    × (value_of words (codes "--stash") ≡ Some from.stash.now) × (from.skip ≡ has_flag words (codes "--skip"))
+
+abbrev pub IsPrintSpelled : List Text → PrintCommand → Type 0
+IsPrintSpelled words (prints.List list) =
+    (command_of words ≡ Some (codes "list")) × (path_of list.like ≡ value_of words (codes "--like"))
+    × (list.long ≡ has_flag words (codes "--long")) × (list.json ≡ has_flag words (codes "--json"))
+IsPrintSpelled words prints.Lint = command_of words ≡ Some (codes "lint")
+IsPrintSpelled words (prints.Show name) =
+    (command_of words ≡ Some (codes "show")) × (value_of words (codes "--name") ≡ Some name.now)
+
+abbrev pub IsKindSpelled : List Text → CommandKind → Type 0
+IsKindSpelled words (kinds.Print print) = IsPrintSpelled words print
+IsKindSpelled words (kinds.Write write) = IsWriteSpelled words write
+
+-- the command that the words of a command line spell: its database, and what to do with it
+pub record Spells (words : List Text) (command : Command) : Type 0 where
+  pub db : value_of words (codes "--db") ≡ Some command.db.now
+  pub kind : IsKindSpelled words command.kind

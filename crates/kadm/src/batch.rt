@@ -1,0 +1,349 @@
+//! Many changes of one database: each line of standard input is a command. The database is read once and written once.
+ghost use Rattle.std.specs.Prelude.{◌≡◌, IfNone, IfOk, OnErr, OnOk, true};
+ghost use Rattle.kadm_changes.specs.Words.{texts};
+ghost use Rattle.kadm.specs.Batches.{IsBatchDone, line_text, line_texts};
+ghost use Rattle.kadm.specs.Lines.{AreDone, IsLineDone, IsCommandMade, IsRun, IsSpelledMade, IsTurn};
+
+use crate::command_words::{CommandFault, NO_MODE, read_command};
+use crate::line_words::{LineFault, line_words};
+use crate::options::read_args;
+use crate::reports::report;
+use crate::usage::{report_command_fault, report_fault};
+use crate::words::{has_flag, in_batch};
+use clap::ArgMatches;
+use clap::error::Error;
+use kadm_changes::{
+    Command, CommandKind, Context, Draft, Reason, Stop, Subject, WriteCommand, begin_line,
+    lock_database, read_database, update_in_batch, write_database,
+};
+use program::{FileCause, FileFault, Status, Store};
+use std::alloc::{AllocError, Global};
+use std::io::{ErrorKind, Write};
+
+/// The greatest length of a line, in bytes.
+const LONGEST_LINE: usize = 65_536;
+
+/// How many lines a batch may have.
+const MOST_LINES: usize = 1_000_000;
+
+/// What a terminal shows before each line.
+const PROMPT: &str = "kadm> ";
+
+/// The name in place of a path if the lines can't be read.
+const STANDARD_INPUT: &str = "standard input";
+
+/// A line with a command.
+#[derive(Drop)]
+struct BatchLine {
+    /// The number of the line, from 1.
+    number: usize,
+    words: Vec<String>,
+}
+
+/// The commands of a batch.
+#[derive(Clone, Copy)]
+struct Batch<'a> {
+    /// The path of the database.
+    db: &'a str,
+    lines: &'a [BatchLine],
+    /// Whether a line that is not done leaves the others.
+    keep_going: bool,
+}
+
+/// Runs the commands on the lines of standard input, which it reads before it locks the database. Returns whether all
+/// were done. If one is not, nothing is written, unless the batch keeps going.
+pub(crate) fn run_batch<'p, T: Store, W: Write, E: Write>(
+    context: &mut Context<W, E>,
+    store: &mut T,
+    command: &Command<'p>,
+    keep_going: bool,
+) -> Result<bool, Stop<'p>>
+    ensures done { IfOk result (λ whole. IsBatchDone (T.world store.old) command.now.db.now keep_going whole (T.world store.new)) }
+    ensures kept { OnErr result (T.world store.new ≡ T.world store.old) }
+{
+    let alloc = context.alloc;
+    let lines = read_lines(alloc, store, &mut context.errors)?;
+    let locked = lock_database(context, store, command)?;
+    let database = read_database(context, store, command.db)?;
+    let mut draft = Draft { alloc, database };
+    let batch = Batch {
+        db: command.db,
+        lines: &lines,
+        keep_going,
+    };
+    let whole = run_lines(context, store, &batch, &mut draft)?;
+    write_database(alloc, store, &locked, &draft.database)?;
+    Ok(whole)
+}
+
+/// Reads the lines to the end of standard input. An empty line and a comment are none.
+fn read_lines<T: Store, E: Write>(
+    alloc: Global,
+    store: &mut T,
+    errors: &mut E,
+) -> Result<Vec<BatchLine>, Stop<'static>>
+    ensures kept { T.world store.new ≡ T.world store.old }
+{
+    let mut lines = Vec::new(alloc);
+    for number in 1..=MOST_LINES {
+        let Some(octets) = next_line(alloc, store)? else {
+            return Ok(lines);
+        };
+        if let Err(fault) = push_line(alloc, &mut lines, number, &octets) {
+            return Err(report_line_fault(errors, number, fault));
+        }
+    }
+    Err(report_line_fault(errors, MOST_LINES, LineFault::TooMany))
+}
+
+/// Reads the next line. `None` if the input has ended.
+fn next_line<T: Store>(alloc: Global, store: &mut T) -> Result<Option<Vec<u8>>, Stop<'static>>
+    ensures kept { T.world store.new ≡ T.world store.old }
+{
+    match store.ask(alloc, PROMPT, LONGEST_LINE) {
+        Ok(Some(line)) => Ok(Some(line)),
+        Ok(None) => Err(Stop::from(FileFault {
+            path: STANDARD_INPUT,
+            cause: FileCause::LongFile,
+        })),
+        Err(error) if error.kind() == ErrorKind::UnexpectedEof => Ok(None),
+        Err(error) => Err(Stop::from(FileFault {
+            path: STANDARD_INPUT,
+            cause: FileCause::Failed(error),
+        })),
+    }
+}
+
+/// Adds a line, if it has a command.
+fn push_line(
+    alloc: Global,
+    lines: &mut Vec<BatchLine>,
+    number: usize,
+    octets: &[u8],
+) -> Result<(), LineFault> {
+    let words = line_words(alloc, octets)?;
+    if !words.is_empty() {
+        lines.push(BatchLine { number, words })?;
+    }
+    Ok(())
+}
+
+/// Reports that a line is no command. Returns how the batch ends. Ignores a failed write.
+fn report_line_fault<E: Write>(errors: &mut E, number: usize, fault: LineFault) -> Stop<'static> {
+    match fault.text() {
+        Some(text) => {
+            let _ = writeln!(errors, "kadm: line {number}: {text}");
+            Stop::Usage
+        }
+        None => Stop::from(AllocError),
+    }
+}
+
+/// Runs the commands, and returns whether all were done. If one is not, that is the end, unless the batch keeps going.
+#[tactic(auto, using(crate::proofs::Batching::run_kept))]
+fn run_lines<T: Store, W: Write, E: Write>(
+    context: &mut Context<W, E>,
+    store: &mut T,
+    batch: &Batch<'_>,
+    draft: &mut Draft,
+) -> Result<bool, Stop<'static>>
+    ensures run { IfOk result (λ whole. IsRun (T.world store.old) batch.now.db.now batch.now.keep_going
+        (line_texts batch.now.lines.now) draft.old.database draft.new.database whole) }
+    ensures kept { T.world store.new ≡ T.world store.old }
+{
+    if batch.keep_going {
+        return run_each(context, store, batch, draft);
+    }
+    run_all(context, store, batch, draft)?;
+    Ok(true)
+}
+
+/// Runs the commands up to the first that is not done.
+fn run_all<T: Store, W: Write, E: Write>(
+    context: &mut Context<W, E>,
+    store: &mut T,
+    batch: &Batch<'_>,
+    draft: &mut Draft,
+) -> Result<(), Stop<'static>>
+    ensures done { OnOk result (AreDone (T.world store.old) batch.now.db.now (line_texts batch.now.lines.now)
+        draft.old.database draft.new.database) }
+    ensures kept { T.world store.new ≡ T.world store.old }
+{
+    let mut rest = batch.lines;
+    while let [line, others @ ..] = rest {
+        report_progress(context, store, line.number);
+        if let Some(status) = run_line(context, store, batch.db, line, draft)? {
+            let _ = writeln!(
+                context.errors,
+                "kadm: line {}: nothing was written",
+                line.number
+            );
+            return Err(stop_of(status));
+        }
+        rest = others;
+    }
+    Ok(())
+}
+
+/// Returns how a batch ends whose line ends so.
+fn stop_of(status: Status) -> Stop<'static> {
+    match status {
+        Status::Usage => Stop::Usage,
+        Status::Failed => Stop::LineFailed,
+        Status::Done | Status::Refused => Stop::LineRefused,
+    }
+}
+
+/// Runs each command, and returns whether all were done.
+fn run_each<T: Store, W: Write, E: Write>(
+    context: &mut Context<W, E>,
+    store: &mut T,
+    batch: &Batch<'_>,
+    draft: &mut Draft,
+) -> Result<bool, Stop<'static>>
+    ensures run { IfOk result (λ whole. IsRun (T.world store.old) batch.now.db.now true (line_texts batch.now.lines.now)
+        draft.old.database draft.new.database whole) }
+    ensures kept { T.world store.new ≡ T.world store.old }
+{
+    let mut whole = true;
+    let mut rest = batch.lines;
+    while let [line, others @ ..] = rest {
+        report_progress(context, store, line.number);
+        whole = try_line(context, store, batch.db, line, whole, draft)?;
+        rest = others;
+    }
+    Ok(whole)
+}
+
+/// Runs a command. If it is not done, the database is unchanged and the run is no longer whole.
+fn try_line<T: Store, W: Write, E: Write>(
+    context: &mut Context<W, E>,
+    store: &mut T,
+    db: &str,
+    line: &BatchLine,
+    whole: bool,
+    draft: &mut Draft,
+) -> Result<bool, Stop<'static>>
+    ensures turn { IfOk result (λ whole_then. IsTurn (T.world store.old) db.now (line_text line.now)
+        whole draft.old.database draft.new.database whole_then) }
+    ensures kept { T.world store.new ≡ T.world store.old }
+{
+    // a command that is refused in its middle leaves its own copy changed in part
+    let database = draft.database.copy(draft.alloc)?;
+    let mut changed = Draft {
+        alloc: draft.alloc,
+        database,
+    };
+    match run_line(context, store, db, line, &mut changed)? {
+        None => {
+            *draft = changed;
+            Ok(whole)
+        }
+        Some(_) => Ok(false),
+    }
+}
+
+/// Runs a command, and reports why it is not done. Returns its status then. The database may be changed in part.
+fn run_line<T: Store, W: Write, E: Write>(
+    context: &mut Context<W, E>,
+    store: &mut T,
+    db: &str,
+    line: &BatchLine,
+    draft: &mut Draft,
+) -> Result<Option<Status>, Stop<'static>>
+    ensures done { IfOk result (λ end. IfNone end (IsLineDone (T.world store.old) db.now
+        (line_text line.now) draft.old.database draft.new.database)) }
+    ensures kept { T.world store.new ≡ T.world store.old }
+{
+    let words = in_batch(context.alloc, db, &line.words)?;
+    let subject = Subject {
+        words: &words,
+        line: Some(line.number),
+    };
+    match run_words(&mut context.errors, store, &subject, draft) {
+        Ok(()) => Ok(None),
+        Err(stop) => Ok(Some(report(context, &subject, stop)?)),
+    }
+}
+
+/// Makes the change that the words of a line order.
+fn run_words<'a, T: Store, E: Write>(
+    errors: &mut E,
+    store: &mut T,
+    subject: &Subject<'a>,
+    draft: &mut Draft,
+) -> Result<(), Stop<'a>>
+    ensures done { OnOk result (IsSpelledMade (T.world store.old) (texts subject.now.words.now) draft.old.database draft.new.database) }
+    ensures kept { T.world store.new ≡ T.world store.old }
+{
+    let matches = read_args(draft.alloc, subject.words);
+    check_words(errors, subject, &matches)?;
+    match read_command(draft.alloc, subject.words) {
+        Ok(command) => run_command(errors, store, &command, subject, draft),
+        Err(fault) => {
+            begin_line(errors, subject);
+            Err(report_command_fault(errors, fault))
+        }
+    }
+}
+
+/// Reports what is wrong with the words of a line, as the parser finds it.
+fn check_words<E: Write>(
+    errors: &mut E,
+    subject: &Subject<'_>,
+    matches: &Result<ArgMatches<'_>, Error>,
+) -> Result<(), Stop<'static>> {
+    match matches {
+        Ok(_) => check_mode(errors, subject),
+        Err(error) => {
+            begin_line(errors, subject);
+            Err(report_fault(errors, error))
+        }
+    }
+}
+
+/// Refuses `--keep-mode`, which a line can't keep: the batch writes the file.
+fn check_mode<E: Write>(errors: &mut E, subject: &Subject<'_>) -> Result<(), Stop<'static>> {
+    if !has_flag(subject.words, "--keep-mode") {
+        return Ok(());
+    }
+    begin_line(errors, subject);
+    Err(report_command_fault(errors, CommandFault::BadValue(NO_MODE)))
+}
+
+/// Makes a change that a line orders.
+fn run_command<'a, T: Store, E: Write>(
+    errors: &mut E,
+    store: &mut T,
+    command: &Command<'a>,
+    subject: &Subject<'_>,
+    draft: &mut Draft,
+) -> Result<(), Stop<'a>>
+    ensures done { OnOk result (IsCommandMade (T.world store.old) command.now draft.old.database draft.new.database) }
+    ensures kept { T.world store.new ≡ T.world store.old }
+{
+    match command.kind {
+        CommandKind::Write(WriteCommand::Update(update)) => {
+            update_in_batch(errors, store, draft, &command.etypes, update, subject)
+        }
+        _ => Err(Stop::Refused(Reason::NotInBatch)),
+    }
+}
+
+/// Reports each second how far the batch is, if standard error is a terminal. Ignores a clock that can't be read and a
+/// failed write.
+fn report_progress<T: Store, W, E: Write>(context: &mut Context<W, E>, store: &mut T, number: usize)
+    ensures kept { T.world store.new ≡ T.world store.old }
+{
+    if !context.progress.watched {
+        return;
+    }
+    let Ok(now) = store.seconds() else {
+        return;
+    };
+    if context.progress.second.is_some_and(|second| second != now) {
+        let _ = writeln!(context.errors, "kadm: line {number}");
+        let _ = context.errors.flush();
+    }
+    context.progress.second = Some(now);
+}

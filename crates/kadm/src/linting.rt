@@ -1,0 +1,262 @@
+//! The command that prints what an administrator should check.
+ghost use Rattle.std.specs.Prelude.{◌≡◌};
+
+use crate::listing::print_lines;
+use crate::quoting::shell_word;
+use enctypes::Etype;
+use kadm_changes::{Context, Stop, is_past, read_database};
+use krb_elements::KerberosString;
+use krb_fields::{Name, Second};
+use principal_rows::Row;
+use principals::Database;
+use program::{FileRights, Store, file_rights, read_clock};
+use std::alloc::{AllocError, Global};
+use std::io::Write;
+use text_fields::UtcDate;
+
+/// The bits of a mode that give rights to the group and to others.
+const OTHERS: u32 = 0o077;
+
+/// The user who may work on any file.
+const ROOT: u32 = 0;
+
+/// The first component of the names of ticket-granting services.
+const KRBTGT: &[u8] = b"krbtgt";
+
+/// Prints a line for each thing to check, with the command that mends it behind a `#`: first those of the file, which
+/// begin with `@database`, as no name does, and then those of principals, in the order of the names' texts.
+pub(crate) fn print_lint<'p, T: Store, W: Write, E: Write>(
+    context: &mut Context<W, E>,
+    store: &mut T,
+    db: &'p str,
+) -> Result<(), Stop<'p>>
+    ensures kept { T.world store.new ≡ T.world store.old }
+{
+    let alloc = context.alloc;
+    let database = read_database(context, store, db)?;
+    let rights = file_rights(store, db)?;
+    let now = read_clock(store)?;
+    let db = shell_word(alloc, db)?;
+    print_lines(&file_findings(alloc, &db, rights)?, &mut context.out)?;
+    let place = Place {
+        alloc,
+        db: &db,
+        now,
+    };
+    Ok(print_lines(&sorted_findings(&place, &database)?, &mut context.out)?)
+}
+
+/// Returns what is wrong with the rights on the database.
+fn file_findings(alloc: Global, db: &str, rights: FileRights) -> Result<Vec<String>, AllocError> {
+    let mut lines = Vec::new(alloc);
+    if rights.mode & OTHERS != 0 {
+        lines.push(format!(in alloc; "@database mode {:o} # chmod 600 {db}", rights.mode)?)?;
+    }
+    if let Some(user) = stranger_to(rights) {
+        lines.push(format!(in alloc; "@database owner {} # chown {user} {db}", rights.owner)?)?;
+    }
+    Ok(lines)
+}
+
+/// Returns the user who runs the program, if the file is another user's. Root works on others' files.
+fn stranger_to(rights: FileRights) -> Option<u32> {
+    rights
+        .user
+        .filter(|user| *user != ROOT && *user != rights.owner)
+}
+
+/// Where principals are looked at, and when.
+#[derive(Clone, Copy)]
+struct Place<'a> {
+    alloc: Global,
+    /// The path of the database, as a word of a shell.
+    db: &'a str,
+    /// The second of the look.
+    now: u64,
+}
+
+fn sorted_findings(place: &Place<'_>, database: &Database) -> Result<Vec<String>, AllocError> {
+    let mut lines = findings(place, database)?;
+    // no text of a name has a byte as low as the space after it, so lines have the order of names
+    lines.sort()?;
+    Ok(lines)
+}
+
+/// A principal to look at.
+#[derive(Clone, Copy)]
+struct Subject<'a> {
+    /// The text of its name.
+    name: &'a str,
+    row: &'a Row,
+    /// The options of a command that say which principal it is, as words of a shell.
+    options: &'a str,
+}
+
+fn findings(place: &Place<'_>, database: &Database) -> Result<Vec<String>, AllocError> {
+    let mut lines = Vec::new(place.alloc);
+    for i in 0..database.len() {
+        if let Some((name, row)) = database.at(i) {
+            push_findings(place, &mut lines, name, row)?;
+        }
+    }
+    Ok(lines)
+}
+
+/// Adds what to check of one principal.
+fn push_findings(
+    place: &Place<'_>,
+    lines: &mut Vec<String>,
+    name: &Name,
+    row: &Row,
+) -> Result<(), AllocError> {
+    let (alloc, db) = (place.alloc, place.db);
+    let text = name.to_text(alloc)?;
+    let word = shell_word(alloc, &text)?;
+    let options = format!(in alloc; "--db {db} --name {word}")?;
+    let subject = Subject {
+        name: &text,
+        row,
+        options: &options,
+    };
+    push_times(alloc, lines, &subject, place.now)?;
+    push_keys(alloc, lines, &subject)?;
+    push_service(alloc, lines, &subject, name)
+}
+
+/// Adds the times of a principal that have passed.
+fn push_times(
+    alloc: Global,
+    lines: &mut Vec<String>,
+    subject: &Subject<'_>,
+    now: u64,
+) -> Result<(), AllocError> {
+    let (name, options) = (subject.name, subject.options);
+    let policy = subject.row.policy;
+    for (word, time, command) in [
+        ("expired", policy.expires, "remove"),
+        ("password_expired", policy.password_expires, "passwd"),
+    ] {
+        if let Some(second) = past(time, now) {
+            let date = UtcDate(second);
+            lines.push(format!(in alloc; "{name} {word} {date} # kadm {command} {options}")?)?;
+        }
+    }
+    Ok(())
+}
+
+/// Returns a time, if it has passed.
+fn past(time: Option<Second>, now: u64) -> Option<Second> {
+    time.filter(|second| is_past(*second, now))
+}
+
+/// Adds the risks of a principal's keys. A principal for which there are no tickets needs no older key.
+fn push_keys(
+    alloc: Global,
+    lines: &mut Vec<String>,
+    subject: &Subject<'_>,
+) -> Result<(), AllocError> {
+    let (name, options) = (subject.name, subject.options);
+    let policy = subject.row.policy;
+    let older = subject.row.versions.as_slice().len().saturating_sub(1);
+    if older > 0 {
+        let word = if policy.service {
+            "older_versions"
+        } else {
+            "old_passwords"
+        };
+        lines.push(format!(in alloc; "{name} {word} {older} # kadm drop {options} --older")?)?;
+    }
+    if !policy.preauth {
+        lines.push(format!(in alloc;
+            "{name} no_preauth # kadm policy {options} --field preauth --value true"
+        )?)?;
+    }
+    if !has_strong_key(subject.row) {
+        let (command, last) = if policy.service {
+            ("random", " --existing")
+        } else {
+            ("passwd", "")
+        };
+        lines.push(format!(in alloc; "{name} weak_types # kadm {command} {options}{last}")?)?;
+    }
+    Ok(())
+}
+
+/// Checks whether a principal has a current key of 256 bits.
+fn has_strong_key(row: &Row) -> bool {
+    for key in row.versions.current().keys.keys() {
+        if matches!(
+            key.etype(),
+            Etype::Aes256CtsHmacSha1_96 | Etype::Aes256CtsHmacSha384_192
+        ) {
+            return true;
+        }
+    }
+    false
+}
+
+/// Adds a principal for which there may be tickets although its name is not a service's: such a ticket is encrypted with
+/// a key that may be derived from a password. Also adds a service of a host that no client asks for.
+fn push_service(
+    alloc: Global,
+    lines: &mut Vec<String>,
+    subject: &Subject<'_>,
+    name: &Name,
+) -> Result<(), AllocError> {
+    let (text, options) = (subject.name, subject.options);
+    if !subject.row.policy.service || is_krbtgt(name) {
+        return Ok(());
+    }
+    if !names_host(name) {
+        lines.push(format!(in alloc;
+            "{text} may_be_service # kadm policy {options} --field service --value false"
+        )?)?;
+    } else if names_odd_host(name) {
+        lines.push(format!(in alloc; "{text} odd_host # kadm remove {options}")?)?;
+    }
+    Ok(())
+}
+
+/// Checks whether a name is that of a ticket-granting service.
+fn is_krbtgt(name: &Name) -> bool {
+    match name.components.as_slice() {
+        [service, _] => service.as_slice() == KRBTGT,
+        _ => false,
+    }
+}
+
+/// Checks whether a name ends in a host's, which has a dot. Those of users with a role, such as `alice/admin`, do not.
+fn names_host(name: &Name) -> bool {
+    match host_of(name) {
+        Some(host) => host.as_slice().contains(&b'.'),
+        None => false,
+    }
+}
+
+/// Checks whether a name's host is written as no client writes it.
+fn names_odd_host(name: &Name) -> bool {
+    match host_of(name) {
+        Some(host) => is_odd(host.as_slice()),
+        None => false,
+    }
+}
+
+/// Checks whether a host has a capital letter or another byte that no client writes, or a dot at one of its ends.
+fn is_odd(host: &[u8]) -> bool {
+    !host.iter().all(is_hosts) || host.first() == Some(&b'.') || host.last() == Some(&b'.')
+}
+
+/// Checks whether the name of a host may have a byte. A port follows some of them, behind a colon.
+fn is_hosts(octet: &u8) -> bool {
+    octet.is_ascii_lowercase()
+        || octet.is_ascii_digit()
+        || matches!(octet, b'-' | b'.' | b'_' | b':')
+}
+
+/// Returns the last component of a name that has several.
+fn host_of(name: &Name) -> Option<&KerberosString> {
+    match name.components.as_slice() {
+        [_, .., last] => Some(last),
+        _ => None,
+    }
+}

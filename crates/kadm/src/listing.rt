@@ -1,0 +1,176 @@
+//! The commands that print the contents of a database, without keys.
+ghost use Rattle.std.specs.Prelude.{◌≡◌};
+
+use crate::json_lines::{json_line, print_json};
+use crate::patterns::is_like;
+use kadm_changes::{Context, ListArgs, Stop, read_database};
+use krb_fields::{Name, Second};
+use principal_rows::{KeyList, Row};
+use principals::{ChangeFault, Database};
+use program::Store;
+use std::alloc::{AllocError, Global};
+use std::io;
+use std::io::Write;
+use text_fields::{Setting, UtcDate};
+
+/// Prints `NAME VERSION TYPES` for each principal whose name fits, in the order of the names' texts. A long line
+/// continues with `EXPIRES PASSWORD_EXPIRES DISABLED VERSIONS SERVICE`.
+pub(crate) fn print_list<'p, T: Store, W: Write, E: Write>(
+    context: &mut Context<W, E>,
+    store: &mut T,
+    db: &'p str,
+    list: ListArgs<'_>,
+) -> Result<(), Stop<'p>>
+    ensures kept { T.world store.new ≡ T.world store.old }
+{
+    let database = read_database(context, store, db)?;
+    if list.json {
+        let lines = sorted_json(context.alloc, &database, list)?;
+        return Ok(print_json(&lines, &mut context.out)?);
+    }
+    let lines = sorted_lines(context.alloc, &database, list)?;
+    Ok(print_lines(&lines, &mut context.out)?)
+}
+
+pub(crate) fn print_lines<W: Write>(lines: &[String], out: &mut W) -> io::Result<()> {
+    for line in lines {
+        writeln!(out, "{line}")?;
+    }
+    Ok(())
+}
+
+fn sorted_lines(
+    alloc: Global,
+    database: &Database,
+    list: ListArgs<'_>,
+) -> Result<Vec<String>, AllocError> {
+    let mut lines = lines_of(alloc, database, list)?;
+    // no text of a name has a byte as low as the space after it, so lines have the order of names
+    lines.sort()?;
+    Ok(lines)
+}
+
+fn lines_of(
+    alloc: Global,
+    database: &Database,
+    list: ListArgs<'_>,
+) -> Result<Vec<String>, AllocError> {
+    let mut lines = Vec::new(alloc);
+    for place in 0..database.len() {
+        if let Some((name, row)) = database.at(place) {
+            let name = name.to_text(alloc)?;
+            if fits(list.like, &name) {
+                lines.push(line_of(alloc, &name, row, list.long)?)?;
+            }
+        }
+    }
+    Ok(lines)
+}
+
+/// Returns the lines of JSON, each behind its name and a space.
+fn sorted_json(
+    alloc: Global,
+    database: &Database,
+    list: ListArgs<'_>,
+) -> Result<Vec<Vec<u8>>, AllocError> {
+    let mut lines = Vec::new(alloc);
+    for place in 0..database.len() {
+        if let Some((name, row)) = database.at(place) {
+            let name = name.to_text(alloc)?;
+            if fits(list.like, &name) {
+                lines.push(json_line(alloc, &name, row, list.long)?)?;
+            }
+        }
+    }
+    lines.sort()?;
+    Ok(lines)
+}
+
+/// Checks whether a name's text fits the pattern, if there is one.
+fn fits(like: Option<&str>, name: &str) -> bool {
+    match like {
+        Some(pattern) => is_like(pattern, name),
+        None => true,
+    }
+}
+
+fn line_of(alloc: Global, name: &str, row: &Row, long: bool) -> Result<String, AllocError> {
+    let current = row.versions.current();
+    let types = types_of(alloc, &current.keys)?;
+    let mut line = format!(in alloc; "{name} {} {types}", current.number)?;
+    if long {
+        push_columns(&mut line, row)?;
+    }
+    Ok(line)
+}
+
+/// Adds the further columns of a long line.
+fn push_columns(line: &mut String, row: &Row) -> Result<(), AllocError> {
+    push_time(line, row.policy.expires)?;
+    push_time(line, row.policy.password_expires)?;
+    let versions = row.versions.as_slice().len();
+    write!(
+        line,
+        " {} {versions} {}",
+        row.policy.disabled, row.policy.service
+    )?;
+    Ok(())
+}
+
+fn push_time(line: &mut String, time: Option<Second>) -> Result<(), AllocError> {
+    match time {
+        Some(second) => write!(line, " {}", UtcDate(second))?,
+        None => line.push_str(" never")?,
+    }
+    Ok(())
+}
+
+/// Returns the numbers of the keys' types, joined by commas.
+fn types_of(alloc: Global, keys: &KeyList) -> Result<String, AllocError> {
+    let mut types = String::new(alloc);
+    for key in keys.keys() {
+        if !types.is_empty() {
+            types.push(',')?;
+        }
+        write!(types, "{}", key.etype().number())?;
+    }
+    Ok(types)
+}
+
+/// Prints a principal's policy, with one field on each line as `policy` accepts it, and then `version NUMBER TYPES` for
+/// each version, the current one first.
+pub(crate) fn print_row<'p, T: Store, W: Write, E: Write>(
+    context: &mut Context<W, E>,
+    store: &mut T,
+    db: &'p str,
+    name: &str,
+) -> Result<(), Stop<'p>>
+    ensures kept { T.world store.new ≡ T.world store.old }
+{
+    let name = Name::from_text(context.alloc, name)?;
+    let database = read_database(context, store, db)?;
+    match database.get(&name) {
+        Some(row) => print_found(context.alloc, row, &mut context.out),
+        None => Err(Stop::from(ChangeFault::Absent)),
+    }
+}
+
+fn print_found<'p, W: Write>(alloc: Global, row: &Row, out: &mut W) -> Result<(), Stop<'p>> {
+    print_policy(row, out)?;
+    print_versions(alloc, row, out)
+}
+
+fn print_policy<W: Write>(row: &Row, out: &mut W) -> io::Result<()> {
+    for setting in Setting::all(row.policy) {
+        writeln!(out, "{setting}")?;
+    }
+    Ok(())
+}
+
+fn print_versions<'p, W: Write>(alloc: Global, row: &Row, out: &mut W) -> Result<(), Stop<'p>> {
+    for version in row.versions.as_slice() {
+        let types = types_of(alloc, &version.keys)?;
+        writeln!(out, "version {} {types}", version.number)?;
+    }
+    Ok(())
+}

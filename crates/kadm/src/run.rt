@@ -1,0 +1,249 @@
+//! One command line: from its words to the files.
+ghost use Rattle.std.specs.Prelude.{◌≡◌, IfErr, IfOk, OnErr, map, string_bytes, true};
+ghost use Rattle.kadm_changes.specs.Words.{path_of, texts};
+ghost use Rattle.kadm.specs.Ends.{IsCommandEnd, IsCommandStopped, IsEnd, IsStopped, IsWriteDone, IsWriteEnd};
+ghost use Rattle.kadm.specs.Ends.{IsWriteStopped};
+ghost use Rattle.kadm.specs.Words.{asks_help, with_db};
+ghost use Rattle.program.specs.declared.status.Status.TheVariants.{Done, Failed};
+
+use crate::batch::run_batch;
+use crate::command_words::read_command;
+use crate::linting::print_lint;
+use crate::listing::{print_list, print_row};
+use crate::options::read_args;
+use crate::reports::report;
+use crate::usage::{print_help, report_command_fault};
+use crate::words::{with_db, words_of};
+use clap::ArgMatches;
+use clap::error::Error;
+use kadm_changes::{
+    Command, CommandKind, Context, PrintCommand, Progress, Stop, Subject, WriteCommand,
+    import_dump, make_realm, update, write_keytab,
+};
+use program::{Status, Store};
+use std::alloc::{AllocError, Global};
+use std::io;
+use std::io::{BufWriter, Write};
+
+/// What a command is given besides its files.
+#[derive(Clone, Copy)]
+pub(crate) struct CommandLine<'a> {
+    /// The words of the command line. The first is the program's name.
+    pub args: &'a [String],
+    /// The database of a command line that names none.
+    pub db: Option<&'a str>,
+    /// Whether standard error is a terminal.
+    pub is_watched: bool,
+}
+
+/// Runs a command line. Prints the outcome to `writer`, and the reason of a refusal or failure and what is wrong with the
+/// words to `errors`. `Done` means that what the words order was done, or that they ask for help. Otherwise the files are
+/// unchanged, unless the words order a batch that keeps going (`Refused`), or only the printing failed (`Failed`).
+pub(crate) fn kadm_run<T: Store, W: Write + Drop, E: Write + Drop>(
+    alloc: Global,
+    line: CommandLine<'_>,
+    store: &mut T,
+    writer: W,
+    errors: E,
+) -> Status
+    ensures { IsEnd (with_db (path_of line.entry.db) (map string_bytes line.entry.args.now)) (T.world store.old) result (T.world store.new) }
+{
+    let Ok(words) = words_with_db(alloc, line) else {
+        return Status::Failed;
+    };
+    let Ok(out) = BufWriter::new(alloc, writer) else {
+        return Status::Failed;
+    };
+    let Ok(errors) = BufWriter::new(alloc, errors) else {
+        return Status::Failed;
+    };
+    let progress = Progress {
+        watched: line.is_watched,
+        second: None,
+    };
+    let mut context = Context {
+        alloc,
+        out,
+        errors,
+        progress,
+    };
+    run_and_report(&mut context, store, &words).unwrap_or(Status::Failed)
+}
+
+/// Returns the words of a command line, with the database that is its default if they name none.
+fn words_with_db<'a>(alloc: Global, line: CommandLine<'a>) -> Result<Vec<&'a str>, AllocError>
+    ensures { IfOk result (λ words. texts words.items ≡ with_db (path_of line.entry.db) (map string_bytes line.entry.args.now)) }
+{
+    let words = words_of(alloc, line.args)?;
+    with_db(alloc, words, line.db)
+}
+
+/// Returns the status, or the error of a failed write to the output.
+#[tactic(auto, using(crate::proofs::Ending::stopped_end, crate::proofs::Ending::stopped_failed, crate::proofs::Ending::end_failed))]
+fn run_and_report<'a, T: Store, W: Write, E: Write>(
+    context: &mut Context<W, E>,
+    store: &mut T,
+    words: &'a [&'a str],
+) -> io::Result<Status>
+    ensures ended { IfOk result (λ status. IsEnd (texts words.entry.now) (T.world store.old) status (T.world store.new)) }
+    ensures failed { OnErr result (IsEnd (texts words.entry.now) (T.world store.old) Failed (T.world store.new)) }
+{
+    let status = match run_to_end(context, store, words) {
+        Ok(status) => status,
+        Err(stop) => {
+            let subject = Subject { words, line: None };
+            report(context, &subject, stop)?
+        }
+    };
+    // the errors first: they may say that the output failed
+    let _ = context.errors.flush();
+    context.out.flush()?;
+    Ok(status)
+}
+
+/// Runs the command, and flushes what it prints.
+#[tactic(auto, using(crate::proofs::Ending::failed_after))]
+fn run_to_end<'a, T: Store, W: Write, E: Write>(
+    context: &mut Context<W, E>,
+    store: &mut T,
+    words: &'a [&'a str],
+) -> Result<Status, Stop<'a>>
+    ensures done { IfOk result (λ status. IsEnd (texts words.entry.now) (T.world store.old) status (T.world store.new)) }
+    ensures stopped { IfErr result (λ stop. IsStopped (texts words.entry.now) (T.world store.old) stop (T.world store.new)) }
+{
+    let status = run_words(context, store, words)?;
+    context.out.flush()?;
+    Ok(status)
+}
+
+/// Runs the command, or prints the help that it asks for.
+fn run_words<'a, T: Store, W: Write, E: Write>(
+    context: &mut Context<W, E>,
+    store: &mut T,
+    words: &'a [&'a str],
+) -> Result<Status, Stop<'a>>
+    ensures done { IfOk result (λ status. IsEnd (texts words.entry.now) (T.world store.old) status (T.world store.new)) }
+    ensures stopped { IfErr result (λ stop. IsStopped (texts words.entry.now) (T.world store.old) stop (T.world store.new)) }
+{
+    let matches = read_args(context.alloc, words);
+    if asks(context, &matches, words)? {
+        return Ok(Status::Done);
+    }
+    run_read(context, store, words)
+}
+
+/// Prints the help, and returns whether the words ask for it.
+fn asks<'a, W: Write, E: Write>(
+    context: &mut Context<W, E>,
+    matches: &Result<ArgMatches<'a>, Error>,
+    words: &[&str],
+) -> Result<bool, Stop<'static>>
+    ensures { IfOk result (λ asks. asks ≡ true → asks_help (texts words.now) ≡ true) }
+{
+    match matches {
+        Ok(_) => Ok(false),
+        Err(error) => {
+            print_help(context, words, error)?;
+            Ok(true)
+        }
+    }
+}
+
+/// Runs the command that the parser has read.
+#[tactic(auto, using(crate::proofs::Ending::spelled_end, crate::proofs::Ending::spelled_stop))]
+fn run_read<'a, T: Store, W: Write, E: Write>(
+    context: &mut Context<W, E>,
+    store: &mut T,
+    words: &'a [&'a str],
+) -> Result<Status, Stop<'a>>
+    ensures done { IfOk result (λ status. IsEnd (texts words.entry.now) (T.world store.old) status (T.world store.new)) }
+    ensures stopped { IfErr result (λ stop. IsStopped (texts words.entry.now) (T.world store.old) stop (T.world store.new)) }
+{
+    match read_command(context.alloc, words) {
+        Ok(command) => run_command(context, store, &command),
+        Err(fault) => Err(report_command_fault(&mut context.errors, fault)),
+    }
+}
+
+/// Runs a command that was read.
+#[tactic(auto, using(crate::proofs::Ending::write_end, crate::proofs::Ending::write_stop, crate::proofs::Ending::print_end))]
+fn run_command<'a, T: Store, W: Write, E: Write>(
+    context: &mut Context<W, E>,
+    store: &mut T,
+    command: &Command<'a>,
+) -> Result<Status, Stop<'a>>
+    ensures done { IfOk result (λ status. IsCommandEnd (T.world store.old) command.now status (T.world store.new)) }
+    ensures stopped { IfErr result (λ stop. IsCommandStopped (T.world store.old) command.now stop (T.world store.new)) }
+{
+    match command.kind {
+        CommandKind::Print(print) => run_print(context, store, command.db, print),
+        CommandKind::Write(write) => run_write(context, store, command, write),
+    }
+}
+
+/// Runs a command that only prints.
+fn run_print<'a, T: Store, W: Write, E: Write>(
+    context: &mut Context<W, E>,
+    store: &mut T,
+    db: &'a str,
+    print: PrintCommand<'a>,
+) -> Result<Status, Stop<'a>>
+    ensures done { IfOk result (λ status. status ≡ Done) }
+    ensures kept { T.world store.new ≡ T.world store.old }
+{
+    match print {
+        PrintCommand::List(list) => print_list(context, store, db, list)?,
+        PrintCommand::Lint => print_lint(context, store, db)?,
+        PrintCommand::Show { name } => print_row(context, store, db, name)?,
+    }
+    Ok(Status::Done)
+}
+
+/// Runs a command that writes a file, and prints `ok` if it was done.
+fn run_write<'a, T: Store, W: Write, E: Write>(
+    context: &mut Context<W, E>,
+    store: &mut T,
+    command: &Command<'a>,
+    write: WriteCommand<'a>,
+) -> Result<Status, Stop<'a>>
+    ensures done { IfOk result (λ status. IsWriteEnd (T.world store.old) command.now write.entry status (T.world store.new)) }
+    ensures stopped { IfErr result (λ stop. IsWriteStopped (T.world store.old) command.now write.entry stop (T.world store.new)) }
+{
+    if !write_files(context, store, command, write)? {
+        return Ok(Status::Refused);
+    }
+    writeln!(context.out, "ok")?;
+    Ok(Status::Done)
+}
+
+/// Writes the files of a command. Returns whether all was done: a batch that keeps going may have been done in part.
+#[tactic(auto, using(crate::proofs::Ending::batch_write))]
+fn write_files<'a, T: Store, W: Write, E: Write>(
+    context: &mut Context<W, E>,
+    store: &mut T,
+    command: &Command<'a>,
+    write: WriteCommand<'a>,
+) -> Result<bool, Stop<'a>>
+    ensures done { IfOk result (λ whole. IsWriteDone (T.world store.old) command.now write.entry whole (T.world store.new)) }
+    ensures kept { OnErr result (T.world store.new ≡ T.world store.old) }
+{
+    match write {
+        WriteCommand::Batch { keep_going } => run_batch(context, store, command, keep_going),
+        WriteCommand::Init(new) => {
+            make_realm(context, store, command, new)?;
+            Ok(true)
+        }
+        WriteCommand::Update(changes) => {
+            update(context, store, command, changes)?;
+            Ok(true)
+        }
+        WriteCommand::Keytab(to) => {
+            write_keytab(context, store, command, to)?;
+            Ok(true)
+        }
+        WriteCommand::Dump(from) => {
+            import_dump(context, store, command, from)?;
+            Ok(true)
+        }
+    }
+}

@@ -1,0 +1,57 @@
+//! Which settings of a policy the words of a command line order, and which values a field accepts.
+ghost use Rattle.std.specs.Prelude.{◌≡◌};
+ghost use Rattle.kadm_changes.specs.Words.{texts};
+ghost use Rattle.kadm.specs.Words.{sets_some};
+
+use crate::words::is_given;
+use kadm_changes::{SettingWords, setting_at, setting_from, setting_of};
+use text_fields::Setting;
+
+const FLAGS: &str = "true or false";
+
+const LIVES: &str = "seconds (36000), or a number followed by s, m, h or d (10h, 7d)";
+
+const TIMES: &str = "\
+a date (2027-01-01, 2027-01-01T12:00:00Z), a second since 1970, a time from now (10h, 7d) or never";
+
+/// Returns what the field with this name accepts. `None` if a policy has no such field.
+pub(crate) fn accepted_by(field: &str) -> Option<&'static str> {
+    if Setting::of(field, "true").is_some() {
+        Some(FLAGS)
+    } else if Setting::of(field, "0").is_none() {
+        None
+    } else if Setting::of(field, "never").is_some() {
+        Some(TIMES)
+    } else {
+        Some(LIVES)
+    }
+}
+
+/// Checks whether a field accepts a value.
+pub(crate) fn is_setting(field: &str, value: &str) -> bool {
+    setting_of(field, value).is_some() || setting_from(field, value, 0).is_some()
+}
+
+/// Checks whether the words order a setting, and have neither `--field` nor `--value` alone.
+pub(crate) fn sets_some(words: &[&str]) -> bool
+    ensures { result ≡ sets_some (texts words.now) }
+{
+    if is_given(words, "--field") {
+        return is_given(words, "--value");
+    }
+    !is_given(words, "--value") && is_given(words, "--set")
+}
+
+/// Returns the first setting that the words order and its field does not accept.
+pub(crate) fn invalid_setting<'a>(words: &[&'a str]) -> Option<SettingWords<'a>> {
+    let mut rest = words;
+    while let [word, others @ ..] = rest {
+        if let Some(setting) = setting_at(words, word, others)
+            && !is_setting(setting.field, setting.value)
+        {
+            return Some(setting);
+        }
+        rest = others;
+    }
+    None
+}

@@ -1,0 +1,105 @@
+-- The effect of a command, from the effects of its calls.
+use Rattle.std.proofs.Common.{◌≡◌, ◌∙◌, ℕ, List, [], ◌∷◌, ◌++◌, Bool, true, false, Option, Some, None, Result, Ok}
+use Rattle.std.proofs.Common.{Err, OnOk, IfSome, MatchResult, flat_map, take, drop, option_map, ap, subst}
+use Rattle.std.proofs.Common.{refl, inl, inr}
+use Rattle.std.specs.Prelude.{⊤}
+use Rattle.enctypes.specs.declared.etype.Etype.{Etype}
+use Rattle.program.specs.World.{World, with_file}
+use Rattle.cred_files.specs.Keytab.{part_text}
+use Rattle.krb_fields.specs.Name.{Components}
+use Rattle.krb_fields.specs.PrincipalName.{Name}
+use Rattle.krb_fields.specs.NameText.{IsNameText}
+use Rattle.principal_rows.specs.Versions.{current}
+use Rattle.principal_rows.specs.declared.row.KeyVersion.{KeyVersion}
+use Rattle.principals.specs.Change.{row_changed, row_refusal}
+use Rattle.principals.specs.Database.{Principals}
+use Rattle.principals.specs.Importing.{import_refusal, imported}
+use Rattle.principals.specs.declared.change.ChangeFault.{ChangeFault}
+use Rattle.principals.specs.declared.change.RowChange.{RowChange}
+use Rattle.kadm_changes.specs.Changing.{AreChanged}
+use Rattle.kadm_changes.specs.Granting.{Makes}
+use Rattle.kadm_changes.specs.Importing.{Imports}
+use Rattle.kadm_changes.specs.Keytabs.{IsBehind, IsFreePath, IsFront, IsKeytabFor, IsNewKeytab, IsOldKeytab, entries_of}
+use Rattle.kadm_changes.specs.Updates.{IsRowChanged, IsRowUpdated, IsSecretOf}
+use Rattle.kadm_changes.specs.Words.{Text}
+use Rattle.kadm_changes.specs.Worlds.{HoldsDatabase, Rewritten, WroteKeytab, with_database}
+use Rattle.kadm_changes.specs.declared.command.KeytabArgs.{KeytabArgs}
+use Rattle.kadm_changes.specs.declared.command.ChangeArgs.{ChangeArgs}
+use Rattle.kadm_changes.specs.declared.command.RowArgs.{RowArgs}
+
+-- ---- a change of a row
+
+-- if a change was made, no rule refuses it
+unrefused : {T : Type 0} (refusal : Option ChangeFault) (x : T) → IfSome refusal (λ fault. Ok x ≡ Err fault) → refusal ≡ None
+unrefused None x refused = refl
+unrefused (Some fault) x refused = absurd (subst (λ r. MatchResult r (λ _. ⊤) (λ _. ⊥)) refused tt)
+
+pub made_by : {T : Type 0} (r : Result T ChangeFault) (p new : Principals) (who : Components) (what : RowChange)
+    → OnOk r (new ≡ row_changed p who what) → IfSome (row_refusal p who what) (λ fault. r ≡ Err fault) → OnOk r (Makes p who what new)
+made_by (Ok x) p new who what made refused = record { allowed = unrefused (row_refusal p who what) x refused; made = made }
+made_by (Err fault) p new who what made refused = tt
+
+pub imports_by : {T : Type 0} (r : Result T ChangeFault) (p new : Principals) (who : Components) (versions : List KeyVersion)
+    → OnOk r (new ≡ imported p who versions) → IfSome (import_refusal p who) (λ fault. r ≡ Err fault) → OnOk r (Imports p who versions new)
+imports_by (Ok x) p new who versions made refused = record { allowed = unrefused (import_refusal p who) x refused; made = made }
+imports_by (Err fault) p new who versions made refused = tt
+
+-- ---- changes of a database that was read
+
+-- the change of a row, whose password was read before
+pub row_updated : (before changing : Option World) (etypes given : List Etype) (to : RowArgs) (who : Components) (pass octets : List ℕ) (p q : Principals)
+    → changing ≡ before → given ≡ etypes → octets ≡ pass → IsNameText who to.name.now → IsSecretOf before to.how pass
+    → IsRowChanged changing given octets to who p q → IsRowUpdated before etypes to p q
+row_updated before changing etypes given to who pass octets p q kept types taken spelled secret change = record {
+  who = who;
+  spelled = spelled;
+  pass = pass;
+  secret = secret;
+  changed = subst (λ world. IsRowChanged world etypes pass to who p q) kept
+      (subst (λ read. IsRowChanged changing etypes read to who p q) taken
+      (subst (λ ordered. IsRowChanged changing ordered octets to who p q) types change));
+}
+
+-- the changes of all principals that are named
+pub rows_changed : (before changing : Option World) (words : List Text) (how : ChangeArgs) (p q : Principals)
+    → changing ≡ before → AreChanged changing words how p q → AreChanged before words how p q
+rows_changed before changing words how p q kept change = subst (λ world. AreChanged world words how p q) kept change
+
+-- ---- keytabs
+
+pub wrote_keytab : {T E : Type 0} (r : Result T E) (before locked opened checked filled after : Option World) (db : List ℕ) (to : KeytabArgs) (who : Components) (p : Principals) (octets : List ℕ)
+    → locked ≡ before → opened ≡ locked → checked ≡ opened → filled ≡ checked → IsNameText who to.name.now → HoldsDatabase locked db p
+    → IsFreePath opened to.out.now
+    → IsKeytabFor checked to who p octets → OnOk r (after ≡ option_map (with_file to.out.now octets) filled) → OnOk r (WroteKeytab before db to after)
+wrote_keytab (Ok x) before locked opened checked filled after db to who p octets first kept same still spelled read free holds written = record {
+  who = who;
+  spelled = spelled;
+  old = p;
+  read = subst (λ world. HoldsDatabase world db p) first read;
+  free = subst (λ world. IsFreePath world to.out.now) (kept ∙ first) free;
+  octets = octets;
+  holds = subst (λ world. IsKeytabFor world to who p octets) (same ∙ kept ∙ first) holds;
+  written = written ∙ ap (λ world. option_map (with_file to.out.now octets) world) (still ∙ same ∙ kept ∙ first);
+}
+wrote_keytab (Err e) before locked opened checked filled after db to who p octets first kept same still spelled read free holds written = tt
+
+-- what comes before the new entries: the content of an old keytab that is extended, or none
+front : (world : Option World) (append : Bool) (path : List ℕ) (old : Option (List ℕ)) (new entries all : List ℕ)
+    → IsOldKeytab world append path old → new ≡ 5 ∷ 2 ∷ entries → IsBehind old new all
+    → (first : List ℕ) × IsFront world append path first × (all ≡ first ++ entries)
+front world true path (Some old) new entries all (is, read) text (size, behind) =
+    (take size old, inr (old, read, size, refl), behind ∙ ap (λ octets. take size old ++ drop 2 octets) text)
+front world false path (Some old) new entries all (is, read) text behind = absurd (subst (λ b. cond_type b) is tt)
+  where
+    cond_type : Bool → Type 0
+    cond_type false = ⊤
+    cond_type true = ⊥
+front world true path None new entries all free text same = (5 ∷ 2 ∷ [], inl (free, refl), same ∙ text)
+front world false path None new entries all free text same = (5 ∷ 2 ∷ [], refl, same ∙ text)
+
+pub keytab_for : (world : Option World) (to : KeytabArgs) (name : Name) (p : Principals) (old : Option (List ℕ)) (new all : List ℕ)
+    → IsOldKeytab world to.append to.out.now old → IsNewKeytab p name new → IsBehind old new all
+    → IsKeytabFor world to name.components p all
+keytab_for world to name p old new all was (row, found, text) behind =
+    let made = front world to.append to.out.now old new (flat_map part_text (entries_of p.realm name (current row.versions))) all was text behind in
+    record { row = row; found = found; name = name; named = refl; front = made.0; starts = made.1; holds = made.2 }

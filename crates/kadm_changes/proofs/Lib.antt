@@ -1,0 +1,7 @@
+mod Doing
+mod Imports
+mod Making
+mod Moved
+mod Older
+mod Paths
+mod Users

@@ -1,0 +1,11 @@
+pub mod Changing
+pub mod Denying
+pub mod Dumps
+pub mod Granting
+pub mod Importing
+pub mod Keytabs
+pub mod Stops
+pub mod Updates
+pub mod Words
+pub mod Worlds
+pub mod WorldLaws

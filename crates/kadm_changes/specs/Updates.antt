@@ -1,0 +1,76 @@
+-- The effect of the commands that change a database.
+use Rattle.std.specs.Prelude.{◌≡◌, ℕ, Bool, List, ◌∷◌, map, Option, Some, None, ⊤}
+use Rattle.enctypes.specs.declared.etype.Etype.{Etype}
+use Rattle.program.specs.World.{World, HasFirstLine, HasSeed}
+use Rattle.krb_fields.specs.Name.{Components}
+use Rattle.krb_fields.specs.NameText.{IsNameText}
+use Rattle.krb_fields.specs.Salt.{default_salt}
+use Rattle.text_fields.specs.Keys.{drawn_keys, password_key, seeded}
+use Rattle.principal_rows.specs.declared.row.KeyVersion.{KeyVersion}
+use Rattle.principals.specs.Database.{Principals}
+use Rattle.kadm_changes.specs.Changing.{AreChanged, AreSet}
+use Rattle.kadm_changes.specs.Denying.{migrated_rows}
+use Rattle.kadm_changes.specs.Granting.{IsCleared, IsGranted}
+use Rattle.kadm_changes.specs.Importing.{HasVersions, Imports}
+use Rattle.kadm_changes.specs.Words.{Text, path_of, texts}
+use Rattle.kadm_changes.specs.declared.command.Grant.{Grant}
+use Rattle.kadm_changes.specs.declared.command.RowArgs.{RowArgs}
+use Rattle.kadm_changes.specs.declared.command.RowUpdate.{RowUpdate}
+use Rattle.kadm_changes.specs.declared.command.RowUpdate.TheVariants as rows
+use Rattle.kadm_changes.specs.declared.command.Update.{Update}
+use Rattle.kadm_changes.specs.declared.command.Update.TheVariants as updates
+
+-- ---- one row
+
+-- a password is the first line of its file, if one is named
+abbrev pub IsPasswordOf : Option World → Option Text → List ℕ → Type 0
+IsPasswordOf world (Some path) pass = HasFirstLine world path pass
+IsPasswordOf world None pass = ⊤
+
+-- the password that a change of a row takes, if it takes one
+abbrev pub IsSecretOf : Option World → RowUpdate → List ℕ → Type 0
+IsSecretOf world (rows.Password to) pass = IsPasswordOf world (path_of to.password.file) pass
+IsSecretOf world (rows.Random to) pass = ⊤
+IsSecretOf world (rows.Import keytab) pass = ⊤
+
+-- the keys of a password, and a password's expiry that is past is cleared
+abbrev pub GivesPassword : Option World → List Etype → List ℕ → Grant → Components → Principals → Principals → Type 0
+GivesPassword world etypes pass grant who p new =
+    (given : Principals) × IsGranted grant who (map (password_key pass (default_salt p.realm who)) etypes) p given
+    × IsCleared world who given new
+
+-- keys drawn from a seed: of a file, if one is named, or else of the system
+abbrev pub GivesRandom : Option World → List Etype → Option Text → Grant → Components → Principals → Principals → Type 0
+GivesRandom world etypes named grant who p new =
+    (seed : List ℕ) × HasSeed world named seed × IsGranted grant who (drawn_keys (seeded seed) etypes) p new
+
+-- a new principal, with its keys from a keytab
+abbrev pub IsImported : Option World → List Etype → Text → Components → Principals → Principals → Type 0
+IsImported world etypes keytab who p new =
+    (versions : List KeyVersion) × HasVersions world keytab (p.realm ∷ who) etypes versions × Imports p who versions new
+
+abbrev pub IsRowGiven : Option World → List Etype → List ℕ → RowUpdate → Components → Principals → Principals → Type 0
+IsRowGiven world etypes pass (rows.Password to) who p new = GivesPassword world etypes pass to.grant who p new
+IsRowGiven world etypes pass (rows.Random to) who p new = GivesRandom world etypes (path_of to.seed) to.grant who p new
+IsRowGiven world etypes pass (rows.Import keytab) who p new = IsImported world etypes keytab.now who p new
+
+-- a principal is given keys, and then the settings of the command line
+abbrev pub IsRowChanged : Option World → List Etype → List ℕ → RowArgs → Components → Principals → Principals → Type 0
+IsRowChanged world etypes pass to who p new =
+    (given : Principals) × IsRowGiven world etypes pass to.how who p given × AreSet world (texts to.words.now) who given new
+
+-- the row of the principal that a text names is changed
+pub record IsRowUpdated (world : Option World) (etypes : List Etype) (to : RowArgs) (p : Principals) (new : Principals) : Type 0 where
+  pub who : Components
+  pub spelled : IsNameText who to.name.now
+  pub pass : List ℕ
+  pub secret : IsSecretOf world to.how pass
+  pub changed : IsRowChanged world etypes pass to who p new
+
+abbrev pub IsMigrated : Bool → Principals → Principals → Type 0
+IsMigrated users_are_no_services p new = new ≡ migrated_rows users_are_no_services p
+
+abbrev pub IsUpdated : Option World → List Etype → Update → Principals → Principals → Type 0
+IsUpdated world etypes (updates.Row to) p new = IsRowUpdated world etypes to p new
+IsUpdated world etypes (updates.Changes changes) p new = AreChanged world (texts changes.words.now) changes.how p new
+IsUpdated world etypes (updates.Migrate users_are_no_services) p new = IsMigrated users_are_no_services p new

@@ -1,0 +1,309 @@
+//! A new database, and changes of one without new keys.
+ghost use Rattle.std.specs.Prelude.{◌≡◌, IfOk, IsFalse, OnOk, OnErr, false, option_map, true};
+ghost use Rattle.principals.specs.Database.{tgs_principal};
+ghost use Rattle.principals.specs.declared.change.RowChange.TheVariants as row_changes;
+ghost use Rattle.kadm_changes.specs.Changing.{AreChanged, AreSet, IsChanged, IsChangedAt, IsNamedChanged, IsSetAt};
+ghost use Rattle.kadm_changes.specs.Denying.{migrated_rows};
+ghost use Rattle.kadm_changes.specs.Granting.{IsPolicySet, IsValueOf, Makes, denies_tickets};
+ghost use Rattle.kadm_changes.specs.Words.{path_of, texts};
+ghost use Rattle.kadm_changes.specs.Worlds.{MadeNew, MadeRealm};
+
+use crate::assigning::{SettingWords, setting_at};
+use crate::command::{ChangeArgs, Changes, Command, InitArgs};
+use crate::context::Context;
+use crate::databases::{apply, lock_database, write_database};
+use crate::denying::deny_users;
+use crate::draft::Draft;
+use crate::granting::drop_older;
+use crate::reason::Reason;
+use crate::stop::{Stop, of_realm};
+use crate::values::{setting_from, setting_of};
+use crate::words::value_at;
+use krb_elements::KerberosString;
+use krb_fields::{Name, component_from_text};
+use principals::{ChangeFault, Database, RowChange, tgs_name};
+use program::{Store, has_file, read_clock, read_or_draw_seed};
+use std::alloc::{AllocError, Global};
+use std::io::Write;
+use text_fields::{FlagField, Setting, random_keys};
+
+/// The option that names a principal.
+const NAME: &str = "--name";
+
+/// Makes the database of a new realm.
+pub fn make_realm<'p, T: Store, W: Write, E: Write>(
+    context: &mut Context<W, E>,
+    store: &mut T,
+    command: &Command<'p>,
+    new: InitArgs<'p>,
+) -> Result<(), Stop<'p>>
+    ensures done { OnOk result (MadeRealm (T.world store.old) command.now.db.now command.now.etypes.items new.entry.realm.now
+        (path_of new.entry.seed) (T.world store.new)) }
+    ensures kept { OnErr result (T.world store.new ≡ T.world store.old) }
+{
+    match component_from_text(context.alloc, new.realm) {
+        Ok(realm) => make_new_realm(context, store, command, &realm, new.seed),
+        Err(fault) => Err(of_realm(fault)),
+    }
+}
+
+fn make_new_realm<'p, T: Store, W: Write, E: Write>(
+    context: &mut Context<W, E>,
+    store: &mut T,
+    command: &Command<'p>,
+    realm: &KerberosString,
+    seed: Option<&'p str>,
+) -> Result<(), Stop<'p>>
+    ensures done { OnOk result (MadeNew (T.world store.old) command.now.db.now command.now.etypes.items realm.now
+        (path_of seed.entry) (T.world store.new)) }
+    ensures kept { OnErr result (T.world store.new ≡ T.world store.old) }
+{
+    let alloc = context.alloc;
+    let locked = lock_database(context, store, command)?;
+    if has_file(store, command.db)? {
+        return Err(Stop::Refused(Reason::FileExists));
+    }
+    let keys = random_keys(
+        alloc,
+        &command.etypes,
+        read_or_draw_seed(alloc, store, seed)?,
+    )?;
+    let database = Database::first(alloc, realm.as_slice(), keys)?;
+    write_database(alloc, store, &locked, &database)
+}
+
+/// Fails if the words of a command line name a principal by a text that is no name.
+pub(crate) fn check_names<'p>(alloc: Global, words: &'p [&'p str]) -> Result<(), Stop<'p>> {
+    let mut rest = words;
+    while let [word, others @ ..] = rest {
+        if let Some(name) = value_at(NAME, word, others) {
+            check_name(alloc, name)?;
+        }
+        rest = others;
+    }
+    Ok(())
+}
+
+fn check_name<'p>(alloc: Global, name: &'p str) -> Result<(), Stop<'p>> {
+    match Name::from_text(alloc, name) {
+        Ok(_) => Ok(()),
+        Err(fault) => Err(Stop::from(fault).about(name)),
+    }
+}
+
+/// Changes each principal that the words of a command line name, without new keys. After an `Err` some may have been
+/// changed.
+pub(crate) fn change_all<'p, T: Store>(
+    store: &mut T,
+    draft: &mut Draft,
+    changes: &Changes<'p>,
+) -> Result<(), Stop<'p>>
+    ensures changed { OnOk result (AreChanged (T.world store.old) (texts changes.now.words.now) changes.now.how draft.old.database draft.new.database) }
+    ensures kept { T.world store.new ≡ T.world store.old }
+{
+    let mut rest = changes.words;
+    while let [word, others @ ..] = rest {
+        let name = value_at(NAME, word, others);
+        change_at(store, draft, changes, name)?;
+        rest = others;
+    }
+    Ok(())
+}
+
+/// Changes the principal that a word names, if it names one.
+fn change_at<'p, T: Store>(
+    store: &mut T,
+    draft: &mut Draft,
+    changes: &Changes<'p>,
+    name: Option<&'p str>,
+) -> Result<(), Stop<'p>>
+    ensures changed { OnOk result (IsChangedAt (T.world store.old) (texts changes.now.words.now) changes.now.how (path_of name.entry) draft.old.database draft.new.database) }
+    ensures kept { T.world store.new ≡ T.world store.old }
+{
+    match name {
+        Some(name) => change_named(store, draft, changes, name),
+        None => Ok(()),
+    }
+}
+
+/// Changes the principal that a text names. A refusal names it.
+fn change_named<'p, T: Store>(
+    store: &mut T,
+    draft: &mut Draft,
+    changes: &Changes<'p>,
+    name: &'p str,
+) -> Result<(), Stop<'p>>
+    ensures changed { OnOk result (IsNamedChanged (T.world store.old) (texts changes.now.words.now) changes.now.how name.entry.now draft.old.database draft.new.database) }
+    ensures kept { T.world store.new ≡ T.world store.old }
+{
+    match change_text(store, draft, changes, name) {
+        Ok(()) => Ok(()),
+        Err(stop) => Err(stop.about(name)),
+    }
+}
+
+/// Changes the principal that a text names.
+fn change_text<'p, T: Store>(
+    store: &mut T,
+    draft: &mut Draft,
+    changes: &Changes<'p>,
+    name: &str,
+) -> Result<(), Stop<'p>>
+    ensures changed { OnOk result (IsNamedChanged (T.world store.old) (texts changes.now.words.now) changes.now.how name.now draft.old.database draft.new.database) }
+    ensures kept { T.world store.new ≡ T.world store.old }
+{
+    let who = Name::from_text(draft.alloc, name)?;
+    change(store, draft, &who, changes)
+}
+
+/// Changes the row of a principal, without new keys.
+fn change<'p, T: Store>(
+    store: &mut T,
+    draft: &mut Draft,
+    who: &Name,
+    changes: &Changes<'p>,
+) -> Result<(), Stop<'p>>
+    ensures changed { OnOk result (IsChanged (T.world store.old) (texts changes.now.words.now) changes.now.how who.now.components draft.old.database draft.new.database) }
+    ensures kept { T.world store.new ≡ T.world store.old }
+{
+    match changes.how {
+        ChangeArgs::Drop { version } => drop_keys(draft, who, version),
+        ChangeArgs::DropOlder => Ok(drop_older(draft, who)?),
+        ChangeArgs::Policy => set_all(store, draft, who, changes.words),
+        ChangeArgs::Remove => Ok(apply(draft, who, RowChange::Remove)?),
+    }
+}
+
+/// Makes the settings that the words of a command line order, in their order. After an `Err` some may have been made.
+pub(crate) fn set_all<'p, T: Store>(
+    store: &mut T,
+    draft: &mut Draft,
+    who: &Name,
+    words: &'p [&'p str],
+) -> Result<(), Stop<'p>>
+    ensures set { OnOk result (AreSet (T.world store.old) (texts words.entry.now) who.now.components draft.old.database draft.new.database) }
+    ensures kept { T.world store.new ≡ T.world store.old }
+{
+    let mut rest = words;
+    while let [word, others @ ..] = rest {
+        let setting = setting_at(words, word, others);
+        set_at(store, draft, who, setting)?;
+        rest = others;
+    }
+    Ok(())
+}
+
+/// Makes a setting, if there is one.
+fn set_at<'p, T: Store>(
+    store: &mut T,
+    draft: &mut Draft,
+    who: &Name,
+    setting: Option<SettingWords<'p>>,
+) -> Result<(), Stop<'p>>
+    ensures set { OnOk result (IsSetAt (T.world store.old)
+        (option_map (λ setting. (setting.field.now, setting.value.now)) setting.entry)
+        who.now.components draft.old.database draft.new.database) }
+    ensures kept { T.world store.new ≡ T.world store.old }
+{
+    match setting {
+        Some(setting) => set_policy(store, draft, who, setting),
+        None => Ok(()),
+    }
+}
+
+/// Drops the keys of an old version.
+fn drop_keys(draft: &mut Draft, who: &Name, version: u32) -> Result<(), Stop<'static>>
+    ensures { OnOk result (Makes draft.old.database who.now.components (row_changes.DropKeys version) draft.new.database) }
+{
+    if lacks_version(&draft.database, who, version) {
+        return Err(Stop::Refused(Reason::NoVersion));
+    }
+    Ok(apply(draft, who, RowChange::DropKeys(version))?)
+}
+
+/// Checks whether the principal exists, but has no such version.
+fn lacks_version(database: &Database, who: &Name, version: u32) -> bool {
+    match database.get(who) {
+        Some(row) => row.versions.find(version).is_none(),
+        None => false,
+    }
+}
+
+/// Sets a field of a principal's policy.
+fn set_policy<'p, T: Store>(
+    store: &mut T,
+    draft: &mut Draft,
+    who: &Name,
+    words: SettingWords<'p>,
+) -> Result<(), Stop<'p>>
+    ensures changed { OnOk result (IsPolicySet (T.world store.old) words.entry.field.now words.entry.value.now who.now.components
+        draft.old.database draft.new.database) }
+    ensures kept { T.world store.new ≡ T.world store.old }
+{
+    let Some(row) = draft.database.get(who) else {
+        return Err(Stop::from(ChangeFault::Absent));
+    };
+    let policy = row.policy;
+    let setting = setting(store, words.field, words.value)?;
+    let is_tgs = is_tgs(draft.alloc, &draft.database, who)?;
+    if shuts_realm(is_tgs, setting) {
+        return Err(Stop::Refused(Reason::ServesAll));
+    }
+    let policy = setting.on(policy);
+    Ok(apply(draft, who, RowChange::SetPolicy(policy))?)
+}
+
+/// Checks whether a name is that of the realm's ticket-granting service.
+fn is_tgs(alloc: Global, database: &Database, who: &Name) -> Result<bool, AllocError>
+    ensures { IfOk result (λ is. who.now.components ≡ tgs_principal database.now.realm → is ≡ true) }
+{
+    let tgs = tgs_name(alloc, database.realm())?;
+    Ok(who.is_same(&tgs))
+}
+
+/// Checks whether a setting would deny tickets for the ticket-granting service, which every login needs.
+fn shuts_realm(is_tgs: bool, setting: Setting) -> bool
+    ensures { IsFalse result → is_tgs ≡ true → denies_tickets setting ≡ false }
+{
+    is_tgs && denies_tickets(setting)
+}
+
+fn denies_tickets(setting: Setting) -> bool
+    ensures { result ≡ denies_tickets setting }
+{
+    match setting {
+        Setting::Flag(FlagField::Service, on) => !on,
+        _ => false,
+    }
+}
+
+/// Returns a field with its value. It reads the clock if the value is a time from now.
+fn setting<'p, T: Store>(store: &mut T, field: &str, value: &'p str) -> Result<Setting, Stop<'p>>
+    ensures setting { IfOk result (λ setting. IsValueOf (T.world store.old) setting field.now value.entry.now) }
+    ensures kept { T.world store.new ≡ T.world store.old }
+{
+    if let Some(setting) = setting_of(field, value) {
+        return Ok(setting);
+    }
+    match setting_from(field, value, read_clock(store)?) {
+        Some(setting) => Ok(setting),
+        None => Err(Stop::RefusedOf {
+            word: value,
+            reason: Reason::BadTime,
+        }),
+    }
+}
+
+/// Sets what older versions of the format lack: whether tickets for users are allowed.
+pub(crate) fn migrate_rows(
+    draft: &mut Draft,
+    users_are_no_services: bool,
+) -> Result<(), ChangeFault>
+    ensures { OnOk result (draft.new.database ≡ migrated_rows users_are_no_services draft.old.database) }
+{
+    if users_are_no_services {
+        deny_users(draft)
+    } else {
+        Ok(())
+    }
+}

@@ -1,0 +1,155 @@
+//! The database and its file.
+ghost use Rattle.std.specs.Prelude.{◌≡◌, IfOk, OnOk, OnErr, option_map};
+ghost use Rattle.program.specs.World.{with_file};
+ghost use Rattle.kadm_changes.specs.Granting.{Makes};
+ghost use Rattle.kadm_changes.specs.Worlds.{HoldsDatabase, with_database};
+
+use crate::command::Command;
+use crate::context::Context;
+use crate::draft::Draft;
+use crate::reason::Reason;
+use crate::stop::Stop;
+use krb_fields::Name;
+use principals::{Change, ChangeFault, Database, RowChange};
+use principals_text::{LONGEST_TEXT, ReadFault, fault_place};
+use program::{Store, lock_file, read_at_most, update_file, update_private_file};
+use std::alloc::Global;
+use std::io::Write;
+use std::marker::Model;
+use std::str;
+
+/// How often a command checks again whether the lock is free, a tenth of a second apart.
+const LOOKS: u32 = 100;
+
+/// How many checks a command makes before it reports that it waits.
+const QUIET_LOOKS: u32 = 10;
+
+/// A database that this command has locked. Only `lock_database` makes one, and who writes a database needs it.
+#[derive(Drop)]
+pub struct Locked<'p> {
+    path: &'p str,
+    /// Whether the file keeps its mode.
+    keep_mode: bool,
+}
+
+/// A database that is locked is the path of its file.
+impl<'p> Model for Locked<'p> {
+    ghost use Rattle.std.specs.Prelude.{List, ℕ};
+
+    ghost Value = { List ℕ };
+
+    ghost view = { λ l. l.path.now };
+}
+
+/// Keeps other commands from the database until this one is done. Waits at most ten seconds for another one.
+pub fn lock_database<'p, T: Store, W: Write, E: Write>(
+    context: &mut Context<W, E>,
+    store: &mut T,
+    command: &Command<'p>,
+) -> Result<Locked<'p>, Stop<'p>>
+    ensures locked { IfOk result (λ locked. locked ≡ command.now.db.now) }
+    ensures kept { T.world store.new ≡ T.world store.old }
+{
+    let locked = Locked {
+        path: command.db,
+        keep_mode: command.keep_mode,
+    };
+    for looks in 0..LOOKS {
+        if lock_file(context.alloc, store, command.db)? {
+            return Ok(locked);
+        }
+        if looks == QUIET_LOOKS {
+            report_waiting(&mut context.errors);
+        }
+        store.pause();
+    }
+    if lock_file(context.alloc, store, command.db)? {
+        Ok(locked)
+    } else {
+        Err(Stop::Refused(Reason::Locked))
+    }
+}
+
+/// Reports that the command waits. Ignores a failed write.
+fn report_waiting<E: Write>(errors: &mut E) {
+    let _ = writeln!(errors, "kadm: waiting for another kadm to finish");
+    let _ = errors.flush();
+}
+
+/// Reads the current database. If its text is refused, reports where it is wrong.
+pub fn read_database<'p, T: Store, W: Write, E: Write>(
+    context: &mut Context<W, E>,
+    store: &mut T,
+    db: &'p str,
+) -> Result<Database, Stop<'p>>
+    ensures read { IfOk result (λ database. HoldsDatabase (T.world store.old) db.now database) }
+    ensures kept { T.world store.new ≡ T.world store.old }
+{
+    let octets = read_at_most(context.alloc, store, db, LONGEST_TEXT)?;
+    let Ok(text) = str::from_utf8(&octets) else {
+        return Err(Stop::Refused(Reason::NotJson));
+    };
+    match principals_text::read(context.alloc, text) {
+        Ok(database) => Ok(database),
+        Err(fault) => {
+            report_place(context, db, text, fault);
+            Err(Stop::from(fault))
+        }
+    }
+}
+
+/// Reports where a text is wrong, if that can be found. Ignores a failed write.
+fn report_place<W, E: Write>(context: &mut Context<W, E>, db: &str, text: &str, fault: ReadFault) {
+    if !matches!(fault, ReadFault::NotJson | ReadFault::BadRow) {
+        return;
+    }
+    let Ok(place) = fault_place(context.alloc, text) else {
+        return;
+    };
+    if !place.is_empty() {
+        let _ = writeln!(context.errors, "kadm: {db}: {place}");
+    }
+}
+
+/// Writes a database that is locked.
+pub fn write_database<'p, T: Store>(
+    alloc: Global,
+    store: &mut T,
+    locked: &Locked<'p>,
+    database: &Database,
+) -> Result<(), Stop<'p>>
+    ensures written { OnOk result (T.world store.new ≡ with_database locked.now database.now (T.world store.old)) }
+    ensures kept { OnErr result (T.world store.new ≡ T.world store.old) }
+{
+    let text = principals_text::write(alloc, database)?;
+    change_file(alloc, store, locked.path, text.as_bytes(), locked.keep_mode)
+}
+
+/// Writes a file in place of the one there, whose owner and group it keeps, and its mode if `keep_mode` says so.
+pub(crate) fn change_file<'p, T: Store>(
+    alloc: Global,
+    store: &mut T,
+    path: &'p str,
+    octets: &[u8],
+    keep_mode: bool,
+) -> Result<(), Stop<'p>>
+    ensures written { OnOk result (T.world store.new ≡ option_map (with_file path.now octets.now) (T.world store.old)) }
+    ensures kept { OnErr result (T.world store.new ≡ T.world store.old) }
+{
+    if keep_mode {
+        update_file(alloc, store, path, octets)?;
+    } else {
+        update_private_file(alloc, store, path, octets)?;
+    }
+    Ok(())
+}
+
+/// Changes a principal's row. A refused change leaves the database unchanged.
+#[tactic(auto, using(crate::proofs::Doing::made_by))]
+pub(crate) fn apply(draft: &mut Draft, who: &Name, what: RowChange) -> Result<(), ChangeFault>
+    ensures changed { OnOk result (Makes draft.old.database who.now.components what draft.new.database) }
+    ensures kept { OnErr result (draft.new.database ≡ draft.old.database) }
+{
+    let name = who.copy(draft.alloc)?;
+    draft.database.apply(draft.alloc, &Change { name, what })
+}

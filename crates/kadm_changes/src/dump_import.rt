@@ -1,0 +1,222 @@
+//! The command that makes the database of a realm from a dump of MIT's database.
+ghost use Rattle.std.specs.Prelude.{◌≡◌, ◌∷◌, All, IfOk, IfSome, OnErr, OnOk, find, option_copied, true};
+ghost use Rattle.std.specs.FinMap.{from_entries};
+ghost use Rattle.krb_fields.specs.NameLimits.{IsComponent, IsWithinLimits};
+ghost use Rattle.mit_dump.specs.Entries.{preference};
+ghost use Rattle.mit_dump.specs.Place.{grants_tickets, has_place};
+ghost use Rattle.mit_dump.specs.Policy.{policy_of};
+ghost use Rattle.principal_rows.specs.NameMap.{pairs};
+ghost use Rattle.principal_rows.specs.Row.{IsRow};
+ghost use Rattle.kadm_changes.specs.Dumps.{AreRowsOf, HasRealm, IsDatabaseOf, IsPushedRow, IsRealmOf, IsRowOf, IsStash};
+ghost use Rattle.kadm_changes.specs.Importing.{AreVersionsOf};
+ghost use Rattle.kadm_changes.specs.Worlds.{MadeFromDump};
+
+use crate::command::{Command, DumpArgs};
+use crate::context::Context;
+use crate::databases::{lock_database, write_database};
+use crate::dump_reports::{
+    report_fault, report_key_fault, report_losses, report_no_database, report_taken,
+};
+use crate::importing::{KeytabKeys, versions_of};
+use crate::reason::Reason;
+use crate::stop::Stop;
+use cred_files::{Keytab, KeytabEntry};
+use krb_elements::KerberosString;
+use krb_fields::is_component;
+use mit_dump::{DumpedPrincipal, read_dump};
+use principal_rows::{Entry, NameMap, Row};
+use principals::Database;
+use principals_text::LONGEST_TEXT;
+use program::{Store, has_file, read_at_most, read_file};
+use std::alloc::{AllocError, Global};
+use std::io::Write;
+
+/// Makes the database of a realm from the dump of MIT's database.
+pub fn import_dump<'p, T: Store, W: Write, E: Write>(
+    context: &mut Context<W, E>,
+    store: &mut T,
+    command: &Command<'p>,
+    from: DumpArgs<'p>,
+) -> Result<(), Stop<'p>>
+    ensures done { OnOk result (MadeFromDump (T.world store.old) command.now.db.now from.entry (T.world store.new)) }
+    ensures kept { OnErr result (T.world store.new ≡ T.world store.old) }
+{
+    let locked = lock_database(context, store, command)?;
+    if has_file(store, command.db)? {
+        return Err(Stop::Refused(Reason::FileExists));
+    }
+    let database = read_realm(context, store, from)?;
+    write_database(context.alloc, store, &locked, &database)
+}
+
+/// Reads the realm of a dump.
+fn read_realm<'p, T: Store, W: Write, E: Write>(
+    context: &mut Context<W, E>,
+    store: &mut T,
+    from: DumpArgs<'p>,
+) -> Result<Database, Stop<'p>>
+    ensures read { IfOk result (λ database. HasRealm (T.world store.old) from.entry database) }
+    ensures kept { T.world store.new ≡ T.world store.old }
+{
+    let text = read_at_most(context.alloc, store, from.dump, LONGEST_TEXT)?;
+    let stash = read_stash(context.alloc, store, from.stash)?;
+    let found = match read_dump(context.alloc, &text) {
+        Ok(found) => found,
+        Err(fault) => return Err(report_fault(&mut context.errors, from.dump, fault)),
+    };
+    database_of(context, &found, &stash, from.skip)
+}
+
+/// Reads MIT's stash file, which is a keytab.
+fn read_stash<'p, T: Store>(alloc: Global, store: &mut T, path: &'p str) -> Result<Keytab, Stop<'p>>
+    ensures read { IfOk result (λ stash. IsStash (T.world store.old) path.now stash) }
+    ensures kept { T.world store.new ≡ T.world store.old }
+{
+    let octets = read_file(alloc, store, path)?;
+    match Keytab::read(alloc, &octets) {
+        Ok(stash) => Ok(stash),
+        Err(cred_files::FileFault::Memory) => Err(Stop::from(AllocError)),
+        Err(_) => Err(Stop::Refused(Reason::BadStash)),
+    }
+}
+
+/// Returns the database with the principals of a dump that have a place in it.
+fn database_of<W, E: Write>(
+    context: &mut Context<W, E>,
+    found: &[DumpedPrincipal],
+    stash: &Keytab,
+    skip: bool,
+) -> Result<Database, Stop<'static>>
+    ensures { IfOk result (λ database. IsDatabaseOf found.now stash.now skip database) }
+{
+    let Some(realm) = realm_of(found) else {
+        return Err(report_no_database(&mut context.errors));
+    };
+    let is_whole = report_losses(context.alloc, &mut context.errors, found, realm)?;
+    if !is_whole && !skip {
+        return Err(Stop::Refused(Reason::NoPlace));
+    }
+    let rows = rows_of(context, found, realm, stash)?;
+    report_taken(context.alloc, &mut context.errors, found, rows.len())?;
+    match with_rows(context.alloc, realm, rows)? {
+        Some(database) => Ok(database),
+        None => Err(report_no_database(&mut context.errors)),
+    }
+}
+
+/// Returns the database with these rows, or `None` if two have the same name or none is that of the ticket-granting
+/// service.
+fn with_rows(
+    alloc: Global,
+    realm: &[u8],
+    entries: Vec<Entry<Row>>,
+) -> Result<Option<Database>, AllocError>
+    requires realm { IsComponent realm.now }
+    requires rows { All (λ e. IsRow e.value) entries.items }
+    requires names { All (λ e. IsWithinLimits e.name.components) entries.items }
+    ensures { IfOk result (λ found. IfSome found (λ database.
+        database ≡ record { realm = realm.now; rows = from_entries (pairs entries.items) })) }
+{
+    let realm = KerberosString::from_slice(alloc, realm)?;
+    let count = entries.len();
+    let rows = NameMap::from_entries(entries)?;
+    if rows.len() != count {
+        return Ok(None);
+    }
+    Ok(Database::from_rows(realm, rows))
+}
+
+/// Returns the realm of a dump: that of the principal `krbtgt/REALM@REALM`, if it has 1 to 255 bytes.
+fn realm_of(found: &[DumpedPrincipal]) -> Option<&[u8]>
+    ensures realm { IfSome result (λ realm. IsRealmOf found.now realm.now) }
+    ensures fits { IfSome result (λ realm. IsComponent realm.now) }
+{
+    let realm = granter(found)?.realm.as_slice();
+    if is_component(realm) {
+        Some(realm)
+    } else {
+        None
+    }
+}
+
+/// Returns the first principal that is `krbtgt/REALM@REALM`.
+fn granter(found: &[DumpedPrincipal]) -> Option<&DumpedPrincipal>
+    ensures { option_copied result ≡ find (λ q. grants_tickets q.name.components q.realm) found.now }
+{
+    found.iter().find(|principal| principal.grants_tickets())
+}
+
+/// Returns the rows of the principals that have a place, the last one first.
+fn rows_of<W, E: Write>(
+    context: &mut Context<W, E>,
+    found: &[DumpedPrincipal],
+    realm: &[u8],
+    stash: &Keytab,
+) -> Result<Vec<Entry<Row>>, Stop<'static>>
+    ensures { IfOk result (λ rows. AreRowsOf realm.now stash.now found.now rows.items) }
+{
+    let mut rows = Vec::new(context.alloc);
+    for i in (0..found.len()).rev() {
+        push_row(context, &mut rows, &found[i], realm, stash)?;
+    }
+    Ok(rows)
+}
+
+/// Adds the row of a principal, if it has a place.
+fn push_row<W, E: Write>(
+    context: &mut Context<W, E>,
+    rows: &mut Vec<Entry<Row>>,
+    principal: &DumpedPrincipal,
+    realm: &[u8],
+    stash: &Keytab,
+) -> Result<(), Stop<'static>>
+    ensures { OnOk result
+        (IsPushedRow (has_place realm.now principal.now) stash.now principal.now rows.old.items rows.new.items) }
+{
+    if principal.has_place(realm) {
+        rows.push(entry_of(context, principal, stash)?)?;
+    }
+    Ok(())
+}
+
+/// Returns the row of a principal, with its name.
+fn entry_of<W, E: Write>(
+    context: &mut Context<W, E>,
+    principal: &DumpedPrincipal,
+    stash: &Keytab,
+) -> Result<Entry<Row>, Stop<'static>>
+    ensures name { IfOk result (λ e. e.name.components ≡ principal.now.name.components) }
+    ensures row { IfOk result (λ e. IsRowOf stash.now principal.now e.value) }
+{
+    match principal.entries(context.alloc, stash) {
+        Ok(entries) => Ok(Entry {
+            name: principal.name.copy(context.alloc)?,
+            value: row_of(context.alloc, principal, &entries)?,
+        }),
+        Err(fault) => Err(report_key_fault(context.alloc, &mut context.errors, principal, fault)),
+    }
+}
+
+/// Returns the row of a principal that has these keys.
+fn row_of(
+    alloc: Global,
+    principal: &DumpedPrincipal,
+    entries: &[KeytabEntry],
+) -> Result<Row, Stop<'static>>
+    ensures versions { IfOk result (λ row. AreVersionsOf entries.now
+        (principal.now.realm ∷ principal.now.name.components) (preference principal.now.keys.items) row.versions) }
+    ensures policy { IfOk result (λ row. row.policy ≡ policy_of principal.now.numbers) }
+{
+    let keytab = Keytab::new(alloc, entries)?;
+    let etypes = principal.preference(alloc)?;
+    let keys = KeytabKeys {
+        keytab: &keytab,
+        realm: principal.realm.as_slice(),
+        who: &principal.name,
+    };
+    let versions = versions_of(alloc, &keys, &etypes)?;
+    Ok(Row {
+        versions,
+        policy: principal.policy(),
+    })
+}

@@ -1,0 +1,193 @@
+//! New keys for a principal.
+ghost use Rattle.std.specs.Prelude.{◌≡◌, IfNone, IfOk, IfSome, None, OnOk, OnErr, Some, is_some, map};
+ghost use Rattle.std.specs.FinMap as finite;
+ghost use Rattle.krb_fields.specs.Salt.{default_salt};
+ghost use Rattle.text_fields.specs.Keys.{password_key};
+ghost use Rattle.principal_rows.specs.declared.row.Row as rows;
+ghost use Rattle.principals.specs.declared.change.RowChange.TheVariants as row_changes;
+ghost use Rattle.kadm_changes.specs.Granting.{IsCleared, IsGiven, IsGranted, IsOlderDropped, IsReplaced, IsUserAdded};
+ghost use Rattle.kadm_changes.specs.Granting.{Makes, older_numbers, password_expiry};
+ghost use Rattle.kadm_changes.specs.Updates.{GivesPassword, GivesRandom};
+ghost use Rattle.kadm_changes.specs.Words.{path_of};
+
+use crate::command::{Grant, KeyChange, RandomGrant};
+use crate::databases::apply;
+use crate::denying::deny_service;
+use crate::draft::Draft;
+use crate::stop::Stop;
+use crate::values::is_past;
+use enctypes::Etype;
+use krb_fields::{Name, Second};
+use principal_rows::{KeyList, KeyVersion, Policy};
+use principals::{ChangeFault, Database, RowChange};
+use program::{Store, read_clock, read_or_draw_seed};
+use std::alloc::{AllocError, Global};
+use text_fields::{password_keys, random_keys};
+
+/// The principal that gets keys, their encryption types, and the password for those that are made from one.
+#[derive(Clone, Copy)]
+pub(crate) struct Recipient<'a> {
+    pub who: &'a Name,
+    pub etypes: &'a [Etype],
+    pub pass: &'a [u8],
+}
+
+/// Gives a principal the keys of a password.
+pub(crate) fn give_password<'p, T: Store>(
+    store: &mut T,
+    draft: &mut Draft,
+    to: &Recipient<'_>,
+    grant: Grant,
+) -> Result<(), Stop<'p>>
+    ensures given { OnOk result (GivesPassword (T.world store.old) to.now.etypes.now to.now.pass.now grant to.now.who.now.components
+        draft.old.database draft.new.database) }
+    ensures kept { T.world store.new ≡ T.world store.old }
+{
+    let keys = keys_of(draft, to)?;
+    give(draft, to.who, keys, grant)?;
+    clear_expiry(store, draft, to.who)
+}
+
+/// Gives a principal random keys.
+pub(crate) fn give_random<'p, T: Store>(
+    store: &mut T,
+    draft: &mut Draft,
+    to: &Recipient<'_>,
+    random: RandomGrant<'p>,
+) -> Result<(), Stop<'p>>
+    ensures given { OnOk result (GivesRandom (T.world store.old) to.now.etypes.now (path_of random.entry.seed) random.entry.grant
+        to.now.who.now.components draft.old.database draft.new.database) }
+    ensures kept { T.world store.new ≡ T.world store.old }
+{
+    let seed = read_or_draw_seed(draft.alloc, store, random.seed)?;
+    let keys = random_keys(draft.alloc, to.etypes, seed)?;
+    Ok(give(draft, to.who, keys, random.grant)?)
+}
+
+/// Derives the keys of a password, with the principal's default salt.
+fn keys_of(draft: &Draft, to: &Recipient<'_>) -> Result<KeyList, AllocError>
+    ensures { IfOk result (λ keys. keys ≡ map
+        (password_key to.now.pass.now (default_salt draft.now.database.realm to.now.who.now.components)) to.now.etypes.now) }
+{
+    let salt = to.who.salt(draft.alloc, draft.database.realm())?;
+    password_keys(draft.alloc, to.etypes, to.pass, salt.as_slice())
+}
+
+/// Gives keys to the principal, as `grant` says.
+fn give(draft: &mut Draft, who: &Name, keys: KeyList, grant: Grant) -> Result<(), ChangeFault>
+    ensures { OnOk result (IsGranted grant who.now.components keys draft.old.database draft.new.database) }
+{
+    let how = grant.key_change(is_there(&draft.database, who));
+    give_by(draft, who, keys, how)
+}
+
+fn give_by(draft: &mut Draft, who: &Name, keys: KeyList, how: KeyChange) -> Result<(), ChangeFault>
+    ensures { OnOk result (IsGiven how who.now.components keys draft.old.database draft.new.database) }
+{
+    match how {
+        KeyChange::New => apply(draft, who, RowChange::Add(keys)),
+        KeyChange::NewUser => add_user(draft, who, keys),
+        KeyChange::Next => renew(draft, who, keys),
+        KeyChange::Replace => replace(draft, who, keys),
+    }
+}
+
+/// Checks whether a principal exists.
+fn is_there(database: &Database, who: &Name) -> bool
+    ensures { result ≡ is_some (finite.get database.now.rows who.now.components) }
+{
+    match database.get(who) {
+        Some(_) => true,
+        None => false,
+    }
+}
+
+/// Adds a principal, and denies tickets for it.
+fn add_user(draft: &mut Draft, who: &Name, keys: KeyList) -> Result<(), ChangeFault>
+    ensures { OnOk result (IsUserAdded who.now.components keys draft.old.database draft.new.database) }
+{
+    apply(draft, who, RowChange::Add(keys))?;
+    deny_service(draft, who)
+}
+
+/// Gives an existing principal new keys, as its next version.
+fn renew(draft: &mut Draft, who: &Name, keys: KeyList) -> Result<(), ChangeFault>
+    ensures { OnOk result (Makes draft.old.database who.now.components (row_changes.NewKeys keys) draft.new.database) }
+{
+    apply(draft, who, RowChange::NewKeys(keys))
+}
+
+/// Gives a principal new keys, and drops all older versions.
+fn replace(draft: &mut Draft, who: &Name, keys: KeyList) -> Result<(), ChangeFault>
+    ensures { OnOk result (IsReplaced who.now.components keys draft.old.database draft.new.database) }
+{
+    renew(draft, who, keys)?;
+    drop_older(draft, who)
+}
+
+/// Drops all versions of a principal's keys but the current one. After an `Err` some may have been dropped.
+pub(crate) fn drop_older(draft: &mut Draft, who: &Name) -> Result<(), ChangeFault>
+    ensures { OnOk result (IsOlderDropped who.now.components draft.old.database draft.new.database) }
+{
+    let Some(row) = draft.database.get(who) else {
+        return Err(ChangeFault::Absent);
+    };
+    let numbers = older_numbers(draft.alloc, row.versions.as_slice())?;
+    for number in &numbers {
+        apply(draft, who, RowChange::DropKeys(*number))?;
+    }
+    Ok(())
+}
+
+/// Returns the numbers of all versions but the first, which is the current one.
+fn older_numbers(alloc: Global, versions: &[KeyVersion]) -> Result<Vec<u32>, AllocError>
+    ensures { IfOk result (λ numbers. numbers.items ≡ older_numbers versions.now) }
+{
+    match versions.split_first() {
+        Some((_, older)) => numbers_of(alloc, older),
+        None => Ok(Vec::new(alloc)),
+    }
+}
+
+fn numbers_of(alloc: Global, versions: &[KeyVersion]) -> Result<Vec<u32>, AllocError>
+    ensures { IfOk result (λ numbers. numbers.items ≡ map (λ version. version.number) versions.now) }
+{
+    let mut numbers = Vec::new(alloc);
+    for version in versions {
+        numbers.push(version.number)?;
+    }
+    Ok(numbers)
+}
+
+/// Clears a `password_expires` that is past.
+fn clear_expiry<'p, T: Store>(store: &mut T, draft: &mut Draft, who: &Name) -> Result<(), Stop<'p>>
+    ensures cleared { OnOk result (IsCleared (T.world store.old) who.now.components draft.old.database draft.new.database) }
+    ensures kept { T.world store.new ≡ T.world store.old }
+{
+    let Some((policy, expires)) = expiring(&draft.database, who) else {
+        return Ok(());
+    };
+    if !is_past(expires, read_clock(store)?) {
+        return Ok(());
+    }
+    let policy = Policy {
+        password_expires: None,
+        ..policy
+    };
+    Ok(apply(draft, who, RowChange::SetPolicy(policy))?)
+}
+
+/// Returns the policy of a principal whose password expires, and when it does.
+fn expiring(database: &Database, who: &Name) -> Option<(Policy, Second)>
+    ensures some { IfSome result (λ found. (row : rows.Row) × (finite.get database.now.rows who.now.components ≡ Some row)
+        × (row.policy ≡ found.0) × (row.policy.password_expires ≡ Some found.1)) }
+    ensures none { IfNone result (password_expiry (finite.get database.now.rows who.now.components) ≡ None) }
+{
+    let Some(row) = database.get(who) else {
+        return None;
+    };
+    match row.policy.password_expires {
+        Some(expires) => Some((row.policy, expires)),
+        None => None,
+    }
+}

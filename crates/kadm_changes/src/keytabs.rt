@@ -1,0 +1,203 @@
+//! The command that writes a keytab.
+ghost use Rattle.std.specs.Prelude.{◌≡◌, IfOk, IsFalse, OnOk, OnErr, option_map};
+ghost use Rattle.program.specs.World.{IsRead, IsThere, with_file};
+ghost use Rattle.kadm_changes.specs.Keytabs.{IsBehind, IsFreePath, IsKeytabFor, IsKeytabStart, IsNewKeytab, IsOldKeytab, entries_of, lock_of};
+ghost use Rattle.kadm_changes.specs.Worlds.{WroteKeytab};
+
+use crate::command::{Command, KeytabArgs};
+use crate::context::Context;
+use crate::databases::{change_file, lock_database, read_database};
+use crate::joining::joined;
+use crate::reason::Reason;
+use crate::stop::Stop;
+use cred_files::{Keytab, KeytabEntry};
+use krb_elements::KerberosString;
+use krb_fields::Name;
+use principal_rows::KeyVersion;
+use principals::{ChangeFault, Database};
+use program::{FileCause, FileFault, Store, first_octet, has_file, read_file, write_file};
+use std::alloc::{AllocError, Global};
+use std::io::Write;
+
+/// The end of a lock's path.
+const LOCK_END: &str = ".lock";
+
+/// The first byte of a keytab. No text of a database begins with it.
+const KEYTAB_START: u8 = 5;
+
+/// Writes a keytab of a principal's current keys. With `append` the keytab keeps its content, before the new entries,
+/// and its owner and group.
+pub fn write_keytab<'p, T: Store, W: Write, E: Write>(
+    context: &mut Context<W, E>,
+    store: &mut T,
+    command: &Command<'p>,
+    to: KeytabArgs<'p>,
+) -> Result<(), Stop<'p>>
+    ensures done { OnOk result (WroteKeytab (T.world store.old) command.now.db.now to.entry (T.world store.new)) }
+    ensures kept { OnErr result (T.world store.new ≡ T.world store.old) }
+{
+    let alloc = context.alloc;
+    let name = Name::from_text(alloc, to.name)?;
+    lock_database(context, store, command)?;
+    let database = read_database(context, store, command.db)?;
+    check_path(alloc, store, to.out)?;
+    let octets = new_octets(alloc, store, &database, &name, to)?;
+    put_octets(alloc, store, command, to, &octets)
+}
+
+/// Refuses the path of a lock, a path with a lock beside it, and a file that is neither empty nor a keytab. Each
+/// database that a command writes has a lock, and so has the one that this command locks, whatever path names it.
+fn check_path<'p, T: Store>(alloc: Global, store: &mut T, path: &'p str) -> Result<(), Stop<'p>>
+    ensures free { OnOk result (IsFreePath (T.world store.old) path.now) }
+    ensures kept { T.world store.new ≡ T.world store.old }
+{
+    if path.ends_with(LOCK_END) {
+        return Err(Stop::Refused(Reason::IsLock));
+    }
+    if has_lock(alloc, store, path)? {
+        return Err(Stop::Refused(Reason::IsDatabase));
+    }
+    let first = first_octet(alloc, store, path)?;
+    if is_other_file(first) {
+        return Err(Stop::Refused(Reason::BadMagic));
+    }
+    Ok(())
+}
+
+/// Checks whether a file with this first byte is neither empty nor a keytab.
+fn is_other_file(first: Option<u8>) -> bool
+    ensures { IsFalse result → IsKeytabStart first }
+{
+    match first {
+        Some(octet) => octet != KEYTAB_START,
+        None => false,
+    }
+}
+
+/// Checks whether there is a lock beside a file.
+fn has_lock<'p, T: Store>(alloc: Global, store: &mut T, path: &'p str) -> Result<bool, Stop<'p>>
+    ensures there { IfOk result (λ found. IsThere (T.world store.old) (lock_of path.now) found) }
+    ensures kept { T.world store.new ≡ T.world store.old }
+{
+    let beside = format!(in alloc; "{path}{LOCK_END}")?;
+    match store.exists(&beside) {
+        Ok(found) => Ok(found),
+        Err(error) => Err(Stop::from(FileFault {
+            path,
+            cause: FileCause::Failed(error),
+        })),
+    }
+}
+
+/// Returns the bytes of the keytab.
+fn new_octets<'p, T: Store>(
+    alloc: Global,
+    store: &mut T,
+    database: &Database,
+    name: &Name,
+    to: KeytabArgs<'p>,
+) -> Result<Vec<u8>, Stop<'p>>
+    ensures holds { IfOk result (λ octets. IsKeytabFor (T.world store.old) to.entry name.now.components database.now octets.items) }
+    ensures kept { T.world store.new ≡ T.world store.old }
+{
+    let old = read_old(alloc, store, to.out, to.append)?;
+    let new = keytab_of(alloc, database, name)?;
+    Ok(behind(alloc, old, new)?)
+}
+
+/// Writes the bytes of the keytab.
+fn put_octets<'p, T: Store>(
+    alloc: Global,
+    store: &mut T,
+    command: &Command<'p>,
+    to: KeytabArgs<'p>,
+    octets: &[u8],
+) -> Result<(), Stop<'p>>
+    ensures written { OnOk result (T.world store.new ≡ option_map (with_file to.entry.out.now octets.now) (T.world store.old)) }
+    ensures kept { OnErr result (T.world store.new ≡ T.world store.old) }
+{
+    if to.append {
+        return change_file(alloc, store, to.out, octets, command.keep_mode);
+    }
+    write_file(alloc, store, to.out, octets)?;
+    Ok(())
+}
+
+/// Returns the content of a keytab that is extended.
+fn read_old<'p, T: Store>(
+    alloc: Global,
+    store: &mut T,
+    path: &'p str,
+    append: bool,
+) -> Result<Option<Vec<u8>>, Stop<'p>>
+    ensures old { IfOk result (λ old. IsOldKeytab (T.world store.old) append path.now (option_map (λ octets. octets.items) old)) }
+    ensures kept { T.world store.new ≡ T.world store.old }
+{
+    if append && has_file(store, path)? {
+        Ok(Some(read_judged(alloc, store, path)?))
+    } else {
+        Ok(None)
+    }
+}
+
+/// Returns the bytes of a file that is a keytab.
+fn read_judged<'p, T: Store>(
+    alloc: Global,
+    store: &mut T,
+    path: &'p str,
+) -> Result<Vec<u8>, Stop<'p>>
+    ensures read { IfOk result (λ octets. IsRead (T.world store.old) path.now octets.items) }
+    ensures kept { T.world store.new ≡ T.world store.old }
+{
+    let octets = read_file(alloc, store, path)?;
+    let _read = Keytab::read(alloc, &octets)?;
+    Ok(octets)
+}
+
+/// Returns the content of an old keytab that was checked, followed by the entries of a new one.
+fn behind(
+    alloc: Global,
+    old: Option<Vec<u8>>,
+    new: Vec<u8>,
+) -> Result<Vec<u8>, cred_files::FileFault>
+    ensures { IfOk result (λ all. IsBehind (option_map (λ octets. octets.items) old) new.items all.items) }
+{
+    match old {
+        Some(old) => joined(alloc, &old, &new),
+        None => Ok(new),
+    }
+}
+
+/// Returns a keytab of a principal's current keys.
+fn keytab_of(alloc: Global, database: &Database, name: &Name) -> Result<Vec<u8>, Stop<'static>>
+    ensures { IfOk result (λ octets. IsNewKeytab database.now name.now octets.items) }
+{
+    let Some(row) = database.get(name) else {
+        return Err(Stop::from(ChangeFault::Absent));
+    };
+    let current = row.versions.current();
+    let entries = entries_of(alloc, database.realm(), name, current)?;
+    Ok(Keytab::new(alloc, &entries)?.write(alloc)?)
+}
+
+/// Returns the keys of a version, as entries of a keytab.
+fn entries_of(
+    alloc: Global,
+    realm: &[u8],
+    name: &Name,
+    version: &KeyVersion,
+) -> Result<Vec<KeytabEntry>, AllocError>
+    ensures { IfOk result (λ entries. entries.items ≡ entries_of realm.now name.now version.now) }
+{
+    let mut entries = Vec::new(alloc);
+    let keys = version.keys.keys();
+    for key in keys {
+        entries.push(KeytabEntry {
+            realm: KerberosString::from_slice(alloc, realm)?,
+            name: name.copy(alloc)?,
+            version: version.number,
+            key: *key,
+        })?;
+    }
+    Ok(entries)
+}

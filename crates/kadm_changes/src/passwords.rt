@@ -1,0 +1,164 @@
+//! New passwords.
+ghost use Rattle.std.specs.Prelude.{◌≡◌, IfOk};
+ghost use Rattle.kadm_changes.specs.Updates.{IsPasswordOf, IsSecretOf};
+ghost use Rattle.kadm_changes.specs.Words.{path_of};
+
+use crate::command::{PasswordArgs, RowArgs, RowUpdate};
+use crate::context::Context;
+use crate::databases::read_database;
+use crate::reason::Reason;
+use crate::stop::Stop;
+use krb_fields::component_to_text;
+use program::{Store, ask_password, read_password};
+use std::alloc::Global;
+use std::io::Write;
+
+/// Gets the password that a change takes, before the database is locked: from its file, or from standard input. It is
+/// empty if the change takes none.
+pub(crate) fn new_password<'p, T: Store, W: Write, E: Write>(
+    context: &mut Context<W, E>,
+    store: &mut T,
+    db: &'p str,
+    row: &RowArgs<'p>,
+) -> Result<Vec<u8>, Stop<'p>>
+    ensures given { IfOk result (λ pass. IsSecretOf (T.world store.old) row.now.how pass.items) }
+    ensures kept { T.world store.new ≡ T.world store.old }
+{
+    match &row.how {
+        RowUpdate::Password(to) => {
+            let asked = Asked { db, name: row.name };
+            any_password(context, store, asked, to.password)
+        }
+        RowUpdate::Random(_) => Ok(Vec::new(context.alloc)),
+        RowUpdate::Import { keytab: _ } => Ok(Vec::new(context.alloc)),
+    }
+}
+
+/// The principal whose password is asked for, and the path of the database that says its realm.
+#[derive(Clone, Copy)]
+struct Asked<'p> {
+    db: &'p str,
+    name: &'p str,
+}
+
+/// Gets the password from its file, or from standard input.
+fn any_password<'p, T: Store, W: Write, E: Write>(
+    context: &mut Context<W, E>,
+    store: &mut T,
+    asked: Asked<'p>,
+    args: PasswordArgs<'p>,
+) -> Result<Vec<u8>, Stop<'p>>
+    ensures given { IfOk result (λ pass. IsPasswordOf (T.world store.old) (path_of args.entry.file) pass.items) }
+    ensures kept { T.world store.new ≡ T.world store.old }
+{
+    let pass = match args.file {
+        Some(path) => read_password(context.alloc, store, path)?,
+        None => asked_password(context, store, asked)?,
+    };
+    likely(pass, args.any)
+}
+
+/// Gets the password that a line of a batch takes. It is in a file: standard input has the batch.
+pub(crate) fn batch_password<'p, T: Store>(
+    alloc: Global,
+    store: &mut T,
+    how: &RowUpdate<'p>,
+) -> Result<Vec<u8>, Stop<'p>>
+    ensures given { IfOk result (λ pass. IsSecretOf (T.world store.old) how.now pass.items) }
+    ensures kept { T.world store.new ≡ T.world store.old }
+{
+    match how {
+        RowUpdate::Password(to) => file_password(alloc, store, to.password),
+        RowUpdate::Random(_) => Ok(Vec::new(alloc)),
+        RowUpdate::Import { keytab: _ } => Ok(Vec::new(alloc)),
+    }
+}
+
+/// Gets the password from its file.
+fn file_password<'p, T: Store>(
+    alloc: Global,
+    store: &mut T,
+    args: PasswordArgs<'p>,
+) -> Result<Vec<u8>, Stop<'p>>
+    ensures given { IfOk result (λ pass. IsPasswordOf (T.world store.old) (path_of args.entry.file) pass.items) }
+    ensures kept { T.world store.new ≡ T.world store.old }
+{
+    let Some(path) = args.file else {
+        return Err(Stop::Refused(Reason::NoPassword));
+    };
+    likely(read_password(alloc, store, path)?, args.any)
+}
+
+/// Returns the password, unless it is unlikely and only likely ones are accepted.
+fn likely(pass: Vec<u8>, any: bool) -> Result<Vec<u8>, Stop<'static>>
+    ensures { IfOk result (λ likely. likely.items ≡ pass.items) }
+{
+    if !any && is_unlikely(&pass) {
+        return Err(Stop::Refused(Reason::BadPassword));
+    }
+    Ok(pass)
+}
+
+/// Checks whether a password is probably a mistake: it is empty, or its line ends as on other systems.
+fn is_unlikely(pass: &[u8]) -> bool {
+    match pass.last() {
+        Some(octet) => *octet == b'\r',
+        None => true,
+    }
+}
+
+/// Asks for the password of a principal, with its name and realm.
+fn asked_password<'p, T: Store, W: Write, E: Write>(
+    context: &mut Context<W, E>,
+    store: &mut T,
+    asked: Asked<'p>,
+) -> Result<Vec<u8>, Stop<'p>>
+    ensures kept { T.world store.new ≡ T.world store.old }
+{
+    let realm = realm_text(context, store, asked.db)?;
+    if store.is_terminal() {
+        warn_of_echo(&mut context.errors);
+    }
+    ask_twice(context.alloc, store, asked.name, &realm)
+}
+
+/// Warns that the terminal shows the password, and says how to hide it. Ignores a failed write.
+fn warn_of_echo<E: Write>(errors: &mut E) {
+    let _ = writeln!(
+        errors,
+        "kadm: the password shows as you type it; run `stty -echo` first to hide it"
+    );
+    let _ = errors.flush();
+}
+
+/// Returns the text of the realm's name.
+fn realm_text<'p, T: Store, W: Write, E: Write>(
+    context: &mut Context<W, E>,
+    store: &mut T,
+    db: &'p str,
+) -> Result<String, Stop<'p>>
+    ensures kept { T.world store.new ≡ T.world store.old }
+{
+    let database = read_database(context, store, db)?;
+    Ok(component_to_text(context.alloc, database.realm())?)
+}
+
+/// Asks twice at a terminal. Both answers have to be the same.
+fn ask_twice<T: Store>(
+    alloc: Global,
+    store: &mut T,
+    name: &str,
+    realm: &str,
+) -> Result<Vec<u8>, Stop<'static>>
+    ensures kept { T.world store.new ≡ T.world store.old }
+{
+    let pass = ask_password(alloc, store, name, realm)?;
+    if !store.is_terminal() {
+        return Ok(pass);
+    }
+    let again = ask_password(alloc, store, name, realm)?;
+    if again != pass {
+        return Err(Stop::Refused(Reason::Mismatch));
+    }
+    Ok(pass)
+}

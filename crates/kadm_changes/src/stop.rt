@@ -1,0 +1,159 @@
+//! Why a command ends early.
+ghost use Rattle.kadm_changes.specs.Stops.{IsFailed};
+
+use crate::reason::Reason;
+use krb_fields::NameFault;
+use principal_rows::KeyListFault;
+use principals::{ChangeFault, FirstFault};
+use principals_text::ReadFault;
+use program::{FileCause, FileFault};
+use std::alloc::{AllocError, AllocFailed};
+use std::io;
+
+/// The name in place of a path if memory ran out.
+const MEMORY: &str = "memory";
+
+/// The name in place of a path if standard output can't be written.
+const STANDARD_OUTPUT: &str = "standard output";
+
+/// Why a command ends early.
+#[derive(Clone, Copy)]
+pub enum Stop<'p> {
+    /// The command line is wrong, and the error has been printed.
+    Usage,
+    /// A line of a batch is refused, and the reason has been printed.
+    LineRefused,
+    /// A file that a line of a batch names failed, and the reason has been printed.
+    LineFailed,
+    /// The command is refused. The report begins with the word of the option that the reason names.
+    Refused(Reason),
+    /// The command is refused for this word.
+    RefusedOf { word: &'p str, reason: Reason },
+    /// A file, a standard stream or an allocation is refused or failed.
+    File(FileFault<'p>),
+}
+
+impl Stop<'_> {
+    fn failed(path: &'static str, error: io::Error) -> Stop<'static>
+        ensures { IsFailed result }
+    {
+        Stop::File(FileFault {
+            path,
+            cause: FileCause::Failed(error),
+        })
+    }
+}
+
+impl<'p> Stop<'p> {
+    /// Returns the same, with this word as that of a refusal that has none.
+    pub(crate) fn about(self, word: &'p str) -> Stop<'p> {
+        match self {
+            Stop::Refused(reason) => Stop::RefusedOf { word, reason },
+            stop => stop,
+        }
+    }
+}
+
+impl From<AllocError> for Stop<'_> {
+    fn from(error: AllocError) -> Self {
+        Stop::failed(MEMORY, io::Error::from(error))
+    }
+}
+
+impl<T: Drop> From<AllocFailed<T>> for Stop<'_> {
+    fn from(_: AllocFailed<T>) -> Self {
+        Stop::from(AllocError)
+    }
+}
+
+/// Converts an error on standard output.
+impl From<io::Error> for Stop<'_> {
+    ghost use Rattle.kadm_changes.specs.Stops.{IsFailed};
+
+    ghost from_gives = { λ _ stop. IsFailed stop };
+
+    fn from(error: io::Error) -> Self {
+        Stop::failed(STANDARD_OUTPUT, error)
+    }
+}
+
+/// Converts a fault in a principal's name.
+impl From<NameFault> for Stop<'_> {
+    fn from(fault: NameFault) -> Self {
+        match fault {
+            NameFault::BadName => Stop::Refused(Reason::BadName),
+            NameFault::Memory => Stop::from(AllocError),
+        }
+    }
+}
+
+impl From<ReadFault> for Stop<'_> {
+    fn from(fault: ReadFault) -> Self {
+        match fault {
+            ReadFault::NotJson => Stop::Refused(Reason::NotJson),
+            ReadFault::BadVersion => Stop::Refused(Reason::BadVersion),
+            ReadFault::BadRow => Stop::Refused(Reason::BadRow),
+            ReadFault::NoTicketGranter => Stop::Refused(Reason::NoTicketGranter),
+            ReadFault::Memory => Stop::from(AllocError),
+        }
+    }
+}
+
+impl From<ChangeFault> for Stop<'_> {
+    fn from(fault: ChangeFault) -> Self {
+        match fault {
+            ChangeFault::BadName => Stop::Refused(Reason::BadName),
+            ChangeFault::Exists => Stop::Refused(Reason::Exists),
+            ChangeFault::Protected => Stop::Refused(Reason::Protected),
+            ChangeFault::Absent => Stop::Refused(Reason::Absent),
+            ChangeFault::LastVersion => Stop::Refused(Reason::LastVersion),
+            ChangeFault::CurrentKeys => Stop::Refused(Reason::CurrentKeys),
+            ChangeFault::Memory => Stop::from(AllocError),
+        }
+    }
+}
+
+impl From<FirstFault> for Stop<'_> {
+    fn from(fault: FirstFault) -> Self {
+        match fault {
+            FirstFault::BadName => Stop::Refused(Reason::BadRealm),
+            FirstFault::Memory => Stop::from(AllocError),
+        }
+    }
+}
+
+impl From<cred_files::FileFault> for Stop<'_> {
+    fn from(fault: cred_files::FileFault) -> Self {
+        match fault {
+            cred_files::FileFault::BadMagic => Stop::Refused(Reason::BadMagic),
+            cred_files::FileFault::Truncated => Stop::Refused(Reason::Truncated),
+            cred_files::FileFault::BadEntry => Stop::Refused(Reason::BadEntry),
+            // the others concern caches
+            _ => Stop::from(AllocError),
+        }
+    }
+}
+
+/// Converts a fault in a principal's keys from a keytab.
+impl From<KeyListFault> for Stop<'_> {
+    fn from(fault: KeyListFault) -> Self {
+        match fault {
+            KeyListFault::Empty | KeyListFault::Doubled => Stop::Refused(Reason::NoKeys),
+            KeyListFault::Memory => Stop::from(AllocError),
+        }
+    }
+}
+
+impl<'p> From<FileFault<'p>> for Stop<'p> {
+    fn from(fault: FileFault<'p>) -> Stop<'p> {
+        Stop::File(fault)
+    }
+}
+
+/// Returns what is wrong with the text of a realm.
+pub(crate) fn of_realm(fault: NameFault) -> Stop<'static> {
+    match fault {
+        NameFault::BadName => Stop::Refused(Reason::BadRealm),
+        NameFault::Memory => Stop::from(AllocError),
+    }
+}

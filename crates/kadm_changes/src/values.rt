@@ -1,0 +1,60 @@
+//! The values of a policy's fields, as an administrator writes them.
+ghost use Rattle.std.specs.Prelude.{◌≡◌, ◌≤ℤ◌, ◌<ℤ◌, IfSome, IsFalse, IsTrue, pos};
+ghost use Rattle.kadm_changes.specs.Granting.{IsFixedValue, IsLifeOf, IsTimeFrom};
+
+use krb_fields::Second;
+use text_fields::{Setting, span};
+
+/// Reads a field with its value, which is not a time from now.
+pub fn setting_of(field: &str, value: &str) -> Option<Setting>
+    ensures { IfSome result (λ setting. IsFixedValue setting field.now value.now) }
+{
+    if let Some(setting) = Setting::of(field, value) {
+        return Some(setting);
+    }
+    match Setting::of_date(field, value) {
+        Some(setting) => Some(setting),
+        None => life_setting(field, value),
+    }
+}
+
+/// Reads a field with a lifetime, which is a number and a unit.
+fn life_setting(field: &str, value: &str) -> Option<Setting>
+    ensures { IfSome result (λ setting. IsLifeOf setting field.now value.now) }
+{
+    match Setting::of(field, "0")? {
+        Setting::Life(life, _) => Some(Setting::Life(life, span(value)?)),
+        _ => None,
+    }
+}
+
+/// Reads a field whose value is a time from now.
+pub fn setting_from(field: &str, value: &str, now: u64) -> Option<Setting>
+    ensures { IfSome result (λ setting. IsTimeFrom now setting field.now value.now) }
+{
+    match Setting::of(field, "never")? {
+        Setting::Time(time, _) => {
+            let second = now.checked_add(u64::from(span(value)?))?;
+            Some(Setting::Time(time, Some(second_of(second)?)))
+        }
+        _ => None,
+    }
+}
+
+/// Returns the moment this many seconds after the start of 1970.
+fn second_of(seconds: u64) -> Option<Second>
+    ensures { IfSome result (λ second. second ≡ pos seconds) }
+{
+    Second::new(i64::try_from(seconds).ok()?)
+}
+
+/// Checks whether a second is past, or is this one.
+pub fn is_past(expires: Second, now: u64) -> bool
+    ensures past { IsTrue result → expires ≤ℤ pos now }
+    ensures lasting { IsFalse result → pos now <ℤ expires }
+{
+    match u64::try_from(expires.get()) {
+        Ok(expires) => expires <= now,
+        Err(_) => true,
+    }
+}

@@ -1,0 +1,33 @@
+//! The values of options among the words of a command line.
+ghost use Rattle.std.specs.Prelude.{◌≡◌, option_map};
+ghost use Rattle.kadm_changes.specs.Words.{texts, value_at, value_of};
+
+/// The option that names the database.
+pub const DB: &str = "--db";
+
+/// Returns the value of an option such as `--db`: the word after it, or what follows it and an equals sign.
+pub fn value_of<'a>(words: &[&'a str], option: &str) -> Option<&'a str>
+    ensures { option_map (λ value. value.now) result ≡ value_of (texts words.now) option.now }
+{
+    let mut rest = words;
+    while let [word, others @ ..] = rest {
+        if let Some(value) = value_at(option, word, others) {
+            return Some(value);
+        }
+        rest = others;
+    }
+    None
+}
+
+/// Returns the value that an option has at a word, if it is this option.
+pub fn value_at<'a>(option: &str, word: &'a str, others: &[&'a str]) -> Option<&'a str>
+    ensures { option_map (λ value. value.now) result ≡ value_at option.now word.now (texts others.now) }
+{
+    if word == option {
+        return others.first().copied();
+    }
+    match word.split_once('=') {
+        Some((name, value)) if name == option => Some(value),
+        _ => None,
+    }
+}

@@ -1,9 +1,0 @@
-mod Batching
-mod Doing
-mod Ending
-mod Imports
-mod Making
-mod Older
-mod Paths
-mod Users
-mod Moved

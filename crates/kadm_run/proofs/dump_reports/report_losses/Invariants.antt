@@ -1,6 +1,0 @@
-use Rattle.std.proofs.Common.{◌≡◌, true, All, take}
-use Rattle.kadm_run.specs.Dumps.{IsKept}
-use Rattle.kadm_run.proofs.dump_reports.report_losses.Given as goal
-
-abbrev pub invariant-loop-principal : goal.invariant-loop-principal
-invariant-loop-principal g l = l.is_whole ≡ true → All (IsKept l.realm) (take l.principal-index l.found)
