@@ -18,7 +18,7 @@ WORDS = (
 # The manual pages, and the files with the names of what a program refuses.
 REFUSALS = {
     "kadm.8": ["kadm_changes/src/reason.rt", "program/src/faults.rt"], "kclient.1": ["client_files/src/words.rt"],
-    "kdcd.8": ["program/src/faults.rt", "kdcd_run/src/files.rt", "kdcd_run/src/sealing.rt"],
+    "kdcd.8": ["program/src/faults.rt", "kdc_files/src/files.rt", "kdc_files/src/sealing.rt"],
 }
 # Names there that the program never meets: those of a program over `client_files`, and of a password's file.
 NEVER = {"kclient.1": {"NoLogin", "NotValid"}, "kdcd.8": {"LongPassword"}}

@@ -1,8 +1,8 @@
-//! Tests of the lines of a log (`request_log`, `kdcd_run`), for each rule and each outcome. Rules have the names of
+//! Tests of the lines of a log (`request_log`, `kdc_reports`), for each rule and each outcome. Rules have the names of
 //! `docs/PROTOCOL.md`, and the codes of RFC 4120, section 7.5.9. The moment is the first second of 2024.
 use enctypes::Etype;
 use kdc_core::{Account, ApRefusal, AsOutcome, AsRefusal, Bears, Granted, TgsOutcome, TgsRefusal};
-use kdcd_run::{LogFormat, LogWriter, RequestLines};
+use kdc_reports::{LogFormat, LogWriter, RequestLines};
 use krb_der::KTime;
 use krb_fields::{Flags, Moment, Name};
 use request_log::{Asker, Entry, Transport};

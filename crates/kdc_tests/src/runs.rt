@@ -2,11 +2,11 @@
 //! record. Its journal fails once.
 use journal::{Doubt, Start};
 use kdc_core::{Account, Bears, TgsOutcome};
+use kdc_files::{HandedOver, JournalBeginning, MemoryJournal, database_of};
 use kdc_hub::{Action, Event, Look, MemoryRows, Peer, Totals, WireCall};
+use kdc_reports::{CountedLog, LogFormat, MemoryEntry, MemoryLog, MemoryMetrics, MemoryTally};
 use kdcd_run::{
-    CountedLog, Given, HandedOver, HostCall, JournalBeginning, LogFormat, MemoryEntry, MemoryHost,
-    MemoryJournal, MemoryLog, MemoryMetrics, MemorySockets, MemoryTally, Outlets, Ran,
-    ServeOptions, database_of, run_server,
+    Given, HostCall, MemoryHost, MemorySockets, Outlets, Ran, ServeOptions, run_server,
 };
 use krb_elements::Octets;
 use krb_fields::Moment;

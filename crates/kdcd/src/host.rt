@@ -1,13 +1,14 @@
 //! The system as the host of a server.
 ghost use Rattle.std.specs.Prelude.{None};
 
-use kdc_sockets::{BindFault, SocketWire};
-use kdcd_run::{
-    FileFault, FileJournal, Host, JournalBeginning, JournalNews, JournalPlace, Journals, KeyFile,
-    MetricsFile, MetricsPaths, OpenedJournals, RowsFile, ServeOptions, StartNews, Started,
-    SystemJournal, begin_journal, journal_beside, open_journals, open_plain, read_at_most,
+use kdc_files::{
+    FileFault, FileJournal, JournalBeginning, JournalPlace, Journals, KeyFile, OpenedJournals,
+    RowsFile, SystemJournal, begin_journal, open_journals, open_plain, read_at_most,
     refuse_journal, say_rights,
 };
+use kdc_reports::{JournalNews, MetricsFile, MetricsPaths, Started};
+use kdc_sockets::{BindFault, SocketWire};
+use kdcd_run::{Host, ServeOptions, StartNews, journal_beside};
 use krb_fields::Moment;
 use principal_rows::Limits;
 use principals::Database;

@@ -1,6 +1,6 @@
 //! Sealing a journal: `kdcd seal`.
 use crate::PROGRAM;
-use kdcd_run::{JournalPlace, doubt_word, seal_at_path};
+use kdc_files::{JournalPlace, doubt_word, seal_at_path};
 use program::{Status, now, report_end};
 use std::io;
 

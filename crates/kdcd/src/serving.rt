@@ -1,9 +1,8 @@
 //! Serving a realm: `kdcd serve`.
 use crate::host::{Errors, SystemHost};
+use kdc_reports::{CountedLog, FaultCount, RequestLines};
 use kdc_sockets::BindFault;
-use kdcd_run::{
-    CountedLog, FaultCount, Host, Outlets, Ran, RequestLines, ServeOptions, run_server,
-};
+use kdcd_run::{Host, Outlets, Ran, ServeOptions, run_server};
 use program::{ReadyWriter, SharedWriter, Status};
 use std::alloc::AllocError;
 use std::io;

@@ -6,7 +6,7 @@ use Rattle.principals.specs.Database.{Principals}
 use Rattle.journal.specs.Decision.{Place, start_of}
 use Rattle.journal.specs.declared.decision.Start.{Start}
 use Rattle.kdcd_run.specs.Resuming.{IsDecided}
-use Rattle.kdcd_run.specs.declared.host.Journals.{Journals}
+use Rattle.kdc_files.specs.declared.journals.Journals.{Journals}
 
 pub decided_at : {E : Type 0} (rows : Principals) (journals : Journals) (at : Moment) (place : Place)
     → place.realm.now ≡ rows.realm → place.boot.now ≡ journals.boot → place.seal.now ≡ journals.seal → place.at ≡ at

@@ -30,7 +30,7 @@ use Rattle.kdc_hub.specs.Life.{ArePeriods, Period, replacement, rounds_in, tidyi
 use Rattle.kdc_hub.specs.declared.rows.Look.{Look}
 use Rattle.kdc_hub.specs.declared.rows.Look.TheVariants.{Unchanged, Changed, Failed as LookFailed}
 use Rattle.kdcd_run.specs.Handing.{HandsAllInLife, HandsAllInRounds, all_seen}
-use Rattle.kdcd_run.specs.Journal.{Handed, handed_at, handed_by}
+use Rattle.kdc_files.specs.Journal.{Handed, handed_at, handed_by}
 use Rattle.kdcd_run.specs.Served.{handed_in}
 
 -- ---- what actions name as remembered

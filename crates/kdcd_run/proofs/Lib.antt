@@ -4,4 +4,3 @@ mod Handings
 mod Decided
 mod Restarts
 mod Journaled
-mod Counted

@@ -13,12 +13,13 @@ use Rattle.kdc_hub.specs.declared.wires.WireCall.TheVariants.{Acted, Failed}
 use Rattle.kdc_hub.specs.declared.wires.WireFault.{WireFault}
 use Rattle.kdc_hub.specs.Wire.{Records, acted, is_fault, polled}
 use Rattle.kdc_hub.proofs.Rounds.{records_nothing, records_on}
-use Rattle.kdcd_run.specs.Journal.{Handed, handed_by, moment_after}
+use Rattle.kdc_files.specs.Journal.{Handed, handed_by}
 use Rattle.request_log.specs.Entry.{LogEntry}
-use Rattle.kdcd_run.specs.Log.{LogsAll, asker_of, entries_of, reported}
-use Rattle.kdcd_run.specs.Served.{HasServed, IsNew, Serves, handed_in, handed_of, in_order, last_came, said, said_of, says, succeeded}
+use Rattle.kdc_reports.specs.Log.{LogsAll, asker_of, entries_of, moment_after, reported}
+use Rattle.kdc_files.specs.Recorded.{IsNew}
+use Rattle.kdcd_run.specs.Served.{HasServed, Serves, handed_in, handed_of, in_order, last_came, said, said_of, says, succeeded}
 use Rattle.kdcd_run.specs.Withheld.{EndsOnly}
-use Rattle.kdcd_run.specs.declared.logging.Arrival.{Arrival}
+use Rattle.kdc_reports.specs.declared.logging.Arrival.{Arrival}
 
 succeeded_on : (xs ys : List WireCall) → succeeded (xs ++ ys) ≡ succeeded xs ++ succeeded ys
 succeeded_on xs ys = filter-append (λ d. not (is_fault d)) xs ys

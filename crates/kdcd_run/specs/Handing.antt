@@ -7,7 +7,7 @@ use Rattle.kdc_hub.specs.History.{Stepped, newly_seen_in}
 use Rattle.kdc_hub.specs.Hub.{HubState}
 use Rattle.kdc_hub.specs.Rounds.{AreRounds, Round, did_in, entries_of}
 use Rattle.kdc_hub.specs.Life.{ArePeriods, Period, rounds_in, turns_of}
-use Rattle.kdcd_run.specs.Journal.{Handed}
+use Rattle.kdc_files.specs.Journal.{Handed}
 use Rattle.kdcd_run.specs.Served.{handed_in}
 
 abbrev pub all_seen : List Handed → List Seen

@@ -1,5 +1,5 @@
 -- Which replies a server withholds while it refuses all service tickets.
-use Rattle.std.specs.Prelude.{ℤ, pos, Bool, false, ◌&&◌, int_lt, Option, Some, None}
+use Rattle.std.specs.Prelude.{ℤ, pos, Bool, true, false, ◌&&◌, int_lt, Option, Some, None}
 use Rattle.std.specs.Ordering.{int_eq}
 use Rattle.krb_fields.specs.Code.{number_of}
 use Rattle.krb_fields.specs.declared.moment.Moment.{Moment}
@@ -10,6 +10,8 @@ use Rattle.kdc_hub.specs.declared.event.Action.TheVariants.{SendTo, Pass, Write,
 use Rattle.tgs_exchange.specs.declared.outcome.TgsOutcome.{TgsOutcome}
 use Rattle.tgs_exchange.specs.declared.outcome.TgsOutcome.TheVariants.{Refused, Issued, Resent, TooBig}
 use Rattle.tgs_opening.specs.Refusal.{code_of}
+use Rattle.kdc_reports.specs.declared.clock_watch.Refused.{Refused}
+use Rattle.kdc_reports.specs.declared.clock_watch.Refused.TheVariants.{All, ServedLater}
 
 -- a refusal with KRB_AP_ERR_SKEW (37)
 abbrev pub is_skew : TgsOutcome → Bool
@@ -36,3 +38,10 @@ sends_skew (Close conn reason) = false
 abbrev pub is_quiet : Option ℤ → Moment → Action → Bool
 is_quiet (Some until) at action = int_lt at.sec until && sends_skew action
 is_quiet None at action = false
+
+-- the second before which a quiet start withholds refusals
+abbrev pub quiet_until : Option Refused → Bool → Option ℤ
+quiet_until None is_quiet = None
+quiet_until (Some (ServedLater until)) is_quiet = None
+quiet_until (Some (All until)) true = Some until
+quiet_until (Some (All until)) false = None

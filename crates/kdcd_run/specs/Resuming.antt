@@ -1,5 +1,5 @@
 -- How a server starts, and what its journal begins with.
-use Rattle.std.specs.Prelude.{◌≡◌, ◌||◌, not, ⊤, ℕ, Bool, true, false, List, [], ◌∷◌, ◌++◌, length, Option, Some, None, is_some}
+use Rattle.std.specs.Prelude.{◌≡◌, ◌||◌, not, ⊤, ℕ, Bool, true, false, List, [], ◌∷◌, ◌++◌, Option, Some, None, is_some}
 use Rattle.std.specs.FinMap as map
 use Rattle.std.specs.Option.{option_copied}
 use Rattle.krb_fields.specs.declared.moment.Moment.{Moment}
@@ -21,10 +21,10 @@ use Rattle.kdc_core.specs.NewlySeen.{opening_resumption}
 use Rattle.kdcd_run.specs.Starting.{BeganJournal, HasNoJournal, HostDid, Held, ReadJournals, ReadRows, Showed, opened_by, seed_by}
 use Rattle.kdcd_run.specs.Starting.{seeded, seeding}
 use Rattle.kdcd_run.specs.declared.args.ServeOptions.{ServeOptions}
-use Rattle.kdcd_run.specs.declared.host.JournalBeginning.{JournalBeginning}
-use Rattle.kdcd_run.specs.declared.host.Journals.{Journals}
-use Rattle.kdcd_run.specs.declared.started.JournalFound.{JournalFound}
-use Rattle.kdcd_run.specs.declared.started.JournalFound.TheVariants.{Resumed, Early, Doubted}
+use Rattle.kdc_files.specs.declared.journals.JournalBeginning.{JournalBeginning}
+use Rattle.kdc_files.specs.declared.journals.Journals.{Journals}
+use Rattle.kdc_reports.specs.Started.{found_by}
+use Rattle.kdc_reports.specs.declared.started.JournalFound.{JournalFound}
 
 abbrev pub is_there : Found → Bool
 is_there Nothing = false
@@ -41,13 +41,7 @@ abbrev pub started_state : Principals → Limits → Opening → Start → State
 started_state rows limits opening (Resumes resumption check) = resumed_state rows limits resumption
 started_state rows limits opening (Refuses doubt) = opened_state rows limits opening
 
--- what is said of it
-abbrev pub found_by : Start → JournalFound
-found_by (Resumes resumption (Some check)) = Resumed (length resumption.seen)
-found_by (Resumes resumption None) = Early (length resumption.seen)
-found_by (Refuses doubt) = Doubted doubt
-
--- if the options name a journal
+-- what is said of it, if the options name a journal
 abbrev pub found_at : Option (List ℕ) → Start → Option JournalFound
 found_at (Some path) start = Some (found_by start)
 found_at None start = None

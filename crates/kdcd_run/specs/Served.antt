@@ -1,23 +1,14 @@
 -- What the sockets, the journal and the log of a server have recorded, by all that its tally has.
-use Rattle.std.specs.Prelude.{◌≡◌, Bool, true, false, not, List, [], ◌∷◌, ◌++◌, map, Option, Some, None, IfSome}
+use Rattle.std.specs.Prelude.{◌≡◌, Bool, true, false, not, List, [], ◌∷◌, ◌++◌, map, Option, IfSome}
 use Rattle.std.specs.List.{filter}
 use Rattle.krb_fields.specs.declared.moment.Moment.{Moment}
 use Rattle.kdc_core.specs.Account.{Account}
 use Rattle.kdc_hub.specs.declared.wires.WireCall.{WireCall}
 use Rattle.kdc_hub.specs.declared.wires.WireCall.TheVariants.{Polled, Waited, Missed, Acted, Failed}
-use Rattle.kdc_hub.specs.Wire.{Records, is_fault}
-use Rattle.kdcd_run.specs.Journal.{Handed, handed_by, moment_after}
+use Rattle.kdc_hub.specs.Wire.{is_fault}
+use Rattle.kdc_files.specs.Journal.{Handed, handed_by}
 use Rattle.request_log.specs.Entry.{LogEntry}
-use Rattle.kdcd_run.specs.Log.{reported}
-
--- the record of a part that may be absent, if it is there and keeps one
-abbrev pub record_of : {P X : Type 0} → (P → Option (List X)) → Option P → Option (List X)
-record_of recorded (Some part) = recorded part
-record_of recorded None = None
-
--- nothing was recorded yet, or no record is kept
-abbrev pub IsNew : {X : Type 0} → Option (List X) → Type 0
-IsNew so_far = Records (Some []) [] so_far
+use Rattle.kdc_reports.specs.Log.{moment_after, reported}
 
 -- what comes of all that was polled and tried, one after the other, each with the moment of the last event before it
 abbrev pub in_order : {X : Type 0} → (Moment → WireCall → List X) → Moment → List WireCall → List X

@@ -8,12 +8,12 @@ use Rattle.kdc_hub.specs.Wire.{Records}
 use Rattle.kdc_hub.specs.declared.rows.Look.{Look}
 use Rattle.kdc_hub.specs.declared.totals.Totals.{Totals}
 use Rattle.kdc_hub.specs.Life.{IsLife, periods_of}
-use Rattle.kdcd_run.specs.Clocks.{refused_at_start}
+use Rattle.kdc_reports.specs.Clocks.{refused_at_start}
 use Rattle.kdcd_run.specs.Resuming.{IsReady, began, found_at}
-use Rattle.kdcd_run.specs.Served.{IsNew}
+use Rattle.kdc_files.specs.Recorded.{IsNew}
 use Rattle.kdcd_run.specs.Starting.{HostDid}
 use Rattle.kdcd_run.specs.declared.args.ServeOptions.{ServeOptions}
-use Rattle.kdcd_run.specs.declared.host.JournalBeginning.{JournalBeginning}
+use Rattle.kdc_files.specs.declared.journals.JournalBeginning.{JournalBeginning}
 use Rattle.kdcd_run.specs.declared.host.StartNews.{StartNews}
 
 -- a start as the options say, with the host's record before and afterwards, the hub, the moment and the floor that it

@@ -9,8 +9,8 @@ use Rattle.principals.specs.Database.{Principals}
 use Rattle.replay.specs.declared.opening.Opening.{Opening}
 use Rattle.replay.specs.declared.opening.Opening.TheVariants.{First, Restart}
 use Rattle.kdc_hub.specs.Wire.{Records}
-use Rattle.kdcd_run.specs.declared.host.JournalBeginning.{JournalBeginning}
-use Rattle.kdcd_run.specs.declared.host.Journals.{Journals}
+use Rattle.kdc_files.specs.declared.journals.JournalBeginning.{JournalBeginning}
+use Rattle.kdc_files.specs.declared.journals.Journals.{Journals}
 
 -- A call of a host that succeeded, with its outcome: it read the rows of the database; it read the octets of the file
 -- of the seed at a path; the system gave random octets; sockets for datagrams and sockets that take connections are

@@ -2,8 +2,8 @@
 use Rattle.std.specs.Prelude.{◌≡◌, ℕ, ℤ, Bool, true, false, not, ◌&&◌, Option, Some, None}
 use Rattle.krb_fields.specs.declared.moment.Moment.{Moment}
 use Rattle.kdc_hub.specs.declared.event.Action.{Action}
-use Rattle.kdcd_run.specs.Journal.{is_kept}
-use Rattle.kdcd_run.specs.Memory.{plus}
+use Rattle.kdc_files.specs.Journal.{is_kept}
+use Rattle.kdc_reports.specs.Memory.{plus}
 use Rattle.kdcd_run.specs.Quiet.{is_quiet}
 use Rattle.kdcd_run.specs.declared.withheld.Withheld.{Withheld}
 

@@ -1,8 +1,8 @@
 //! The command line of `kdcd`: its subcommands, their options, and what `--help` says.
-use crate::request_lines::LogFormat;
 use clap::builder::ValueParser;
 use clap::error::Error;
 use clap::{Arg, ArgMatches, Command};
+use kdc_reports::LogFormat;
 use principal_rows::Limits;
 use program::{FlagRow, OptionRow, SubcommandRow, Times, subcommand, with_subcommands};
 use std::alloc::{AllocError, Global};

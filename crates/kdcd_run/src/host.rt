@@ -2,49 +2,18 @@
 ghost use Rattle.std.specs.Prelude.{◌≡◌, ◌∷◌, [], List, Option, IfOk, true, false};
 ghost use Rattle.kdc_hub.specs.Wire.{Records};
 ghost use Rattle.kdc_hub.specs.Recorded.{recorded_by_any};
-ghost use Rattle.kdcd_run.specs.Served.{IsNew};
+ghost use Rattle.kdc_files.specs.Recorded.{IsNew};
 ghost use Rattle.kdcd_run.specs.Starting.{HostDid, ReadRows, ReadSeed, Drew, Held, HasNoJournal, ReadJournals, Showed, BeganJournal};
 
-use crate::clock_watch::Refused;
-use crate::files::FileFault;
-use crate::keeping::JournalWriter;
-use crate::metrics::MetricsWriter;
 use crate::sockets::Sockets;
-use crate::started::JournalFound;
-use journal::{Found, Start};
+use kdc_files::{FileFault, JournalBeginning, JournalWriter, Journals};
 use kdc_hub::RowSource;
-use krb_elements::Octets;
+use kdc_reports::{JournalFound, MetricsWriter, Refused};
 use krb_fields::Moment;
 use principals::Database;
 use std::alloc::Global;
 use std::io;
 use std::net::SocketAddr;
-
-/// The journals that a start finds.
-#[derive(Drop)]
-pub struct Journals {
-    /// The system's name for its current boot.
-    pub boot: Octets,
-    /// The journal that went before the newer one.
-    pub older: Found,
-    /// The journal that is appended to.
-    pub newer: Found,
-    /// The seal beside them. Without one there are no octets.
-    pub seal: Octets,
-}
-
-/// What the journal of a server begins with.
-#[derive(Drop)]
-pub struct JournalBeginning {
-    pub realm: Octets,
-    /// When the server started.
-    pub at: Moment,
-    /// The floor of the start.
-    pub floor: i64,
-    /// What the start made of the journals that it found.
-    pub start: Start,
-    pub journals: Journals,
-}
 
 /// A start, as it is announced.
 #[derive(Clone, Copy)]

@@ -2,16 +2,16 @@
 ghost use Rattle.std.specs.Prelude.{◌≡◌, ◌∷◌, [], IfOk, Some};
 ghost use Rattle.std.specs.Option.{option_copied};
 ghost use Rattle.kdc_hub.specs.Wire.{Records};
-ghost use Rattle.kdcd_run.specs.InMemory.{did_by, no_journals, seen_as};
+ghost use Rattle.kdcd_run.specs.InMemory.{did_by, no_journals};
+ghost use Rattle.kdc_files.specs.InMemory.{seen_as};
 ghost use Rattle.kdcd_run.specs.Starting.{BeganJournal, HasNoJournal, Held, HostDid, ReadJournals, ReadRows, ReadSeed};
 
-use crate::files::FileFault;
-use crate::host::{Host, JournalBeginning, Journals, StartNews};
-use crate::memory_metrics::MemoryMetrics;
-use crate::memory_parts::{MemoryJournal, MemorySockets};
-use crate::record::Record;
+use crate::host::{Host, StartNews};
+use crate::memory_sockets::MemorySockets;
 use journal::Found;
+use kdc_files::{FileFault, JournalBeginning, Journals, MemoryJournal, Record};
 use kdc_hub::{Event, Look, MemoryRows};
+use kdc_reports::MemoryMetrics;
 use krb_elements::Octets;
 use krb_fields::Moment;
 use principals::Database;

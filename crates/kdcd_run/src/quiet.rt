@@ -1,13 +1,25 @@
 //! Which replies a quiet start withholds.
 ghost use Rattle.std.specs.Prelude.{◌≡◌, option_copied};
-ghost use Rattle.kdcd_run.specs.Quiet.{is_quiet, is_skew, is_skewed, sends_skew};
+ghost use Rattle.kdcd_run.specs.Quiet.{is_quiet, is_skew, is_skewed, quiet_until, sends_skew};
 
 use kdc_core::TgsOutcome;
 use kdc_hub::{Account, Action};
+use kdc_reports::Refused;
 use krb_fields::Moment;
 
 /// The number of KRB_AP_ERR_SKEW (RFC 4120, section 7.5.9).
 const SKEW_ERROR: i32 = 37;
+
+/// Returns the second before which refused requests get no reply, if the start is quiet.
+pub(crate) fn quiet_until(refused: Option<Refused>, is_quiet: bool) -> Option<i64>
+    ensures { result ≡ quiet_until refused is_quiet }
+{
+    match refused {
+        Some(Refused::All(until)) => { if is_quiet { Some(until) } else { None } }
+        Some(Refused::ServedLater(_)) => None,
+        None => None,
+    }
+}
 
 /// Checks whether an action refuses a TGS-REQ with KRB_AP_ERR_SKEW before the second up to which a server is quiet, so
 /// that the client asks another KDC.

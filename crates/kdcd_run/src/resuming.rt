@@ -7,10 +7,11 @@ ghost use Rattle.kdcd_run.specs.Resuming.{started_state};
 ghost use Rattle.journal.specs.declared.decision.Found.TheVariants.{Nothing};
 
 use crate::args::ServeOptions;
-use crate::host::{Host, Journals};
+use crate::host::Host;
 use crate::starting::StartFault;
 use journal::{Found, Place, Start, start_of};
 use kdc_core::{Kdc, Opening};
+use kdc_files::Journals;
 use krb_elements::Octets;
 use krb_fields::Moment;
 use principal_rows::Limits;

@@ -3,23 +3,24 @@ ghost use Rattle.std.specs.Prelude.{◌≡◌, ◌∷◌, [], ℕ, true, false, 
 ghost use Rattle.std.specs.Result.{is_ok};
 ghost use Rattle.kdc_hub.specs.Wire.{IsCounted, Records, acted, faults_of, polled};
 ghost use Rattle.kdc_hub.specs.Rounds.{action_connection};
-ghost use Rattle.kdcd_run.specs.Clocks.{clock_after};
-ghost use Rattle.kdcd_run.specs.Journal.{handed_by, is_kept, moment_after};
-ghost use Rattle.kdcd_run.specs.Log.{LogsAll, entries_of};
-ghost use Rattle.kdcd_run.specs.Memory.{after_act, memory_after};
-ghost use Rattle.kdcd_run.specs.Served.{IsNew, Serves};
+ghost use Rattle.kdc_reports.specs.Clocks.{clock_after};
+ghost use Rattle.kdc_files.specs.Journal.{handed_by, is_kept};
+ghost use Rattle.kdc_reports.specs.Log.{LogsAll, entries_of, moment_after};
+ghost use Rattle.kdc_reports.specs.Memory.{after_act, memory_after};
+ghost use Rattle.kdc_files.specs.Recorded.{IsNew};
+ghost use Rattle.kdcd_run.specs.Served.{Serves};
 ghost use Rattle.kdcd_run.specs.Quiet.{is_quiet};
 ghost use Rattle.kdcd_run.specs.Withheld.{EndsOnly, may_send, withheld_after};
 
-use crate::clock_watch::{ClockWatch, watch};
-use crate::keeping::{JournalWriter, keep_for};
-use crate::logging::{Arrival, LogWriter, Tried, arrival_after, log_action};
-use crate::memory_watch::{MemoryWatch, watch_memory};
 use crate::quiet::is_quiet;
 use crate::sockets::Sockets;
-use crate::tally::Tally;
 use crate::withheld::Withheld;
+use kdc_files::{JournalWriter, keep_for};
 use kdc_hub::{Action, Event, Wire, WireFault};
+use kdc_reports::{
+    Arrival, ClockWatch, LogWriter, MemoryWatch, Tally, Tried, arrival_after, log_action,
+    watch_clock, watch_memory,
+};
 use krb_fields::Moment;
 use std::alloc::Global;
 use std::io::Write;
@@ -168,7 +169,7 @@ impl<S: Sockets, J: JournalWriter, L: LogWriter, E: Write, T: Tally> Wire
     {
         let polled = self.sockets.poll(alloc);
         self.tally.add_poll(alloc, &polled);
-        watch(&mut self.clock, &mut self.errors, &polled);
+        watch_clock(&mut self.clock, &mut self.errors, &polled);
         let lost = self.sockets.lost();
         watch_memory(&mut self.memory, &mut self.errors, lost, &polled);
         self.came = arrival_after(&self.sockets, self.came, &polled);

@@ -2,18 +2,18 @@
 ghost use Rattle.std.specs.Prelude.{◌≡◌, ◌||◌, IfOk, is_some};
 ghost use Rattle.std.specs.Option.{option_copied};
 ghost use Rattle.kdc_hub.specs.Hub.{standing};
-ghost use Rattle.kdcd_run.specs.Served.{IsNew};
+ghost use Rattle.kdc_files.specs.Recorded.{IsNew};
 ghost use Rattle.rand_core.specs.Steps.{steps_u32, stream_of};
 ghost use Rattle.rand_chacha.specs.ChaCha.{next_word};
 ghost use Rattle.kdcd_run.specs.Resuming.{IsReady};
 ghost use Rattle.kdcd_run.specs.Starting.{IsSeed, opened_by};
 
 use crate::args::ServeOptions;
-use crate::files::{FileFault, seed_in};
-use crate::host::{Host, JournalBeginning};
+use crate::host::Host;
 use crate::key_places::placed;
 use crate::resuming::{decide, floor_by, open, read_journals};
 use kdc_core::Opening;
+use kdc_files::{FileFault, JournalBeginning, seed_in};
 use kdc_hub::Hub;
 use krb_elements::Octets;
 use krb_fields::Moment;

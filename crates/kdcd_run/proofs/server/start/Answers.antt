@@ -1,6 +1,6 @@
 use Rattle.std.proofs.Common.{rules, ◌≡◌, ◌∙◌, SFits, w64, ap, subst, sym}
 use Rattle.std.proofs.lemmas.Int.{to_z-of_z}
-use Rattle.kdcd_run.specs.Clocks.{refused_at_start}
+use Rattle.kdc_reports.specs.Clocks.{refused_at_start}
 use Rattle.kdcd_run.proofs.server.start.Goals as goal
 
 pub returns-clause-start : goal.returns-clause-start

@@ -1,6 +1,6 @@
 use Rattle.std.proofs.Math.Logic.{∥∥₁_map}
 use Rattle.kdc_hub.specs.Rounds.{action_connection}
-use Rattle.kdcd_run.specs.Log.{entries_of}
+use Rattle.kdc_reports.specs.Log.{entries_of}
 use Rattle.kdcd_run.proofs.Serving.{by_act, ends_record, logs_all}
 use Rattle.kdcd_run.proofs.server_wire.ServerWireWire.act.Goals as goal
 

@@ -1,0 +1,5 @@
+pub mod Refusal
+pub mod Journal
+pub mod Recorded
+pub mod InMemory
+pub mod Unrecorded

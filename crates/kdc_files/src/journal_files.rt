@@ -1,0 +1,152 @@
+//! The files of a journal: which process holds them, and what is found in them.
+use crate::files::{FileFault, read_at_most, read_whole};
+use crate::journal_store::{JournalPlace, SystemJournal};
+use crate::journals::Journals;
+use crate::plain_files::{open_plain, open_plain_with, own_user};
+use journal::{FileText, FilesFault, Found, JournalFiles, Part, read_part};
+use krb_elements::Octets;
+use std::alloc::{AllocError, Global};
+use std::fs::{File, OpenOptions, TryLockError};
+use std::io;
+use std::io::{Error, ErrorKind, Write};
+use std::os::unix::fs::{MetadataExt, OpenOptionsExt};
+use std::rt::Files;
+
+/// The mode of a journal's files: only their owner reads and writes them.
+pub(crate) const OWNER_ONLY: u32 = 0o600;
+
+/// The bits of a mode that let others write.
+const OTHERS_WRITE: u32 = 0o022;
+
+/// The file in which the system names its current boot.
+const BOOT_ID: &str = "/proc/sys/kernel/random/boot_id";
+
+/// The greatest length of a boot's name, in octets.
+const LONGEST_BOOT_ID: usize = 255;
+
+/// The journals at a path, and their files, which this process holds.
+#[derive(Drop)]
+pub struct OpenedJournals<'a, F, W> {
+    pub journals: Journals,
+    pub files: SystemJournal<'a, F, W>,
+}
+
+/// Opens the journal at a place, and reads it with the one that went before it.
+pub fn open_journals<'a, F: Files<File = File>, W: Write + Drop>(
+    alloc: Global,
+    place: JournalPlace<'a, '_, F, W>,
+) -> Result<OpenedJournals<'a, F, W>, FileFault> {
+    let files = place.files;
+    let mut held = SystemJournal::open(alloc, place)?;
+    let boot = boot_id(alloc, files)?;
+    let older = found(alloc, &mut held, Part::Older)?;
+    let newer = found(alloc, &mut held, Part::Newer)?;
+    let seal = Octets::new(held.read_seal(alloc)?);
+    Ok(OpenedJournals {
+        journals: Journals {
+            boot,
+            older,
+            newer,
+            seal,
+        },
+        files: held,
+    })
+}
+
+/// Reads a file of a journal.
+fn found<F: Files<File = File>, W: Write + Drop>(
+    alloc: Global,
+    held: &mut SystemJournal<'_, F, W>,
+    part: Part,
+) -> Result<Found, FileFault> {
+    match read_part(alloc, held, part) {
+        Ok(found) => Ok(found),
+        Err(FilesFault::Files(error)) => Err(FileFault::from(error)),
+        Err(FilesFault::Memory | FilesFault::Unfit) => Err(FileFault::from(AllocError)),
+    }
+}
+
+/// Locks `PATH.lock`, which stays there. The system releases the lock when the process ends, however it ends. The
+/// journal's own files are renamed and replaced, so a lock of theirs would leave a gap between two of them.
+pub(crate) fn open_locked<F: Files<File = File>>(files: &F, path: &str) -> io::Result<File> {
+    let mut how = OpenOptions::new();
+    how.write(true).create(true).mode(OWNER_ONLY);
+    let file = how.open(files, path)?;
+    match file.try_lock() {
+        Ok(()) => Ok(file),
+        Err(TryLockError::WouldBlock) => Err(Error::new(
+            ErrorKind::WouldBlock,
+            "another server appends to it; each server needs a journal of its own",
+        )),
+        Err(TryLockError::Error(error)) => Err(error),
+    }
+}
+
+/// Reads the seal at a path. Without one there are no octets.
+pub(crate) fn seal_at<F: Files<File = File>>(
+    alloc: Global,
+    files: &F,
+    path: &str,
+) -> io::Result<Vec<u8>> {
+    match text_at(alloc, files, path)? {
+        FileText::Octets(octets) => Ok(octets),
+        FileText::Nothing | FileText::Unusable => Ok(Vec::new(alloc)),
+    }
+}
+
+/// Opens the file that is read and then appended to, if it exists.
+pub(crate) fn open_newer<F: Files<File = File>>(files: &F, path: &str) -> io::Result<Option<File>> {
+    let mut how = OpenOptions::new();
+    how.read(true).append(true);
+    if_there(open_plain_with(files, &how, path))
+}
+
+/// Returns what was opened, or `None` if nothing is there.
+fn if_there(opened: io::Result<File>) -> io::Result<Option<File>> {
+    match opened {
+        Ok(file) => Ok(Some(file)),
+        Err(error) if error.kind() == ErrorKind::NotFound => Ok(None),
+        Err(error) => Err(error),
+    }
+}
+
+/// Reads the system's name for its current boot.
+fn boot_id<F: Files<File = File>>(alloc: Global, files: &F) -> Result<Octets, FileFault> {
+    let octets = read_at_most(alloc, File::open(files, BOOT_ID)?, LONGEST_BOOT_ID)?;
+    Ok(Octets::from_slice(alloc, octets.trim_ascii())?)
+}
+
+/// Reads the file at a path.
+pub(crate) fn text_at<F: Files<File = File>>(
+    alloc: Global,
+    files: &F,
+    path: &str,
+) -> io::Result<FileText> {
+    let file = if_there(open_plain(files, path))?;
+    text_in(alloc, files, file.as_ref())
+}
+
+/// Reads an open file. One of another user, or one that others may write, is no journal, nor is one that is too long.
+pub(crate) fn text_in<F: Files<File = File>>(
+    alloc: Global,
+    files: &F,
+    file: Option<&File>,
+) -> io::Result<FileText> {
+    let Some(file) = file else {
+        return Ok(FileText::Nothing);
+    };
+    if !is_ours(files, file)? {
+        return Ok(FileText::Unusable);
+    }
+    match read_whole(alloc, file) {
+        Ok(text) => Ok(FileText::Octets(text)),
+        Err(FileFault::Failed(error)) => Err(error),
+        Err(_) => Ok(FileText::Unusable),
+    }
+}
+
+/// Checks whether a file belongs to the user of this process, and nobody else may write it.
+fn is_ours<F: Files>(files: &F, file: &File) -> io::Result<bool> {
+    let file = file.metadata()?;
+    Ok(file.uid() == own_user(files)? && file.mode() & OTHERS_WRITE == 0)
+}

@@ -1,0 +1,257 @@
+//! The files of a journal in the system.
+ghost use Rattle.std.specs.Prelude.{◌≡◌};
+ghost use Rattle.kdc_files.specs.Unrecorded.{no_world};
+
+use crate::files::FileFault;
+use crate::journal_files::{OWNER_ONLY, open_locked, open_newer, seal_at, text_at, text_in};
+use crate::journal_parts::{Paths, require_replaceable};
+use journal::{Begun, FileText, JournalFiles, News, NotBegun, Part};
+use std::alloc::Global;
+use std::fs::{File, OpenFile, OpenOptions};
+use std::io::{Error, ErrorKind, Write};
+use std::os::unix::fs::OpenOptionsExt;
+use std::rt::Files;
+use std::{fs, io};
+
+/// Where a journal is, and where it is said what becomes of its files.
+#[derive(Drop)]
+pub struct JournalPlace<'a, 'p, F, W> {
+    pub files: &'a F,
+    pub path: &'p str,
+    pub lines: W,
+}
+
+/// The files of a journal, which this process holds. It keeps no record of what they hold, and says what becomes of them.
+#[derive(Drop)]
+pub struct SystemJournal<'a, F, W> {
+    files: &'a F,
+    paths: Paths,
+    /// The file whose lock keeps other servers from this journal, as long as it is open.
+    lock: File,
+    /// The file that is appended to, if it is there.
+    newer: Option<File>,
+    /// Where faults are logged.
+    lines: W,
+}
+
+impl<'a, F: Files<File = File>, W: Write + Drop> SystemJournal<'a, F, W> {
+    /// Locks the journal at its place, and opens it. If something else than a journal has one of its names, it is refused, and
+    /// nothing is changed.
+    pub fn open(
+        alloc: Global,
+        place: JournalPlace<'a, '_, F, W>,
+    ) -> Result<SystemJournal<'a, F, W>, FileFault> {
+        let JournalPlace { files, path, lines } = place;
+        let paths = Paths::new(alloc, path)?;
+        paths.check(alloc, files)?;
+        let lock = open_locked(files, paths.lock.as_str())?;
+        let newer = open_newer(files, path)?;
+        Ok(SystemJournal {
+            files,
+            paths,
+            lock,
+            newer,
+            lines,
+        })
+    }
+
+    /// Returns the length of the newer file, in octets, or 0 if it isn't known.
+    pub fn len(&self) -> u64 {
+        match &self.newer {
+            Some(file) => match file.metadata() {
+                Ok(file) => file.len(),
+                Err(_) => 0,
+            },
+            None => 0,
+        }
+    }
+
+    /// Removes the journal, but for the file that is locked.
+    pub fn remove(&mut self, alloc: Global) -> io::Result<()> {
+        self.newer = None;
+        for path in [
+            self.paths.newer.as_str(),
+            self.paths.older.as_str(),
+            self.paths.beside.as_str(),
+        ] {
+            require_replaceable(alloc, self.files, path)?;
+            remove_if_there(self.files, path)?;
+        }
+        remove_if_there(self.files, self.paths.seal.as_str())
+    }
+
+    /// Puts what was written to the older file on the disk, if it is there.
+    fn sync_older(&self) -> io::Result<()> {
+        match File::open(self.files, self.paths.older.as_str()) {
+            Ok(older) => older.sync_all(),
+            Err(error) if error.kind() == ErrorKind::NotFound => Ok(()),
+            Err(error) => Err(error),
+        }
+    }
+
+    /// Begins a file beside the newer one.
+    fn write_beside(&self, alloc: Global, text: &[u8]) -> io::Result<File> {
+        let beside = self.paths.beside.as_str();
+        require_replaceable(alloc, self.files, beside)?;
+        remove_if_there(self.files, beside)?;
+        let mut how = OpenOptions::new();
+        how.append(true).create_new(true).mode(OWNER_ONLY);
+        let mut file = how.open(self.files, beside)?;
+        append_to(&mut file, text)?;
+        Ok(file)
+    }
+
+    /// Makes the newer file the older one. If somebody removed it, the next start finds that it is missing.
+    fn make_older(&self, alloc: Global) -> io::Result<()> {
+        let (newer, older) = (self.paths.newer.as_str(), self.paths.older.as_str());
+        require_replaceable(alloc, self.files, newer)?;
+        require_replaceable(alloc, self.files, older)?;
+        if_there(fs::rename(self.files, newer, older))
+    }
+
+    /// Removes the older file.
+    fn remove_older(&self, alloc: Global) -> io::Result<()> {
+        let older = self.paths.older.as_str();
+        require_replaceable(alloc, self.files, older)?;
+        remove_if_there(self.files, older)
+    }
+
+    /// Makes the file beside the newer one the newer one.
+    fn make_newer(&self, alloc: Global) -> io::Result<()> {
+        let newer = self.paths.newer.as_str();
+        require_replaceable(alloc, self.files, newer)?;
+        fs::rename(self.files, self.paths.beside.as_str(), newer)
+    }
+
+    /// Begins a file that goes on behind the newer one.
+    fn begin_linked(&self, alloc: Global, text: &[u8]) -> Result<File, NotBegun<Error>> {
+        let file = unless_changed(self.write_beside(alloc, text))?;
+        unless_changed(self.make_older(alloc))?;
+        unless_torn(self.make_newer(alloc))?;
+        Ok(file)
+    }
+
+    /// Begins a file in place of both. The older one goes first, since it may be why there is no room.
+    fn begin_anew(&self, alloc: Global, text: &[u8]) -> Result<File, NotBegun<Error>> {
+        unless_changed(self.remove_older(alloc))?;
+        let file = unless_torn(self.write_beside(alloc, text))?;
+        unless_torn(self.make_newer(alloc))?;
+        Ok(file)
+    }
+}
+
+impl<F: Files<File = File>, W: Write + Drop> JournalFiles for SystemJournal<'_, F, W> {
+    type Fault = Error;
+
+    ghost world = { no_world };
+
+    fn append(&mut self, text: &[u8]) -> io::Result<()> {
+        match &mut self.newer {
+            Some(file) => append_to(file, text),
+            None => Err(Error::from(ErrorKind::NotFound)),
+        }
+    }
+
+    fn begin(&mut self, alloc: Global, text: &[u8], how: Begun) -> Result<(), NotBegun<Error>> {
+        let begun = match how {
+            Begun::Linked => self.begin_linked(alloc, text),
+            Begun::Anew => self.begin_anew(alloc, text),
+        };
+        match begun {
+            Ok(file) => {
+                self.newer = Some(file);
+                Ok(())
+            }
+            Err(fault) => Err(fault),
+        }
+    }
+
+    fn read(&mut self, alloc: Global, part: Part) -> io::Result<FileText> {
+        match part {
+            Part::Older => text_at(alloc, self.files, self.paths.older.as_str()),
+            Part::Newer => text_in(alloc, self.files, self.newer.as_ref()),
+        }
+    }
+
+    fn read_seal(&mut self, alloc: Global) -> io::Result<Vec<u8>> {
+        seal_at(alloc, self.files, self.paths.seal.as_str())
+    }
+
+    fn seal(&mut self, check: &[u8; 16]) -> io::Result<()> {
+        self.sync_older()?;
+        match &self.newer {
+            Some(newer) => newer.sync_all()?,
+            None => return Err(Error::from(ErrorKind::NotFound)),
+        }
+        let mut how = OpenOptions::new();
+        how.write(true).create(true).truncate(true).mode(OWNER_ONLY);
+        let mut seal = how.open(self.files, self.paths.seal.as_str())?;
+        append_to(&mut seal, check)?;
+        seal.sync_all()
+    }
+
+    fn unseal(&mut self) -> io::Result<()> {
+        let mut how = OpenOptions::new();
+        how.write(true);
+        match how.open(self.files, self.paths.seal.as_str()) {
+            Ok(seal) => {
+                seal.set_len(0)?;
+                seal.sync_all()
+            }
+            Err(error) if error.kind() == ErrorKind::NotFound => Ok(()),
+            Err(error) => Err(error),
+        }
+    }
+
+    fn say(&mut self, news: News<Error>)
+        ensures { no_world self.new ≡ no_world self.old }
+    {
+        let path = self.paths.newer.as_str();
+        let _ = match news {
+            News::NotTurned(fault) => writeln!(self.lines, "kdcd: journal {path}: {fault}"),
+            News::Lost(fault) => writeln!(
+                self.lines,
+                "kdcd: journal {path}: {fault}; no reply is sent until it can be written"
+            ),
+            News::Mended => {
+                writeln!(self.lines, "kdcd: journal {path}: it can be written again")
+            }
+        };
+    }
+}
+
+/// Appends a text by one write.
+fn append_to(file: &mut File, text: &[u8]) -> io::Result<()> {
+    if file.write(text)? == text.len() {
+        return Ok(());
+    }
+    Err(Error::new(ErrorKind::WriteZero, "a record was cut"))
+}
+
+fn remove_if_there<F: Files>(files: &F, path: &str) -> io::Result<()> {
+    if_there(fs::remove_file(files, path))
+}
+
+/// Counts as done what fails because nothing is there.
+fn if_there(done: io::Result<()>) -> io::Result<()> {
+    match done {
+        Err(error) if error.kind() == ErrorKind::NotFound => Ok(()),
+        done => done,
+    }
+}
+
+/// Says of a failure that both files are as they were.
+fn unless_changed<T>(done: io::Result<T>) -> Result<T, NotBegun<Error>> {
+    match done {
+        Ok(value) => Ok(value),
+        Err(error) => Err(NotBegun::Unchanged(error)),
+    }
+}
+
+/// Says of a failure that one of the files may be gone.
+fn unless_torn<T>(done: io::Result<T>) -> Result<T, NotBegun<Error>> {
+    match done {
+        Ok(value) => Ok(value),
+        Err(error) => Err(NotBegun::Torn(error)),
+    }
+}

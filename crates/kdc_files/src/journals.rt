@@ -1,0 +1,30 @@
+//! The journals that a start finds, and what its own begins with.
+use journal::{Found, Start};
+use krb_elements::Octets;
+use krb_fields::Moment;
+
+/// The journals that a start finds.
+#[derive(Drop)]
+pub struct Journals {
+    /// The system's name for its current boot.
+    pub boot: Octets,
+    /// The journal that went before the newer one.
+    pub older: Found,
+    /// The journal that is appended to.
+    pub newer: Found,
+    /// The seal beside them. Without one there are no octets.
+    pub seal: Octets,
+}
+
+/// What the journal of a server begins with.
+#[derive(Drop)]
+pub struct JournalBeginning {
+    pub realm: Octets,
+    /// When the server started.
+    pub at: Moment,
+    /// The floor of the start.
+    pub floor: i64,
+    /// What the start made of the journals that it found.
+    pub start: Start,
+    pub journals: Journals,
+}

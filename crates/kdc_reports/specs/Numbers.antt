@@ -1,0 +1,76 @@
+-- The text of a server's numbers, and when it is written.
+use Rattle.std.specs.Prelude.{ℕ, ℤ, pos, ◌+ℤ◌, int_lt, not, ◌&&◌, unsigned_abs, if◌then◌else◌, List, ◌++◌, codes, Option, Some, None}
+use Rattle.kdc_state.specs.declared.sizes.CacheSizes.{CacheSizes}
+use Rattle.krb_fields.specs.declared.moment.Moment.{Moment}
+use Rattle.request_log.specs.Prometheus.{head, sample, single}
+use Rattle.request_log.specs.CountText.{counts_text}
+use Rattle.request_log.specs.declared.counts.Counts.{Counts}
+use Rattle.request_log.specs.declared.prometheus.NumberType.TheVariants.{Counter, Gauge}
+use Rattle.kdc_reports.specs.declared.clock_watch.Refused.{Refused}
+use Rattle.kdc_reports.specs.declared.clock_watch.Refused.TheVariants.{All, ServedLater}
+use Rattle.kdc_reports.specs.declared.numbers.Numbers.{Numbers}
+
+-- When to report, given the moments of the last report and of the last successful poll: at the poll's moment, unless it is
+-- within the ten seconds that began with the report. So a clock that went back doesn't stop reports.
+abbrev pub due : Option Moment → Option Moment → Option Moment
+due reported None = None
+due None (Some at) = Some at
+due (Some before) (Some at) =
+    if not (int_lt at.sec before.sec) && int_lt at.sec (before.sec +ℤ pos 10) then None else Some at
+
+-- a second since 1970, or 0 for one before
+abbrev pub second_of : ℤ → ℕ
+second_of second = if int_lt second (pos 0) then 0 else unsigned_abs second
+
+-- until when all TGS-REQs are refused after the start, or 0
+abbrev pub refused_until : Option Refused → ℕ
+refused_until (Some (All until)) = second_of until
+refused_until (Some (ServedLater until)) = 0
+refused_until None = 0
+
+-- ---- the text
+
+abbrev pub version_sample : List ℕ → List ℕ
+version_sample version = codes "kdcd_info{version=\"" ++ version ++ codes "\"} 1\n"
+
+abbrev pub version_text : List ℕ → List ℕ
+version_text version = head (codes "kdcd_info") Gauge (codes "The version of the server.") ++ version_sample version
+
+abbrev pub start_text : Numbers → List ℕ
+start_text n =
+    single (codes "kdcd_start_time_seconds") Gauge (codes "When the server started, in seconds since 1970.") n.started
+    ++ single (codes "kdcd_refused_until_seconds") Gauge (codes "Until when all TGS-REQs are refused after the start, in seconds since 1970, or 0.") n.refused_until
+
+abbrev pub served_text : Numbers → List ℕ
+served_text n =
+    single (codes "kdcd_events_total") Counter (codes "Datagrams, new connections, pieces of what comes on them, and their ends.") n.events
+    ++ single (codes "kdcd_faults_total") Counter (codes "Calls of the sockets that failed, and replies that were withheld.") n.faults
+    ++ single (codes "kdcd_memory_faults_total") Counter (codes "Events that ran out of memory.") n.memory_faults
+    ++ single (codes "kdcd_log_lost_lines_total") Counter (codes "Lines of the log that could not be written.") n.lost_lines
+
+abbrev pub database_text : Numbers → List ℕ
+database_text n =
+    single (codes "kdcd_database_rows") Gauge (codes "Rows that are served.") n.rows
+    ++ single (codes "kdcd_database_taken_seconds") Gauge (codes "When these rows were taken, in seconds since 1970.") n.rows_taken
+    ++ single (codes "kdcd_database_behind") Gauge (codes "1 if there is a newer database that is refused or could not be read, otherwise 0.") n.rows_behind
+
+abbrev pub caches_text : CacheSizes → List ℕ
+caches_text n =
+    single (codes "kdcd_replay_clients") Gauge (codes "Clients with a replay cache.") n.clients
+    ++ single (codes "kdcd_replay_authenticators") Gauge (codes "Authenticators in the replay caches.") n.authenticators
+    ++ single (codes "kdcd_replay_kept_bytes") Gauge (codes "Bytes of the requests and replies that are kept with them.") n.kept_bytes
+
+abbrev pub withheld_text : Numbers → List ℕ
+withheld_text n =
+    head (codes "kdcd_withheld_total") Counter (codes "Replies that were withheld, and why.")
+    ++ sample (codes "kdcd_withheld_total") (codes "{for=\"journal\"}") n.withheld_by_journal
+    ++ sample (codes "kdcd_withheld_total") (codes "{for=\"quiet-start\"}") n.withheld_by_quiet_start
+
+abbrev pub journal_text : Numbers → List ℕ
+journal_text n =
+    single (codes "kdcd_journal_bytes") Gauge (codes "Bytes of the journal's two files.") n.journal_bytes ++ withheld_text n
+
+abbrev pub numbers_text : List ℕ → Numbers → Counts → List ℕ
+numbers_text version n counts =
+    version_text version
+    ++ (start_text n ++ (served_text n ++ (database_text n ++ (caches_text n.caches ++ (journal_text n ++ counts_text counts)))))

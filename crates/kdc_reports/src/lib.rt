@@ -1,0 +1,31 @@
+//! What a server reports to those who run it: the lines of its log, its numbers, how it started, and that its clock
+//! went back or its memory ran out.
+#![tactic(auto)]
+
+mod clock_watch;
+mod counted_log;
+mod logging;
+mod memory_log;
+mod memory_metrics;
+mod memory_tally;
+mod memory_watch;
+mod metrics;
+mod metrics_file;
+mod numbers;
+mod request_lines;
+mod started;
+mod tally;
+
+pub use crate::clock_watch::{ClockWatch, Refused, refused_at_start, watch_clock};
+pub use crate::counted_log::{CountedLog, LogNumbers};
+pub use crate::logging::{Arrival, LogWriter, Tried, arrival_after, log_action};
+pub use crate::memory_log::{MemoryEntry, MemoryLog};
+pub use crate::memory_metrics::MemoryMetrics;
+pub use crate::memory_tally::MemoryTally;
+pub use crate::memory_watch::{MemoryWatch, watch_memory};
+pub use crate::metrics::MetricsWriter;
+pub use crate::metrics_file::{MetricsFile, MetricsPaths};
+pub use crate::numbers::{Numbers, push_numbers};
+pub use crate::request_lines::{LogFormat, RequestLines};
+pub use crate::started::{JournalFound, JournalNews, Started};
+pub use crate::tally::{FaultCount, Tally};

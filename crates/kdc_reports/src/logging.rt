@@ -1,0 +1,165 @@
+//! Logging the requests of a server.
+ghost use Rattle.std.specs.Prelude.{◌≡◌, ◌∷◌, [], Bool, List, Option, option_copied};
+ghost use Rattle.kdc_hub.specs.Wire.{Records, polled};
+ghost use Rattle.kdc_reports.specs.Log.{LogsAll, LogsIf, asker_of, closing_reports, entries_by, moment_after};
+ghost use Rattle.kdc_reports.specs.Log.{entries_of, reports};
+ghost use Rattle.kdc_reports.specs.LogLaws.{log_if_records};
+ghost use Rattle.kdc_files.specs.Recorded.{record_of};
+ghost use Rattle.request_log.specs.Entry.{LogEntry};
+
+use kdc_hub::{Account, Action, CloseReason, Event, Peers, Reply, WireFault};
+use krb_fields::Moment;
+use request_log::{Asker, Entry, Transport};
+use std::alloc::Global;
+use std::net::SocketAddr;
+
+/// Takes the entries of a log.
+pub trait LogWriter {
+    // The entries so far, in order, if it keeps a record.
+    ghost logged: { Self → Option (List LogEntry) };
+
+    // What the writer becomes by an entry.
+    ghost Logs: { Self → LogEntry → Self → Type 0 };
+
+    /// Writes the entry for a request.
+    fn write_entry(&mut self, alloc: Global, entry: &Entry<'_>)
+        ensures { Logs self.old entry.now self.new };
+
+    // By an entry its record grows by that one.
+    ghost records: { (log : Self) (entry : LogEntry) (new : Self) → Logs log entry new
+        → Records (logged log) (entry ∷ []) (logged new) };
+}
+
+/// When an event came, and the peer's address if it came on a connection whose peer is known.
+#[derive(Clone, Copy)]
+pub struct Arrival {
+    pub at: Moment,
+    pub source: Option<SocketAddr>,
+}
+
+/// Returns the last event after a poll.
+pub fn arrival_after(
+    peers: &impl Peers,
+    came: Arrival,
+    outcome: &Result<(Moment, Option<Event>), WireFault>,
+) -> Arrival
+    ensures { result.at ≡ moment_after came.at (polled outcome.now) }
+{
+    match outcome {
+        Ok((at, Some(event))) => Arrival {
+            at: *at,
+            source: source_of(peers, event),
+        },
+        Ok((_, None)) => came,
+        Err(_) => came,
+    }
+}
+
+/// Returns the address that the connection of an event came from, if it is known.
+fn source_of(peers: &impl Peers, event: &Event) -> Option<SocketAddr> {
+    match event {
+        Event::Opened { conn } | Event::Bytes { conn, .. } | Event::Closed { conn } => {
+            peers.peer(*conn)
+        }
+        Event::Datagram { .. } => None,
+    }
+}
+
+/// Without a log nothing is written.
+impl<L: LogWriter> LogWriter for Option<L> {
+    ghost logged = { record_of L.logged };
+
+    ghost Logs = { LogsIf L.Logs };
+
+    fn write_entry(&mut self, alloc: Global, entry: &Entry<'_>) {
+        match self {
+            Some(log) => log.write_entry(alloc, entry),
+            None => {}
+        }
+    }
+
+    ghost records = { log_if_records L.logged L.Logs L.records };
+}
+
+/// An action that was tried, the event before it, and whether it was done.
+#[derive(Clone, Copy)]
+pub struct Tried<'a> {
+    pub came: Arrival,
+    pub action: &'a Action,
+    pub is_sent: bool,
+}
+
+/// Writes the entry for the request that an action answers, if it answers one.
+pub fn log_action<L: LogWriter>(alloc: Global, log: &mut L, tried: &Tried<'_>)
+    ensures { LogsAll L.Logs log.old (entries_of tried.now.came tried.now.action.now tried.now.is_sent) log.new }
+{
+    match tried.action {
+        Action::SendTo { reply, .. } => log_reply(alloc, log, tried, reply),
+        Action::Pass { .. } => log_account(alloc, log, tried, Some(&Account::NoRequest)),
+        Action::Write { reply, .. } => log_reply(alloc, log, tried, reply),
+        Action::Close { reason, .. } => log_close(alloc, log, tried, *reason),
+    }
+}
+
+/// Writes the entry for the request that a reply answers. Without an account it answers no request.
+fn log_reply<L: LogWriter>(alloc: Global, log: &mut L, tried: &Tried<'_>, reply: &Reply)
+    ensures { LogsAll L.Logs log.old (entries_by tried.now.came.at (asker_of tried.now.came.source tried.now.action.now)
+        tried.now.is_sent (reports reply.now.account)) log.new }
+{
+    match &reply.account {
+        Some(account) => log_account(alloc, log, tried, Some(account)),
+        None => {}
+    }
+}
+
+/// Writes the entry for the request for which a connection is closed, if it is closed for one.
+fn log_close<L: LogWriter>(alloc: Global, log: &mut L, tried: &Tried<'_>, reason: CloseReason)
+    ensures { LogsAll L.Logs log.old (entries_by tried.now.came.at (asker_of tried.now.came.source tried.now.action.now)
+        tried.now.is_sent (closing_reports reason)) log.new }
+{
+    match reason {
+        CloseReason::NoRequest => log_account(alloc, log, tried, Some(&Account::NoRequest)),
+        CloseReason::BadLength => log_account(alloc, log, tried, Some(&Account::NoRequest)),
+        CloseReason::Full => {}
+        CloseReason::OutOfMemory => log_account(alloc, log, tried, None),
+    }
+}
+
+/// Writes the entry for the request that an action answers, with this account.
+fn log_account<L: LogWriter>(
+    alloc: Global,
+    log: &mut L,
+    tried: &Tried<'_>,
+    account: Option<&Account>,
+)
+    ensures { L.Logs log.old (record {
+      at = tried.now.came.at;
+      asker = asker_of tried.now.came.source tried.now.action.now;
+      account = option_copied account.entry;
+      is_sent = tried.now.is_sent;
+    }) log.new }
+{
+    let entry = Entry {
+        at: tried.came.at,
+        asker: asker_of(tried.came.source, tried.action),
+        account,
+        is_sent: tried.is_sent,
+    };
+    log.write_entry(alloc, &entry);
+}
+
+/// Returns who sent the request that an action answers, by the address that its connection came from.
+fn asker_of(source: Option<SocketAddr>, action: &Action) -> Asker
+    ensures { result ≡ asker_of source action.now }
+{
+    match action {
+        Action::SendTo { peer, .. } | Action::Pass { peer } => Asker {
+            transport: Transport::Udp,
+            peer: Some(peer.address),
+        },
+        Action::Write { .. } | Action::Close { .. } => Asker {
+            transport: Transport::Tcp,
+            peer: source,
+        },
+    }
+}

@@ -1,0 +1,149 @@
+//! The file of a server's numbers.
+use crate::metrics::MetricsWriter;
+use kdc_files::open_plain;
+use std::alloc::{AllocError, Global};
+use std::fs::{File, OpenFile, OpenOptions, Permissions};
+use std::io::{Error, ErrorKind, Read, Write};
+use std::os::unix::fs::PermissionsExt;
+use std::rt::Files;
+use std::{fs, io};
+
+/// What a text of numbers begins with. Only a file that begins so is replaced.
+const HEAD: &[u8; 17] = b"# HELP kdcd_info ";
+
+/// Everybody may read the numbers: what collects them runs as another user.
+const READABLE: u32 = 0o644;
+
+/// The paths of a file of numbers, and of the journal whose length is one of them, if there is one.
+#[derive(Clone, Copy)]
+pub struct MetricsPaths<'a> {
+    pub numbers: &'a str,
+    pub journal: Option<&'a str>,
+}
+
+/// A file of numbers. Each text is written to a file beside it, which is then renamed: so no reader sees half a text.
+#[derive(Drop)]
+pub struct MetricsFile<'a, F, W> {
+    files: &'a F,
+    path: &'a str,
+    /// The path of the new file, until it is renamed.
+    beside: String,
+    /// The paths of the journal's files, if there is one.
+    journal: Option<[String; 2]>,
+    /// Where faults are logged.
+    lines: W,
+    /// Whether the last fault was logged, and no text was written since.
+    is_said: bool,
+}
+
+impl<'a, F: Files<File = File>, W: Write + Drop> MetricsFile<'a, F, W> {
+    /// The file at its path. It is written only later.
+    pub fn new(
+        alloc: Global,
+        files: &'a F,
+        paths: MetricsPaths<'a>,
+        lines: W,
+    ) -> Result<MetricsFile<'a, F, W>, AllocError> {
+        let path = paths.numbers;
+        Ok(MetricsFile {
+            files,
+            path,
+            beside: format!(in alloc; "{path}.new")?,
+            journal: journal_paths(alloc, paths.journal)?,
+            lines,
+            is_said: false,
+        })
+    }
+
+    fn replace(&self, text: &[u8]) -> io::Result<()> {
+        require_numbers(self.files, self.path)?;
+        let beside = self.beside.as_str();
+        remove_numbers(self.files, beside)?;
+        let mut how = OpenOptions::new();
+        how.write(true).create_new(true);
+        let mut file = how.open(self.files, beside)?;
+        file.set_permissions(Permissions::from_mode(READABLE))?;
+        file.write_all(text)?;
+        fs::rename(self.files, beside, self.path)
+    }
+}
+
+impl<F: Files<File = File>, W: Write + Drop> MetricsWriter for MetricsFile<'_, F, W> {
+    fn write_metrics(&mut self, text: &[u8]) {
+        let path = self.path;
+        match self.replace(text) {
+            Ok(()) if self.is_said => {
+                let _ = writeln!(self.lines, "kdcd: metrics {path}: it can be written again");
+                self.is_said = false;
+            }
+            Ok(()) => {}
+            Err(_) if self.is_said => {}
+            Err(error) => {
+                self.is_said = writeln!(self.lines, "kdcd: metrics {path}: {error}").is_ok();
+            }
+        }
+    }
+
+    fn journal_bytes(&self) -> u64 {
+        match &self.journal {
+            Some([newer, older]) => {
+                let newer = bytes_at(self.files, newer.as_str());
+                newer.saturating_add(bytes_at(self.files, older.as_str()))
+            }
+            None => 0,
+        }
+    }
+}
+
+fn journal_paths(alloc: Global, journal: Option<&str>) -> Result<Option<[String; 2]>, AllocError> {
+    let Some(path) = journal else {
+        return Ok(None);
+    };
+    let newer = format!(in alloc; "{path}")?;
+    let older = format!(in alloc; "{path}.old")?;
+    Ok(Some([newer, older]))
+}
+
+/// Returns how many bytes the file at a path has, or 0 if none is known.
+fn bytes_at<F: Files>(files: &F, path: &str) -> u64 {
+    match fs::metadata(files, path) {
+        Ok(file) => file.len(),
+        Err(_) => 0,
+    }
+}
+
+/// Removes the file at a path, if it has numbers.
+fn remove_numbers<F: Files>(files: &F, path: &str) -> io::Result<()> {
+    require_numbers(files, path)?;
+    match fs::remove_file(files, path) {
+        Err(error) if error.kind() == ErrorKind::NotFound => Ok(()),
+        done => done,
+    }
+}
+
+/// Refuses a path at which there is something else than numbers: it may be a database.
+fn require_numbers<F: Files>(files: &F, path: &str) -> io::Result<()> {
+    let file = match open_plain(files, path) {
+        Ok(file) => file,
+        Err(error) if error.kind() == ErrorKind::NotFound => return Ok(()),
+        Err(error) => return Err(error),
+    };
+    if has_numbers(file)? {
+        return Ok(());
+    }
+    Err(Error::new(
+        ErrorKind::InvalidData,
+        "the file there has no numbers, and stays as it is",
+    ))
+}
+
+/// Checks whether a file begins as a text of numbers does, or is cut before that.
+fn has_numbers(file: impl Read + Drop) -> io::Result<bool> {
+    let mut file = file;
+    let mut head = [0; HEAD.len()];
+    let count = file.read(&mut head)?;
+    match head.get(..count) {
+        Some(begun) => Ok(HEAD.starts_with(begun)),
+        None => Ok(false),
+    }
+}
