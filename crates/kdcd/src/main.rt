@@ -2,14 +2,20 @@
 //! realm over UDP and TCP. `kdcd seal` seals the journal of a server that has ended.
 #![tactic(auto)]
 
+mod answer;
+mod field;
 mod host;
+mod input;
+mod line;
+mod octets;
+mod run;
 mod sealing;
 mod serving;
 
+use crate::run::run_script;
 use crate::sealing::seal;
 use crate::serving::serve_realm;
 use clap::error::ErrorKind;
-use kdc_script::run_script;
 use kdcd_run::{path_beside, read_args, serve_options};
 use program::{NOT_UTF8, Status, read_words, report_end, report_failure, report_usage};
 use std::io;
@@ -19,7 +25,7 @@ use std::process::ExitCode;
 const PROGRAM: &str = "kdcd";
 
 fn main(rt: HostRuntime) -> ExitCode {
-    let status = match run(&rt) {
+    let status = match run_words(&rt) {
         Ok(status) => status,
         Err(error) => report_failure(&rt, PROGRAM, &error),
     };
@@ -27,7 +33,7 @@ fn main(rt: HostRuntime) -> ExitCode {
 }
 
 /// Runs the program and returns its status. Fails if a write fails or memory runs out.
-fn run(rt: &HostRuntime) -> io::Result<Status> {
+fn run_words(rt: &HostRuntime) -> io::Result<Status> {
     let alloc = rt.alloc();
     let Some(args) = read_words(rt)? else {
         return report_usage(rt, &NOT_UTF8);

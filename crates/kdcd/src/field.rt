@@ -1,0 +1,140 @@
+//! The fields of a line.
+ghost use Rattle.std.specs.Prelude.{◌≡◌, ◌↔◌, ◌⊎◌, ◌^◌, ◌<◌, ℕ, pos, true, false, List, [], map, IsSome, IfSome, IfOk};
+ghost use Rattle.std.specs.Prelude.{IfErr, IfNone};
+ghost use Rattle.std.specs.Str.Parse.{IsNumeral, digits_value};
+ghost use Rattle.std.specs.Result.{result_ok};
+ghost use Rattle.hex.specs.Hex.{decode_sized};
+ghost use Rattle.krb_fields.specs.Name.{Components};
+ghost use Rattle.krb_fields.specs.NameText.{IsNameText, IsComponentText};
+ghost use Rattle.enctypes.specs.declared.key.Key as typed;
+ghost use Rattle.krb_fields.specs.declared.moment.Moment as moments;
+ghost use Rattle.principal_rows.specs.KeyList.{has_type_twice};
+ghost use Rattle.principal_rows.specs.declared.limits.Limits as ranges;
+ghost use Rattle.kdcd.specs.Field.{IsMomentText, AreLimitsTexts, IsOctetsText, IsKeyText, IsKeysText};
+
+use crate::line::LineFault;
+use enctypes::{Etype, Key};
+use hex::FromHexError;
+use krb_elements::KerberosString;
+use krb_fields::{Moment, Name, NameFault, component_from_text};
+use principal_rows::{KeyList, KeyListFault, Limits};
+use std::alloc::Global;
+use text_fields::{number, number_u32};
+
+/// The length of the longest key, in bytes.
+const LONGEST_KEY: usize = 32;
+
+/// Reads a moment: whole seconds since the start of 1970, and microseconds.
+pub(crate) fn moment(sec: &str, usec: &str) -> Option<Moment>
+    ensures read { IfSome result (λ at. IsMomentText at sec.now usec.now) }
+    ensures none { IfNone result ((at : moments.Moment) → ¬ IsMomentText at sec.now usec.now) }
+{
+    let sec = i64::try_from(number(sec)?).ok()?;
+    Moment::new(sec, number_u32(usec)?)
+}
+
+/// Reads the limits of a KDC from five numbers.
+pub(crate) fn limits(texts: [&str; 5]) -> Option<Limits>
+    ensures read { IfSome result (λ limits. AreLimitsTexts limits (map (λ text. text.now) texts.entry)) }
+    ensures none { IfNone result
+        ((limits : ranges.Limits) → ¬ AreLimitsTexts limits (map (λ text. text.now) texts.entry)) }
+{
+    let [remembered, lock_after, lock_seconds, life, renewable] = texts;
+    Limits::new(
+        number_u32(remembered)?,
+        number_u32(lock_after)?,
+        number_u32(lock_seconds)?,
+        number_u32(life)?,
+        number_u32(renewable)?,
+    )
+}
+
+/// Reads the KDC's 64 random bytes for a request, from 128 hexadecimal digits.
+pub(crate) fn random(text: &str) -> Option<[u8; 64]>
+    ensures { result ≡ result_ok (decode_sized text.now 64) }
+{
+    let mut random = [0; 64];
+    hex::decode_to_slice(text, &mut random).ok()?;
+    Some(random)
+}
+
+/// Reads bytes in hexadecimal; `-` means none.
+pub(crate) fn octets(alloc: Global, text: &str) -> Result<Vec<u8>, LineFault>
+    ensures ok { IfOk result (λ octets. IsOctetsText octets.items text.now) }
+    ensures form { result ≡ Err LineFault.Form → (octets : List ℕ) → ¬ IsOctetsText octets text.now }
+{
+    if text == "-" {
+        return Ok(Vec::new(alloc));
+    }
+    if text.is_empty() {
+        return Err(LineFault::Form);
+    }
+    hex::decode(alloc, text).map_err(|error| match error {
+        FromHexError::OutOfMemory => LineFault::Memory,
+        _ => LineFault::Form,
+    })
+}
+
+/// Reads a realm, in the syntax of a name with one component.
+pub(crate) fn realm(alloc: Global, text: &str) -> Result<KerberosString, LineFault>
+    ensures ok { IfOk result (λ octets. IsComponentText octets text.now) }
+    ensures form { result ≡ Err LineFault.Form → (octets : List ℕ) → ¬ IsComponentText octets text.now }
+{
+    component_from_text(alloc, text).map_err(|fault| match fault {
+        NameFault::BadName => LineFault::Form,
+        NameFault::Memory => LineFault::Memory,
+    })
+}
+
+/// Reads the name of a principal. Returns `None` if the text is not a name.
+pub(crate) fn name(alloc: Global, text: &str) -> Result<Option<Name>, LineFault>
+    ensures name { IfOk result (λ name. IfSome name (λ n. IsNameText n.components text.now × (n.name_type ≡ pos 1))) }
+    ensures none { IfOk result (λ name. IfNone name ((n : Components) → ¬ IsNameText n text.now)) }
+    ensures memory { IfErr result (λ fault. fault ≡ LineFault.Memory) }
+{
+    match Name::from_text(alloc, text) {
+        Ok(name) => Ok(Some(name)),
+        Err(NameFault::BadName) => Ok(None),
+        Err(NameFault::Memory) => Err(LineFault::Memory),
+    }
+}
+
+/// Reads keys in order of preference, separated by commas.
+pub(crate) fn keys(alloc: Global, text: &str) -> Result<KeyList, LineFault>
+    ensures ok { IfOk result (λ keys. IsKeysText keys text.now) }
+    ensures form { result ≡ Err LineFault.Form → (list : List typed.Key) → ¬ IsKeysText list text.now }
+{
+    let mut keys = Vec::new(alloc);
+    for part in text.split(',') {
+        let Some(key) = key(part) else {
+            return Err(LineFault::Form);
+        };
+        keys.push(key)?;
+    }
+    key_list(alloc, &keys)
+}
+
+fn key_list(alloc: Global, keys: &[Key]) -> Result<KeyList, LineFault>
+    ensures list { IfOk result (λ list. list ≡ keys.now) }
+    ensures distinct { IfOk result (λ _. has_type_twice keys.now ≡ false) }
+    ensures form { result ≡ Err LineFault.Form → (keys.now ≡ []) ⊎ (has_type_twice keys.now ≡ true) }
+{
+    match KeyList::new(alloc, keys) {
+        Ok(list) => Ok(list),
+        Err(KeyListFault::Empty | KeyListFault::Doubled) => Err(LineFault::Form),
+        Err(KeyListFault::Memory) => Err(LineFault::Memory),
+    }
+}
+
+/// Reads a key: the number of its encryption type, a colon, and its bytes in hexadecimal.
+fn key(text: &str) -> Option<Key>
+    ensures read { IfSome result (λ key. IsKeyText key text.now) }
+    ensures none { IfNone result ((key : typed.Key) → ¬ IsKeyText key text.now) }
+{
+    let (etype, digits) = text.split_once(':')?;
+    let etype = Etype::from_number(i32::try_from(number(etype)?).ok()?)?;
+    let mut octets = [0; LONGEST_KEY];
+    let octets = octets.get_mut(..etype.key_len())?;
+    hex::decode_to_slice(digits, octets).ok()?;
+    Key::new(etype, octets)
+}
