@@ -20,8 +20,8 @@ REFUSALS = {
     "kadm.8": ["kadm_changes/src/reason.rt", "program/src/faults.rt"], "kclient.1": ["client_files/src/words.rt"],
     "kdcd.8": ["program/src/faults.rt", "kdc_files/src/files.rt", "kdc_files/src/sealing.rt"],
 }
-# Names there that the program never meets: those of a program over `client_files`, and of a password's file.
-NEVER = {"kclient.1": {"NoLogin", "NotValid"}, "kdcd.8": {"LongPassword"}}
+# Names there that the program never meets: those of a program over `client_files`.
+NEVER = {"kclient.1": {"NoLogin", "NotValid"}}
 # Names in the tables of PROMISES.md that no source has.
 NO_NAMES = {"grep", "rn", "NAME", "crates"}
 # Pages whose names of items and files are those of this repository, and names there of other ones.

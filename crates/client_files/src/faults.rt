@@ -25,6 +25,8 @@ pub enum Cause {
     BadName,
     /// What is wrong with a file, or with what takes its place.
     File(FileCause),
+    /// The line with a password has more than 1,024 bytes.
+    LongPassword,
     /// What is wrong with the contents of a cache.
     Cache(FileFault),
     /// What is wrong with the contents of a keytab.
@@ -129,6 +131,18 @@ pub fn at_file<T: Drop>(
     match done {
         Ok(value) => Ok(value),
         Err(fault) => Err(Fault::of_file(alloc, fault)),
+    }
+}
+
+/// Returns the password that was read from a source, or the fault of the source.
+pub fn at_password(
+    alloc: Global,
+    source: &str,
+    read: Result<Option<Vec<u8>>, program::FileFault<'_>>,
+) -> Result<Vec<u8>, Fault> {
+    match at_file(alloc, read)? {
+        Some(pass) => Ok(pass),
+        None => Err(Fault::new(alloc, source, Cause::LongPassword)),
     }
 }
 

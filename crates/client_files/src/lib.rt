@@ -46,7 +46,7 @@ pub use client_store::{ClientStore, PathKind};
 pub use configs::Config;
 pub use defaults::{default_realm, kdcs, library_settings};
 pub use environment::{Defaults, Variable};
-pub use faults::{Cause, Fault, at, at_file, unknown_hosts};
+pub use faults::{Cause, Fault, at, at_file, at_password, unknown_hosts};
 pub use file_names::{NameOf, path_in};
 pub use holding::{good_credential, granting_ticket};
 pub use kdc::kdc_address;

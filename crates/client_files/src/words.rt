@@ -26,6 +26,7 @@ impl Cause {
             Cause::Usage(text) => ("", text),
             Cause::BadName => ("BadName", "it is not a valid name"),
             Cause::File(cause) => ("", file_cause_text(cause)),
+            Cause::LongPassword => ("LongPassword", "the password has more than 1024 bytes"),
             Cause::Cache(fault) => cache_words(fault),
             Cause::Keytab(fault) => keytab_words(fault),
             Cause::NoCache => ("Absent", "there is no cache: kinit makes one"),
@@ -75,7 +76,6 @@ fn file_cause_text(cause: FileCause) -> &'static str {
     match cause {
         FileCause::LongFile => "the file has more than 16777216 bytes",
         FileCause::ShortSeed => "a seed needs 32 bytes, and the file has fewer",
-        FileCause::LongPassword => "the password has more than 1024 bytes",
         FileCause::Failed(_) => "a call of the system failed",
     }
 }

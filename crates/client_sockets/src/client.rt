@@ -5,7 +5,8 @@ ghost use Rattle.client_login.specs.Verifying.{IsTicketOf};
 
 use crate::socket_network::SocketNetwork;
 use client_files::{
-    Cause, Config, Defaults, Fault, Variable, at_file, name_of, principal_text, read_keytab,
+    Cause, Config, Defaults, Fault, Variable, at_file, at_password, name_of, principal_text,
+    read_keytab,
 };
 use client_login::{
     KdcClient, Kdcs, Login, LoginFault, Password, Secret, Transports, granting_service,
@@ -13,7 +14,7 @@ use client_login::{
 use cred_files::{Credential, Keytab, Principal};
 use krb_elements::Octets;
 use krb_fields::{Moment, Name, component_to_text};
-use program::{FileCause, FileStore, ask_password, draw_seed, now};
+use program::{FileCause, FileStore, STANDARD_INPUT, ask_password, draw_seed, now};
 use rand_chacha::ChaCha20Rng;
 use rand_core::SeedableRng;
 use std::alloc::Global;
@@ -91,7 +92,7 @@ impl<'a> Client<'a> {
         let mut store = FileStore::new(self.rt);
         let octets = ask_password(alloc, &mut store, name.as_str(), realm.as_str());
         Ok(Secret::Password(Password {
-            octets: Octets::new(at_file(alloc, octets)?),
+            octets: Octets::new(at_password(alloc, STANDARD_INPUT, octets)?),
             least_count: None,
         }))
     }

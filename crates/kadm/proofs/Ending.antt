@@ -3,7 +3,7 @@ use Rattle.std.proofs.Common.{◌≡◌, ◌∙◌, List, Bool, true, false, Opt
 use Rattle.std.specs.Result.{result_unwrap_or}
 use Rattle.program.specs.World.{World}
 use Rattle.program.specs.declared.faults.FileCause.{FileCause}
-use Rattle.program.specs.declared.faults.FileCause.TheVariants.{LongFile, ShortSeed, LongPassword, Failed}
+use Rattle.program.specs.declared.faults.FileCause.TheVariants.{LongFile, ShortSeed, Failed}
 use Rattle.kadm.specs.Batches.{IsBatchDone}
 use Rattle.kadm_changes.specs.Stops.{IsFailed, IsFailure}
 use Rattle.kadm.specs.Ends.{IsEnd, IsFileCauseStatus, IsCommandEnd, IsCommandStopped, IsStatusOf, IsStopped, IsKindDone, IsWriteDone, IsWriteEnd, IsWriteStopped}
@@ -105,10 +105,6 @@ cause_other ShortSeed statuses.Refused is = tt
 cause_other ShortSeed statuses.Failed is = tt
 cause_other ShortSeed statuses.Done is = absurd is
 cause_other ShortSeed statuses.Usage is = tt
-cause_other LongPassword statuses.Refused is = tt
-cause_other LongPassword statuses.Failed is = tt
-cause_other LongPassword statuses.Done is = absurd is
-cause_other LongPassword statuses.Usage is = tt
 cause_other (Failed error) status is = subst IsOther (sym is) tt
 
 other : (stop : Stop) (status : Status) → IsStatusOf stop status → IsOther status
@@ -129,7 +125,6 @@ same_end words before statuses.Failed after is same = inl same
 failed_cause : (cause : FileCause) (status : Status) → IsFailure cause → IsFileCauseStatus cause status → status ≡ statuses.Failed
 failed_cause LongFile status failed is = absurd failed
 failed_cause ShortSeed status failed is = absurd failed
-failed_cause LongPassword status failed is = absurd failed
 failed_cause (Failed error) status failed is = is
 
 failed_status : (stop : Stop) (status : Status) → IsFailed stop → IsStatusOf stop status → status ≡ statuses.Failed

@@ -3,7 +3,7 @@ use Rattle.std.specs.Prelude.{◌≡◌, ◌⊎◌, ℕ, Bool, true, false, List
 use Rattle.enctypes.specs.declared.etype.Etype.{Etype}
 use Rattle.program.specs.World.{World}
 use Rattle.program.specs.declared.faults.FileCause.{FileCause}
-use Rattle.program.specs.declared.faults.FileCause.TheVariants.{LongFile, ShortSeed, LongPassword, Failed}
+use Rattle.program.specs.declared.faults.FileCause.TheVariants.{LongFile, ShortSeed, Failed}
 use Rattle.kadm_changes.specs.Stops.{IsFailed}
 use Rattle.kadm_changes.specs.Words.{Text, path_of}
 use Rattle.kadm.specs.Words.{Spells, asks_help}
@@ -29,7 +29,6 @@ IsNotDone statuses.Failed = Unit {0}
 abbrev pub IsFileCauseStatus : FileCause → Status → Type 0
 IsFileCauseStatus LongFile status = IsNotDone status
 IsFileCauseStatus ShortSeed status = IsNotDone status
-IsFileCauseStatus LongPassword status = IsNotDone status
 IsFileCauseStatus (Failed error) status = status ≡ statuses.Failed
 
 abbrev pub IsStatusOf : Stop → Status → Type 0

@@ -1,13 +1,12 @@
 -- Which commands that end early failed.
 use Rattle.program.specs.declared.faults.FileCause.{FileCause}
-use Rattle.program.specs.declared.faults.FileCause.TheVariants.{LongFile, ShortSeed, LongPassword, Failed}
+use Rattle.program.specs.declared.faults.FileCause.TheVariants.{LongFile, ShortSeed, Failed}
 use Rattle.kadm_changes.specs.declared.stop.Stop.{Stop}
 use Rattle.kadm_changes.specs.declared.stop.Stop.TheVariants.{Usage, LineRefused, LineFailed, Refused, RefusedOf, File}
 
 abbrev pub IsFailure : FileCause → Type 0
 IsFailure LongFile = ⊥
 IsFailure ShortSeed = ⊥
-IsFailure LongPassword = ⊥
 IsFailure (Failed error) = Unit {0}
 
 -- a file or the output failed

@@ -2,6 +2,7 @@
 ghost use Rattle.std.specs.Prelude.{◌≡◌, IfOk};
 ghost use Rattle.kadm_changes.specs.Updates.{IsPasswordOf, IsSecretOf};
 ghost use Rattle.kadm_changes.specs.Words.{path_of};
+ghost use Rattle.program.specs.World.{HasFirstLine};
 
 use crate::command::{PasswordArgs, RowArgs, RowUpdate};
 use crate::context::Context;
@@ -9,7 +10,7 @@ use crate::databases::read_database;
 use crate::reason::Reason;
 use crate::stop::Stop;
 use krb_fields::component_to_text;
-use program::{Store, ask_password, read_password};
+use program::{STANDARD_INPUT, Store, ask_password, read_password};
 use std::alloc::Global;
 use std::io::Write;
 
@@ -52,7 +53,7 @@ fn any_password<'p, T: Store, W: Write, E: Write>(
     ensures kept { T.world store.new ≡ T.world store.old }
 {
     let pass = match args.file {
-        Some(path) => read_password(context.alloc, store, path)?,
+        Some(path) => password_at(context.alloc, store, path)?,
         None => asked_password(context, store, asked)?,
     };
     likely(pass, args.any)
@@ -86,7 +87,30 @@ fn file_password<'p, T: Store>(
     let Some(path) = args.file else {
         return Err(Stop::Refused(Reason::NoPassword));
     };
-    likely(read_password(alloc, store, path)?, args.any)
+    likely(password_at(alloc, store, path)?, args.any)
+}
+
+/// Reads the password in a file.
+fn password_at<'p, T: Store>(
+    alloc: Global,
+    store: &mut T,
+    path: &'p str,
+) -> Result<Vec<u8>, Stop<'p>>
+    ensures line { IfOk result (λ pass. HasFirstLine (T.world store.old) path.now pass.items) }
+    ensures kept { T.world store.new ≡ T.world store.old }
+{
+    match read_password(alloc, store, path)? {
+        Some(pass) => Ok(pass),
+        None => Err(too_long(path)),
+    }
+}
+
+/// Returns the stop for a source with too long a password.
+fn too_long(source: &str) -> Stop<'_> {
+    Stop::RefusedOf {
+        word: source,
+        reason: Reason::LongPassword,
+    }
 }
 
 /// Returns the password, unless it is unlikely and only likely ones are accepted.
@@ -152,13 +176,28 @@ fn ask_twice<T: Store>(
 ) -> Result<Vec<u8>, Stop<'static>>
     ensures kept { T.world store.new ≡ T.world store.old }
 {
-    let pass = ask_password(alloc, store, name, realm)?;
+    let pass = ask_once(alloc, store, name, realm)?;
     if !store.is_terminal() {
         return Ok(pass);
     }
-    let again = ask_password(alloc, store, name, realm)?;
+    let again = ask_once(alloc, store, name, realm)?;
     if again != pass {
         return Err(Stop::Refused(Reason::Mismatch));
     }
     Ok(pass)
+}
+
+/// Asks for the password of a principal, or reads the next line of standard input.
+fn ask_once<T: Store>(
+    alloc: Global,
+    store: &mut T,
+    name: &str,
+    realm: &str,
+) -> Result<Vec<u8>, Stop<'static>>
+    ensures kept { T.world store.new ≡ T.world store.old }
+{
+    match ask_password(alloc, store, name, realm)? {
+        Some(pass) => Ok(pass),
+        None => Err(too_long(STANDARD_INPUT)),
+    }
 }

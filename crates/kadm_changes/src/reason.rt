@@ -21,6 +21,8 @@ pub enum Reason {
     Mismatch,
     /// A password is empty, or ends in a carriage return.
     BadPassword,
+    /// A password has more than 1,024 bytes.
+    LongPassword,
     /// A line of a batch names no file of the password.
     NoPassword,
     /// A line of a batch has a command that is not for a batch.
@@ -73,6 +75,7 @@ impl Reason {
             Reason::NoTicketGranter => "NoTicketGranter",
             Reason::Mismatch => "Mismatch",
             Reason::BadPassword => "BadPassword",
+            Reason::LongPassword => "LongPassword",
             Reason::NoPassword => "NoPassword",
             Reason::NotInBatch => "NotInBatch",
             Reason::BadTime => "BadTime",
@@ -108,6 +111,7 @@ impl Reason {
             Reason::BadPassword => {
                 "the password is empty or ends in a carriage return; `--any-password` allows that"
             }
+            Reason::LongPassword => "the password has more than 1024 bytes",
             Reason::NoPassword => {
                 "standard input has the commands; name the password's file by `--password-file`"
             }
@@ -156,6 +160,7 @@ impl Reason {
             Reason::NoKeys => KEYTAB,
             Reason::BadDump | Reason::NoPlace => DUMP,
             Reason::BadStash => "--stash",
+            Reason::LongPassword => "--password-file",
             Reason::BadName
             | Reason::Mismatch
             | Reason::BadPassword

@@ -14,14 +14,14 @@ use crate::words::{
 };
 use clap::ArgMatches;
 use client_files::{
-    Cause, ClientStore, Defaults, Fault, Variable, at_file, read_cache, read_keytab,
+    Cause, ClientStore, Defaults, Fault, Variable, at_file, at_password, read_cache, read_keytab,
     write_new_cache,
 };
 use client_login::{AnyMessage, Login, Password, Secret, TicketRequest, granting_service};
 use cred_files::{Credential, Principal};
 use krb_elements::{KerberosString, Octets};
 use krb_fields::{Name, component_to_text};
-use program::{ask_password, read_or_draw_seed, read_password};
+use program::{STANDARD_INPUT, ask_password, read_or_draw_seed, read_password};
 use rand_chacha::ChaCha20Rng;
 use rand_core::SeedableRng;
 use std::alloc::Global;
@@ -245,12 +245,15 @@ fn read_secret<T: ClientStore>(
 {
     let pass = match words.secret {
         SecretWords::Keytab(path) => return Ok(Secret::Keytab(read_keytab(alloc, store, path)?)),
-        SecretWords::PasswordFile(path) => at_file(alloc, read_password(alloc, store, path))?,
+        SecretWords::PasswordFile(path) => {
+            let read = read_password(alloc, store, path);
+            at_password(alloc, path, read)?
+        }
         SecretWords::Asked => {
             let name = client.name.to_text(alloc)?;
             let realm = component_to_text(alloc, client.realm.as_slice())?;
             let asked = ask_password(alloc, store, name.as_str(), realm.as_str());
-            at_file(alloc, asked)?
+            at_password(alloc, STANDARD_INPUT, asked)?
         }
     };
     Ok(Secret::Password(Password {

@@ -1,7 +1,7 @@
 -- Failed calls of a store are counted, and results show them.
 use Rattle.std.specs.Prelude.{◌≡◌, ◌+◌, ◌-◌, ◌^◌, ℕ, min, ⊤, Result, Ok, Err}
 use Rattle.program.specs.declared.faults.FileCause.{FileCause}
-use Rattle.program.specs.declared.faults.FileCause.TheVariants.{LongFile, ShortSeed, LongPassword, Failed}
+use Rattle.program.specs.declared.faults.FileCause.TheVariants.{LongFile, ShortSeed, Failed}
 use Rattle.program.specs.declared.faults.FileFault.{FileFault}
 
 -- the count after a call: one more if it failed, up to the greatest u64
@@ -13,7 +13,6 @@ IsCounted before (Err fault) after = after ≡ min (before + 1) (2 ^ 64 - 1)
 abbrev pub LeavesCount : ℕ → FileCause → ℕ → Type 0
 LeavesCount before LongFile after = after ≡ before
 LeavesCount before ShortSeed after = after ≡ before
-LeavesCount before LongPassword after = after ≡ before
 LeavesCount before (Failed error) after = ⊤
 
 -- if a call has failed, the result says so

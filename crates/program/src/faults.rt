@@ -20,8 +20,6 @@ pub enum FileCause {
     LongFile,
     /// A seed file has fewer than 32 bytes.
     ShortSeed,
-    /// The first line of a password file has more than 1,024 bytes.
-    LongPassword,
     /// A call of the store failed, or memory ran out.
     Failed(io::Error),
 }
@@ -34,7 +32,6 @@ impl FileCause {
         match self {
             FileCause::LongFile => Some("LongFile"),
             FileCause::ShortSeed => Some("ShortSeed"),
-            FileCause::LongPassword => Some("LongPassword"),
             FileCause::Failed(_) => None,
         }
     }
@@ -45,7 +42,6 @@ impl fmt::Display for FileCause {
         match self {
             FileCause::LongFile => f.write_str("the file is too long"),
             FileCause::ShortSeed => f.write_str("the seed has fewer than 32 bytes"),
-            FileCause::LongPassword => f.write_str("the password has more than 1024 bytes"),
             FileCause::Failed(error) => write!(f, "{error}"),
         }
     }

@@ -25,7 +25,7 @@ const SYSTEM_SOURCE: &str = "the system's random octets";
 const SYSTEM_CLOCK: &str = "the system's clock";
 
 /// The name in place of a path if a password is not in a file.
-const STANDARD_INPUT: &str = "standard input";
+pub const STANDARD_INPUT: &str = "standard input";
 
 /// Checks whether there is a file.
 pub fn has_file<'p, S: Store>(store: &mut S, path: &'p str) -> Result<bool, FileFault<'p>>
@@ -306,48 +306,41 @@ pub fn seed_of(octets: &[u8]) -> Option<[u8; 32]>
     }
 }
 
-/// Reads the password in a file: its first line, without the line feed.
+/// Reads the password in a file: its first line, without the line feed. `None` if that has more than 1,024 bytes.
 pub fn read_password<'p, S: Store>(
     alloc: Global,
     store: &mut S,
     path: &'p str,
-) -> Result<Vec<u8>, FileFault<'p>>
-    ensures within { IfOk result (λ pass. vec_len pass ≤ 1024) }
-    ensures line { IfOk result (λ pass. HasFirstLine (S.world store.old) path.now pass.items) }
+) -> Result<Option<Vec<u8>>, FileFault<'p>>
+    ensures within { IfOk result (λ found. IfSome found (λ pass. vec_len pass ≤ 1024)) }
+    ensures line { IfOk result (λ found. IfSome found (λ pass. HasFirstLine (S.world store.old) path.now pass.items)) }
     ensures kept { S.world store.new ≡ S.world store.old }
     ensures named { IfErr result (λ fault. fault.path.now ≡ path.now) }
     ensures shown { IsShown (S.fault_count store.old) result (S.fault_count store.new) }
 {
     let mut octets = read_stream(alloc, store, path)?;
     let Some(pass) = password_of(&octets) else {
-        return Err(FileFault {
-            path,
-            cause: FileCause::LongPassword,
-        });
+        return Ok(None);
     };
     let len = pass.len();
     octets.truncate(len);
-    Ok(octets)
+    Ok(Some(octets))
 }
 
-/// Reads the password on the next line of standard input, of at most 1,024 bytes. At a terminal it asks for it, with
-/// `Password for NAME@REALM:`; `name` and `realm` are texts.
+/// Reads the password on the next line of standard input. `None` if that has more than 1,024 bytes. At a terminal it
+/// asks for it, with `Password for NAME@REALM:`; `name` and `realm` are texts.
 pub fn ask_password<S: Store>(
     alloc: Global,
     store: &mut S,
     name: &str,
     realm: &str,
-) -> Result<Vec<u8>, FileFault<'static>>
-    ensures within { IfOk result (λ pass. vec_len pass ≤ 1024) }
+) -> Result<Option<Vec<u8>>, FileFault<'static>>
+    ensures within { IfOk result (λ found. IfSome found (λ pass. vec_len pass ≤ 1024)) }
     ensures kept { S.world store.new ≡ S.world store.old }
     ensures shown { IsShown (S.fault_count store.old) result (S.fault_count store.new) }
 {
     match ask_line(alloc, store, name, realm) {
-        Ok(Some(pass)) => Ok(pass),
-        Ok(None) => Err(FileFault {
-            path: STANDARD_INPUT,
-            cause: FileCause::LongPassword,
-        }),
+        Ok(found) => Ok(found),
         Err(error) => Err(FileFault {
             path: STANDARD_INPUT,
             cause: FileCause::Failed(error),
