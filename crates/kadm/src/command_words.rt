@@ -12,9 +12,9 @@ use kadm_changes::{
     ListArgs, PasswordArgs, PasswordGrant, PrintCommand, RandomGrant, RowArgs, RowUpdate,
     SettingWords, Update, WriteCommand, value_of,
 };
-use std::alloc::Global;
+use std::alloc::{AllocError, Global};
 use std::convert::AsStr;
-use text_fields::{EtypesFault, number_u32, offered, read_etypes};
+use text_fields::{number_u32, offered, read_etypes};
 
 // What follows `error:` in a usage error.
 
@@ -62,9 +62,9 @@ pub(crate) fn read_command<'a>(
         return Err(CommandFault::BadValue(NO_COMMAND));
     };
     let etypes = match read_key_types(alloc, words) {
-        Ok(etypes) => etypes,
-        Err(EtypesFault::Form) => return Err(CommandFault::BadValue(NO_TYPES)),
-        Err(EtypesFault::Memory) => return Err(CommandFault::Memory),
+        Ok(Some(etypes)) => etypes,
+        Ok(None) => return Err(CommandFault::BadValue(NO_TYPES)),
+        Err(_) => return Err(CommandFault::Memory),
     };
     match kind_of(command, words) {
         Some(kind) => Ok(Command {
@@ -98,11 +98,11 @@ fn setting_fault<'a>(words: &[&'a str]) -> Option<CommandFault<'a>> {
     Some(CommandFault::NoSetting(setting))
 }
 
-/// Returns the encryption types of the new keys: all four by default.
-fn read_key_types(alloc: Global, words: &[&str]) -> Result<Vec<Etype>, EtypesFault> {
+/// Returns the encryption types of the new keys: all four by default. Returns `None` if `--types` is no list of types.
+fn read_key_types(alloc: Global, words: &[&str]) -> Result<Option<Vec<Etype>>, AllocError> {
     match value_of(words, "--types") {
         Some(text) => read_etypes(alloc, text),
-        None => Ok(offered(alloc)?),
+        None => Ok(Some(offered(alloc)?)),
     }
 }
 

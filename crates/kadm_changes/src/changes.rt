@@ -68,8 +68,10 @@ fn make_new_realm<'p, T: Store, W: Write, E: Write>(
         &command.etypes,
         read_or_draw_seed(alloc, store, seed)?,
     )?;
-    let database = Database::first(alloc, realm.as_slice(), keys)?;
-    write_database(alloc, store, &locked, &database)
+    match Database::first(alloc, realm.as_slice(), keys) {
+        Ok(database) => write_database(alloc, store, &locked, &database),
+        Err(fault) => Err(of_realm(fault)),
+    }
 }
 
 /// Fails if the words of a command line name a principal by a text that is no name.

@@ -4,7 +4,7 @@ ghost use Rattle.kadm_changes.specs.Stops.{IsFailed};
 use crate::reason::Reason;
 use krb_fields::NameFault;
 use principal_rows::KeyListFault;
-use principals::{ChangeFault, FirstFault};
+use principals::ChangeFault;
 use principals_text::ReadFault;
 use program::{FileCause, FileFault};
 use std::alloc::{AllocError, AllocFailed};
@@ -113,15 +113,6 @@ impl From<ChangeFault> for Stop<'_> {
     }
 }
 
-impl From<FirstFault> for Stop<'_> {
-    fn from(fault: FirstFault) -> Self {
-        match fault {
-            FirstFault::BadName => Stop::Refused(Reason::BadRealm),
-            FirstFault::Memory => Stop::from(AllocError),
-        }
-    }
-}
-
 impl From<cred_files::FileFault> for Stop<'_> {
     fn from(fault: cred_files::FileFault) -> Self {
         match fault {
@@ -150,7 +141,7 @@ impl<'p> From<FileFault<'p>> for Stop<'p> {
     }
 }
 
-/// Returns what is wrong with the text of a realm.
+/// Returns what is wrong with a realm.
 pub(crate) fn of_realm(fault: NameFault) -> Stop<'static> {
     match fault {
         NameFault::BadName => Stop::Refused(Reason::BadRealm),

@@ -24,9 +24,9 @@ use crate::input::Input;
 use crate::line::{Line, LineChange, LineFault, Request};
 use kdc_core::{Kdc, Opening};
 use krb_elements::KerberosString;
-use krb_fields::{Moment, Name};
+use krb_fields::{Moment, Name, NameFault};
 use principal_rows::{KeyList, Limits, Policy};
-use principals::{Change, ChangeFault, Database, FirstFault, RowChange};
+use principals::{Change, ChangeFault, Database, RowChange};
 use program::Status;
 use std::alloc::{AllocError, Global};
 use std::io;
@@ -207,8 +207,8 @@ fn open(
 {
     let database = match Database::first(alloc, realm.as_slice(), krbtgt_keys) {
         Ok(database) => database,
-        Err(FirstFault::BadName) => return Err(Stop::Fault),
-        Err(FirstFault::Memory) => return Err(Stop::Failed),
+        Err(NameFault::BadName) => return Err(Stop::Fault),
+        Err(NameFault::Memory) => return Err(Stop::Failed),
     };
     Ok(Kdc::open(alloc, database, limits, Opening::First)?)
 }

@@ -15,12 +15,10 @@ use crate::granting::TgsOf;
 use crate::split_name::row_of;
 use crate::{Change, ChangeFault, RowChange};
 use krb_elements::KerberosString;
-use krb_fields::{Name, NameRef, is_component};
+use krb_fields::{Name, NameFault, NameRef, is_component};
 use lists::first_holding;
 use principal_rows::{Entry, KeyList, NameMap, Policy, Row};
 use std::alloc::{AllocError, Global};
-use std::error::Error;
-use std::fmt;
 use std::marker::Model;
 
 /// The name-type of a service with an instance: NT-SRV-INST of RFC 4120 section 6.2.
@@ -45,44 +43,16 @@ impl Model for Database {
     ghost invariant = { λ a. IsDatabase (record { realm = a.realm; rows = a.rows }) };
 }
 
-/// Why a realm has no first database.
-#[derive(Debug, Clone, Copy, PartialEq, Eq)]
-pub enum FirstFault {
-    /// The realm does not have 1 to 255 bytes.
-    BadName,
-    Memory,
-}
-
-impl fmt::Display for FirstFault {
-    fn fmt<W: fmt::Write>(&self, f: &mut fmt::Formatter<W>) -> fmt::Result {
-        f.write_str(match self {
-            FirstFault::BadName => "a realm has 1 to 255 octets",
-            FirstFault::Memory => "out of memory",
-        })
-    }
-}
-
-impl Error for FirstFault {}
-
-impl From<AllocError> for FirstFault {
-    ghost use Rattle.std.specs.Prelude.{◌≡◌};
-    ghost use Rattle.principals.specs.declared.database.FirstFault.{FirstFault};
-
-    ghost from_gives = { λ _ fault. fault ≡ FirstFault.Memory };
-
-    fn from(_: AllocError) -> FirstFault {
-        FirstFault::Memory
-    }
-}
-
 impl Database {
     /// Returns the database of a new realm, with only its ticket-granting service.
-    pub fn first(alloc: Global, realm: &[u8], krbtgt_keys: KeyList) -> Result<Database, FirstFault>
+    ///
+    /// Fails with `BadName` if the realm does not have 1 to 255 bytes.
+    pub fn first(alloc: Global, realm: &[u8], krbtgt_keys: KeyList) -> Result<Database, NameFault>
         ensures first { IfOk result (λ database. database ≡ first_database realm.now krbtgt_keys) }
-        ensures bad_name { (result ≡ Err FirstFault.BadName) ↔ (¬ IsComponent realm.now) }
+        ensures bad_name { (result ≡ Err NameFault.BadName) ↔ (¬ IsComponent realm.now) }
     {
         if !is_component(realm) {
-            return Err(FirstFault::BadName);
+            return Err(NameFault::BadName);
         }
         let tgs = tgs_name(alloc, realm)?;
         let mut rows = NameMap::new(alloc);

@@ -6,27 +6,7 @@ ghost use Rattle.text_fields.specs.Etypes.{IsEtypeText};
 
 use crate::numbers::number;
 use enctypes::Etype;
-use std::alloc::{AllocError, AllocFailed, Global};
-
-/// Why a text is not a list of encryption types.
-#[derive(Clone, Copy, Debug, PartialEq, Eq)]
-pub enum EtypesFault {
-    /// It is not a list of supported encryption types, each at most once.
-    Form,
-    Memory,
-}
-
-impl From<AllocError> for EtypesFault {
-    fn from(_: AllocError) -> EtypesFault {
-        EtypesFault::Memory
-    }
-}
-
-impl<T: Drop> From<AllocFailed<T>> for EtypesFault {
-    fn from(_: AllocFailed<T>) -> EtypesFault {
-        EtypesFault::Memory
-    }
-}
+use std::alloc::{AllocError, Global};
 
 /// Returns the default encryption types: 18, 17, 20 and 19.
 pub fn offered(alloc: Global) -> Result<Vec<Etype>, AllocError>
@@ -43,19 +23,20 @@ pub fn offered(alloc: Global) -> Result<Vec<Etype>, AllocError>
     )
 }
 
-/// Reads a list of encryption types by their numbers: at least one, and each at most once.
-pub fn read_etypes(alloc: Global, text: &str) -> Result<Vec<Etype>, EtypesFault> {
+/// Reads a list of encryption types by their numbers: at least one, and each at most once. Returns `None` if the text
+/// is no such list.
+pub fn read_etypes(alloc: Global, text: &str) -> Result<Option<Vec<Etype>>, AllocError> {
     let mut etypes = Vec::new(alloc);
     for part in text.split(',') {
         let Some(etype) = read_etype(part) else {
-            return Err(EtypesFault::Form);
+            return Ok(None);
         };
         if etypes.contains(&etype) {
-            return Err(EtypesFault::Form);
+            return Ok(None);
         }
         etypes.push(etype)?;
     }
-    Ok(etypes)
+    Ok(Some(etypes))
 }
 
 /// Reads the number of an encryption type.

@@ -10,7 +10,7 @@ mod settings;
 mod spans;
 
 pub use dates::UtcDate;
-pub use etypes::{EtypesFault, offered, read_etypes};
+pub use etypes::{offered, read_etypes};
 pub use keys::{password_keys, random_keys};
 pub use numbers::{number, number_u32};
 pub use settings::{FlagField, LifeField, SETTINGS, Setting, TimeField};

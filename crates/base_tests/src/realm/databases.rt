@@ -3,7 +3,7 @@ use crate::expect::{BEGIN, END, JUDGED, bytes, mark, same, shows};
 use crate::realm::fixtures::{Checks, LONGEST, Step, TOO_LONG, change, check, first, seen};
 use krb_elements::read;
 use krb_fields::{Name, NameFault, NameRef};
-use principals::{Database, FirstFault, tgs_name};
+use principals::{Database, tgs_name};
 use std::alloc::Global;
 use std::process::Abort;
 
@@ -70,7 +70,7 @@ fn has_ref(database: &Database, octets: &[u8]) -> Option<bool> {
 }
 
 /// Returns the number of rows of a first database of this realm.
-fn rows(alloc: Global, realm: &[u8]) -> Result<usize, FirstFault> {
+fn rows(alloc: Global, realm: &[u8]) -> Result<usize, NameFault> {
     Ok(first(alloc, realm)?.len())
 }
 
@@ -79,13 +79,13 @@ fn a_realm_has_1_to_255_bytes(rt: HostRuntime) {
     for (realm, wanted) in [
         (b"A.B".as_slice(), Ok(1)),
         (LONGEST, Ok(1)),
-        (b"", Err(FirstFault::BadName)),
-        (TOO_LONG, Err(FirstFault::BadName)),
+        (b"", Err(NameFault::BadName)),
+        (TOO_LONG, Err(NameFault::BadName)),
     ] {
         mark(rt.alloc(), BEGIN);
         let mut found = rows(rt.alloc(), realm);
         mark(rt.alloc(), END);
-        if found == Err(FirstFault::Memory) {
+        if found == Err(NameFault::Memory) {
             found = rows(rt.alloc(), realm);
         }
         same(&rt, &realm, &found, &wanted);

@@ -3,9 +3,9 @@
 use crate::realm::changes::{Case, are_changed};
 use crate::realm::databases::is_first;
 use enctypes::{Etype, Key};
-use krb_fields::{Moment, Name};
+use krb_fields::{Moment, Name, NameFault};
 use principal_rows::{KeyList, Policy};
-use principals::{Change, ChangeFault, Database, FirstFault, RowChange};
+use principals::{Change, ChangeFault, Database, RowChange};
 use std::alloc::{AllocError, Global};
 use std::process::Abort;
 
@@ -31,12 +31,12 @@ pub fn keys(alloc: Global) -> Result<KeyList, AllocError> {
 }
 
 /// Returns a first database of this realm.
-pub fn first(alloc: Global, realm: &[u8]) -> Result<Database, FirstFault> {
+pub fn first(alloc: Global, realm: &[u8]) -> Result<Database, NameFault> {
     Database::first(alloc, realm, keys(alloc)?)
 }
 
 /// Returns a database of the realm `A.B` with only the row of its ticket-granting service.
-pub fn database(alloc: Global) -> Result<Database, FirstFault> {
+pub fn database(alloc: Global) -> Result<Database, NameFault> {
     first(alloc, b"A.B")
 }
 
