@@ -1,22 +1,20 @@
 -- What the start of a journal leaves.
-use Rattle.std.proofs.Common.{◌≡◌, ℕ, ℤ, pos, ◌-ℤ◌, ◌<ℤ◌, List, [], Option, Some, None, refl, sym, ap, subst, ◌∙◌}
+use Rattle.std.proofs.Common.{◌≡◌, ℕ, ℤ, pos, ◌-ℤ◌, ◌<ℤ◌, Bool, true, false, List, [], Option, Some, None, refl, sym, ap, subst, ◌∙◌}
 use Rattle.std.specs.Prelude.{IfSome}
 use Rattle.std.proofs.lemmas.List.Elements.{All-nil}
 use Rattle.krb_fields.specs.Skew.{skew}
 use Rattle.krb_fields.specs.declared.moment.Moment.{Moment}
 use Rattle.replay.specs.declared.seen.Resumption.{Resumption}
 use Rattle.replay.specs.declared.seen.Seen.{Seen}
-use Rattle.journal.specs.Appending.{BeginsFile, HasTail, IsLeft}
+use Rattle.journal.specs.Appending.{BeginsFile, HasTail}
 use Rattle.journal.specs.Decision.{Place, floor_on, start_of}
 use Rattle.journal.specs.Holding.{IsAbove, IsFound, IsKept, IsSafe, IsSpelled, IsStart, IsWhole, cut, cut_found, known_by}
-use Rattle.journal.specs.World.{IsTorn, Leaves, World}
+use Rattle.journal.specs.World.{IsLeft, IsTorn, Leaves, World}
 use Rattle.journal.specs.declared.decision.Found.{Found}
 use Rattle.journal.specs.declared.decision.Found.TheVariants.{Nothing, Broken, Whole}
 use Rattle.journal.specs.declared.decision.Start.{Start}
 use Rattle.journal.specs.declared.decision.Start.TheVariants.{Resumes, Refuses}
 use Rattle.journal.specs.declared.files.Begun.TheVariants.{Anew}
-use Rattle.journal.specs.declared.files.NotBegun.{NotBegun}
-use Rattle.journal.specs.declared.files.NotBegun.TheVariants.{Unchanged, Torn}
 use Rattle.journal.specs.declared.journal_file.Tail.{Tail}
 use Rattle.journal.specs.declared.reading.Journal.{Journal}
 use Rattle.journal.proofs.Held.{same_le}
@@ -93,7 +91,7 @@ torn_safe low r None new safe torn = unrecorded new (IsSafe low r) torn
 torn_safe low r (Some w) None safe torn = absurd torn
 torn_safe low r (Some w) (Some n) safe torn = torn_is_safe low r w n safe torn
 
-pub start_fails : {E : Type 0} (low : ℤ) (r : Resumption) (old : Option World) (fault : NotBegun E) (new : Option World) → IfSome old (IsSafe low r)
-    → IsLeft fault old new → IfSome new (IsSafe low r)
-start_fails low r old (Unchanged fault) new safe same = subst (λ w. IfSome w (IsSafe low r)) (sym same) safe
-start_fails low r old (Torn fault) new safe torn = torn_safe low r old new safe torn
+pub start_fails : (low : ℤ) (r : Resumption) (old : Option World) (is_torn : Bool) (new : Option World) → IfSome old (IsSafe low r)
+    → IsLeft is_torn old new → IfSome new (IsSafe low r)
+start_fails low r old false new safe same = subst (λ w. IfSome w (IsSafe low r)) (sym same) safe
+start_fails low r old true new safe torn = torn_safe low r old new safe torn

@@ -6,17 +6,16 @@ use Rattle.replay.specs.declared.seen.Seen.{Seen}
 use Rattle.journal.specs.Decision.{Place, floor_on}
 use Rattle.journal.specs.Holding.{Spells, cut}
 use Rattle.journal.specs.Keeping.{BeginsJournal, KeepsEntry, begun}
-use Rattle.journal.specs.World.{HasPart, IsTorn, Leaves, World, with_file, with_more}
+use Rattle.journal.specs.World.{HasPart, IsLeft, IsTorn, Leaves, World, with_file, with_more}
 use Rattle.journal.specs.declared.decision.Found.{Found}
 use Rattle.journal.specs.declared.decision.Found.TheVariants.{Nothing, Broken, Whole}
 use Rattle.journal.specs.declared.decision.Start.{Start}
 use Rattle.journal.specs.declared.decision.Start.TheVariants.{Resumes}
+use Rattle.journal.specs.declared.files.BeginFault.{BeginFault}
 use Rattle.journal.specs.declared.files.Begun.{Begun}
 use Rattle.journal.specs.declared.files.Begun.TheVariants.{Linked, Anew}
 use Rattle.journal.specs.declared.files.FileText.{FileText}
 use Rattle.journal.specs.declared.files.FileText.TheVariants as texts
-use Rattle.journal.specs.declared.files.NotBegun.{NotBegun}
-use Rattle.journal.specs.declared.files.NotBegun.TheVariants.{Unchanged, Torn}
 use Rattle.journal.specs.declared.journal_file.Appended.{Appended}
 use Rattle.journal.specs.declared.journal_file.Tail.{Tail}
 use Rattle.journal.specs.declared.reading.Journal.{Journal}
@@ -33,14 +32,10 @@ pub record BeginsFile (place : Place) (floor : Option ℤ) (link : List ℕ) (ho
   pub leaves : Leaves (λ o n. n ≡ with_file how text o) old new
 
 -- or it was not
-abbrev pub IsLeft : {E : Type 0} → NotBegun E → Option World → Option World → Type 0
-IsLeft (Unchanged fault) old new = new ≡ old
-IsLeft (Torn fault) old new = Leaves IsTorn old new
-
-abbrev pub HasBegun : {E : Type 0} → Place → Option ℤ → List ℕ → Begun → Option World → Result Tail (NotBegun E) → Option World
+abbrev pub HasBegun : {E : Type 0} → Place → Option ℤ → List ℕ → Begun → Option World → Result Tail (BeginFault E) → Option World
     → Type 0
 HasBegun place floor link how old (Ok tail) new = BeginsFile place floor link how tail.check old new
-HasBegun place floor link how old (Err fault) new = IsLeft fault old new
+HasBegun place floor link how old (Err fault) new = IsLeft fault.is_torn old new
 
 -- an authenticator's entry was appended behind a check, and the next check is this
 pub record AppendsOne (check : List ℕ) (at : Moment) (seen : Seen) (next : List ℕ) (old new : Option World) : Type 0 where

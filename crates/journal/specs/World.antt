@@ -1,12 +1,11 @@
 -- The files of a journal as bytes, and what each call on them may leave.
 use Rattle.std.specs.Prelude.{◌≡◌, ◌⊎◌, ℕ, ⊤, Bool, true, false, List, [], ◌++◌, Option, Some, None, option_map, Result, Ok, Err}
 use Rattle.std.specs.Prelude.{vec_items}
+use Rattle.journal.specs.declared.files.BeginFault.{BeginFault}
 use Rattle.journal.specs.declared.files.Begun.{Begun}
 use Rattle.journal.specs.declared.files.Begun.TheVariants.{Linked, Anew}
 use Rattle.journal.specs.declared.files.FileText.{FileText}
 use Rattle.journal.specs.declared.files.FileText.TheVariants as texts
-use Rattle.journal.specs.declared.files.NotBegun.{NotBegun}
-use Rattle.journal.specs.declared.files.NotBegun.TheVariants.{Unchanged, Torn}
 use Rattle.journal.specs.declared.files.Part.{Part}
 use Rattle.journal.specs.declared.files.Part.TheVariants.{Older, Newer}
 
@@ -55,10 +54,14 @@ IsTorn old new =
     ⊎ ((new ≡ record { newer = None; older = old.newer; seal = old.seal })
     ⊎ (new ≡ record { newer = old.newer; older = None; seal = old.seal }))
 
-abbrev pub BeginsAs : {T E : Type 0} → Begun → List ℕ → Result T (NotBegun E) → Option World → Option World → Type 0
+-- where the call failed, both files are as they were, unless it may have torn them
+abbrev pub IsLeft : Bool → Option World → Option World → Type 0
+IsLeft false old new = new ≡ old
+IsLeft true old new = Leaves IsTorn old new
+
+abbrev pub BeginsAs : {T E : Type 0} → Begun → List ℕ → Result T (BeginFault E) → Option World → Option World → Type 0
 BeginsAs how text (Ok done) old new = Leaves (λ o n. n ≡ with_file how text o) old new
-BeginsAs how text (Err (Unchanged fault)) old new = new ≡ old
-BeginsAs how text (Err (Torn fault)) old new = Leaves IsTorn old new
+BeginsAs how text (Err fault) old new = IsLeft fault.is_torn old new
 
 -- ---- to seal
 

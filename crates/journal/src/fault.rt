@@ -50,31 +50,6 @@ impl<T: Drop> From<AllocFailed<T>> for JournalFault {
     }
 }
 
-/// Why an entry or a header can't be written.
-#[derive(Clone, Copy, Debug)]
-pub enum WriteFault {
-    /// A name or a number is too large.
-    Unfit,
-    Memory,
-}
-
-impl fmt::Display for WriteFault {
-    fn fmt<W: fmt::Write>(&self, f: &mut fmt::Formatter<W>) -> fmt::Result {
-        f.write_str(match self {
-            WriteFault::Unfit => "a name or a number is too large",
-            WriteFault::Memory => "out of memory",
-        })
-    }
-}
-
-impl Error for WriteFault {}
-
-impl From<AllocError> for WriteFault {
-    fn from(_error: AllocError) -> WriteFault {
-        WriteFault::Memory
-    }
-}
-
 /// Why an authenticator could not be kept, a file could not be begun, or one could not be read.
 #[derive(Debug, Drop)]
 pub enum FilesFault<E> {
@@ -91,15 +66,6 @@ impl<E: fmt::Display> fmt::Display for FilesFault<E> {
             FilesFault::Unfit => f.write_str("a name or a number is too large"),
             FilesFault::Memory => f.write_str("out of memory"),
             FilesFault::Files(fault) => write!(f, "{fault}"),
-        }
-    }
-}
-
-impl<E> From<WriteFault> for FilesFault<E> {
-    fn from(fault: WriteFault) -> FilesFault<E> {
-        match fault {
-            WriteFault::Unfit => FilesFault::Unfit,
-            WriteFault::Memory => FilesFault::Memory,
         }
     }
 }

@@ -24,23 +24,14 @@ pub enum Begun {
     Anew,
 }
 
-/// Why a file was not begun.
+/// Why a file was not begun, and what that left.
 #[derive(Drop)]
-pub enum NotBegun<E> {
-    /// Both files are as they were.
-    Unchanged(E),
-    /// One of them may be gone: the newer file may be the older one now, or the older one may be removed.
-    Torn(E),
-}
-
-impl<E> NotBegun<E> {
-    /// Returns why the call failed.
-    pub fn into_fault(self) -> E {
-        match self {
-            NotBegun::Unchanged(fault) => fault,
-            NotBegun::Torn(fault) => fault,
-        }
-    }
+pub struct BeginFault<E> {
+    /// Why the call failed.
+    pub fault: E,
+    /// Whether a file may be gone: the newer file may be the older one now, or the older one may be removed. Otherwise both
+    /// are as they were.
+    pub is_torn: bool,
 }
 
 /// What is read of a file.
@@ -78,7 +69,12 @@ pub trait JournalFiles {
         ensures { Leaves (Appends text.now (is_ok result)) (world self.old) (world self.new) };
 
     /// Begins a file with a text. It becomes the newer one once all of it is written.
-    fn begin(&mut self, alloc: Global, text: &[u8], how: Begun) -> Result<(), NotBegun<Self::Fault>>
+    fn begin(
+        &mut self,
+        alloc: Global,
+        text: &[u8],
+        how: Begun,
+    ) -> Result<(), BeginFault<Self::Fault>>
         ensures { BeginsAs how text.now result (world self.old) (world self.new) };
 
     /// Reads a file.

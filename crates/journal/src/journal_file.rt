@@ -10,8 +10,8 @@ ghost use Rattle.journal.specs.Keeping.{BeginsJournal, begun};
 ghost use Rattle.journal.specs.World.{IsRead, Leaves, SameSeal, file_in};
 
 use crate::decision::{Found, Place, Start};
-use crate::fault::{FilesFault, JournalFault, WriteFault};
-use crate::files::{Begun, FileText, JournalFiles, News, NotBegun, Part};
+use crate::fault::{FilesFault, JournalFault};
+use crate::files::{BeginFault, Begun, FileText, JournalFiles, News, Part};
 use crate::keeping::{floor_on, write_beginning, write_seen};
 use crate::reading::{Journal, read_journal};
 use crate::writing::Written;
@@ -154,7 +154,7 @@ impl<F: JournalFiles> JournalFile<F> {
                 self.tail = Some(tail);
                 Ok(())
             }
-            Err(fault) => Err(fault.into_fault()),
+            Err(failed) => Err(failed.fault),
         }
     }
 
@@ -258,12 +258,17 @@ fn begin<F: JournalFiles>(
     next: &Next<'_>,
     link: &[u8],
     how: Begun,
-) -> Result<Tail, NotBegun<FilesFault<F::Fault>>>
+) -> Result<Tail, BeginFault<FilesFault<F::Fault>>>
     ensures { HasBegun next.now.place next.now.floor link.now how (F.world files.old) result (F.world files.new) }
 {
-    let written = match beginning(alloc, &next.place, next.floor, link) {
+    let written = match fit(beginning(alloc, &next.place, next.floor, link)) {
         Ok(written) => written,
-        Err(fault) => return Err(NotBegun::Unchanged(FilesFault::from(fault))),
+        Err(fault) => {
+            return Err(BeginFault {
+                fault,
+                is_torn: false,
+            });
+        }
     };
     match files.begin(alloc, &written.text, how) {
         Ok(()) => Ok(Tail {
@@ -271,23 +276,36 @@ fn begin<F: JournalFiles>(
             last: next.place.at.sec.saturating_add(TURN),
             left: next.most.saturating_sub(written.text.len() as u64),
         }),
-        Err(NotBegun::Unchanged(fault)) => Err(NotBegun::Unchanged(FilesFault::Files(fault))),
-        Err(NotBegun::Torn(fault)) => Err(NotBegun::Torn(FilesFault::Files(fault))),
+        Err(BeginFault { fault, is_torn }) => Err(BeginFault {
+            fault: FilesFault::Files(fault),
+            is_torn,
+        }),
     }
 }
 
-/// Writes the beginning of a file.
+/// Returns what was written, and fails if nothing was.
+fn fit<E>(written: Result<Option<Written>, AllocError>) -> Result<Written, FilesFault<E>>
+    ensures { IfOk result (λ w. written ≡ Ok (Some w)) }
+{
+    match written {
+        Ok(Some(written)) => Ok(written),
+        Ok(None) => Err(FilesFault::Unfit),
+        Err(AllocError) => Err(FilesFault::Memory),
+    }
+}
+
+/// Writes the beginning of a file. Returns `None` if there is no floor, or if a name or a number is too large.
 fn beginning(
     alloc: Global,
     place: &Place<'_>,
     floor: Option<i64>,
     link: &[u8],
-) -> Result<Written, WriteFault>
-    ensures { IfOk result (λ w. (f : ℤ) × (floor ≡ Some f) × BeginsJournal (begun place.now f link.now) w.text.items w.check) }
+) -> Result<Option<Written>, AllocError>
+    ensures { IfOk result (λ written. IfSome written (λ w. (f : ℤ) × (floor ≡ Some f) × BeginsJournal (begun place.now f link.now) w.text.items w.check)) }
 {
     match floor {
         Some(floor) => write_beginning(alloc, place, floor, link),
-        None => Err(WriteFault::Unfit),
+        None => Ok(None),
     }
 }
 
@@ -318,17 +336,16 @@ fn turn<F: JournalFiles>(alloc: Global, files: &mut F, next: &Next<'_>, tail: Ta
 {
     match begin(alloc, files, next, &tail.check, Begun::Linked) {
         Ok(end) => Some(end),
-        Err(NotBegun::Unchanged(fault)) => {
+        Err(BeginFault { fault, is_torn }) => {
             files.say(News::NotTurned(fault));
+            if is_torn {
+                return None;
+            }
             Some(Tail {
                 check: tail.check,
                 last: next.place.at.sec.saturating_add(BETWEEN_TURNS),
                 left: next.most,
             })
-        }
-        Err(NotBegun::Torn(fault)) => {
-            files.say(News::NotTurned(fault));
-            None
         }
     }
 }
@@ -395,10 +412,7 @@ fn append_seen<F: JournalFiles>(
 ) -> Result<Appended, FilesFault<F::Fault>>
     ensures { HasAppended check.now at seen.now (F.world files.old) result (F.world files.new) }
 {
-    let written = match write_seen(alloc, check, at, seen) {
-        Ok(written) => written,
-        Err(fault) => return Err(FilesFault::from(fault)),
-    };
+    let written = fit(write_seen(alloc, check, at, seen))?;
     match files.append(&written.text) {
         Ok(()) => Ok(Appended {
             check: written.check,
@@ -422,8 +436,8 @@ fn begin_anew<F: JournalFiles>(
             say_mended(files, is_said);
             Some(tail)
         }
-        Err(fault) => {
-            say_lost(files, is_said, fault.into_fault());
+        Err(failed) => {
+            say_lost(files, is_said, failed.fault);
             None
         }
     }

@@ -28,8 +28,8 @@ mod writing;
 
 pub use decision::{Doubt, Found, Place, Start, seal_of, start_of};
 pub use entry::{Entry, EntryRef};
-pub use fault::{FilesFault, JournalFault, WriteFault};
-pub use files::{Begun, FileText, JournalFiles, News, NotBegun, Part};
+pub use fault::{FilesFault, JournalFault};
+pub use files::{BeginFault, Begun, FileText, JournalFiles, News, Part};
 pub use head::{HEAD, may_be_journal};
 pub use header::{Header, HeaderRef};
 pub use journal_file::{JournalFile, NotKept, found_of, read_part};

@@ -4,17 +4,12 @@ ghost use Rattle.std.specs.Result.{is_ok};
 ghost use Rattle.journal.specs.World.{Appends, BeginsAs, IsRead, IsTorn, Leaves, file_in, with_file, with_more};
 ghost use Rattle.journal.specs.MemoryWorld.{memory_world, seal_in};
 
-use crate::files::{Begun, FileText, JournalFiles, News, NotBegun, Part};
+use crate::files::{BeginFault, Begun, FileText, JournalFiles, News, Part};
 use std::alloc::{AllocError, Global};
 
-/// Why a call on files in memory failed.
+/// A call on files in memory failed: it was made to, or there was no memory, or no file to append to.
 #[derive(Clone, Copy, Debug, PartialEq, Eq)]
-pub enum MemoryFault {
-    /// There was no memory, or no file to append to.
-    Memory,
-    /// It was made to fail.
-    Failed,
-}
+pub struct MemoryFault;
 
 /// The files of a journal in memory, for tests: what they hold is known to contracts. Calls can be made to fail.
 #[derive(Drop)]
@@ -84,7 +79,7 @@ impl JournalFiles for MemoryFiles {
         if self.fails() {
             let (part, _) = text.split_at(self.cut.min(text.len()));
             let _ = append_to(&mut self.newer, part);
-            return Err(MemoryFault::Failed);
+            return Err(MemoryFault);
         }
         append_to(&mut self.newer, text)
     }
@@ -94,20 +89,20 @@ impl JournalFiles for MemoryFiles {
         alloc: Global,
         text: &[u8],
         how: Begun,
-    ) -> Result<(), NotBegun<MemoryFault>> {
+    ) -> Result<(), BeginFault<MemoryFault>> {
         if self.fails() {
             if self.tears {
                 tear(&mut self.newer, &mut self.older, how);
-                return Err(NotBegun::Torn(MemoryFault::Failed));
+                return Err(not_begun(true));
             }
-            return Err(NotBegun::Unchanged(MemoryFault::Failed));
+            return Err(not_begun(false));
         }
         match Vec::from_slice(alloc, text) {
             Ok(octets) => {
                 replace(&mut self.newer, &mut self.older, octets, how);
                 Ok(())
             }
-            Err(_) => Err(NotBegun::Unchanged(MemoryFault::Memory)),
+            Err(_) => Err(not_begun(false)),
         }
     }
 
@@ -121,14 +116,14 @@ impl JournalFiles for MemoryFiles {
     fn read_seal(&mut self, alloc: Global) -> Result<Vec<u8>, MemoryFault> {
         match seal_text(alloc, &self.seal) {
             Ok(seal) => Ok(seal),
-            Err(AllocError) => Err(MemoryFault::Memory),
+            Err(AllocError) => Err(MemoryFault),
         }
     }
 
     fn seal(&mut self, check: &[u8; 16]) -> Result<(), MemoryFault> {
         if self.fails() {
             self.seal = None;
-            return Err(MemoryFault::Failed);
+            return Err(MemoryFault);
         }
         self.seal = Some(*check);
         Ok(())
@@ -136,7 +131,7 @@ impl JournalFiles for MemoryFiles {
 
     fn unseal(&mut self) -> Result<(), MemoryFault> {
         if self.fails() {
-            return Err(MemoryFault::Failed);
+            return Err(MemoryFault);
         }
         self.seal = None;
         Ok(())
@@ -157,9 +152,9 @@ fn append_to(file: &mut Option<Vec<u8>>, text: &[u8]) -> Result<(), MemoryFault>
     match file {
         Some(octets) => match octets.extend_from_slice(text) {
             Ok(()) => Ok(()),
-            Err(AllocError) => Err(MemoryFault::Memory),
+            Err(AllocError) => Err(MemoryFault),
         },
-        None => Err(MemoryFault::Memory),
+        None => Err(MemoryFault),
     }
 }
 
@@ -170,6 +165,16 @@ fn seal_text(alloc: Global, seal: &Option<[u8; 16]>) -> Result<Vec<u8>, AllocErr
     match seal {
         None => Ok(Vec::new(alloc)),
         Some(check) => Vec::from_slice(alloc, check.as_slice()),
+    }
+}
+
+/// Returns the fault of a file that was not begun.
+fn not_begun(is_torn: bool) -> BeginFault<MemoryFault>
+    ensures { result.is_torn ≡ is_torn }
+{
+    BeginFault {
+        fault: MemoryFault,
+        is_torn,
     }
 }
 
@@ -205,7 +210,7 @@ fn text_of(alloc: Global, file: &Option<Vec<u8>>) -> Result<FileText, MemoryFaul
         None => Ok(FileText::Nothing),
         Some(octets) => match Vec::from_slice(alloc, octets) {
             Ok(copy) => Ok(FileText::Octets(copy)),
-            Err(_) => Err(MemoryFault::Memory),
+            Err(_) => Err(MemoryFault),
         },
     }
 }

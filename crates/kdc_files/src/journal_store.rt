@@ -5,7 +5,7 @@ ghost use Rattle.kdc_files.specs.Unrecorded.{no_world};
 use crate::files::FileFault;
 use crate::journal_files::{OWNER_ONLY, open_locked, open_newer, seal_at, text_at, text_in};
 use crate::journal_parts::{Paths, require_replaceable};
-use journal::{Begun, FileText, JournalFiles, News, NotBegun, Part};
+use journal::{BeginFault, Begun, FileText, JournalFiles, News, Part};
 use std::alloc::Global;
 use std::fs::{File, OpenFile, OpenOptions};
 use std::io::{Error, ErrorKind, Write};
@@ -124,7 +124,7 @@ impl<'a, F: Files<File = File>, W: Write + Drop> SystemJournal<'a, F, W> {
     }
 
     /// Begins a file that goes on behind the newer one.
-    fn begin_linked(&self, alloc: Global, text: &[u8]) -> Result<File, NotBegun<Error>> {
+    fn begin_linked(&self, alloc: Global, text: &[u8]) -> Result<File, BeginFault<Error>> {
         let file = unless_changed(self.write_beside(alloc, text))?;
         unless_changed(self.make_older(alloc))?;
         unless_torn(self.make_newer(alloc))?;
@@ -132,7 +132,7 @@ impl<'a, F: Files<File = File>, W: Write + Drop> SystemJournal<'a, F, W> {
     }
 
     /// Begins a file in place of both. The older one goes first, since it may be why there is no room.
-    fn begin_anew(&self, alloc: Global, text: &[u8]) -> Result<File, NotBegun<Error>> {
+    fn begin_anew(&self, alloc: Global, text: &[u8]) -> Result<File, BeginFault<Error>> {
         unless_changed(self.remove_older(alloc))?;
         let file = unless_torn(self.write_beside(alloc, text))?;
         unless_torn(self.make_newer(alloc))?;
@@ -152,7 +152,7 @@ impl<F: Files<File = File>, W: Write + Drop> JournalFiles for SystemJournal<'_, 
         }
     }
 
-    fn begin(&mut self, alloc: Global, text: &[u8], how: Begun) -> Result<(), NotBegun<Error>> {
+    fn begin(&mut self, alloc: Global, text: &[u8], how: Begun) -> Result<(), BeginFault<Error>> {
         let begun = match how {
             Begun::Linked => self.begin_linked(alloc, text),
             Begun::Anew => self.begin_anew(alloc, text),
@@ -241,17 +241,23 @@ fn if_there(done: io::Result<()>) -> io::Result<()> {
 }
 
 /// Says of a failure that both files are as they were.
-fn unless_changed<T>(done: io::Result<T>) -> Result<T, NotBegun<Error>> {
+fn unless_changed<T>(done: io::Result<T>) -> Result<T, BeginFault<Error>> {
     match done {
         Ok(value) => Ok(value),
-        Err(error) => Err(NotBegun::Unchanged(error)),
+        Err(fault) => Err(BeginFault {
+            fault,
+            is_torn: false,
+        }),
     }
 }
 
 /// Says of a failure that one of the files may be gone.
-fn unless_torn<T>(done: io::Result<T>) -> Result<T, NotBegun<Error>> {
+fn unless_torn<T>(done: io::Result<T>) -> Result<T, BeginFault<Error>> {
     match done {
         Ok(value) => Ok(value),
-        Err(error) => Err(NotBegun::Torn(error)),
+        Err(fault) => Err(BeginFault {
+            fault,
+            is_torn: true,
+        }),
     }
 }

@@ -5,8 +5,7 @@ use crate::expect::{are, bytes, holds, same};
 use crate::realm::fixtures::{T, at};
 use journal::{
     Doubt, Found, JournalFault, JournalFile, JournalFiles, MemoryFiles, NotSealed, Part, Place,
-    Start, WriteFault, Written, read_journal, read_part, seal_journal, start_of, write_beginning,
-    write_seen,
+    Start, Written, read_journal, read_part, seal_journal, start_of, write_beginning, write_seen,
 };
 use krb_elements::Octets;
 use krb_fields::{Moment, Name};
@@ -54,7 +53,7 @@ fn here(later: u32) -> Place<'static> {
 }
 
 /// Returns a journal without entries, begun this many seconds after T and linked to these bytes.
-fn begun(alloc: Global, later: u32, link: &[u8]) -> Result<Written, WriteFault> {
+fn begun(alloc: Global, later: u32, link: &[u8]) -> Result<Option<Written>, AllocError> {
     write_beginning(alloc, &here(later), T + 301, link)
 }
 
@@ -66,7 +65,7 @@ fn entry(
     later: u32,
     ctime: i64,
     cusec: u32,
-) -> Result<Written, WriteFault> {
+) -> Result<Option<Written>, AllocError> {
     let seen = Seen {
         client: Name::new(alloc, 1, &[b"u"])?,
         ctime,
@@ -76,10 +75,15 @@ fn entry(
 }
 
 /// Checks whether these bytes with their check are written.
-fn is(alloc: Global, written: Result<Written, WriteFault>, digits: &str, check: &str) -> bool {
+fn is(
+    alloc: Global,
+    written: Result<Option<Written>, AllocError>,
+    digits: &str,
+    check: &str,
+) -> bool {
     match written {
-        Ok(written) => are(alloc, &written.text, digits) && are(alloc, &written.check, check),
-        Err(_) => false,
+        Ok(Some(written)) => are(alloc, &written.text, digits) && are(alloc, &written.check, check),
+        Ok(None) | Err(_) => false,
     }
 }
 
@@ -232,8 +236,8 @@ const STARTS: &[(Where, Made)] = &[
 /// Returns a journal with this floor that links to the check of the second entry.
 fn linked(alloc: Global, floor: i64) -> Found {
     match write_beginning(alloc, &here(650), floor, &sized::<16>(CHECKS[2])) {
-        Ok(written) => found(alloc, &written.text),
-        Err(_) => Found::Nothing,
+        Ok(Some(written)) => found(alloc, &written.text),
+        Ok(None) | Err(_) => Found::Nothing,
     }
 }
 
@@ -296,7 +300,7 @@ fn entries_that_are_too_old_are_not_kept(rt: HostRuntime) {
 
 /// Counts the entries that are kept of a journal with entries of these times.
 fn count_of(alloc: Global, times: &[i64]) -> Result<Option<usize>, AllocError> {
-    let Ok(mut journal) = begun(alloc, 0, &[]) else {
+    let Some(mut journal) = begun(alloc, 0, &[])? else {
         return Err(AllocError);
     };
     let mut later = 0u32;
@@ -307,7 +311,7 @@ fn count_of(alloc: Global, times: &[i64]) -> Result<Option<usize>, AllocError> {
             ctime: *ctime,
             cusec: later,
         };
-        let Ok(entry) = write_seen(alloc, &journal.check, at(later), &seen) else {
+        let Some(entry) = write_seen(alloc, &journal.check, at(later), &seen)? else {
             return Err(AllocError);
         };
         journal.text.extend_from_slice(&entry.text)?;

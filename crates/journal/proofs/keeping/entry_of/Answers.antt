@@ -9,10 +9,3 @@ returns-clause-short c =
     let test : c.is_within_limits.result ≡ true = search rules in
     let within : is_within_limits c.args.seen.now.client.components ≡ true = sym c.is_within_limits.ensures ∙ test in
     entry_short _ (subst (λ n. IsWithinLimits n.components) (sym c.in_ok-copy.ensures) within)
-
-pub returns-clause-is : goal.returns-clause-is
-returns-clause-is c =
-    let fits : SFits w64 c.args.seen.now.ctime = search rules in
-    let ctime = rw c.in_ok-ctime.ensures.ok_part at (simp to_z-of_z at c.new.ensures) in
-    let cusec = rw c.in_ok-cusec.ensures.ok_part at c.new-2.ensures in
-    λ i. record { client = c.in_ok-copy.ensures i; ctime = ctime.1 i; cusec = cusec.1 i }

@@ -46,4 +46,4 @@ returns-in-Err-begin-clause-safe g c =
     λ low r safe failed.
     let world = g.F.JournalFiles.world in
     let broken = unsealed (IsSafe low r) (λ w seal is. sealed_safe low r w seal is) true (world c.args.self.now.files) (world c.unseal.new.self) c.in_default.ensures safe in
-    start_fails low r (world c.unseal.new.self) c.in-Err-begin.fault (world c.begin.new.files) broken c.in-Err-begin.ensures
+    start_fails low r (world c.unseal.new.self) c.in-Err-begin.failed.is_torn (world c.begin.new.files) broken c.in-Err-begin.ensures
