@@ -46,7 +46,7 @@ def order(trial):
         taken.bind(("127.0.0.1", port))
         for words, wanted, status, text in (
             ("--db none", "rows", 3, "none: No such file"),
-            ("--db database --seed short", "rows seed", 1, "short: it has fewer than 32 bytes"),
+            ("--db database --seed short", "rows seed", 1, "short: the seed has fewer than 32 bytes"),
             (f"--db database --seed seed --udp 127.0.0.1:{port}", "rows seed sockets", 3, f"udp 127.0.0.1:{port}: "),
         ):
             trial.same(f"a start that fails after {wanted}", steps_of(trial, words, status, text), (wanted, ""))
@@ -80,7 +80,7 @@ def files(trial):
         server.end()
     is_right = answer(replies[0]) == "ticket" and replies[0] == replies[1] != replies[2]
     trial.note("a seed is the first 32 bytes of its file", "" if is_right else str(replies))
-    longer = 1, "refused LongFile\n", "kdcd: longest: it is longer than the maximum\n"
+    longer = 1, "refused LongFile\n", "kdcd: longest: the file is too long\n"
     for length, wanted in ((LONGEST_SEED, (0, "served 0 0 0\n")), (LONGEST_SEED + 1, longer)):
         trial.write("longest", b"")
         os.truncate(trial.folder / "longest", length)

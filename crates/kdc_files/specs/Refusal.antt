@@ -1,15 +1,14 @@
 -- The words for the faults of a file that was read.
-use Rattle.std.specs.Prelude.{◌≡◌, ◌≢◌, IsUtf8, ℕ, List, Option, Some, None, Err, codes}
+use Rattle.std.specs.Prelude.{◌≡◌, ◌≢◌, IsUtf8, ℕ, List, Option, Some, Err, codes}
+use Rattle.program.specs.Refusal.{cause_refusal}
 use Rattle.principals_text.specs.RefusalWord.{read_refusal}
 use Rattle.principals_text.specs.Value.{text_database}
 use Rattle.principals_text.specs.declared.read_fault.ReadFault.TheVariants.{NotJson, Memory}
 use Rattle.kdc_files.specs.declared.files.FileFault.{FileFault}
-use Rattle.kdc_files.specs.declared.files.FileFault.TheVariants.{LongFile, ShortSeed, Failed, NotJournal, Journal, Database}
+use Rattle.kdc_files.specs.declared.files.FileFault.TheVariants.{File, NotJournal, Journal, Database}
 
 abbrev pub refusal : FileFault → Option (List ℕ)
-refusal LongFile = Some (codes "LongFile")
-refusal ShortSeed = Some (codes "ShortSeed")
-refusal (Failed error) = None
+refusal (File cause) = cause_refusal cause
 refusal (NotJournal part) = Some (codes "NotJournal")
 refusal Journal = Some (codes "Journal")
 refusal (Database fault) = read_refusal fault
@@ -18,8 +17,6 @@ refusal (Database fault) = read_refusal fault
 abbrev pub RefusesDatabase : List ℕ → FileFault → Type 0
 RefusesDatabase octets (Database fault) =
     (IsUtf8 octets → fault ≢ Memory → text_database octets ≡ Err fault) × (¬ (IsUtf8 octets) → fault ≡ NotJson)
-RefusesDatabase octets LongFile = ⊥
-RefusesDatabase octets ShortSeed = ⊥
-RefusesDatabase octets (Failed error) = ⊥
+RefusesDatabase octets (File cause) = ⊥
 RefusesDatabase octets (NotJournal part) = ⊥
 RefusesDatabase octets Journal = ⊥

@@ -1,13 +1,14 @@
 //! The files that a server reads: what it takes from them, and why it refuses them.
 ghost use Rattle.std.specs.Prelude.{◌≡◌, ◌≤◌, ◌<◌, IfErr, IfOk, Ok, length, option_map, take, vec_len};
+ghost use Rattle.program.specs.declared.faults.FileCause.TheVariants.{Failed, ShortSeed};
 ghost use Rattle.principals_text.specs.Value.{text_database};
 ghost use Rattle.kdc_files.specs.Refusal.{RefusesDatabase, refusal};
-ghost use Rattle.kdc_files.specs.declared.files.FileFault.TheVariants.{Failed, ShortSeed};
+ghost use Rattle.kdc_files.specs.declared.files.FileFault.TheVariants.{File};
 
 use crate::journal_parts::JournalPart;
 use principals::Database;
 use principals_text::{LONGEST_TEXT, ReadFault, fault_place};
-use program::{read_within, seed_of};
+use program::{FileCause, read_within, seed_of};
 use std::alloc::{AllocError, Global};
 use std::io::Read;
 use std::{fmt, io, str};
@@ -15,12 +16,8 @@ use std::{fmt, io, str};
 /// Why a file is refused, or could not be read.
 #[derive(Debug, Drop)]
 pub enum FileFault {
-    /// It is longer than the maximum.
-    LongFile,
-    /// A seed's file has fewer than 32 bytes.
-    ShortSeed,
-    /// A call of the system failed, or memory ran out.
-    Failed(io::Error),
+    /// What is wrong with a file of any kind.
+    File(FileCause),
     /// Something else than a journal has the name of one of its files.
     NotJournal(JournalPart),
     /// The file is a database, and the journal of a server that had one is beside it.
@@ -35,9 +32,7 @@ impl FileFault {
         ensures { option_map (λ word. word.now) result ≡ refusal self.now }
     {
         match self {
-            FileFault::LongFile => Some("LongFile"),
-            FileFault::ShortSeed => Some("ShortSeed"),
-            FileFault::Failed(_) => None,
+            FileFault::File(cause) => cause.refusal(),
             FileFault::NotJournal(_) => Some("NotJournal"),
             FileFault::Journal => Some("Journal"),
             FileFault::Database(fault) => fault.refusal(),
@@ -48,9 +43,7 @@ impl FileFault {
 impl fmt::Display for FileFault {
     fn fmt<W: fmt::Write>(&self, f: &mut fmt::Formatter<W>) -> fmt::Result {
         match self {
-            FileFault::LongFile => f.write_str("it is longer than the maximum"),
-            FileFault::ShortSeed => f.write_str("it has fewer than 32 bytes"),
-            FileFault::Failed(error) => write!(f, "{error}"),
+            FileFault::File(cause) => write!(f, "{cause}"),
             FileFault::NotJournal(part) => write!(f, "{part}"),
             FileFault::Journal => f.write_str(
                 "its journal is beside it; start with --journal to go on with that, or with --no-journal to remove it",
@@ -61,10 +54,10 @@ impl fmt::Display for FileFault {
 }
 
 impl From<io::Error> for FileFault {
-    ghost from_gives = { λ error fault. fault ≡ Failed error };
+    ghost from_gives = { λ error fault. fault ≡ File (Failed error) };
 
     fn from(error: io::Error) -> FileFault {
-        FileFault::Failed(error)
+        FileFault::File(FileCause::Failed(error))
     }
 }
 
@@ -91,7 +84,7 @@ pub fn read_at_most<R: Read + Drop>(
 {
     match read_within(alloc, file, most)? {
         Some(octets) => Ok(octets),
-        None => Err(FileFault::LongFile),
+        None => Err(FileFault::File(FileCause::LongFile)),
     }
 }
 
@@ -126,10 +119,10 @@ pub fn place_of(alloc: Global, octets: &[u8], fault: &FileFault) -> Option<Strin
 /// Returns the seed that a file holds: its first 32 octets.
 pub fn seed_in(octets: &[u8]) -> Result<[u8; 32], FileFault>
     ensures seed { IfOk result (λ seed. (32 ≤ length octets.now) × (seed ≡ take 32 octets.now)) }
-    ensures short { IfErr result (λ fault. (length octets.now < 32) × (fault ≡ ShortSeed)) }
+    ensures short { IfErr result (λ fault. (length octets.now < 32) × (fault ≡ File ShortSeed)) }
 {
     match seed_of(octets) {
         Some(seed) => Ok(seed),
-        None => Err(FileFault::ShortSeed),
+        None => Err(FileFault::File(FileCause::ShortSeed)),
     }
 }

@@ -5,6 +5,7 @@ use crate::journals::Journals;
 use crate::plain_files::{open_plain, open_plain_with, own_user};
 use journal::{FileText, FilesFault, Found, JournalFiles, Part, read_part};
 use krb_elements::Octets;
+use program::FileCause;
 use std::alloc::{AllocError, Global};
 use std::fs::{File, OpenOptions, TryLockError};
 use std::io;
@@ -140,7 +141,7 @@ pub(crate) fn text_in<F: Files<File = File>>(
     }
     match read_whole(alloc, file) {
         Ok(text) => Ok(FileText::Octets(text)),
-        Err(FileFault::Failed(error)) => Err(error),
+        Err(FileFault::File(FileCause::Failed(error))) => Err(error),
         Err(_) => Ok(FileText::Unusable),
     }
 }

@@ -2,6 +2,7 @@
 use crate::files::FileFault;
 use crate::plain_files::open_plain;
 use journal::{HEAD, may_be_journal};
+use program::FileCause;
 use std::alloc::{AllocError, Global};
 use std::io::{Error, ErrorKind, Read};
 use std::rt::Files;
@@ -120,7 +121,7 @@ pub(crate) fn require_replaceable<F: Files>(
             ErrorKind::AlreadyExists,
             "a file that is no journal has the name of one of its files",
         )),
-        Err(FileFault::Failed(error)) => Err(error),
+        Err(FileFault::File(FileCause::Failed(error))) => Err(error),
         Err(_) => Err(Error::from(ErrorKind::InvalidData)),
     }
 }

@@ -21,17 +21,19 @@ pub fn doubt_word(doubt: Doubt) -> &'static str {
     }
 }
 
-/// Seals the journal at a place at this moment, if no server has it open and a start would resume with it. If one would
-/// not, the inner error says why.
+/// Seals the journal at a place at this moment, if no server has it open and a start would resume with it.
 pub fn seal_at_path<F: Files<File = File>, W: Write + Drop>(
     alloc: Global,
     journal: JournalPlace<'_, '_, F, W>,
     at: Moment,
-) -> Result<Result<(), Doubt>, FileFault> {
+) -> Result<(), NotSealed<FileFault>> {
     let OpenedJournals {
         journals,
         mut files,
-    } = open_journals(alloc, journal)?;
+    } = match open_journals(alloc, journal) {
+        Ok(opened) => opened,
+        Err(fault) => return Err(NotSealed::Failed(fault)),
+    };
     let place = Place {
         realm: realm_of(&journals.newer),
         boot: journals.boot.as_slice(),
@@ -39,9 +41,9 @@ pub fn seal_at_path<F: Files<File = File>, W: Write + Drop>(
         at,
     };
     match seal_journal(&mut files, &place, &journals.older, &journals.newer) {
-        Ok(()) => Ok(Ok(())),
-        Err(NotSealed::Doubted(doubt)) => Ok(Err(doubt)),
-        Err(NotSealed::Failed(error)) => Err(FileFault::Failed(error)),
+        Ok(()) => Ok(()),
+        Err(NotSealed::Doubted(doubt)) => Err(NotSealed::Doubted(doubt)),
+        Err(NotSealed::Failed(error)) => Err(NotSealed::Failed(FileFault::from(error))),
     }
 }
 

@@ -7,15 +7,39 @@ use std::{fmt, io};
 /// Why sockets could not be opened.
 #[derive(Debug, Drop)]
 pub struct BindFault {
-    /// The transport and the address of the socket. Without one it is the poll for all sockets, or out of memory.
-    pub socket: Option<(&'static str, SocketAddr)>,
+    /// The socket that failed. `None` if the poll for all sockets failed, or memory ran out.
+    pub socket: Option<Endpoint>,
     pub error: io::Error,
+}
+
+/// The transport and the address of a socket.
+#[derive(Clone, Copy, Debug)]
+pub struct Endpoint {
+    pub transport: Transport,
+    pub address: SocketAddr,
+}
+
+/// A transport of RFC 4120, section 7.2.
+#[derive(Clone, Copy, Debug, PartialEq, Eq)]
+pub enum Transport {
+    Udp,
+    Tcp,
+}
+
+impl fmt::Display for Endpoint {
+    fn fmt<W: fmt::Write>(&self, f: &mut fmt::Formatter<W>) -> fmt::Result {
+        let transport = match self.transport {
+            Transport::Udp => "udp",
+            Transport::Tcp => "tcp",
+        };
+        write!(f, "{transport} {}", self.address)
+    }
 }
 
 impl fmt::Display for BindFault {
     fn fmt<W: fmt::Write>(&self, f: &mut fmt::Formatter<W>) -> fmt::Result {
-        if let Some((transport, address)) = &self.socket {
-            write!(f, "{transport} {address}: ")?;
+        if let Some(socket) = &self.socket {
+            write!(f, "{socket}: ")?;
         }
         write!(f, "{}", self.error)
     }

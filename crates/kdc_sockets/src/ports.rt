@@ -1,5 +1,6 @@
 //! The sockets that stay open, and the poll that reports which are ready.
-use crate::bind_fault::BindFault;
+use crate::bind_fault::{BindFault, Endpoint, Transport};
+use mio::event::Source;
 use mio::net::{TcpListener, UdpSocket};
 use mio::{Events, Interest, Poll, Token};
 use std::alloc::Global;
@@ -79,29 +80,15 @@ fn bind_datagrams(
     addresses: &[SocketAddr],
 ) -> Result<Vec<UdpSocket>, BindFault> {
     let mut sockets = Vec::new(alloc);
-    for (place, address) in addresses.iter().enumerate() {
-        sockets.push(bind_datagram(net, poll, place, *address)?)?;
+    for (token, address) in addresses.iter().enumerate() {
+        let endpoint = Endpoint {
+            transport: Transport::Udp,
+            address: *address,
+        };
+        let socket = registered(UdpSocket::bind(net, *address), poll, token, endpoint)?;
+        sockets.push(socket)?;
     }
     Ok(sockets)
-}
-
-fn bind_datagram(
-    net: &impl Net,
-    poll: &Poll,
-    token: usize,
-    address: SocketAddr,
-) -> Result<UdpSocket, BindFault> {
-    match UdpSocket::bind(net, address) {
-        Ok(mut socket) => {
-            let registry = poll.registry();
-            registry.register(&mut socket, Token(token), Interest::READABLE)?;
-            Ok(socket)
-        }
-        Err(error) => Err(BindFault {
-            socket: Some(("udp", address)),
-            error,
-        }),
-    }
 }
 
 /// Opens a TCP listener at each address and registers it with the poll. The tokens count from `first`.
@@ -114,25 +101,31 @@ fn bind_newcomers(
 ) -> Result<Vec<TcpListener>, BindFault> {
     let mut sockets = Vec::new(alloc);
     for (token, address) in (first..).zip(addresses) {
-        sockets.push(bind_newcomer(net, poll, token, *address)?)?;
+        let endpoint = Endpoint {
+            transport: Transport::Tcp,
+            address: *address,
+        };
+        let socket = registered(TcpListener::bind(net, *address), poll, token, endpoint)?;
+        sockets.push(socket)?;
     }
     Ok(sockets)
 }
 
-fn bind_newcomer(
-    net: &impl Net,
+/// Registers a socket with the poll under this token, if it was opened.
+fn registered<S: Source + Drop>(
+    opened: io::Result<S>,
     poll: &Poll,
     token: usize,
-    address: SocketAddr,
-) -> Result<TcpListener, BindFault> {
-    match TcpListener::bind(net, address) {
+    endpoint: Endpoint,
+) -> Result<S, BindFault> {
+    match opened {
         Ok(mut socket) => {
             let registry = poll.registry();
             registry.register(&mut socket, Token(token), Interest::READABLE)?;
             Ok(socket)
         }
         Err(error) => Err(BindFault {
-            socket: Some(("tcp", address)),
+            socket: Some(endpoint),
             error,
         }),
     }

@@ -2,7 +2,7 @@
 use crate::host::{Errors, SystemHost};
 use kdc_reports::{CountedLog, FaultCount, RequestLines};
 use kdc_sockets::BindFault;
-use kdcd_run::{Host, Outlets, Ran, ServeOptions, run_server};
+use kdcd_run::{Host, Outlets, Ran, ServeOptions, SystemPart, run_server};
 use program::{ReadyWriter, SharedWriter, Status};
 use std::alloc::AllocError;
 use std::io;
@@ -62,7 +62,7 @@ fn say_served(rt: &HostRuntime, errors: &mut Errors, ran: &SystemRan<'_>) -> io:
 fn errors_of<'a>(rt: &HostRuntime) -> Result<Errors, StartFault<'a>> {
     match ReadyWriter::new(rt.alloc(), rt, rt.stderr()) {
         Ok(errors) => Ok(SharedWriter::new(rt.alloc(), errors)?),
-        Err(error) => Err(StartFault::System("standard error", error)),
+        Err(error) => Err(StartFault::System(SystemPart::StandardError, error)),
     }
 }
 

@@ -26,5 +26,5 @@ pub use crate::reporter::Reporter;
 pub use crate::server::{Ran, Server, run_server};
 pub use crate::server_wire::{Outlets, ServerWire, StartTimes};
 pub use crate::sockets::Sockets;
-pub use crate::starting::StartFault;
+pub use crate::starting::{StartFault, SystemPart};
 pub use crate::withheld::Withheld;

@@ -27,12 +27,30 @@ use std::{fmt, io};
 pub enum StartFault<'a, S> {
     /// The file at this path.
     File(&'a str, FileFault),
-    /// A part of the system, by its name.
-    System(&'static str, io::Error),
+    /// A call of the system failed.
+    System(SystemPart, io::Error),
     Sockets(S),
     /// The start is to be the first, and there is a journal at this path.
     NotFirst(&'a str),
     Memory,
+}
+
+/// What of the system a start needs, besides files and sockets.
+#[derive(Clone, Copy, Debug, PartialEq, Eq)]
+pub enum SystemPart {
+    Clock,
+    RandomOctets,
+    StandardError,
+}
+
+impl fmt::Display for SystemPart {
+    fn fmt<W: fmt::Write>(&self, f: &mut fmt::Formatter<W>) -> fmt::Result {
+        f.write_str(match self {
+            SystemPart::Clock => "the clock",
+            SystemPart::RandomOctets => "random octets",
+            SystemPart::StandardError => "standard error",
+        })
+    }
 }
 
 impl<S: fmt::Display> fmt::Display for StartFault<'_, S> {
@@ -104,7 +122,7 @@ pub fn ready<'a, H: Host>(
     let journals = read_journals(alloc, host, options)?;
     let at = match host.now() {
         Ok(at) => at,
-        Err(error) => return Err(StartFault::System("the clock", error)),
+        Err(error) => return Err(StartFault::System(SystemPart::Clock, error)),
     };
     let start = decide(alloc, &rows, &journals, at)?;
     let realm = Octets::from_slice(alloc, rows.realm())?;
@@ -144,7 +162,7 @@ fn take_seed<'a, H: Host>(
     let Some(path) = path else {
         return match host.draw() {
             Ok(seed) => Ok(seed),
-            Err(error) => Err(StartFault::System("random octets", error)),
+            Err(error) => Err(StartFault::System(SystemPart::RandomOctets, error)),
         };
     };
     match read_seed(alloc, host, path) {
