@@ -18,6 +18,7 @@ import tempfile
 import time
 
 import harness_path
+from harness.databases import database
 from harness.kerberos import as_req
 from harness.peer import Peer
 from harness.processes import RUNNING, ending
@@ -35,7 +36,7 @@ def database_text(rows):
         sizes = ((18, 32), (17, 16), (20, 32), (19, 16))
         keys = [{"etype": etype, "key": source.randbytes(size).hex()} for etype, size in sizes]
         known[name]["keys"] = [{"keys": keys, "version": 1}]
-    return json.dumps({"principals": known, "realm": REALM.decode(), "version": 3}, separators=(",", ":"))
+    return json.dumps(database(REALM.decode(), known), separators=(",", ":"))
 
 
 class RealmServer(Server):

@@ -7,7 +7,6 @@ It makes its own realm in a temporary folder, starts the server on ports that th
 found. It ends with status 1 if a good request got no reply."""
 
 import argparse
-import json
 import os
 import random
 import re
@@ -20,6 +19,7 @@ import threading
 import time
 
 import harness_path
+from harness import databases
 from harness.kerberos import as_req, tgs_req, ticket_in, timestamp
 from harness.peer import Peer
 from harness.processes import RUNNING, ending
@@ -40,16 +40,11 @@ def framed(message):
 
 
 def row(key, preauth=True):
-    return {
-        "disabled": False, "expires": None, "forwardable": True, "greatest_life": 4294967295,
-        "greatest_renewable": 4294967295, "keys": [{"keys": [{"etype": 18, "key": key}], "version": 1}],
-        "ok_as_delegate": False, "password_expires": None, "postdate": False, "preauth": preauth, "proxiable": True,
-        "revoked_before": None, "service": True,
-    }
+    return databases.row([{"keys": [{"etype": 18, "key": key}], "version": 1}], preauth=preauth)
 
 
 def database_text(rows):
-    return json.dumps({"principals": rows, "realm": REALM.decode(), "version": 3})
+    return databases.database_text(REALM.decode(), rows)
 
 
 class Server:

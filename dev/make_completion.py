@@ -22,7 +22,8 @@ TABLES = {"kadm": "kadm/src/options.rt", "kclient": "kclient/src/options.rt", "k
 ADDED = {"kinit": ("KINIT_OPTIONS", "KINIT_FLAGS"), "serve": ("journal_option",)}
 # The words that may stand for a placeholder; `FIELD` has those of a policy besides.
 WORDS = {"FORMAT": "text json", "TYPES": "18,17,20,19 20,19", "VALUE": "true false never"}
-# A field of a policy in `text_fields`.
+# Where the fields of a policy are, and the texts about them that a table names; and a field there.
+SETTINGS = TOP / "crates/text_fields/src/settings.rt"
 FIELD = re.compile(r'^\s+\w+Field::\w+ => "([a-z_]+)",$', re.M)
 # What proposes names of files in bash.
 BASH_FILES = "compopt -o filenames 2>/dev/null; mapfile -t COMPREPLY < <(compgen -f -- \"$word\")"
@@ -120,7 +121,7 @@ def option_of(row):
 
 def commands_in(source):
     """The commands of a program with what each is for and its options."""
-    reader = Reader((TOP / "crates" / source).read_text())
+    reader = Reader((TOP / "crates" / source).read_text() + SETTINGS.read_text())
     found, named = {}, set()
     for place in re.finditer(r"\bSubcommandRow \{", reader.text):
         row = reader.value(place.start())[0].fields
@@ -228,7 +229,7 @@ def zsh(program, commands):
 
 def made():
     """Each file, by its name, with its text."""
-    WORDS["FIELD"] = " ".join(FIELD.findall((TOP / "crates/text_fields/src/settings.rt").read_text()))
+    WORDS["FIELD"] = " ".join(FIELD.findall(SETTINGS.read_text()))
     files = {}
     for program, source in TABLES.items():
         commands = commands_in(source)

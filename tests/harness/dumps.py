@@ -6,6 +6,7 @@ import re
 import subprocess
 from concurrent.futures import ThreadPoolExecutor
 
+from harness import databases
 from harness.kerberos import opened
 from harness.processes import PATIENCE, processors
 from harness.trial import Trial
@@ -178,14 +179,13 @@ def row(each, masters):
     has = lambda bit: bool(each["attributes"] & bit)
     ordered = lambda keys: [{"etype": etype, "key": keys[etype].hex()} for etype in types if etype in keys]
     newest_first = sorted(versions.items(), reverse=True)
-    return {
-        "disabled": has(0x40), "expires": each["expires"] or None, "forwardable": not has(0x2),
-        "greatest_life": each["life"] or ANY, "greatest_renewable": 0 if has(0x8) else each["renewable"],
-        "keys": [{"keys": ordered(keys), "version": version} for version, keys in newest_first],
-        "ok_as_delegate": has(0x100000), "password_expires": 0 if has(0x200) else each["password_expires"] or None,
-        "postdate": not has(0x1), "preauth": has(0x80), "proxiable": not has(0x10), "revoked_before": None,
-        "service": not has(0x1000),
-    }
+    return databases.row(
+        [{"keys": ordered(keys), "version": version} for version, keys in newest_first],
+        disabled=has(0x40), expires=each["expires"] or None, forwardable=not has(0x2),
+        greatest_life=each["life"] or ANY, greatest_renewable=0 if has(0x8) else each["renewable"],
+        ok_as_delegate=has(0x100000), password_expires=0 if has(0x200) else each["password_expires"] or None,
+        postdate=not has(0x1), preauth=has(0x80), proxiable=not has(0x10), service=not has(0x1000),
+    )
 
 
 def shown(component):
@@ -211,7 +211,7 @@ def model(text, masters, skip=False):
             rows[name] = made
     if f"krbtgt/{shown(realm)}" not in rows:
         raise Refused("BadDump")
-    return {"principals": rows, "realm": shown(realm), "version": 3}
+    return databases.database(shown(realm), rows)
 
 
 def masters_in(stash):

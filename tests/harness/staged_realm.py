@@ -2,7 +2,7 @@
 bytes of replies from a model of the exchanges in Python. The realm is `A.B`; everything happens in the first second of
 2024."""
 
-import json
+from harness import databases
 
 # The digits of keys of type 18.
 TGS_KEY = "808182838485868788898a8b8c8d8e8f909192939495969798999a9b9c9d9e9f"
@@ -12,22 +12,16 @@ NEW_USER_KEY = "606162636465666768696a6b6c6d6e6f707172737475767778797a7b7c7d7e7f
 SERVICE_KEY = "a0a1a2a3a4a5a6a7a8a9aaabacadaeafb0b1b2b3b4b5b6b7b8b9babbbcbdbebf"
 NEWER_SERVICE_KEY = "c0c1c2c3c4c5c6c7c8c9cacbcccdcecfd0d1d2d3d4d5d6d7d8d9dadbdcdddedf"
 
-def row(name, *keys, disabled=False, preauth=True):
+def row(name, *keys, **policy):
     """The name and the row of a principal, with its keys, the current one first, each with its key version. The rest is
-    the policy of a new principal."""
-    return name, {
-        "disabled": disabled, "expires": None, "forwardable": True, "greatest_life": 4294967295,
-        "greatest_renewable": 4294967295,
-        "keys": [{"keys": [{"etype": 18, "key": key}], "version": version} for key, version in keys],
-        "ok_as_delegate": False,
-        "password_expires": None, "postdate": False, "preauth": preauth, "proxiable": True, "revoked_before": None,
-        "service": True,
-    }
+    the policy of a new principal but for these fields."""
+    versions = [{"keys": [{"etype": 18, "key": key}], "version": version} for key, version in keys]
+    return name, databases.row(versions, **policy)
 
 
 def database(realm, *rows):
-    """The text of a database (docs/FORMATS.md, 'The text of a database')."""
-    return json.dumps({"principals": dict(rows), "realm": realm, "version": 3})
+    """The text of a database."""
+    return databases.database_text(realm, rows)
 
 
 TGS = row("krbtgt/A.B", (TGS_KEY, 1))

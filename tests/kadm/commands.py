@@ -3,14 +3,15 @@
 import os
 import shlex
 
+from harness.databases import POLICY
 from harness.options import MOST, NAMES, faults_of
 from harness.server import sink_of
 from harness.tests import test
 from harness.wire import REALM
 
-FLAGS = ("disabled", "preauth", "forwardable", "proxiable", "postdate", "ok_as_delegate", "service")
-TIMES = ("expires", "password_expires", "revoked_before")
-SPANS = ("greatest_life", "greatest_renewable")
+FLAGS = [field for field, value in POLICY.items() if isinstance(value, bool)]
+TIMES = [field for field, value in POLICY.items() if value is None]
+SPANS = [field for field in POLICY if field not in (*FLAGS, *TIMES)]
 # Good and bad values of the fields of a policy.
 SETTINGS = {
     **dict.fromkeys(FLAGS, (("true", "false"), ("", "TRUE", "yes", "1", "never", "true "))),

@@ -139,8 +139,13 @@ def count_edits(pattern):
     return len(list(CRATES.glob(f"{pattern}/must-fail/*.edit")))
 
 
+def setting_number(name):
+    """A number among the constants of `text_fields`, in the file with the fields of a policy."""
+    return int(re.search(rf"{name}: \w+ = (\d+)", read("crates/text_fields/src/settings.rt"))[1])
+
+
 def settings():
-    return int(re.search(r"SETTINGS: usize = (\d+)", read("crates/text_fields/src/settings.rt"))[1])
+    return setting_number("SETTINGS")
 
 
 def default(option):
@@ -165,8 +170,8 @@ COUNTS = (
     ("README.md", r"This is version ([\d.]+):", version),
     ("CHANGELOG.md", r"version of all programs is ([\d.]+) ", version),
     ("docs/FORMATS.md", r"object with these (\w+) members", lambda: settings() + 1),
-    ("docs/FORMATS.md", r"Rows of version 2 have the other (\w+) members", settings),
-    ("docs/FORMATS.md", r"and `version`, (\d+)\.", lambda: 3),
+    ("docs/FORMATS.md", r"Rows of version \d have the other (\w+) members", settings),
+    ("docs/FORMATS.md", r"and `version`, (\d+)\.", lambda: setting_number("NEWEST_VERSION")),
     ("CONTRIBUTING.md", r"edits, (\d+) in \w+ crates", lambda: count_edits("*")),
     ("CONTRIBUTING.md", r"edits, \d+ in (\w+) crates", lambda: len(list(CRATES.glob("*/must-fail")))),
     ("CONTRIBUTING.md", r"`kdc_core` and `tgs_exchange` (\d+)", lambda: count_edits("kdc_core")),

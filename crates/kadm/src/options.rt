@@ -4,6 +4,7 @@ use clap::error::Error;
 use clap::{ArgMatches, Command};
 use program::{FlagRow, OptionRow, SubcommandRow, Times, with_subcommands};
 use std::alloc::Global;
+use text_fields::{FIELD_NAMES, MIGRATION};
 
 const EXAMPLE: &str = "\
 A first realm:
@@ -21,10 +22,6 @@ Without --db the database is the file that KADM_DB names in the environment.
 
 A name is components joined by `/`. Write `/`, `\\` and `@` inside a component, and all bytes other than 21 to 7e, as `\\`
 and two lower case hexadecimal digits.";
-
-const FIELDS: &str = "\
-A flag (disabled, preauth, forwardable, proxiable, postdate, ok_as_delegate, service), a time (expires, \
-password_expires, revoked_before) or a lifetime (greatest_life, greatest_renewable)";
 
 const VALUES: &str = "\
 For a flag: true or false. For a time: a second since 1970, a date (2027-01-01, 2027-01-01T12:00:00Z), a time from now \
@@ -119,7 +116,7 @@ const SET: OptionRow = OptionRow {
 const FIELD: OptionRow = OptionRow {
     name: "field",
     shape: "FIELD",
-    help: FIELDS,
+    help: FIELD_NAMES,
     times: Times::AtMostOnce,
 };
 
@@ -317,7 +314,7 @@ const SUBCOMMANDS: &[SubcommandRow] = &[
     },
     SubcommandRow {
         name: "migrate",
-        about: "Writes a database of version 1 or 2 as version 3",
+        about: MIGRATION,
         options: &[DATABASE],
         flags: &[NO_SERVICES_ROW, KEEPS_MODE],
     },

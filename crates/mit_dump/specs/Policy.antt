@@ -2,6 +2,7 @@
 use Rattle.std.specs.Prelude.{◌==◌, ℕ, ℤ, pos, Bool, not, Option, Some, None, if◌then◌else◌}
 use Rattle.krb_fields.specs.Flags.{has_bit}
 use Rattle.principal_rows.specs.declared.policy.Policy.{Policy}
+use Rattle.principal_rows.specs.Policy.{default_policy}
 use Rattle.mit_dump.specs.Attribute.{attribute_number}
 use Rattle.mit_dump.specs.declared.attribute.Attribute.{Attribute}
 use Rattle.mit_dump.specs.declared.attribute.Attribute.TheVariants.{DisallowPostdated, DisallowForwardable}
@@ -28,12 +29,12 @@ life_of seconds = if seconds == 0 then 4294967295 else seconds
 abbrev pub renewable_life : Numbers → ℕ
 renewable_life n = if has n DisallowRenewable then 0 else n.max_renewable_life
 
+-- what a dump does not have is as for a new principal
 abbrev pub policy_of : Numbers → Policy
-policy_of n = record {
+policy_of n = record default_policy {
   disabled = has n DisallowAllTix;
   expires = moment_of n.expiration;
   password_expires = password_expiry n;
-  revoked_before = None;
   greatest_life = life_of n.max_life;
   greatest_renewable = renewable_life n;
   preauth = has n RequiresPreAuth;

@@ -9,7 +9,7 @@ use principal_rows::Policy;
 
 impl DumpedPrincipal {
     /// Returns the policy that says the same of its tickets. A password that must be changed (`+needchange`) has
-    /// expired.
+    /// expired. A field without a place in a dump is that of a new principal.
     pub fn policy(&self) -> Policy
         ensures { result ≡ policy_of self.now.numbers }
     {
@@ -18,7 +18,6 @@ impl DumpedPrincipal {
             disabled: numbers.has(Attribute::DisallowAllTix),
             expires: moment_of(numbers.expiration),
             password_expires: numbers.password_expiry(),
-            revoked_before: None,
             greatest_life: life_of(numbers.max_life),
             greatest_renewable: numbers.renewable_life(),
             preauth: numbers.has(Attribute::RequiresPreAuth),
@@ -27,6 +26,7 @@ impl DumpedPrincipal {
             postdate: !numbers.has(Attribute::DisallowPostdated),
             ok_as_delegate: numbers.has(Attribute::OkAsDelegate),
             service: !numbers.has(Attribute::DisallowSvr),
+            ..Policy::default()
         }
     }
 }

@@ -21,10 +21,9 @@ use Rattle.principal_rows.specs.declared.row.Row.{Row}
 use Rattle.principals.specs.Database.{Principals}
 use Rattle.text_fields.specs.declared.settings.Setting.{Setting}
 use Rattle.text_fields.specs.declared.settings.Setting.TheVariants.{Flag, Life, Time}
-use Rattle.text_fields.specs.Settings.{settings_of}
+use Rattle.text_fields.specs.Settings.{before_keys, newest_version, settings_of}
 use Rattle.principals_text.specs.ReadBack.{IsTime, IsFitting}
 use Rattle.principals_text.specs.RowWritten.{time_value, key_value, keys_value, version_value, versions_value}
-use Rattle.principals_text.specs.Format.{before_keys, newest_number}
 use Rattle.principals_text.specs.RowWritten.{setting_value, setting_members, row_members, row_value}
 use Rattle.principals_text.specs.Tokens.{IsKept, data_tokens}
 use Rattle.principals_text.specs.Written.{with_rows, database_value}
@@ -119,4 +118,4 @@ pub database_kept : (p : Principals) (es : List (Entry Row)) → pairs es ≡ en
 unfolding IsKept
 database_kept p es are all =
     let rows = rows_kept no_members (entries p.rows) tt tt (subst AreRowsKept are (each_kept es all)) in
-    object_kept _ (refl, (refl, (tt, tt))) (object_kept (with_rows no_members (entries p.rows)) rows.0 rows.1, (refl, (number_kept newest_number (omega arith), tt)))
+    object_kept _ (refl, (refl, (tt, tt))) (object_kept (with_rows no_members (entries p.rows)) rows.0 rows.1, (refl, (number_kept newest_version (omega arith), tt)))

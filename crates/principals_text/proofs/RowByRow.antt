@@ -16,7 +16,8 @@ use Rattle.principal_rows.specs.NameMap.{pairs}
 use Rattle.principal_rows.specs.Row.{IsRow}
 use Rattle.principal_rows.specs.declared.name_map.Entry.{Entry}
 use Rattle.principal_rows.specs.declared.row.Row.{Row}
-use Rattle.principals_text.specs.Format.{newest, newest_number, newest_text}
+use Rattle.text_fields.specs.Settings.{newest_version, newest_version_text}
+use Rattle.principals_text.specs.Format.{newest}
 use Rattle.principals_text.specs.Ahead.{value_at, members_at, rows_in, text_value, HoldsParts}
 use Rattle.principals.specs.Database.{tgs_principal, AreRows}
 use Rattle.principals_text.specs.NameOf.{component_of, name_of}
@@ -46,12 +47,12 @@ row_more text d entry found es made named rowed before is =
 string_next : (depth : ℕ) (s : List ℕ) (r : List Token) → value_at depth (Token.string s ∷ r) ≡ Some (string s, r)
 string_next depth s r = ap (converted of_json) (value_is depth (Token.string s ∷ r))
 
-newest_is : number_of newest_text ≡ Some (unsigned newest_number)
+newest_is : number_of newest_version_text ≡ Some (unsigned newest_version)
 unfolding serde_json_on_literals
 newest_is = refl
 
-number_next : (depth : ℕ) (r : List Token) → value_at depth (Token.number newest_text ∷ r) ≡ Some (number (unsigned newest_number), r)
-number_next depth r = ap (converted of_json) (value_is depth (Token.number newest_text ∷ r)) ∙ rw newest_is refl
+number_next : (depth : ℕ) (r : List Token) → value_at depth (Token.number newest_version_text ∷ r) ≡ Some (number (unsigned newest_version), r)
+number_next depth r = ap (converted of_json) (value_is depth (Token.number newest_version_text ∷ r)) ∙ rw newest_is refl
 
 -- the parts of a text, one after another
 pub parts_hold : (ts t1 s1 t2 r1 s2 r2 s3 r3 : List Token) (rows : Members) (text realm : List ℕ) (es : List (Entry Row))
@@ -62,7 +63,7 @@ pub parts_hold : (ts t1 s1 t2 r1 s2 r2 s3 r3 : List Token) (rows : Members) (tex
     → read_key r1 ≡ Some (Some (codes "realm"), s2)
     → s2 ≡ Token.string text ∷ r2
     → read_key r2 ≡ Some (Some (codes "version"), s3)
-    → s3 ≡ Token.number newest_text ∷ r3
+    → s3 ≡ Token.number newest_version_text ∷ r3
     → read_key r3 ≡ Some (None, [])
     → rows_in rows ≡ Some (from_entries (pairs (reverse es)))
     → component_of text ≡ Some realm
@@ -71,7 +72,7 @@ parts_hold ts t1 s1 t2 r1 s2 r2 s3 r3 rows text realm es opens first begun rows_
     let n = length t1 in
     let rows_value : value_at 126 s1 ≡ Some (object rows, r1) = ap (value_at 126) begun ∙ object_next 126 t2 (omega arith) ∙ ap (parse_map object) rows_next in
     let realm_value : value_at 126 s2 ≡ Some (string text, r2) = ap (value_at 126) realm_next ∙ string_next 126 text r2 in
-    let version_value : value_at 126 s3 ≡ Some (number (unsigned newest_number), r3) = ap (value_at 126) version_next ∙ number_next 126 r3 in
+    let version_value : value_at 126 s3 ≡ Some (number (unsigned newest_version), r3) = ap (value_at 126) version_next ∙ number_next 126 r3 in
     let a = read_key-shorter t1 (Some (codes "principals")) s1 first in
     let b : length t2 < length s1 = omega (arith, ap length begun) in
     let c = read_key-shorter r1 (Some (codes "realm")) s2 second in
@@ -81,8 +82,8 @@ parts_hold ts t1 s1 t2 r1 s2 r2 s3 r3 rows text realm es opens first begun rows_
     let with_rows : members_at 126 no_members n t1 ≡ members_at 126 (put (codes "principals") (object rows) no_members) (n - 1) r1 =
     member_next 126 no_members n (codes "principals") t1 s1 r1 (object rows) (omega (arith, a)) first rows_value in
     let with_realm = member_next 126 (put (codes "principals") (object rows) no_members) (n - 1) (codes "realm") r1 s2 r2 (string text) (omega (arith, a, b, less, c)) second realm_value in
-    let with_version = member_next 126 (put (codes "realm") (string text) (put (codes "principals") (object rows) no_members)) (n - 1 - 1) (codes "version") r2 s3 r3 (number (unsigned newest_number)) (omega (arith, a, b, less, c, d, e)) third version_value in
-    let ended = no_member_next 126 (put (codes "version") (number (unsigned newest_number)) (put (codes "realm") (string text) (put (codes "principals") (object rows) no_members))) (n - 1 - 1 - 1) r3 [] (omega (arith, a, b, less, c, d, e, f)) over in (
+    let with_version = member_next 126 (put (codes "realm") (string text) (put (codes "principals") (object rows) no_members)) (n - 1 - 1) (codes "version") r2 s3 r3 (number (unsigned newest_version)) (omega (arith, a, b, less, c, d, e)) third version_value in
+    let ended = no_member_next 126 (put (codes "version") (number (unsigned newest_version)) (put (codes "realm") (string text) (put (codes "principals") (object rows) no_members))) (n - 1 - 1 - 1) r3 [] (omega (arith, a, b, less, c, d, e, f)) over in (
       rows,
       text,
       ap (value_at 127) opens ∙ object_next 127 t1 (omega arith) ∙ ap (parse_map object) (with_rows ∙ with_realm ∙ with_version ∙ ended),

@@ -20,8 +20,7 @@ use Rattle.enctypes.specs.Etype as etypes
 use Rattle.principal_rows.specs.declared.row.KeyVersion.{KeyVersion}
 use Rattle.principal_rows.specs.declared.row.Row.{Row}
 use Rattle.text_fields.specs.declared.settings.Setting.{Setting}
-use Rattle.text_fields.specs.Settings.{settings_of}
-use Rattle.principals_text.specs.Format.{before_keys}
+use Rattle.text_fields.specs.Settings.{before_keys, settings_of}
 use Rattle.principals_text.specs.RowWritten.{each_value, versions_value, setting_members, row_value}
 use Rattle.principals_text.specs.Tokens.{IsLonger, data_tokens, member_tokens, setting_tokens, settings_tokens, values_tokens}
 use Rattle.principals_text.specs.Tokens.{named_members, named_tokens}

@@ -13,10 +13,9 @@ use Rattle.principal_rows.specs.declared.row.KeyVersion.{KeyVersion}
 use Rattle.principal_rows.specs.declared.row.Row.{Row}
 use Rattle.text_fields.specs.declared.settings.Setting.{Setting}
 use Rattle.text_fields.specs.declared.settings.Setting.TheVariants.{Flag, Life, Time}
-use Rattle.text_fields.specs.Settings.{settings_of}
+use Rattle.text_fields.specs.Settings.{before_keys, settings_of}
 use Rattle.principals.specs.Database.{Principals}
 use Rattle.principals_text.specs.RowWritten.{time_value, key_value, version_value, versions_value, setting_value, setting_members}
-use Rattle.principals_text.specs.Format.{before_keys}
 use Rattle.principals_text.specs.RowWritten.{row_value}
 use Rattle.principals_text.specs.Written.{with_rows, database_value}
 

@@ -20,9 +20,8 @@ use Rattle.principal_rows.specs.declared.policy.Policy.{Policy}
 use Rattle.principal_rows.specs.declared.row.KeyVersion.{KeyVersion}
 use Rattle.text_fields.specs.declared.settings.Setting.{Setting}
 use Rattle.text_fields.specs.SettingLaws.{made}
-use Rattle.text_fields.specs.Settings.{settings_of, place, with_setting, with_settings}
+use Rattle.text_fields.specs.Settings.{before_keys, place, settings_of, with_setting, with_settings}
 use Rattle.principals_text.specs.Ahead.{value_at}
-use Rattle.principals_text.specs.Format.{before_keys}
 use Rattle.principals_text.specs.RowWritten.{each_value, key_value, keys_value, version_value, versions_value, row_value}
 use Rattle.principals_text.specs.Tokens.{IsKept, data_tokens, member_tokens, setting_tokens, settings_tokens, values_tokens}
 use Rattle.principals_text.proofs.Kept.{depth-outline}

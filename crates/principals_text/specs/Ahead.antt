@@ -9,7 +9,8 @@ use Rattle.krb_fields.specs.Name.{name_cmp}
 use Rattle.principal_rows.specs.NameMap.{pairs}
 use Rattle.principal_rows.specs.declared.name_map.Entry.{Entry}
 use Rattle.principal_rows.specs.declared.row.Row.{Row}
-use Rattle.principals_text.specs.Format.{newest, newest_number}
+use Rattle.text_fields.specs.Settings.{newest_version}
+use Rattle.principals_text.specs.Format.{newest}
 use Rattle.principals_text.specs.NameOf.{component_of}
 use Rattle.principals_text.specs.RowValue.{◌>>=◌}
 use Rattle.principals_text.specs.Value.{entries_of}
@@ -31,7 +32,7 @@ abbrev pub text_value : Members → List ℕ → Data
 text_value rows realm =
     object (member (codes "principals") (object rows)
     (member (codes "realm") (string realm)
-    (member (codes "version") (number (unsigned newest_number)) no_members)))
+    (member (codes "version") (number (unsigned newest_version)) no_members)))
 
 -- the tokens are those of a whole text in the newest version, with this realm and these rows; if a name has several,
 -- the last one counts

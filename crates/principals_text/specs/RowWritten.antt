@@ -11,8 +11,7 @@ use Rattle.principal_rows.specs.declared.row.KeyVersion.{KeyVersion}
 use Rattle.principal_rows.specs.declared.row.Row.{Row}
 use Rattle.text_fields.specs.declared.settings.Setting.{Setting}
 use Rattle.text_fields.specs.declared.settings.Setting.TheVariants.{Flag, Life, Time}
-use Rattle.text_fields.specs.Settings.{setting_name, settings_of}
-use Rattle.principals_text.specs.Format.{before_keys}
+use Rattle.text_fields.specs.Settings.{before_keys, setting_name, settings_of}
 
 abbrev pub time_value : Option ℤ → Data
 time_value None = null

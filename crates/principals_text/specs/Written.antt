@@ -6,7 +6,7 @@ use Rattle.krb_fields.specs.Name.{Components}
 use Rattle.krb_fields.specs.NameText.{component_text, text_of}
 use Rattle.principal_rows.specs.declared.row.Row.{Row}
 use Rattle.principals.specs.Database.{Principals}
-use Rattle.principals_text.specs.Format.{newest_number}
+use Rattle.text_fields.specs.Settings.{newest_version}
 use Rattle.principals_text.specs.RowWritten.{row_value}
 
 -- a member for each row, with the text of its name
@@ -21,4 +21,4 @@ abbrev pub database_value : Principals → Data
 database_value p =
     object (member (codes "principals") (rows_value (entries p.rows))
     (member (codes "realm") (string (component_text p.realm))
-    (member (codes "version") (number (unsigned newest_number)) no_members)))
+    (member (codes "version") (number (unsigned newest_version)) no_members)))

@@ -2,10 +2,10 @@
 ghost use Rattle.std.specs.Prelude.{◌≡◌, ◌∷◌, IsTrue, Some, None};
 ghost use Rattle.json.specs.Json.{read_key};
 ghost use Rattle.json.specs.Token.{Token as SpecToken, begin_object, number};
-ghost use Rattle.principals_text.specs.Format.{newest_text};
+ghost use Rattle.text_fields.specs.Settings.{newest_version_text};
 
-use crate::format::NEWEST_TEXT;
 use json::{Reader, Token};
+use text_fields::NEWEST_VERSION_TEXT;
 
 /// Checks whether an object begins.
 pub(crate) fn takes_object(reader: &mut Reader<'_>) -> bool
@@ -33,10 +33,10 @@ pub(crate) fn takes_end(reader: &mut Reader<'_>) -> bool
 
 /// Checks whether the number of the newest version comes next.
 pub(crate) fn takes_version(reader: &mut Reader<'_>) -> bool
-    ensures { IsTrue result → reader.old ≡ number newest_text ∷ reader.new }
+    ensures { IsTrue result → reader.old ≡ number newest_version_text ∷ reader.new }
 {
     match reader.next() {
-        Some(Token::Number(text)) => text == NEWEST_TEXT,
+        Some(Token::Number(text)) => text == NEWEST_VERSION_TEXT,
         _ => false,
     }
 }

@@ -13,7 +13,6 @@ ghost use Rattle.text_fields.specs.Settings.{place};
 ghost use Rattle.principals_text.specs.Taken.{AreTaken};
 ghost use Rattle.principals_text.specs.Tokens.{data_tokens, member_tokens, setting_tokens};
 
-use crate::format::BEFORE_KEYS;
 use crate::next_value::takes_object;
 use crate::row_value::{LONGEST_KEY, decoded_key};
 use enctypes::{Etype, Key};
@@ -21,7 +20,7 @@ use json::{Reader, Token};
 use krb_fields::Second;
 use principal_rows::{KeyList, KeyVersion, Policy, Row, Versions};
 use std::alloc::Global;
-use text_fields::Setting;
+use text_fields::{BEFORE_KEYS, Setting};
 
 /// How many versions there is room for at first: most rows have one.
 const VERSIONS: usize = 1;

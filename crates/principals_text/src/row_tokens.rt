@@ -9,14 +9,13 @@ ghost use Rattle.principals_text.specs.Tokens.{settings_tokens};
 ghost use Rattle.principals_text.specs.Tokens.{named_members};
 ghost use Rattle.principals_text.specs.Written.{with_rows};
 
-use crate::format::BEFORE_KEYS;
 use enctypes::Key;
 use json::Writer;
 use krb_fields::Second;
 use principal_rows::{Entry, KeyList, KeyVersion, Row, Versions};
 use serde_json::Map;
 use std::alloc::{AllocError, Global};
-use text_fields::Setting;
+use text_fields::{BEFORE_KEYS, Setting};
 
 /// Rows under the texts of their names.
 pub(crate) type NamedRows<'a> = Map<String, &'a Row>;

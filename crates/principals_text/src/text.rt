@@ -18,7 +18,7 @@ ghost use Rattle.principals_text.specs.Value.{text_database};
 
 use crate::ReadFault;
 use crate::by_rows::read_by_rows;
-use crate::format::{Format, NEWEST};
+use crate::format::Format;
 use crate::row_fault::RowFault;
 use crate::row_tokens::{NamedRows, named_rows, write_rows};
 use crate::row_value::{member_count, read_row};
@@ -29,6 +29,7 @@ use principal_rows::{Entry, NameMap, Row};
 use principals::Database;
 use serde_json::{Map, Value};
 use std::alloc::{AllocError, Global};
+use text_fields::NEWEST_VERSION;
 
 /// The greatest size of a database's text that a program reads, in bytes: about two million rows.
 pub const LONGEST_TEXT: usize = 1_073_741_824;
@@ -120,7 +121,7 @@ fn write_parts(
     out.key("realm")?;
     out.string(realm)?;
     out.key("version")?;
-    out.u64(NEWEST)?;
+    out.u64(NEWEST_VERSION)?;
     out.end_object()
 }
 

@@ -5,28 +5,8 @@ use Rattle.std.specs.List.{fold}
 use Rattle.std.proofs.lemmas.List.{take_all, length-map, length-set}
 use Rattle.std.proofs.lemmas.Grind.{take-set_at}
 use Rattle.principal_rows.specs.declared.policy.Policy.{Policy}
-use Rattle.text_fields.specs.declared.settings.FlagField.TheVariants.{Disabled, Preauth, Forwardable, Proxiable}
-use Rattle.text_fields.specs.declared.settings.FlagField.TheVariants.{Postdate, OkAsDelegate, Service}
-use Rattle.text_fields.specs.declared.settings.LifeField.TheVariants.{GreatestLife, GreatestRenewable}
 use Rattle.text_fields.specs.declared.settings.Setting.{Setting}
-use Rattle.text_fields.specs.declared.settings.Setting.TheVariants.{Flag, Life, Time}
-use Rattle.text_fields.specs.declared.settings.TimeField.TheVariants.{Expires, PasswordExpires, RevokedBefore}
-use Rattle.text_fields.specs.Settings.{settings_of, place, with_setting, with_settings}
-
--- setting one field replaces its value and leaves all others unchanged
-placed : (s : Setting) (p : Policy) → settings_of (with_setting s p) ≡ set (settings_of p) (place s) s
-placed (Flag Disabled on) p = refl
-placed (Flag Preauth on) p = refl
-placed (Flag Forwardable on) p = refl
-placed (Flag Proxiable on) p = refl
-placed (Flag Postdate on) p = refl
-placed (Flag OkAsDelegate on) p = refl
-placed (Flag Service on) p = refl
-placed (Life GreatestLife life) p = refl
-placed (Life GreatestRenewable life) p = refl
-placed (Time Expires time) p = refl
-placed (Time PasswordExpires time) p = refl
-placed (Time RevokedBefore time) p = refl
+use Rattle.text_fields.specs.Settings.{settings_of, place, placed, with_setting, with_settings}
 
 abbrev put_all : List Setting → List Setting → List Setting
 put_all settings all = fold (λ l s. set l (place s) s) all settings
@@ -56,6 +36,6 @@ in_order (s ∷ ss) all n long are =
 pub made : (settings : List Setting) (p : Policy) → map place settings ≡ map place (settings_of p)
     → settings_of (with_settings settings p) ≡ settings
 made settings p are =
-    let many : length settings ≡ 12 = sym (length-map settings place) ∙ ap length are in
+    let many : length settings ≡ length (settings_of p) = sym (length-map settings place) ∙ ap length are in
     all_placed settings p
     ∙ in_order settings (settings_of p) 0 (omega (arith, many)) (are ∙ ap (upwards 0) (sym many))

@@ -1,6 +1,6 @@
 -- Settings of a policy, and the texts that spell them.
 use Rattle.std.specs.Prelude.{◌≡◌, ◌==◌, ℕ, ℤ, pos, ◌<◌, Bool, true, false, List, [], ◌∷◌, length, Option, Some, None}
-use Rattle.std.specs.Prelude.{codes, bytes_eq, if◌then◌else◌}
+use Rattle.std.specs.Prelude.{codes, bytes_eq, if◌then◌else◌, refl, set}
 use Rattle.std.specs.List.{before_first, after_first, position_or_len, fold}
 use Rattle.std.specs.Str.Parse.{IsNumeral, digits_value}
 use Rattle.krb_fields.specs.Moment.{IsSecond}
@@ -107,6 +107,21 @@ with_setting (Time Expires time) policy = record policy { expires = time }
 with_setting (Time PasswordExpires time) policy = record policy { password_expires = time }
 with_setting (Time RevokedBefore time) policy = record policy { revoked_before = time }
 
+-- ---- the versions of the database's text
+
+-- the newest one, and the text of its number
+abbrev pub newest_version : ℕ
+newest_version = 3
+
+abbrev pub newest_version_text : List ℕ
+newest_version_text = codes "3"
+
+-- the version that brought a field
+abbrev pub since : Setting → ℕ
+since (Time RevokedBefore time) = 2
+since (Flag Service on) = 3
+since _ = 1
+
 -- ---- all settings of a policy
 
 -- in the order of their names
@@ -126,6 +141,10 @@ settings_of policy =
     ∷ Flag Service policy.service
     ∷ []
 
+-- how many come before the member `keys` of a row
+abbrev pub before_keys : ℕ
+before_keys = 5
+
 -- the place of a setting among them
 abbrev pub place : Setting → ℕ
 place (Flag Disabled on) = 0
@@ -140,6 +159,21 @@ place (Flag Preauth on) = 8
 place (Flag Proxiable on) = 9
 place (Time RevokedBefore time) = 10
 place (Flag Service on) = 11
+
+-- setting one field replaces its value and leaves all others unchanged
+pub placed : (s : Setting) (p : Policy) → settings_of (with_setting s p) ≡ set (settings_of p) (place s) s
+placed (Flag Disabled on) p = refl
+placed (Flag Preauth on) p = refl
+placed (Flag Forwardable on) p = refl
+placed (Flag Proxiable on) p = refl
+placed (Flag Postdate on) p = refl
+placed (Flag OkAsDelegate on) p = refl
+placed (Flag Service on) p = refl
+placed (Life GreatestLife life) p = refl
+placed (Life GreatestRenewable life) p = refl
+placed (Time Expires time) p = refl
+placed (Time PasswordExpires time) p = refl
+placed (Time RevokedBefore time) p = refl
 
 -- the policy with all of these set, in order
 abbrev pub with_settings : List Setting → Policy → Policy

@@ -13,5 +13,8 @@ pub use dates::UtcDate;
 pub use etypes::{offered, read_etypes};
 pub use keys::{password_keys, random_keys};
 pub use numbers::{number, number_u32};
-pub use settings::{FlagField, LifeField, SETTINGS, Setting, TimeField};
+pub use settings::{
+    BEFORE_KEYS, FIELD_NAMES, FlagField, LifeField, MIGRATION, NEWEST_VERSION, NEWEST_VERSION_TEXT,
+    SETTINGS, Setting, TimeField,
+};
 pub use spans::{lifetime, span};

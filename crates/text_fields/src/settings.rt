@@ -1,12 +1,12 @@
 //! Settings: a field of a policy and its new value. Names and values are those of the database's text, with `never` for
-//! null.
+//! null. Here stand also the versions of that text, which a new field changes, and what the help says of fields.
 ghost use Rattle.std.specs.Prelude.{◌≡◌, ℤ, ℕ, Bool, Option, Some, IfSome, IfNone};
 ghost use Rattle.std.specs.List.{fold};
 ghost use Rattle.principal_rows.specs.declared.policy.Policy as policies;
 ghost use Rattle.text_fields.specs.Settings.{flag_name, life_name, time_name, setting_name, flag_of, life_of, time_of};
 ghost use Rattle.text_fields.specs.Settings.{IsFlagText, IsTimeText, IsSettingOf, IsSettingText, IsDateOf};
 ghost use Rattle.text_fields.specs.Settings.{with_setting};
-ghost use Rattle.text_fields.specs.Settings.{settings_of};
+ghost use Rattle.text_fields.specs.Settings.{settings_of, since};
 ghost use Rattle.text_fields.specs.declared.settings.FlagField as flags;
 ghost use Rattle.text_fields.specs.declared.settings.LifeField as lives;
 ghost use Rattle.text_fields.specs.declared.settings.TimeField as times;
@@ -48,6 +48,23 @@ pub enum TimeField {
 
 /// How many fields a policy has.
 pub const SETTINGS: usize = 12;
+
+/// How many of them come before the member `keys` of a row, in the order of names.
+pub const BEFORE_KEYS: usize = 5;
+
+/// The number of the newest version of the database's text, which is written.
+pub const NEWEST_VERSION: u64 = 3;
+
+/// The text of that number.
+pub const NEWEST_VERSION_TEXT: &str = "3";
+
+/// What becomes of a text in an older version, for the help.
+pub const MIGRATION: &str = "Writes a database of version 1 or 2 as version 3";
+
+/// The names of the fields, for the help.
+pub const FIELD_NAMES: &str = "\
+A flag (disabled, preauth, forwardable, proxiable, postdate, ok_as_delegate, service), a time (expires, \
+password_expires, revoked_before) or a lifetime (greatest_life, greatest_renewable)";
 
 /// A field of a policy with its value.
 #[derive(Clone, Copy, PartialEq, Eq)]
@@ -144,6 +161,17 @@ impl Setting {
             Setting::Flag(field, _) => field.name(),
             Setting::Life(field, _) => field.name(),
             Setting::Time(field, _) => field.name(),
+        }
+    }
+
+    /// Returns the number of the version of the database's text that brought the field.
+    pub fn since(self) -> u64
+        ensures { result ≡ since self }
+    {
+        match self {
+            Setting::Time(TimeField::RevokedBefore, _) => 2,
+            Setting::Flag(FlagField::Service, _) => 3,
+            _ => 1,
         }
     }
 

@@ -1,6 +1,5 @@
 use Rattle.std.proofs.Common.{rules, ◌≡◌, IsTrue, take, drop}
-use Rattle.text_fields.specs.Settings.{settings_of}
-use Rattle.principals_text.specs.Format.{before_keys}
+use Rattle.text_fields.specs.Settings.{before_keys, settings_of}
 use Rattle.principals_text.proofs.TakenTokens.{row_taken}
 use Rattle.principals_text.proofs.row_reading.take_row.Goals as goal
 

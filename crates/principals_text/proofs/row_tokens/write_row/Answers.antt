@@ -1,7 +1,6 @@
 use Rattle.std.proofs.Common.{rules, ◌≡◌, take, drop}
 use Rattle.std.proofs.lemmas.Result.{on_ok_weaker}
-use Rattle.text_fields.specs.Settings.{settings_of}
-use Rattle.principals_text.specs.Format.{before_keys}
+use Rattle.text_fields.specs.Settings.{before_keys, settings_of}
 use Rattle.principals_text.proofs.RowTokens.{one_more, if_one_more, chain, row_written}
 use Rattle.principals_text.proofs.row_tokens.write_row.Goals as goal
 
