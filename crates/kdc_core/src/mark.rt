@@ -52,12 +52,13 @@ pub fn keep_mark(
                 kept,
             },
         ) => {
-            state.record_seen(alloc, &client, at, ctime, cusec, kept)?;
-            Ok(Some(Seen {
+            let seen = Seen {
                 client,
                 ctime,
                 cusec,
-            }))
+            };
+            state.record_seen(alloc, at, &seen, kept)?;
+            Ok(Some(seen))
         }
     }
 }

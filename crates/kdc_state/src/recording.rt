@@ -9,37 +9,38 @@ ghost use Rattle.kdc_state.specs.State.{cache_of, restarted, with_cache};
 
 use crate::state::State;
 use krb_fields::{Moment, Name, NameRef};
-use replay::{Failures, Kept, Opening, ReplayCache};
+use replay::{Failures, Kept, Opening, ReplayCache, Seen};
 use std::alloc::{AllocError, Global};
 
 impl State {
-    /// Records an authenticator of the client that is within the clock skew and no repeat. If memory runs out, nothing
+    /// Records an authenticator that is within the clock skew and no repeat. If memory runs out, nothing
     /// changes.
     pub fn record_seen(
         &mut self,
         alloc: Global,
-        client: &Name,
         at: Moment,
-        ctime: i64,
-        cusec: u32,
+        seen: &Seen,
         kept: Kept,
     ) -> Result<(), AllocError>
-        requires timely { is_beyond_clock_skew (cache_of self.old client.now.components).floor at.sec ctime ≡ false }
-        requires new { map.get (cache_of self.old client.now.components).pairs (ctime, cusec) ≡ None }
+        requires timely { is_beyond_clock_skew (cache_of self.old seen.now.client.components).floor at.sec
+            seen.now.ctime
+            ≡ false }
+        requires new { map.get (cache_of self.old seen.now.client.components).pairs (seen.now.ctime, seen.now.cusec)
+            ≡ None }
         ensures ok { OnOk result
             (self.new
-            ≡ with_cache self.old client.now.components
-            (recorded (cache_of self.old client.now.components) at.sec (ctime, cusec) kept)) }
+            ≡ with_cache self.old seen.now.client.components
+            (recorded (cache_of self.old seen.now.client.components) at.sec (seen.now.ctime, seen.now.cusec) kept)) }
         ensures err { OnErr result (self.new ≡ self.old) }
     {
         let mut cache = ReplayCache::empty(alloc, self.floor);
-        if self.caches.replace(client, &mut cache) {
-            let done = cache.record_seen(at, ctime, cusec, kept);
-            let _ = self.caches.replace(client, &mut cache);
+        if self.caches.replace(&seen.client, &mut cache) {
+            let done = cache.record_seen(at, seen.ctime, seen.cusec, kept);
+            let _ = self.caches.replace(&seen.client, &mut cache);
             done
         } else {
-            cache.record_seen(at, ctime, cusec, kept)?;
-            self.caches.put(client.copy(alloc)?, cache)
+            cache.record_seen(at, seen.ctime, seen.cusec, kept)?;
+            self.caches.put(seen.client.copy(alloc)?, cache)
         }
     }
 
