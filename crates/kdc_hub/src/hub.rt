@@ -20,8 +20,8 @@ ghost use Rattle.kdc_hub.specs.declared.event.Event.TheVariants.{Datagram, Opene
 
 use crate::connections::Connections;
 use crate::event::{Action, CloseReason, Event, HubFault, Peer};
-use crate::issuer::Issuer;
-use crate::stream::answer_stream;
+use crate::issuer::{Issuer, Request};
+use crate::stream::{Caller, answer_stream};
 use framing::Splitter;
 use kdc_core::{CacheSizes, Kdc, OtherRealm};
 use krb_fields::Moment;
@@ -135,10 +135,13 @@ impl<R: Rng> Hub<R> {
     {
         match event {
             Event::Datagram { peer, request } => {
-                self.answer_datagram(alloc, at, peer, request.as_slice())
+                let octets = request.as_slice();
+                self.answer_datagram(alloc, peer, &Request { at, octets })
             }
             Event::Opened { conn } => self.open(alloc, at, conn),
-            Event::Bytes { conn, piece } => self.take_piece(alloc, at, conn, piece.as_slice()),
+            Event::Bytes { conn, piece } => {
+                self.take_piece(alloc, Caller { conn, at }, piece.as_slice())
+            }
             Event::Closed { conn } => {
                 self.connections.remove(conn);
                 Ok(Vec::new(alloc))
@@ -149,19 +152,19 @@ impl<R: Rng> Hub<R> {
     fn answer_datagram(
         &mut self,
         alloc: Global,
-        at: Moment,
         peer: Peer,
-        request: &[u8],
+        request: &Request<'_>,
     ) -> Result<Vec<Action>, HubFault>
-        ensures step { Steps (standing R.stream self.old) at (Datagram peer request.now) result
+        ensures step { Steps (standing R.stream self.old) request.now.at (Datagram peer request.now.octets.now) result
             (standing R.stream self.new) }
         ensures draws { IfErr result AreDraws }
-        ensures accounts { AccountsHold (standing R.stream self.old) at (Datagram peer request.now) result }
+        ensures accounts { AccountsHold (standing R.stream self.old) request.now.at
+            (Datagram peer request.now.octets.now) result }
     {
         let Ok(mut actions) = Vec::with_capacity(alloc, 1) else {
             return Err(nothing_done(alloc, None, 0));
         };
-        match self.issuer.answer(alloc, at, DATAGRAM_ROOM, request) {
+        match self.issuer.answer(alloc, DATAGRAM_ROOM, request) {
             Ok(Some(reply)) => {
                 actions.push_reserved(Action::SendTo { peer, reply });
                 Ok(actions)
@@ -196,15 +199,15 @@ impl<R: Rng> Hub<R> {
     fn take_piece(
         &mut self,
         alloc: Global,
-        at: Moment,
-        conn: u64,
+        caller: Caller,
         piece: &[u8],
     ) -> Result<Vec<Action>, HubFault>
-        ensures step { Steps (standing R.stream self.old) at (Bytes conn piece.now) result
+        ensures step { Steps (standing R.stream self.old) caller.at (Bytes caller.conn piece.now) result
             (standing R.stream self.new) }
         ensures draws { IfErr result AreDraws }
-        ensures accounts { AccountsHold (standing R.stream self.old) at (Bytes conn piece.now) result }
+        ensures accounts { AccountsHold (standing R.stream self.old) caller.at (Bytes caller.conn piece.now) result }
     {
+        let conn = caller.conn;
         let place = Splitter::new(alloc, GREATEST_STREAM_REQUEST);
         let Some(mut stream) = self.connections.replace(conn, place) else {
             return Ok(Vec::new(alloc));
@@ -213,7 +216,7 @@ impl<R: Rng> Hub<R> {
             self.connections.remove(conn);
             return Err(nothing_done(alloc, Some(conn), 0));
         };
-        match answer_stream(alloc, &mut self.issuer, at, conn, &mut stream) {
+        match answer_stream(alloc, &mut self.issuer, caller, &mut stream) {
             Ok(served) => {
                 if served.stays {
                     let _ = self.connections.replace(conn, stream);

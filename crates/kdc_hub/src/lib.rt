@@ -31,7 +31,7 @@ pub use laws::{any_cutting, one_run};
 pub use life::serve_life;
 pub use memory::MemoryWire;
 pub use memory_rows::MemoryRows;
-pub use onlooker::Onlooker;
+pub use onlooker::{Onlooker, ServerView};
 pub use peers::Peers;
 pub use reply::Reply;
 pub use rows::{Look, RowSource, RowsState};

@@ -6,7 +6,7 @@ ghost use Rattle.kdc_hub.specs.Life.{HasLooked, HasTidied, IsLife, IsPeriod, due
 
 use crate::hub::Hub;
 use crate::laws::one_run;
-use crate::onlooker::Onlooker;
+use crate::onlooker::{Onlooker, ServerView};
 use crate::rows::{Look, RowSource};
 use crate::server::{Served, serve};
 use crate::totals::Totals;
@@ -70,11 +70,27 @@ pub fn serve_life<W: Wire, S: RowSource, R: Rng, O: Onlooker<W, S, R>>(
     for _ in 0..rounds / 16 {
         let served = serve_period(alloc, wire, source, hub, &mut tidied, 16);
         totals = totals.with(served);
-        onlooker.see(alloc, wire, source, hub, &served);
+        onlooker.see(
+            alloc,
+            &ServerView {
+                wire,
+                source,
+                hub,
+                served,
+            },
+        );
     }
     let rest = (rounds % 16) as u32;
     let last = serve_period(alloc, wire, source, hub, &mut tidied, rest);
-    onlooker.see(alloc, wire, source, hub, &last);
+    onlooker.see(
+        alloc,
+        &ServerView {
+            wire,
+            source,
+            hub,
+            served: last,
+        },
+    );
     totals.with(last)
 }
 

@@ -26,6 +26,20 @@ pub struct Served {
     pub last: Option<Moment>,
 }
 
+/// An event, and when it arrived.
+#[derive(Drop)]
+struct Arrival {
+    at: Moment,
+    event: Event,
+}
+
+/// The actions of an event, in order, and when it arrived.
+#[derive(Drop)]
+struct Actions<'a> {
+    at: Moment,
+    all: &'a [Action],
+}
+
 /// Returns the counts when no event came.
 fn nothing_served(faults: u64, last: Option<Moment>) -> Served
     ensures events { result.events ≡ 0 }
@@ -72,7 +86,7 @@ fn serve_round<W: Wire, R: Rng>(alloc: Global, wire: &mut W, hub: &mut Hub<R>) -
     ensures one_refused { result.refused ≤ 1 }
 {
     match wire.poll(alloc) {
-        Ok((at, Some(event))) => take_event(alloc, wire, hub, at, event),
+        Ok((at, Some(event))) => take_event(alloc, wire, hub, Arrival { at, event }),
         Ok((at, None)) => nothing_served(0, Some(at)),
         Err(_) => nothing_served(1, None),
     }
@@ -83,17 +97,17 @@ fn take_event<W: Wire, R: Rng>(
     alloc: Global,
     wire: &mut W,
     hub: &mut Hub<R>,
-    at: Moment,
-    event: Event,
+    arrival: Arrival,
 ) -> Served
-    ensures taken { IsTaken (W.recorded wire.old) (standing R.stream hub.old) at event result (W.recorded wire.new)
-        (standing R.stream hub.new) }
+    ensures taken { IsTaken (W.recorded wire.old) (standing R.stream hub.old) arrival.at arrival.event result
+        (W.recorded wire.new) (standing R.stream hub.new) }
     ensures counted { IsCounted (W.fault_count wire.old) result.faults (W.fault_count wire.new) }
     ensures counts { result.faults < 2 ^ 64 }
 {
+    let Arrival { at, event } = arrival;
     match hub.step(alloc, at, event) {
         Ok(actions) => {
-            let faults = act_all(alloc, wire, hub, at, &actions);
+            let faults = act_all(alloc, wire, hub, &Actions { at, all: &actions });
             Served {
                 events: 1,
                 faults,
@@ -102,7 +116,8 @@ fn take_event<W: Wire, R: Rng>(
             }
         }
         Err(fault) => {
-            let faults = act_all(alloc, wire, hub, at, &fault.done);
+            let all = &fault.done;
+            let faults = act_all(alloc, wire, hub, &Actions { at, all });
             let more = close(alloc, wire, hub, at, fault.conn);
             Served {
                 events: 1,
@@ -119,17 +134,17 @@ fn act_all<W: Wire, R: Rng>(
     alloc: Global,
     wire: &mut W,
     hub: &mut Hub<R>,
-    at: Moment,
-    actions: &[Action],
+    actions: &Actions<'_>,
 ) -> u64
-    ensures acts { AreActs (W.recorded wire.old) (standing R.stream hub.old) at actions.now result (W.recorded wire.new)
-        (standing R.stream hub.new) }
+    ensures acts { AreActs (W.recorded wire.old) (standing R.stream hub.old) actions.now.at actions.now.all.now result
+        (W.recorded wire.new) (standing R.stream hub.new) }
     ensures counted { IsCounted (W.fault_count wire.old) result (W.fault_count wire.new) }
-    ensures few { result ≤ length actions.now }
+    ensures few { result ≤ length actions.now.all.now }
 {
+    let Actions { at, all } = *actions;
     let mut faults = 0;
     let mut lost = None;
-    for action in actions {
+    for action in all {
         match wire.act(alloc, action) {
             Ok(()) => {}
             Err(WireFault) => {
@@ -158,7 +173,8 @@ fn close<W: Wire, R: Rng>(
     match conn {
         Some(conn) => {
             let reason = CloseReason::OutOfMemory;
-            act_all(alloc, wire, hub, at, &[Action::Close { conn, reason }])
+            let all = &[Action::Close { conn, reason }];
+            act_all(alloc, wire, hub, &Actions { at, all })
         }
         None => 0,
     }

@@ -12,7 +12,7 @@ ghost use Rattle.kdc_hub.specs.declared.event.Action.TheVariants.{Write, Close};
 ghost use Rattle.kdc_hub.specs.declared.event.CloseReason.TheVariants.{BadLength};
 
 use crate::event::{Action, CloseReason, HubFault};
-use crate::issuer::Issuer;
+use crate::issuer::{Issuer, Request};
 use framing::{FrameFault, Splitter};
 use krb_fields::Moment;
 use rand_core::Rng;
@@ -20,6 +20,13 @@ use std::alloc::{AllocError, Global};
 
 /// The greatest size of a reply with a ticket on a connection, in bytes.
 const ROOM: u32 = 131_072;
+
+/// A connection whose bytes came, and when.
+#[derive(Clone, Copy)]
+pub struct Caller {
+    pub conn: u64,
+    pub at: Moment,
+}
 
 /// The answers to the messages of a connection.
 #[derive(Drop)]
@@ -40,36 +47,41 @@ struct RanOut {
 pub fn answer_stream<R: Rng>(
     alloc: Global,
     issuer: &mut Issuer<R>,
-    at: Moment,
-    conn: u64,
+    caller: Caller,
     stream: &mut Splitter,
 ) -> Result<StreamStep, HubFault>
     ensures actions { IfOk result
-        (λ s. s.actions.items ≡ (stream_step (issuing R.stream issuer.old) at conn stream.old).actions) }
+        (λ s. s.actions.items
+        ≡ (stream_step (issuing R.stream issuer.old) caller.at caller.conn stream.old).actions) }
     ensures issuing { OnOk result
-        (issuing R.stream issuer.new ≡ (stream_step (issuing R.stream issuer.old) at conn stream.old).issuing) }
-    ensures stays { IfOk result (λ s. s.stays ≡ (stream_step (issuing R.stream issuer.old) at conn stream.old).stays) }
+        (issuing R.stream issuer.new
+        ≡ (stream_step (issuing R.stream issuer.old) caller.at caller.conn stream.old).issuing) }
+    ensures stays { IfOk result
+        (λ s. s.stays ≡ (stream_step (issuing R.stream issuer.old) caller.at caller.conn stream.old).stays) }
     ensures left { IfOk result (λ s. s.stays ≡ true → stream.new ≡ left stream.old) }
-    ensures conn { IfErr result (λ fault. fault.conn ≡ Some conn) }
+    ensures conn { IfErr result (λ fault. fault.conn ≡ Some caller.conn) }
     ensures done { IfErr result
         (λ fault. fault.done.items
-        ≡ take (length fault.done.items) (stream_step (issuing R.stream issuer.old) at conn stream.old).actions) }
+        ≡ take (length fault.done.items)
+        (stream_step (issuing R.stream issuer.old) caller.at caller.conn stream.old).actions) }
     ensures kdc { IfErr result
-        (λ fault. issuer.new.kdc ≡ (after_some (length fault.done.items) (issuing R.stream issuer.old) at
+        (λ fault. issuer.new.kdc ≡ (after_some (length fault.done.items) (issuing R.stream issuer.old) caller.at
         (handed_out stream.old).messages).kdc) }
     ensures drawn { IfErr result (λ fault. R.stream issuer.new.rng ≡ drawn fault.draws (R.stream issuer.old.rng)) }
     ensures draws { IfErr result AreDraws }
     ensures keeps { issuer.new.keeps_accounts ≡ issuer.old.keeps_accounts }
     ensures accounts { IfOk result (λ s.
-        FirstHold (length s.actions.items) (issuing R.stream issuer.old) at stream_room (handed_out stream.old).messages) }
+        FirstHold (length s.actions.items) (issuing R.stream issuer.old) caller.at stream_room
+        (handed_out stream.old).messages) }
     ensures accounts_done { IfErr result (λ fault.
-        FirstHold (length fault.done.items) (issuing R.stream issuer.old) at stream_room (handed_out stream.old).messages) }
+        FirstHold (length fault.done.items) (issuing R.stream issuer.old) caller.at stream_room
+        (handed_out stream.old).messages) }
 {
     let mut actions = Vec::new(alloc);
     loop {
         match stream.next(alloc) {
             Ok(Some(request)) => {
-                match answer_request(alloc, issuer, at, conn, &request, &mut actions) {
+                match answer_request(alloc, issuer, caller, &request, &mut actions) {
                     Ok(true) => {}
                     Ok(false) => {
                         return Ok(StreamStep {
@@ -77,7 +89,7 @@ pub fn answer_stream<R: Rng>(
                             stays: false,
                         });
                     }
-                    Err(fault) => return Err(out_of_memory(actions, conn, fault.drawn)),
+                    Err(fault) => return Err(out_of_memory(actions, caller.conn, fault.drawn)),
                 }
             }
             Ok(None) => {
@@ -88,8 +100,8 @@ pub fn answer_stream<R: Rng>(
             }
             Err(fault) => {
                 return match fault {
-                    FrameFault::Memory => Err(out_of_memory(actions, conn, false)),
-                    _ => refuse_length(alloc, issuer, at, conn, actions),
+                    FrameFault::Memory => Err(out_of_memory(actions, caller.conn, false)),
+                    _ => refuse_length(alloc, issuer, caller, actions),
                 };
             }
         }
@@ -115,21 +127,20 @@ fn out_of_memory(done: Vec<Action>, conn: u64, drawn: bool) -> HubFault
 fn answer_request<R: Rng>(
     alloc: Global,
     issuer: &mut Issuer<R>,
-    at: Moment,
-    conn: u64,
+    caller: Caller,
     request: &[u8],
     actions: &mut Vec<Action>,
 ) -> Result<bool, RanOut>
     ensures action { OnOk result
         (actions.new.items ≡ actions.old.items
-        ++ action_for conn (reply_of (issuing R.stream issuer.old) at stream_room request.now) ∷ []) }
+        ++ action_for caller.conn (reply_of (issuing R.stream issuer.old) caller.at stream_room request.now) ∷ []) }
     ensures after { OnOk result
-        (issuing R.stream issuer.new ≡ after (issuing R.stream issuer.old) at stream_room request.now) }
+        (issuing R.stream issuer.new ≡ after (issuing R.stream issuer.old) caller.at stream_room request.now) }
     ensures stays { IfOk result
-        (λ stays. stays ≡ is_some (reply_of (issuing R.stream issuer.old) at stream_room request.now)) }
+        (λ stays. stays ≡ is_some (reply_of (issuing R.stream issuer.old) caller.at stream_room request.now)) }
     ensures holds { OnOk result
-        (ReplyHolds (view issuer.old.kdc request.now) at (fill_bytes 64 (R.stream issuer.old.rng)).0 request.now
-        (reply_of (issuing R.stream issuer.old) at stream_room request.now)) }
+        (ReplyHolds (view issuer.old.kdc request.now) caller.at (fill_bytes 64 (R.stream issuer.old.rng)).0 request.now
+        (reply_of (issuing R.stream issuer.old) caller.at stream_room request.now)) }
     ensures err { OnErr result ((actions.new.items ≡ actions.old.items) × (issuer.new.kdc ≡ issuer.old.kdc)) }
     ensures accounts { issuer.new.keeps_accounts ≡ issuer.old.keeps_accounts }
     ensures drawn { IfErr result
@@ -138,7 +149,12 @@ fn answer_request<R: Rng>(
     if actions.reserve(1).is_err() {
         return Err(RanOut { drawn: false });
     }
-    match issuer.answer(alloc, at, ROOM, request) {
+    let Caller { conn, at } = caller;
+    let request = Request {
+        at,
+        octets: request,
+    };
+    match issuer.answer(alloc, ROOM, &request) {
         Ok(Some(reply)) => {
             actions.push_reserved(Action::Write { conn, reply });
             Ok(true)
@@ -158,37 +174,38 @@ fn answer_request<R: Rng>(
 fn refuse_length<R: Rng>(
     alloc: Global,
     issuer: &Issuer<R>,
-    at: Moment,
-    conn: u64,
+    caller: Caller,
     mut actions: Vec<Action>,
 ) -> Result<StreamStep, HubFault>
     ensures actions { IfOk result
-        (λ s. s.actions.items ≡ actions.items ++ Write conn (too_long issuer.now.kdc at) ∷ Close conn BadLength ∷ []) }
+        (λ s. s.actions.items ≡ actions.items
+        ++ Write caller.conn (too_long issuer.now.kdc caller.at) ∷ Close caller.conn BadLength ∷ []) }
     ensures stays { IfOk result (λ s. s.stays ≡ false) }
-    ensures conn { IfErr result (λ fault. fault.conn ≡ Some conn) }
+    ensures conn { IfErr result (λ fault. fault.conn ≡ Some caller.conn) }
     ensures done { IfErr result (λ fault. fault.done.items ≡ actions.items) }
     ensures draws { IfErr result (λ fault. fault.draws ≡ length actions.items + 0) }
 {
-    match push_refusal(alloc, issuer, at, conn, &mut actions) {
+    match push_refusal(alloc, issuer, caller, &mut actions) {
         Ok(()) => Ok(StreamStep {
             actions,
             stays: false,
         }),
-        Err(_) => Err(out_of_memory(actions, conn, false)),
+        Err(_) => Err(out_of_memory(actions, caller.conn, false)),
     }
 }
 
 fn push_refusal<R: Rng>(
     alloc: Global,
     issuer: &Issuer<R>,
-    at: Moment,
-    conn: u64,
+    caller: Caller,
     actions: &mut Vec<Action>,
 ) -> Result<(), AllocError>
     ensures ok { OnOk result
-        (actions.new.items ≡ actions.old.items ++ Write conn (too_long issuer.now.kdc at) ∷ Close conn BadLength ∷ []) }
+        (actions.new.items ≡ actions.old.items
+        ++ Write caller.conn (too_long issuer.now.kdc caller.at) ∷ Close caller.conn BadLength ∷ []) }
     ensures err { OnErr result (actions.new.items ≡ actions.old.items) }
 {
+    let Caller { conn, at } = caller;
     actions.reserve(2)?;
     let reply = issuer.too_long(alloc, at)?;
     actions.push_reserved(Action::Write { conn, reply });

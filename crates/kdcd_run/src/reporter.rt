@@ -4,7 +4,7 @@ ghost use Rattle.kdc_reports.specs.Numbers.{due, numbers_text, refused_until, se
 
 use crate::server_wire::ServerWire;
 use kdc_files::JournalWriter;
-use kdc_hub::{Hub, Onlooker, RowSource, RowsState, Served, Wire};
+use kdc_hub::{Hub, Onlooker, RowSource, RowsState, Served, ServerView, Wire};
 use kdc_reports::{LogNumbers, LogWriter, MetricsWriter, Numbers, Refused, Tally, push_numbers};
 use krb_fields::Moment;
 use program::VERSION;
@@ -110,26 +110,19 @@ where
     R: Rng,
     M: MetricsWriter,
 {
-    fn see(
-        &mut self,
-        alloc: Global,
-        wire: &ServerWire<S, J, L, E, T>,
-        source: &Q,
-        hub: &Hub<R>,
-        served: &Served,
-    ) {
+    fn see(&mut self, alloc: Global, server: &ServerView<'_, ServerWire<S, J, L, E, T>, Q, R>) {
         if self.writer.is_none() {
             return;
         }
-        self.add(served);
-        let Some(at) = due(&self.reported, &served.last) else {
+        self.add(&server.served);
+        let Some(at) = due(&self.reported, &server.served.last) else {
             return;
         };
         self.reported = Some(at);
-        let Some(counts) = wire.log().counts() else {
+        let Some(counts) = server.wire.log().counts() else {
             return;
         };
-        let numbers = self.numbers_of(wire, source.state(), hub);
+        let numbers = self.numbers_of(server.wire, server.source.state(), server.hub);
         self.write(alloc, &numbers, counts);
     }
 }

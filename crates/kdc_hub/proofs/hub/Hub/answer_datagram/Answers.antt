@@ -11,33 +11,33 @@ use Rattle.kdc_hub.proofs.hub.Hub.answer_datagram.Goals as goal
 pub returns-in_default-clause-step : goal.returns-in_default-clause-step
 returns-in_default-clause-step g c = (
   c.nothing_done.ensures.done,
-  same_standing _ _ _ _ (stopped_before _ _ (issuing g.R.Rng.stream c.args.self.now.issuer) c.args.at _ (ap (λ l. length l) c.nothing_done.ensures.done) c.nothing_done.ensures.draws) refl,
+  same_standing _ _ _ _ (stopped_before _ _ (issuing g.R.Rng.stream c.args.self.now.issuer) c.args.request.now.at _ (ap (λ l. length l) c.nothing_done.ensures.done) c.nothing_done.ensures.draws) refl,
   c.nothing_done.ensures.conn,
 )
 
 pub returns-in-Err-clause-step : goal.returns-in-Err-clause-step
 returns-in-Err-clause-step g c = (
   c.nothing_done-in-Err.ensures.done,
-  same_standing _ _ _ _ (stopped_drawn _ _ (issuing g.R.Rng.stream c.args.self.now.issuer) (issuing g.R.Rng.stream c.answer.new.self) c.args.at _ (ap (λ l. length l) c.nothing_done-in-Err.ensures.done) c.nothing_done-in-Err.ensures.draws c.in-Err.ensures.err c.answer.ensures.drawn c.answer.ensures.accounts) refl,
+  same_standing _ _ _ _ (stopped_drawn _ _ (issuing g.R.Rng.stream c.args.self.now.issuer) (issuing g.R.Rng.stream c.answer.new.self) c.args.request.now.at _ (ap (λ l. length l) c.nothing_done-in-Err.ensures.done) c.nothing_done-in-Err.ensures.draws c.in-Err.ensures.err c.answer.ensures.drawn c.answer.ensures.accounts) refl,
   c.nothing_done-in-Err.ensures.conn,
 )
 
 pub returns-in_default-clause-accounts : goal.returns-in_default-clause-accounts
-returns-in_default-clause-accounts g c = none_hold _ c.args.at _ _ _ (ap (λ l. length l) c.nothing_done.ensures.done)
+returns-in_default-clause-accounts g c = none_hold _ c.args.request.now.at _ _ _ (ap (λ l. length l) c.nothing_done.ensures.done)
 
 pub returns-in-Err-clause-accounts : goal.returns-in-Err-clause-accounts
-returns-in-Err-clause-accounts g c = none_hold _ c.args.at _ _ _ (ap (λ l. length l) c.nothing_done-in-Err.ensures.done)
+returns-in-Err-clause-accounts g c = none_hold _ c.args.request.now.at _ _ _ (ap (λ l. length l) c.nothing_done-in-Err.ensures.done)
 
 pub returns-in-Ok-Some-clause-accounts : goal.returns-in-Ok-Some-clause-accounts
 returns-in-Ok-Some-clause-accounts g c =
-    one_holds (issuing g.R.Rng.stream c.args.self.now.issuer) c.args.at datagram_room c.args.request.now _
+    one_holds (issuing g.R.Rng.stream c.args.self.now.issuer) c.args.request.now.at datagram_room c.args.request.now.octets.now _
     (one_pushed _ _ _ c.push_reserved.ensures.items c.in-Ok.ensures.items)
-    (subst (λ reply. ReplyHolds (view c.args.self.now.issuer.kdc c.args.request.now) c.args.at (fill_bytes 64 (g.R.Rng.stream c.args.self.now.issuer.rng)).0 c.args.request.now reply)
+    (subst (λ reply. ReplyHolds (view c.args.self.now.issuer.kdc c.args.request.now.octets.now) c.args.request.now.at (fill_bytes 64 (g.R.Rng.stream c.args.self.now.issuer.rng)).0 c.args.request.now.octets.now reply)
     c.in-Ok-Some.ensures.reply c.in-Ok-Some.ensures.holds)
 
 pub returns-in-Ok-None-clause-accounts : goal.returns-in-Ok-None-clause-accounts
 returns-in-Ok-None-clause-accounts g c =
-    one_holds (issuing g.R.Rng.stream c.args.self.now.issuer) c.args.at datagram_room c.args.request.now _
+    one_holds (issuing g.R.Rng.stream c.args.self.now.issuer) c.args.request.now.at datagram_room c.args.request.now.octets.now _
     (one_pushed _ _ _ c.push_reserved-in-Ok-None.ensures.items c.in-Ok.ensures.items)
-    (subst (λ reply. ReplyHolds (view c.args.self.now.issuer.kdc c.args.request.now) c.args.at (fill_bytes 64 (g.R.Rng.stream c.args.self.now.issuer.rng)).0 c.args.request.now reply)
+    (subst (λ reply. ReplyHolds (view c.args.self.now.issuer.kdc c.args.request.now.octets.now) c.args.request.now.at (fill_bytes 64 (g.R.Rng.stream c.args.self.now.issuer.rng)).0 c.args.request.now.octets.now reply)
     c.in-Ok-None.ensures.reply c.in-Ok-None.ensures.holds)
