@@ -1,3 +1,4 @@
+mod Carried
 mod Clients
 mod InfoCopies
 mod Moving

@@ -9,4 +9,5 @@ pub mod Logins
 pub mod Moments
 pub mod Places
 pub mod Replies
+pub mod Sending
 pub mod Verifying

@@ -10,7 +10,7 @@ ghost use Rattle.client_login.specs.declared.faults.LoginError.TheVariants.{Memo
 
 use crate::faults::{LoginError, LoginFault};
 use crate::kdc_places::KdcPlace;
-use crate::network::{Network, Transport};
+use crate::network::{Network, Route, Transport};
 use client_core::{ClientFault, Refusal, refusal_in};
 use krb_fields::Code;
 use std::alloc::{AllocError, Global};
@@ -288,7 +288,11 @@ fn ask_kdc<X: Network>(
     ensures places { kdcs.new.places ≡ kdcs.old.places }
 {
     if kdcs.transports == Transports::UdpFirst {
-        match kdcs.network.exchange(alloc, Transport::Udp, kdc, request) {
+        let route = Route {
+            to: kdc,
+            by: Transport::Udp,
+        };
+        match kdcs.network.exchange(alloc, route, request) {
             Ok(octets) => {
                 let reply = read_reply(alloc, kdcs, kdc, octets)?;
                 if !reply.is_error(Code::KrbErrResponseTooBig) {
@@ -298,7 +302,11 @@ fn ask_kdc<X: Network>(
             Err(error) => count_failure(kdcs, error)?,
         }
     }
-    match kdcs.network.exchange(alloc, Transport::Tcp, kdc, request) {
+    let route = Route {
+        to: kdc,
+        by: Transport::Tcp,
+    };
+    match kdcs.network.exchange(alloc, route, request) {
         Ok(octets) => {
             let reply = read_reply(alloc, kdcs, kdc, octets)?;
             useful(kdcs, reply)

@@ -5,10 +5,13 @@ ghost use Rattle.client_login.specs.Moments.{IsNext};
 use crate::asking::Kdcs;
 use crate::moments::next_moment;
 use krb_fields::Moment;
+use std::alloc::Global;
 
 /// A client of the KDCs of a realm.
 #[derive(Drop)]
 pub struct KdcClient<X> {
+    /// What it takes its memory from.
+    pub alloc: Global,
     pub kdcs: Kdcs<X>,
     /// The moment of the next request. Each request that proves who the client is moves it on by a microsecond, because
     /// a KDC accepts each moment of a client once.
@@ -19,10 +22,11 @@ pub struct KdcClient<X> {
 
 impl<X> KdcClient<X> {
     /// Returns a client at this moment, which is by the computer's own clock.
-    pub fn new(kdcs: Kdcs<X>, at: Moment) -> KdcClient<X>
-        ensures { result ≡ record { kdcs = kdcs; at = at; is_by_kdc = false } }
+    pub fn new(alloc: Global, kdcs: Kdcs<X>, at: Moment) -> KdcClient<X>
+        ensures { result ≡ record { alloc = alloc; kdcs = kdcs; at = at; is_by_kdc = false } }
     {
         KdcClient {
+            alloc,
             kdcs,
             at,
             is_by_kdc: false,

@@ -1,30 +1,30 @@
 //! A first ticket: the Authentication Service exchange (RFC 4120, section 3.1).
-ghost use Rattle.std.specs.Prelude.{◌≡◌, ◌<◌, ◌^◌, length, IfErr, IfOk, Ok, OnOk};
+ghost use Rattle.std.specs.Prelude.{◌≡◌, ◌<◌, ◌^◌, length, IfErr, IfOk, Ok};
 ghost use Rattle.client_core.specs.Asked.{IsAskable};
 ghost use Rattle.client_core.specs.Replies as replies;
 ghost use Rattle.client_core.specs.Taken.{AreSame};
 ghost use Rattle.client_core.specs.declared.fault.ClientFault.TheVariants as found;
 ghost use Rattle.client_core.specs.declared.key_role.KeyRole.TheVariants as roles;
 ghost use Rattle.krb_types.specs.Ticket as tickets;
-ghost use Rattle.client_login.specs.Draws.{after_confounder, after_nonce, drawn_confounder, drawn_nonce};
-ghost use Rattle.client_login.specs.Faults.{IsFirstFault, IsRejection, IsUnheard, SaysFirst, SaysRefused};
+ghost use Rattle.client_login.specs.Draws.{after_nonce, drawn_nonce};
+ghost use Rattle.client_login.specs.Faults.{IsFirstFault, IsRejection, SaysFirst, SaysRefused};
 ghost use Rattle.client_login.specs.Keys.{IsOwnKey};
-ghost use Rattle.client_login.specs.Logins.{CarriesFirst, IsFirst, TakesFirst, logs_in, stamped_request};
-ghost use Rattle.client_login.specs.Moments.{IsMoved, IsNext};
+ghost use Rattle.client_login.specs.Logins.{CarriesFirst, IsFirst, TakesFirst, logs_in};
+ghost use Rattle.client_login.specs.Moments.{IsMoved};
 ghost use Rattle.client_login.specs.Places.{AreWithin};
-ghost use Rattle.client_login.specs.Replies.{IsExchanged, IsReply, said_of};
+ghost use Rattle.client_login.specs.Replies.{IsExchanged, said_of};
 
 use crate::asking::{Reply, ask};
 use crate::client::KdcClient;
-use crate::draws::{draw_confounder, draw_nonce};
+use crate::draws::draw_nonce;
 use crate::faults::{LoginError, LoginFault, said_by};
 use crate::infos::info_of_refusal;
 use crate::network::Network;
+use crate::replies::Expected;
 use crate::secrets::{Secret, etypes_for, key_of_next_reply, key_of_reply, key_wanted};
+use crate::sending::{ProvingRequest, send};
 use crate::ticket_requests::{Login, first_asked};
-use client_core::{
-    Asked, ClientFault, Refusal, as_request, judge_as_reply, ticket_reply_in, with_timestamp,
-};
+use client_core::{Asked, ClientFault, Refusal, as_request, judge_as_reply, ticket_reply_in};
 use cred_files::Credential;
 use enctypes::Key;
 use krb_fields::{Code, Moment};
@@ -54,7 +54,6 @@ impl<X: Network> KdcClient<X> {
     #[tactic(auto, using(crate::proofs::Moving::moved_none, crate::proofs::Clients::first_client, crate::proofs::Within::same_places))]
     pub fn log_in<R: Rng>(
         &mut self,
-        alloc: Global,
         rng: &mut R,
         login: &Login,
         secret: &Secret,
@@ -79,6 +78,7 @@ impl<X: Network> KdcClient<X> {
         ensures within { AreWithin X.finds self.old.kdcs.places.items self.new.kdcs.places.items }
         ensures clock { self.new.is_by_kdc ≡ self.old.is_by_kdc }
     {
+        let alloc = self.alloc;
         self.kdcs.network.begin();
         let nonce = draw_nonce(rng);
         let etypes = etypes_for(alloc, secret, &login.client)?;
@@ -90,14 +90,13 @@ impl<X: Network> KdcClient<X> {
             asked: &asked,
             secret,
         };
-        ask_plainly(alloc, self, rng, &first)
+        ask_plainly(self, rng, &first)
     }
 }
 
 /// Sends the request without a timestamp.
 #[tactic(auto, using(crate::proofs::Takings::first_blamed, crate::proofs::Takings::first_taken, crate::proofs::Takings::first_unheard, crate::proofs::Moving::moved_none, crate::proofs::Within::same_places, crate::proofs::Within::further_within, crate::proofs::Wider::first_wider, crate::proofs::Wider::first_fault_wider))]
 fn ask_plainly<X: Network, R: Rng>(
-    alloc: Global,
     client: &mut KdcClient<X>,
     rng: &mut R,
     first: &FirstRequest<'_>,
@@ -116,6 +115,7 @@ fn ask_plainly<X: Network, R: Rng>(
     if !first.asked.is_askable() {
         return Err(LoginFault::new(LoginError::NotAskable));
     }
+    let alloc = client.alloc;
     let request = as_request(alloc, first.asked)?;
     let reply = ask(alloc, &mut client.kdcs, &request)?;
     let Some(refusal) = &reply.refusal else {
@@ -127,7 +127,7 @@ fn ask_plainly<X: Network, R: Rng>(
         secret: first.secret,
         key: &key,
     };
-    ask_with_timestamp(alloc, client, rng, &stamped)
+    ask_with_timestamp(client, rng, &stamped)
 }
 
 /// Returns the key for preauthentication, or why there is no ticket.
@@ -149,9 +149,8 @@ fn key_for_timestamp(
 }
 
 /// Sends the request with a timestamp under the client's key.
-#[tactic(auto, using(crate::proofs::Takings::first_blamed, crate::proofs::Takings::first_taken, crate::proofs::Takings::first_unheard))]
+#[tactic(auto, using(crate::proofs::Takings::first_blamed, crate::proofs::Takings::first_taken, crate::proofs::Takings::first_unheard, crate::proofs::Carried::carries_stamped))]
 fn ask_with_timestamp<X: Network, R: Rng>(
-    alloc: Global,
     client: &mut KdcClient<X>,
     rng: &mut R,
     stamped: &StampedRequest<'_>,
@@ -172,62 +171,12 @@ fn ask_with_timestamp<X: Network, R: Rng>(
     ensures clock { client.new.is_by_kdc ≡ client.old.is_by_kdc }
 {
     let at = client.at;
-    let reply = send_stamped(alloc, client, rng, stamped)?;
-    said_by(reply.kdc, take_stamped(alloc, stamped, at, &reply))
-}
-
-/// Returns the reply to the request with a timestamp. A KDC that has seen another request of the client with the same
-/// moment gets another one, with another timestamp.
-#[tactic(auto, using(crate::proofs::Moving::moved_once, crate::proofs::Moving::moved_twice, crate::proofs::Within::further_within, crate::proofs::Wider::reply_wider, crate::proofs::Wider::unheard_wider))]
-fn send_stamped<X: Network, R: Rng>(
-    alloc: Global,
-    client: &mut KdcClient<X>,
-    rng: &mut R,
-    stamped: &StampedRequest<'_>,
-) -> Result<Reply, LoginFault>
-    requires askable { IsAskable stamped.now.asked.now }
-    requires own { IsOwnKey stamped.now.secret.now stamped.now.asked.now.realm stamped.now.asked.now.client
-        stamped.now.key.now }
-    requires carried { CarriesFirst X.carries stamped.now.secret.now stamped.now.asked.now client.old.at
-        (R.stream rng.old) }
-    ensures ok { IfOk result (λ reply. IsReply
-        (IsExchanged X.finds client.old.kdcs.places.items X.carries X.answers) reply) }
-    ensures err { IfErr result (λ fault. IsUnheard
-        (IsExchanged X.finds client.old.kdcs.places.items X.carries X.answers) fault.why fault.kdc) }
-    ensures moved { IsMoved client.old.at client.new.at }
-    ensures within { AreWithin X.finds client.old.kdcs.places.items client.new.kdcs.places.items }
-    ensures clock { client.new.is_by_kdc ≡ client.old.is_by_kdc }
-{
-    let reply = send_timestamp(alloc, client, rng, stamped)?;
-    if reply.is_error(Code::KrbApErrRepeat) {
-        return send_timestamp(alloc, client, rng, stamped);
-    }
-    Ok(reply)
-}
-
-fn send_timestamp<X: Network, R: Rng>(
-    alloc: Global,
-    client: &mut KdcClient<X>,
-    rng: &mut R,
-    stamped: &StampedRequest<'_>,
-) -> Result<Reply, LoginFault>
-    requires askable { IsAskable stamped.now.asked.now }
-    requires stamped { X.carries
-        (stamped_request stamped.now.asked.now stamped.now.key.now client.old.at
-        (drawn_confounder (R.stream rng.old))) }
-    ensures ok { IfOk result (λ reply. IsReply
-        (IsExchanged X.finds client.old.kdcs.places.items X.carries X.answers) reply) }
-    ensures err { IfErr result (λ fault. IsUnheard
-        (IsExchanged X.finds client.old.kdcs.places.items X.carries X.answers) fault.why fault.kdc) }
-    ensures next { IsNext client.old.at client.new.at }
-    ensures within { AreWithin X.finds client.old.kdcs.places.items client.new.kdcs.places.items }
-    ensures clock { client.new.is_by_kdc ≡ client.old.is_by_kdc }
-    ensures drawn { OnOk result (R.stream rng.new ≡ after_confounder (R.stream rng.old)) }
-{
-    let at = client.take_moment();
-    let confounder = draw_confounder(rng);
-    let request = with_timestamp(alloc, stamped.asked, stamped.key, at, &confounder)?;
-    ask(alloc, &mut client.kdcs, &request)
+    let request = ProvingRequest::Stamped {
+        asked: stamped.asked,
+        key: stamped.key,
+    };
+    let reply = send(client, rng, &request)?;
+    said_by(reply.kdc, take_stamped(client.alloc, stamped, at, &reply))
 }
 
 /// Returns the ticket of a reply to a request without a timestamp. The reply is no KRB-ERROR.
@@ -248,7 +197,12 @@ fn take_plain(
         return Err(LoginError::NotAReply);
     };
     let key = key_of_reply(alloc, first.secret, first.asked, &ticket)?;
-    take(alloc, first.asked, &key, at, &ticket)
+    let expected = Expected {
+        asked: first.asked,
+        key: &key,
+        at,
+    };
+    take(alloc, &expected, &ticket)
 }
 
 /// Returns the ticket of a reply to a request with a timestamp under a key of the client.
@@ -274,22 +228,28 @@ fn take_stamped(
         return Err(LoginError::NotAReply);
     };
     let key = key_of_next_reply(stamped.secret, stamped.asked, stamped.key, &ticket)?;
-    take(alloc, stamped.asked, &key, at, &ticket)
+    let expected = Expected {
+        asked: stamped.asked,
+        key: &key,
+        at,
+    };
+    take(alloc, &expected, &ticket)
 }
 
+/// Returns the ticket of a reply, if it is the one that is expected.
 fn take(
     alloc: Global,
-    asked: &Asked,
-    key: &Key,
-    at: Moment,
+    expected: &Expected<'_>,
     ticket: &KdcRepRef<'_, 11>,
 ) -> Result<Credential, LoginError>
     requires { length (tickets.ticket.text ticket.now.ticket) < 2 ^ 32 }
     ensures ok { IfOk result (λ credential.
-        replies.judged 11 roles.Client asked.now key.now at.sec ticket.now ≡ Ok credential) }
-    ensures err { IfErr result (λ why. IsRejection (replies.judged 11 roles.Client asked.now key.now at.sec ticket.now) why) }
+        replies.judged 11 roles.Client expected.now.asked.now expected.now.key.now expected.now.at.sec ticket.now
+        ≡ Ok credential) }
+    ensures err { IfErr result (λ why. IsRejection
+        (replies.judged 11 roles.Client expected.now.asked.now expected.now.key.now expected.now.at.sec ticket.now) why) }
 {
-    match judge_as_reply(alloc, asked, key, at, ticket) {
+    match judge_as_reply(alloc, expected.asked, expected.key, expected.at, ticket) {
         Ok(credential) => Ok(credential),
         Err(ClientFault::Mismatch(what)) => Err(LoginError::Mismatch(what)),
         Err(ClientFault::CannotOpen) => Err(LoginError::CannotOpen),

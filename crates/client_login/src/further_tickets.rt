@@ -1,32 +1,30 @@
 //! Getting tickets with a ticket-granting ticket: the ticket-granting service exchange (RFC 4120, section 3.3).
-ghost use Rattle.std.specs.Prelude.{◌≡◌, ◌<◌, ◌^◌, length, IfErr, IfOk, Ok, OnOk, Some};
-ghost use Rattle.client_core.specs.Asked.{IsAskable};
+ghost use Rattle.std.specs.Prelude.{◌≡◌, ◌<◌, ◌^◌, length, IfErr, IfOk, Ok};
 ghost use Rattle.client_core.specs.Replies as replies;
-ghost use Rattle.client_core.specs.Sessions as sessions;
 ghost use Rattle.client_core.specs.Taken.{IsTaken};
 ghost use Rattle.client_core.specs.declared.key_role.KeyRole.TheVariants as roles;
-ghost use Rattle.client_core.specs.declared.sessions.Session as session;
 ghost use Rattle.krb_types.specs.Ticket as tickets;
 ghost use Rattle.client_login.specs.Asking.{renewal_options, further_asked};
-ghost use Rattle.client_login.specs.Draws.{after_confounder, after_nonce, drawn_confounder, drawn_nonce};
-ghost use Rattle.client_login.specs.Faults.{IsFurtherFault, IsTgsRejection, IsUnheard, SaysTgs};
-ghost use Rattle.client_login.specs.Logins.{CarriesPresented, IsFurther, presented_request};
-ghost use Rattle.client_login.specs.Moments.{IsMoved, IsNext};
+ghost use Rattle.client_login.specs.Draws.{after_nonce, drawn_nonce};
+ghost use Rattle.client_login.specs.Faults.{IsFurtherFault, IsTgsRejection, SaysTgs};
+ghost use Rattle.client_login.specs.Logins.{CarriesPresented, IsFurther};
+ghost use Rattle.client_login.specs.Moments.{IsMoved};
 ghost use Rattle.client_login.specs.Places.{AreWithin};
-ghost use Rattle.client_login.specs.Replies.{IsExchanged, IsReply, said_of};
+ghost use Rattle.client_login.specs.Replies.{IsExchanged, said_of};
 
-use crate::asking::{Reply, ask};
+use crate::asking::Reply;
 use crate::client::KdcClient;
-use crate::draws::{draw_confounder, draw_nonce};
+use crate::draws::draw_nonce;
 use crate::faults::{LoginError, LoginFault, said_by};
 use crate::network::Network;
+use crate::replies::Expected;
+use crate::sending::{ProvingRequest, send};
 use crate::ticket_requests::{FurtherTicket, Renewal, further_asked, renewal_options};
 use client_core::{
-    Asked, ClientFault, is_presentable, judge_tgs_reply, session_key, tgs_request, ticket_reply_in,
+    Asked, ClientFault, is_presentable, judge_tgs_reply, session_key, ticket_reply_in,
 };
 use cred_files::Credential;
-use enctypes::Key;
-use krb_fields::{Code, Flags, Moment, Name};
+use krb_fields::{Flags, Name};
 use krb_types::KdcRepRef;
 use rand_core::Rng;
 use std::alloc::Global;
@@ -43,7 +41,6 @@ impl<X: Network> KdcClient<X> {
     #[tactic(auto, using(crate::proofs::Moving::moved_none, crate::proofs::Within::same_places))]
     pub fn service_ticket<R: Rng>(
         &mut self,
-        alloc: Global,
         rng: &mut R,
         granting: &Credential,
         service: &Name,
@@ -66,6 +63,7 @@ impl<X: Network> KdcClient<X> {
         ensures within { AreWithin X.finds self.old.kdcs.places.items self.new.kdcs.places.items }
         ensures clock { self.new.is_by_kdc ≡ self.old.is_by_kdc }
     {
+        let alloc = self.alloc;
         self.kdcs.network.begin();
         let nonce = draw_nonce(rng);
         let wanted = FurtherTicket {
@@ -78,14 +76,13 @@ impl<X: Network> KdcClient<X> {
             granting,
             asked: &asked,
         };
-        ask_with_ticket(alloc, self, rng, &further)
+        ask_with_ticket(self, rng, &further)
     }
 
     /// Gets a ticket again: renewed, with a new start; or validated, if it was postdated (RFC 4120, sections 2.3 and 2.4).
     #[tactic(auto, using(crate::proofs::Moving::moved_none, crate::proofs::Within::same_places))]
     pub fn renew<R: Rng>(
         &mut self,
-        alloc: Global,
         rng: &mut R,
         granting: &Credential,
         renewal: Renewal,
@@ -108,6 +105,7 @@ impl<X: Network> KdcClient<X> {
         ensures within { AreWithin X.finds self.old.kdcs.places.items self.new.kdcs.places.items }
         ensures clock { self.new.is_by_kdc ≡ self.old.is_by_kdc }
     {
+        let alloc = self.alloc;
         self.kdcs.network.begin();
         let nonce = draw_nonce(rng);
         let wanted = FurtherTicket {
@@ -120,14 +118,13 @@ impl<X: Network> KdcClient<X> {
             granting,
             asked: &asked,
         };
-        ask_with_ticket(alloc, self, rng, &further)
+        ask_with_ticket(self, rng, &further)
     }
 }
 
 /// Sends the request with the ticket.
-#[tactic(auto, using(crate::proofs::Takings::further_blamed, crate::proofs::Takings::further_taken, crate::proofs::Takings::further_unheard, crate::proofs::Moving::moved_none, crate::proofs::Within::same_places))]
+#[tactic(auto, using(crate::proofs::Takings::further_blamed, crate::proofs::Takings::further_taken, crate::proofs::Takings::further_unheard, crate::proofs::Moving::moved_none, crate::proofs::Within::same_places, crate::proofs::Carried::carries_presented))]
 fn ask_with_ticket<X: Network, R: Rng>(
-    alloc: Global,
     client: &mut KdcClient<X>,
     rng: &mut R,
     further: &FurtherRequest<'_>,
@@ -153,87 +150,31 @@ fn ask_with_ticket<X: Network, R: Rng>(
     if !further.asked.is_askable() {
         return Err(LoginFault::new(LoginError::NotAskable));
     }
-    let at = client.at;
-    let reply = send_presented(alloc, client, rng, further)?;
-    said_by(
-        reply.kdc,
-        take_presented(alloc, further.asked, &key, at, &reply),
-    )
-}
-
-/// Returns the reply to the request with the ticket. A KDC that has seen another authenticator of the client with the
-/// same moment gets another request, with another authenticator.
-#[tactic(auto, using(crate::proofs::Moving::moved_once, crate::proofs::Moving::moved_twice, crate::proofs::Within::further_within, crate::proofs::Wider::reply_wider, crate::proofs::Wider::unheard_wider))]
-fn send_presented<X: Network, R: Rng>(
-    alloc: Global,
-    client: &mut KdcClient<X>,
-    rng: &mut R,
-    further: &FurtherRequest<'_>,
-) -> Result<Reply, LoginFault>
-    requires askable { IsAskable further.now.asked.now }
-    requires presentable { sessions.IsPresentable further.now.granting.now }
-    requires carried { CarriesPresented X.carries further.now.granting.now further.now.asked.now client.old.at
-        (R.stream rng.old) }
-    ensures ok { IfOk result (λ reply. IsReply
-        (IsExchanged X.finds client.old.kdcs.places.items X.carries X.answers) reply) }
-    ensures err { IfErr result (λ fault. IsUnheard
-        (IsExchanged X.finds client.old.kdcs.places.items X.carries X.answers) fault.why fault.kdc) }
-    ensures moved { IsMoved client.old.at client.new.at }
-    ensures within { AreWithin X.finds client.old.kdcs.places.items client.new.kdcs.places.items }
-    ensures clock { client.new.is_by_kdc ≡ client.old.is_by_kdc }
-{
-    let reply = send_ticket(alloc, client, rng, further)?;
-    if reply.is_error(Code::KrbApErrRepeat) {
-        return send_ticket(alloc, client, rng, further);
-    }
-    Ok(reply)
-}
-
-fn send_ticket<X: Network, R: Rng>(
-    alloc: Global,
-    client: &mut KdcClient<X>,
-    rng: &mut R,
-    further: &FurtherRequest<'_>,
-) -> Result<Reply, LoginFault>
-    requires askable { IsAskable further.now.asked.now }
-    requires presentable { sessions.IsPresentable further.now.granting.now }
-    requires presented { (held : session.Session) → sessions.session further.now.granting.now ≡ Some held → X.carries
-        (presented_request further.now.granting.now further.now.asked.now held client.old.at
-        (drawn_confounder (R.stream rng.old))) }
-    ensures ok { IfOk result (λ reply. IsReply
-        (IsExchanged X.finds client.old.kdcs.places.items X.carries X.answers) reply) }
-    ensures err { IfErr result (λ fault. IsUnheard
-        (IsExchanged X.finds client.old.kdcs.places.items X.carries X.answers) fault.why fault.kdc) }
-    ensures next { IsNext client.old.at client.new.at }
-    ensures within { AreWithin X.finds client.old.kdcs.places.items client.new.kdcs.places.items }
-    ensures clock { client.new.is_by_kdc ≡ client.old.is_by_kdc }
-    ensures drawn { OnOk result (R.stream rng.new ≡ after_confounder (R.stream rng.old)) }
-{
-    let at = client.take_moment();
-    let confounder = draw_confounder(rng);
-    let request = tgs_request(
-        alloc,
-        further.asked,
-        further.granting,
-        None,
-        at,
-        &confounder,
-    )?;
-    ask(alloc, &mut client.kdcs, &request)
+    let expected = Expected {
+        asked: further.asked,
+        key: &key,
+        at: client.at,
+    };
+    let request = ProvingRequest::Presented {
+        asked: further.asked,
+        granting: further.granting,
+    };
+    let reply = send(client, rng, &request)?;
+    said_by(reply.kdc, take_presented(client.alloc, &expected, &reply))
 }
 
 /// Returns the ticket of a reply under the session key of the presented ticket.
 #[tactic(auto, using(crate::proofs::Takings::took_tgs, crate::proofs::Takings::rejected_tgs))]
 fn take_presented(
     alloc: Global,
-    asked: &Asked,
-    key: &Key,
-    at: Moment,
+    expected: &Expected<'_>,
     reply: &Reply,
 ) -> Result<Credential, LoginError>
     requires { replies.refusal_in reply.now.octets.items ≡ said_of reply.now.refusal }
-    ensures ok { IfOk result (λ credential. IsTaken 13 roles.Session asked.now key.now at.sec reply.now.octets.items credential) }
-    ensures err { IfErr result (λ why. SaysTgs key.now asked.now at.sec why reply.now.octets.items) }
+    ensures ok { IfOk result (λ credential. IsTaken 13 roles.Session expected.now.asked.now expected.now.key.now
+        expected.now.at.sec reply.now.octets.items credential) }
+    ensures err { IfErr result (λ why. SaysTgs expected.now.key.now expected.now.asked.now expected.now.at.sec why
+        reply.now.octets.items) }
 {
     if let Some(refusal) = &reply.refusal {
         return Err(LoginError::Refused(refusal.error));
@@ -241,23 +182,30 @@ fn take_presented(
     let Some(ticket) = ticket_reply_in(&reply.octets) else {
         return Err(LoginError::NotAReply);
     };
-    take(alloc, asked, key, at, &ticket)
+    take(alloc, expected, &ticket)
 }
 
+/// Returns the ticket of a reply, if it is the one that is expected.
 fn take(
     alloc: Global,
-    asked: &Asked,
-    key: &Key,
-    at: Moment,
+    expected: &Expected<'_>,
     ticket: &KdcRepRef<'_, 13>,
 ) -> Result<Credential, LoginError>
     requires { length (tickets.ticket.text ticket.now.ticket) < 2 ^ 32 }
     ensures ok { IfOk result (λ credential.
-        replies.judged 13 roles.Session asked.now key.now at.sec ticket.now ≡ Ok credential) }
-    ensures err { IfErr result (λ why.
-        IsTgsRejection (replies.judged 13 roles.Session asked.now key.now at.sec ticket.now) why) }
+        replies.judged 13 roles.Session expected.now.asked.now expected.now.key.now expected.now.at.sec ticket.now
+        ≡ Ok credential) }
+    ensures err { IfErr result (λ why. IsTgsRejection
+        (replies.judged 13 roles.Session expected.now.asked.now expected.now.key.now expected.now.at.sec ticket.now) why) }
 {
-    match judge_tgs_reply(alloc, asked, key, false, at, ticket) {
+    match judge_tgs_reply(
+        alloc,
+        expected.asked,
+        expected.key,
+        false,
+        expected.at,
+        ticket,
+    ) {
         Ok(credential) => Ok(credential),
         Err(ClientFault::Mismatch(what)) => Err(LoginError::Mismatch(what)),
         Err(ClientFault::CannotOpen) => Err(LoginError::SessionCannotOpen),

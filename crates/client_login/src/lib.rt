@@ -28,7 +28,9 @@ mod infos;
 mod kdc_places;
 mod moments;
 mod network;
+mod replies;
 mod secrets;
+mod sending;
 mod ticket_requests;
 mod verifying;
 
@@ -37,7 +39,7 @@ pub use client::KdcClient;
 pub use draws::{draw_confounder, draw_nonce};
 pub use faults::{Doubt, LoginError, LoginFault};
 pub use kdc_places::KdcPlace;
-pub use network::{AnyMessage, Network, Transport};
+pub use network::{AnyMessage, Network, Route, Transport};
 pub use secrets::{Password, Secret};
 pub use ticket_requests::{Login, Renewal, TicketRequest, granting_service};
 pub use verifying::{opened_ticket, verified_ticket};

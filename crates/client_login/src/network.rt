@@ -14,6 +14,13 @@ pub enum Transport {
     Tcp,
 }
 
+/// Where a message goes, and how.
+#[derive(Clone, Copy)]
+pub struct Route {
+    pub to: SocketAddr,
+    pub by: Transport,
+}
+
 /// Sends messages to KDCs, and waits for their replies.
 pub trait Network {
     // The messages that it takes. A network over a real network says `λ message. ⊤`: any.
@@ -29,16 +36,10 @@ pub trait Network {
     /// Begins a login, or a request for a further ticket. The network's waiting time counts from here.
     fn begin(&mut self);
 
-    /// Sends a message to an address and returns the reply. Fails if no reply comes in the network's waiting time.
-    fn exchange(
-        &mut self,
-        alloc: Global,
-        by: Transport,
-        to: SocketAddr,
-        message: &[u8],
-    ) -> io::Result<Vec<u8>>
+    /// Sends a message and returns the reply. Fails if no reply comes in the network's waiting time.
+    fn exchange(&mut self, alloc: Global, route: Route, message: &[u8]) -> io::Result<Vec<u8>>
         requires { carries message.now }
-        ensures { IfOk result (λ reply. answers to message.now reply.items) };
+        ensures { IfOk result (λ reply. answers route.to message.now reply.items) };
 
     /// Looks up a host by its name, and returns its addresses, each with this port. The network's waiting time goes on.
     fn look_up(&mut self, alloc: Global, host: &str, port: u16) -> io::Result<Vec<SocketAddr>>

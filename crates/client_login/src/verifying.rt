@@ -37,7 +37,6 @@ impl<X: Network> KdcClient<X> {
     #[tactic(auto, using(crate::proofs::Verified::valid_at, crate::proofs::Verified::ticket_of, crate::proofs::Verified::further_client, crate::proofs::Verified::doubted, crate::proofs::Verified::not_come))]
     pub fn verify<R: Rng>(
         &mut self,
-        alloc: Global,
         rng: &mut R,
         granting: &Credential,
         service: &Name,
@@ -66,8 +65,8 @@ impl<X: Network> KdcClient<X> {
         ensures clock { self.new.is_by_kdc ≡ self.old.is_by_kdc }
     {
         let at = self.at;
-        let credential = self.service_ticket(alloc, rng, granting, service)?;
-        match verified_ticket(alloc, keytab, &credential, at)? {
+        let credential = self.service_ticket(rng, granting, service)?;
+        match verified_ticket(self.alloc, keytab, &credential, at)? {
             Ok(_) => Ok(credential),
             Err(doubt) => Err(LoginFault::new(LoginError::Unverified(doubt))),
         }

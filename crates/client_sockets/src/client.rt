@@ -58,7 +58,7 @@ impl<'a> Client<'a> {
         let login = login_of(alloc, &config, principal)?;
         let places = config.kdcs(alloc, login.client.realm.as_slice())?;
         let kdcs = Kdcs::new(SocketNetwork::new(rt), places, Transports::UdpFirst);
-        let kdc = KdcClient::new(kdcs, clock(rt)?);
+        let kdc = KdcClient::new(alloc, kdcs, clock(rt)?);
         let seed = at_file(alloc, draw_seed(&mut FileStore::new(rt)))?;
         Ok(Client {
             rt,
@@ -108,7 +108,7 @@ impl<'a> Client<'a> {
     {
         let alloc = self.rt.alloc();
         self.kdc.set_clock(clock(self.rt)?);
-        match self.kdc.log_in(alloc, &mut self.rng, &self.login, secret) {
+        match self.kdc.log_in(&mut self.rng, &self.login, secret) {
             Ok(tgt) => {
                 self.tgt = Some(tgt);
                 Ok(())
@@ -127,7 +127,7 @@ impl<'a> Client<'a> {
         let Some(tgt) = &self.tgt else {
             return Err(self.fault(Cause::NoLogin));
         };
-        match self.kdc.service_ticket(alloc, &mut self.rng, tgt, &name) {
+        match self.kdc.service_ticket(&mut self.rng, tgt, &name) {
             Ok(credential) => Ok(credential),
             Err(fault) => Err(Fault::of_login(alloc, &self.kdc.kdcs, service, fault)),
         }
@@ -156,7 +156,7 @@ impl<'a> Client<'a> {
         let Some(service) = service_in(keytab, &self.login.client) else {
             return Err(self.fault(Cause::NoService));
         };
-        match self.kdc.verify(alloc, &mut self.rng, tgt, service, keytab) {
+        match self.kdc.verify(&mut self.rng, tgt, service, keytab) {
             Ok(credential) => Ok(credential),
             Err(fault) => Err(service_fault(alloc, &self.kdc.kdcs, service, fault)),
         }

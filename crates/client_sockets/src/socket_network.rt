@@ -3,7 +3,7 @@ ghost use Rattle.std.specs.Prelude.{◌≤◌, ⊤, IfOk, vec_len};
 
 use crate::deadline::{Deadline, no_reply};
 use crate::stream::TimedStream;
-use client_login::{AnyMessage, Network, Transport};
+use client_login::{AnyMessage, Network, Route, Transport};
 use framing::frame;
 use std::alloc::Global;
 use std::io;
@@ -85,17 +85,15 @@ impl<'a, R: Net + Clock> Network for SocketNetwork<'a, R> {
 
     /// Sends a datagram three times, and waits for its reply for 1, 2 and 4 seconds; or holds a connection for 8
     /// seconds. All of it ends 30 seconds after the first message or look-up.
-    fn exchange(
-        &mut self,
-        alloc: Global,
-        by: Transport,
-        to: SocketAddr,
-        message: &[u8],
-    ) -> io::Result<Vec<u8>> {
-        let end = self.end()?;
-        match by {
-            Transport::Udp => by_datagrams(alloc, self.system, end, to, message),
-            Transport::Tcp => by_connection(alloc, self.system, end, to, message),
+    fn exchange(&mut self, alloc: Global, route: Route, message: &[u8]) -> io::Result<Vec<u8>> {
+        let peer = Peer {
+            system: self.system,
+            address: route.to,
+            end: self.end()?,
+        };
+        match route.by {
+            Transport::Udp => by_datagrams(alloc, &peer, message),
+            Transport::Tcp => by_connection(alloc, &peer, message),
         }
     }
 
@@ -114,20 +112,28 @@ impl<'a, R: Net + Clock> AnyMessage for SocketNetwork<'a, R> {
     ghost takes_any = { λ message. tt };
 }
 
+/// A KDC that gets a message, over the sockets of a runtime.
+#[derive(Drop)]
+struct Peer<'a, R> {
+    system: &'a R,
+    address: SocketAddr,
+    /// When waiting for it ends.
+    end: Deadline,
+}
+
 fn by_datagrams<R: Net + Clock>(
     alloc: Global,
-    system: &R,
-    end: Deadline,
-    to: SocketAddr,
+    peer: &Peer<'_, R>,
     message: &[u8],
 ) -> io::Result<Vec<u8>>
     ensures { IfOk result (λ reply. vec_len reply ≤ 65535) }
 {
-    let socket = UdpSocket::bind(system, any_address(to))?;
-    socket.connect(to)?;
+    let system = peer.system;
+    let socket = UdpSocket::bind(system, any_address(peer.address))?;
+    socket.connect(peer.address)?;
     let mut datagram = Vec::from_elem(alloc, 0, LONGEST_DATAGRAM)?;
     for seconds in UDP_WAITS {
-        let deadline = end.sooner(system, seconds)?;
+        let deadline = peer.end.sooner(system, seconds)?;
         socket.send(message)?;
         socket.set_read_timeout(Some(deadline.left(system)?))?;
         match socket.recv(&mut datagram) {
@@ -162,15 +168,14 @@ fn is_silence(kind: ErrorKind) -> bool {
 
 fn by_connection<R: Net + Clock>(
     alloc: Global,
-    system: &R,
-    end: Deadline,
-    to: SocketAddr,
+    peer: &Peer<'_, R>,
     message: &[u8],
 ) -> io::Result<Vec<u8>>
     ensures { IfOk result (λ reply. vec_len reply ≤ 1048576) }
 {
-    let deadline = end.sooner(system, TCP_WAIT)?;
-    let stream = TcpStream::connect_timeout(system, &to, deadline.left(system)?)?;
+    let system = peer.system;
+    let deadline = peer.end.sooner(system, TCP_WAIT)?;
+    let stream = TcpStream::connect_timeout(system, &peer.address, deadline.left(system)?)?;
     let mut stream = TimedStream::new(stream, system, deadline);
     send_framed(alloc, &mut stream, message)?;
     receive(alloc, &mut stream)

@@ -62,14 +62,13 @@ fn log_in<T, X: AnyMessage>(
     ensures came { IfOk result (λ ticket. CameFirst X.finds X.carries X.answers ticket) }
     ensures store { context.new.store ≡ context.old.store }
 {
-    let alloc = context.alloc;
     let client = &mut context.client;
-    match client.log_in(alloc, &mut first.rng, &first.login, &first.secret) {
+    match client.log_in(&mut first.rng, &first.login, &first.secret) {
         Ok(credential) => return Ok(credential),
         Err(fault) => context.take_clock(source, fault)?,
     }
     let client = &mut context.client;
-    match client.log_in(alloc, &mut first.rng, &first.login, &first.secret) {
+    match client.log_in(&mut first.rng, &first.login, &first.secret) {
         Ok(credential) => Ok(credential),
         Err(fault) => Err(context.fault(source, fault)),
     }

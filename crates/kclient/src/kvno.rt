@@ -10,7 +10,7 @@ ghost use Rattle.kclient.specs.Worlds.{Added, CameFurther, Filled};
 
 use crate::context::Context;
 use crate::kinit::generator;
-use crate::places::{cache_path, use_given_kdcs, use_kdcs_of};
+use crate::places::{Granting, cache_path, use_given_kdcs, use_kdcs_of};
 use crate::run::Printed;
 use crate::words::{NO_SERVICE, keytab_path, read_name, read_realm};
 use clap::ArgMatches;
@@ -284,13 +284,16 @@ fn get_ticket<T: ClientStore, X: AnyMessage>(
         return Ok(version);
     }
     let path = session.path.as_str();
-    let granting = unended(alloc, path, &session.cache, context.client.at)?;
+    let granting = Granting {
+        path,
+        credential: unended(alloc, path, &session.cache, context.client.at)?,
+    };
     use_kdcs_of(
         context,
         defaults,
         session.cache.principal().realm.as_slice(),
     )?;
-    let credential = requested(context, path, &mut session.rng, granting, service)?;
+    let credential = requested(context, &mut session.rng, &granting, service)?;
     keep(alloc, session, &credential)
 }
 
@@ -298,22 +301,26 @@ fn get_ticket<T: ClientStore, X: AnyMessage>(
 #[tactic(auto, using(crate::proofs::Doing::came_further))]
 fn requested<T, X: AnyMessage>(
     context: &mut Context<T, X>,
-    path: &str,
     rng: &mut ChaCha20Rng,
-    granting: &Credential,
+    granting: &Granting<'_>,
     service: &Name,
 ) -> Result<Credential, Fault>
     ensures came { IfOk result (λ ticket. CameFurther X.finds X.carries X.answers ticket) }
     ensures store { context.new.store ≡ context.old.store }
 {
-    let alloc = context.alloc;
-    match context.client.service_ticket(alloc, rng, granting, service) {
+    match context
+        .client
+        .service_ticket(rng, granting.credential, service)
+    {
         Ok(credential) => return Ok(credential),
-        Err(fault) => context.take_clock(path, fault)?,
+        Err(fault) => context.take_clock(granting.path, fault)?,
     }
-    match context.client.service_ticket(alloc, rng, granting, service) {
+    match context
+        .client
+        .service_ticket(rng, granting.credential, service)
+    {
         Ok(credential) => Ok(credential),
-        Err(fault) => Err(context.fault(path, fault)),
+        Err(fault) => Err(context.fault(granting.path, fault)),
     }
 }
 

@@ -94,7 +94,7 @@ fn main(rt: HostRuntime) -> ExitCode {
     };
     let network = SocketNetwork::for_command(&rt);
     let kdcs = Kdcs::new(network, Vec::new(rt.alloc()), Transports::UdpFirst);
-    let client = KdcClient::new(kdcs, given.at);
+    let client = KdcClient::new(rt.alloc(), kdcs, given.at);
     let mut context = Context::new(rt.alloc(), FileStore::new(&rt), client);
     let args = given.args.as_slice();
     let status = kclient_run(&mut context, args, &defaults, rt.stdout(), rt.stderr());

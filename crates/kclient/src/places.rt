@@ -6,11 +6,19 @@ use crate::words::word_fault;
 use clap::ArgMatches;
 use client_files::{Cause, ClientStore, Config, Defaults, Fault, NameOf, path_in};
 use client_login::{KdcPlace, Kdcs, TicketRequest, Transports};
+use cred_files::Credential;
 use krb_elements::KerberosString;
 use std::alloc::Global;
 
 /// The text after an address of `--kdc` that is none.
 const NO_ADDRESS: &str = "it takes an address and a port, as 127.0.0.1:88 or [::1]:88";
+
+/// A ticket-granting ticket, and the path of the cache that has it.
+#[derive(Clone, Copy)]
+pub(crate) struct Granting<'a> {
+    pub path: &'a str,
+    pub credential: &'a Credential,
+}
 
 /// Returns the path of the cache.
 pub(crate) fn cache_path<T: ClientStore>(

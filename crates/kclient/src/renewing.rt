@@ -4,7 +4,7 @@ ghost use Rattle.kclient.specs.Worlds.{CameFurther, Made};
 
 use crate::context::Context;
 use crate::kinit::{generator, write_new};
-use crate::places::{cache_path, use_given_kdcs, use_kdcs_of};
+use crate::places::{Granting, cache_path, use_given_kdcs, use_kdcs_of};
 use crate::run::Printed;
 use clap::ArgMatches;
 use client_files::{Cause, ClientStore, Defaults, Fault, at, granting_ticket, read_cache};
@@ -31,9 +31,13 @@ pub(crate) fn renew_ticket<T: ClientStore, X: AnyMessage>(
     use_given_kdcs(alloc, &mut context.client.kdcs, options)?;
     let cache = read_cache(alloc, &mut context.store, path.as_str())?;
     let mut rng = generator(alloc, &mut context.store, options)?;
-    let granting = renewable(alloc, path.as_str(), &cache, renewal)?;
+    let held = renewable(alloc, path.as_str(), &cache, renewal)?;
     use_kdcs_of(context, defaults, cache.principal().realm.as_slice())?;
-    let credential = renewed(context, path.as_str(), &mut rng, granting, renewal)?;
+    let granting = Granting {
+        path: path.as_str(),
+        credential: held,
+    };
+    let credential = renewed(context, &mut rng, &granting, renewal)?;
     write_new(context, path.as_str(), &credential)
 }
 
@@ -41,22 +45,20 @@ pub(crate) fn renew_ticket<T: ClientStore, X: AnyMessage>(
 #[tactic(auto, using(crate::proofs::Doing::came_further))]
 fn renewed<T, X: AnyMessage>(
     context: &mut Context<T, X>,
-    path: &str,
     rng: &mut ChaCha20Rng,
-    granting: &Credential,
+    granting: &Granting<'_>,
     renewal: Renewal,
 ) -> Result<Credential, Fault>
     ensures came { IfOk result (λ ticket. CameFurther X.finds X.carries X.answers ticket) }
     ensures store { context.new.store ≡ context.old.store }
 {
-    let alloc = context.alloc;
-    match context.client.renew(alloc, rng, granting, renewal) {
+    match context.client.renew(rng, granting.credential, renewal) {
         Ok(credential) => return Ok(credential),
-        Err(fault) => context.take_clock(path, fault)?,
+        Err(fault) => context.take_clock(granting.path, fault)?,
     }
-    match context.client.renew(alloc, rng, granting, renewal) {
+    match context.client.renew(rng, granting.credential, renewal) {
         Ok(credential) => Ok(credential),
-        Err(fault) => Err(context.fault(path, fault)),
+        Err(fault) => Err(context.fault(granting.path, fault)),
     }
 }
 

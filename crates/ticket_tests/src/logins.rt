@@ -27,7 +27,7 @@ fn client(alloc: Global) -> Result<Client, Fail> {
         ways: String::new(alloc),
     };
     let kdcs = Kdcs::new(network, places, Transports::UdpFirst);
-    Ok(KdcClient::new(kdcs, at))
+    Ok(KdcClient::new(alloc, kdcs, at))
 }
 
 fn login(alloc: Global) -> Result<Login, Fail> {
@@ -49,7 +49,7 @@ fn fault(alloc: Global, client: &mut Client) -> Result<String, Fail> {
         least_count: None,
     });
     let mut rng = ChaCha20Rng::from_seed([7; 32]);
-    match client.log_in(alloc, &mut rng, &login, &secret) {
+    match client.log_in(&mut rng, &login, &secret) {
         Ok(_) => Ok(String::from_str(alloc, "a ticket")?),
         Err(fault) => Ok(format!(in alloc; "{fault}")?),
     }

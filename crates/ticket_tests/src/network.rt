@@ -1,7 +1,7 @@
 //! Messages to KDCs that grant nothing.
 ghost use Rattle.std.specs.Prelude.{⊤};
 
-use client_login::{AnyMessage, Network, Transport};
+use client_login::{AnyMessage, Network, Route, Transport};
 use std::alloc::Global;
 use std::io;
 use std::io::{Error, ErrorKind};
@@ -51,14 +51,9 @@ impl Network for SaidNetwork {
 
     fn begin(&mut self) {}
 
-    fn exchange(
-        &mut self,
-        alloc: Global,
-        by: Transport,
-        to: SocketAddr,
-        message: &[u8],
-    ) -> io::Result<Vec<u8>> {
-        self.ways.push(way_of(by, to.port() == SECOND_PORT))?;
+    fn exchange(&mut self, alloc: Global, route: Route, message: &[u8]) -> io::Result<Vec<u8>> {
+        self.ways
+            .push(way_of(route.by, route.to.port() == SECOND_PORT))?;
         match self.said {
             Said::Nothing => Err(Error::from(ErrorKind::TimedOut)),
             Said::NoMemory => Err(Error::from(ErrorKind::OutOfMemory)),
