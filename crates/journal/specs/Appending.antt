@@ -16,7 +16,6 @@ use Rattle.journal.specs.declared.files.Begun.{Begun}
 use Rattle.journal.specs.declared.files.Begun.TheVariants.{Linked, Anew}
 use Rattle.journal.specs.declared.files.FileText.{FileText}
 use Rattle.journal.specs.declared.files.FileText.TheVariants as texts
-use Rattle.journal.specs.declared.journal_file.Appended.{Appended}
 use Rattle.journal.specs.declared.journal_file.Tail.{Tail}
 use Rattle.journal.specs.declared.reading.Journal.{Journal}
 
@@ -47,9 +46,9 @@ pub record AppendsOne (check : List ℕ) (at : Moment) (seen : Seen) (next : Lis
 abbrev pub AppendsPart : Option World → Option World → Type 0
 AppendsPart old new = (text : List ℕ) × Leaves (HasPart text) old new
 
-abbrev pub HasAppended : {E : Type 0} → List ℕ → Moment → Seen → Option World → Result Appended E → Option World → Type 0
-HasAppended check at seen old (Ok appended) new = AppendsOne check at seen appended.check old new
-HasAppended check at seen old (Err fault) new = AppendsPart old new
+abbrev pub HasAppended : {E : Type 0} → Moment → Seen → Tail → Option World → Result Tail E → Option World → Type 0
+HasAppended at seen tail old (Ok next) new = AppendsOne tail.check at seen next.check old new
+HasAppended at seen tail old (Err fault) new = AppendsPart old new
 
 -- ---- with the end of the file
 

@@ -1,5 +1,5 @@
 //! Deciding how to start from the journals that are found.
-ghost use Rattle.std.specs.Prelude.{◌≡◌, ◌-ℤ◌, ◌++◌, map, pos, IfOk, OnOk};
+ghost use Rattle.std.specs.Prelude.{◌≡◌, ◌-ℤ◌, ◌++◌, map, pos, IfOk, None, OnOk};
 ghost use Rattle.std.specs.Int.{int_max};
 ghost use Rattle.krb_fields.specs.Skew.{skew};
 ghost use Rattle.journal.specs.Decision.{doubt_of, entries_behind, floor_behind, goes_on_behind};
@@ -97,29 +97,26 @@ pub fn start_of(
         Found::Broken => Ok(Start::Refuses {
             doubt: Doubt::Damaged,
         }),
-        Found::Whole(journal) => {
-            let doubt = doubt_of(place, older, journal);
-            start_by(alloc, place, older, journal, doubt)
-        }
+        Found::Whole(journal) => match doubt_of(place, older, journal) {
+            Some(doubt) => Ok(Start::Refuses { doubt }),
+            None => resumes(alloc, place, older, journal),
+        },
     }
 }
 
-fn start_by(
+/// Returns the start of a server that resumes with this journal.
+fn resumes(
     alloc: Global,
     place: &Place<'_>,
     older: &Found,
     journal: &Journal,
-    doubt: Option<Doubt>,
 ) -> Result<Start, AllocError>
-    ensures { IfOk result (λ start. start ≡ start_by place.now older.now journal.now doubt) }
+    ensures { IfOk result (λ start. start ≡ start_by place.now older.now journal.now None) }
 {
-    match doubt {
-        Some(doubt) => Ok(Start::Refuses { doubt }),
-        None => Ok(Start::Resumes {
-            resumption: resumption_of(alloc, place, older, journal)?,
-            check: goes_on_behind(place, older, journal),
-        }),
-    }
+    Ok(Start::Resumes {
+        resumption: resumption_of(alloc, place, older, journal)?,
+        check: goes_on_behind(place, older, journal),
+    })
 }
 
 /// Returns the seal of these journals: the last check of the newer one, if a start would resume with both.

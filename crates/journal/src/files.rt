@@ -29,8 +29,8 @@ pub enum Begun {
 pub struct BeginFault<E> {
     /// Why the call failed.
     pub fault: E,
-    /// Whether a file may be gone: the newer file may be the older one now, or the older one may be removed. Otherwise both
-    /// are as they were.
+    /// Whether a file may be gone: the newer file may be the older one now, or the older one may be removed. Otherwise
+    /// both are as they were.
     pub is_torn: bool,
 }
 

@@ -50,11 +50,11 @@ struct Next<'a> {
     most: u64,
 }
 
-/// What was appended: how many octets, and the check that they end with.
-#[derive(Clone, Copy)]
-struct Appended {
-    check: [u8; 16],
-    len: u64,
+/// An authenticator that is handed over, and when its request came.
+#[derive(Drop)]
+struct Handed<'a> {
+    at: Moment,
+    seen: &'a Seen,
 }
 
 /// The journal of a running server.
@@ -181,7 +181,8 @@ impl<F: JournalFiles> JournalFile<F> {
         };
         let tail = turn_if_due(alloc, &mut self.files, &next, self.tail);
         let floor = raised(self.floor, seen.ctime);
-        let tail = append(alloc, &mut self.files, &mut self.is_said, at, seen, tail);
+        let handed = Handed { at, seen };
+        let tail = append(alloc, &mut self.files, &mut self.is_said, &handed, tail);
         self.floor = floor;
         self.tail = tail;
         self.mend(alloc, at)
@@ -301,7 +302,8 @@ fn beginning(
     floor: Option<i64>,
     link: &[u8],
 ) -> Result<Option<Written>, AllocError>
-    ensures { IfOk result (λ written. IfSome written (λ w. (f : ℤ) × (floor ≡ Some f) × BeginsJournal (begun place.now f link.now) w.text.items w.check)) }
+    ensures { IfOk result (λ written. IfSome written (λ w. (f : ℤ) × (floor ≡ Some f)
+        × BeginsJournal (begun place.now f link.now) w.text.items w.check)) }
 {
     match floor {
         Some(floor) => write_beginning(alloc, place, floor, link),
@@ -364,37 +366,13 @@ fn append<F: JournalFiles>(
     alloc: Global,
     files: &mut F,
     is_said: &mut bool,
-    at: Moment,
-    seen: &Seen,
+    handed: &Handed<'_>,
     tail: Option<Tail>,
 ) -> Option<Tail>
-    ensures { MayKeep at seen.now tail (F.world files.old) result (F.world files.new) }
+    ensures { MayKeep handed.now.at handed.now.seen.now tail (F.world files.old) result (F.world files.new) }
 {
-    match tail {
-        Some(tail) => append_behind(alloc, files, is_said, at, seen, tail),
-        None => None,
-    }
-}
-
-fn append_behind<F: JournalFiles>(
-    alloc: Global,
-    files: &mut F,
-    is_said: &mut bool,
-    at: Moment,
-    seen: &Seen,
-    tail: Tail,
-) -> Option<Tail>
-    ensures { HasKeptOne at seen.now tail (F.world files.old) result (F.world files.new) }
-{
-    match append_seen(alloc, files, at, seen, &tail.check) {
-        Ok(appended) => {
-            let check = appended.check;
-            Some(Tail {
-                check,
-                last: tail.last,
-                left: tail.left.saturating_sub(appended.len),
-            })
-        }
+    match append_seen(alloc, files, handed, tail?) {
+        Ok(next) => Some(next),
         Err(fault) => {
             say_lost(files, is_said, fault);
             None
@@ -402,21 +380,21 @@ fn append_behind<F: JournalFiles>(
     }
 }
 
-/// Appends the entry of an authenticator behind a check.
+/// Appends the entry of an authenticator behind the end of the newer file. Returns the end then.
 fn append_seen<F: JournalFiles>(
     alloc: Global,
     files: &mut F,
-    at: Moment,
-    seen: &Seen,
-    check: &[u8; 16],
-) -> Result<Appended, FilesFault<F::Fault>>
-    ensures { HasAppended check.now at seen.now (F.world files.old) result (F.world files.new) }
+    handed: &Handed<'_>,
+    tail: Tail,
+) -> Result<Tail, FilesFault<F::Fault>>
+    ensures { HasAppended handed.now.at handed.now.seen.now tail (F.world files.old) result (F.world files.new) }
 {
-    let written = fit(write_seen(alloc, check, at, seen))?;
+    let written = fit(write_seen(alloc, &tail.check, handed.at, handed.seen))?;
     match files.append(&written.text) {
-        Ok(()) => Ok(Appended {
+        Ok(()) => Ok(Tail {
             check: written.check,
-            len: written.text.len() as u64,
+            last: tail.last,
+            left: tail.left.saturating_sub(written.text.len() as u64),
         }),
         Err(fault) => Err(FilesFault::Files(fault)),
     }

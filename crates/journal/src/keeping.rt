@@ -19,8 +19,8 @@ use std::alloc::{AllocError, Global};
 /// The length of a check, in octets.
 const CHECK_LEN: usize = 16;
 
-/// Writes the entry of an authenticator, to follow a check. Its request came at this moment. Returns `None` if its name or a
-/// number is too large.
+/// Writes the entry of an authenticator, to follow a check. Its request came at this moment. Returns `None` if its name
+/// or a number is too large.
 pub fn write_seen(
     alloc: Global,
     check: &[u8; 16],
@@ -76,7 +76,8 @@ pub fn write_beginning(
     floor: i64,
     link: &[u8],
 ) -> Result<Option<Written>, AllocError>
-    ensures { IfOk result (λ written. IfSome written (λ w. BeginsJournal (begun place.now floor link.now) w.text.items w.check)) }
+    ensures { IfOk result (λ written. IfSome written
+        (λ w. BeginsJournal (begun place.now floor link.now) w.text.items w.check)) }
 {
     let Some(header) = header_of(alloc, place, floor, link)? else {
         return Ok(None);

@@ -11,20 +11,26 @@ use std::alloc::{AllocError, Global};
 #[derive(Clone, Copy, Debug, PartialEq, Eq)]
 pub struct MemoryFault;
 
+/// Which calls on files in memory fail, of those that change a file, and what these leave.
+#[derive(Clone, Copy, Debug, PartialEq, Eq)]
+pub struct Failures {
+    /// How many calls succeed before some fail.
+    pub good: u32,
+    /// How many fail then.
+    pub bad: u32,
+    /// How many octets of a text a failed call appends.
+    pub cut: usize,
+    /// Whether a failed call leaves a file half begun. Otherwise it leaves another file undone.
+    pub tears: bool,
+}
+
 /// The files of a journal in memory, for tests: what they hold is known to contracts. Calls can be made to fail.
 #[derive(Drop)]
 pub struct MemoryFiles {
     newer: Option<Vec<u8>>,
     older: Option<Vec<u8>>,
     seal: Option<[u8; 16]>,
-    /// How many calls that change a file succeed before some fail.
-    good: u32,
-    /// How many fail then.
-    bad: u32,
-    /// How many octets of a text a failed call appends.
-    cut: usize,
-    /// Whether a failed call leaves a file half begun.
-    tears: bool,
+    failures: Failures,
 }
 
 impl MemoryFiles {
@@ -36,34 +42,32 @@ impl MemoryFiles {
             newer: None,
             older: None,
             seal: None,
-            good: 0,
-            bad: 0,
-            cut: 0,
-            tears: false,
+            failures: Failures {
+                good: 0,
+                bad: 0,
+                cut: 0,
+                tears: false,
+            },
         }
     }
 
-    /// Makes `bad` calls fail after `good` others, of those that change a file. A text that is appended is cut after this many
-    /// octets then, and another file is left undone, or half begun.
-    pub fn fail(&mut self, good: u32, bad: u32, cut: usize, tears: bool)
+    /// Makes calls fail.
+    pub fn fail(&mut self, failures: Failures)
         ensures { memory_world self.new ≡ memory_world self.old }
     {
-        self.good = good;
-        self.bad = bad;
-        self.cut = cut;
-        self.tears = tears;
+        self.failures = failures;
     }
 
     /// Checks whether the next call that changes a file fails.
     fn fails(&mut self) -> bool
         ensures { memory_world self.new ≡ memory_world self.old }
     {
-        if self.good > 0 {
-            self.good -= 1;
+        if self.failures.good > 0 {
+            self.failures.good -= 1;
             return false;
         }
-        if self.bad > 0 {
-            self.bad -= 1;
+        if self.failures.bad > 0 {
+            self.failures.bad -= 1;
             return true;
         }
         false
@@ -77,7 +81,7 @@ impl JournalFiles for MemoryFiles {
 
     fn append(&mut self, text: &[u8]) -> Result<(), MemoryFault> {
         if self.fails() {
-            let (part, _) = text.split_at(self.cut.min(text.len()));
+            let (part, _) = text.split_at(self.failures.cut.min(text.len()));
             let _ = append_to(&mut self.newer, part);
             return Err(MemoryFault);
         }
@@ -91,7 +95,7 @@ impl JournalFiles for MemoryFiles {
         how: Begun,
     ) -> Result<(), BeginFault<MemoryFault>> {
         if self.fails() {
-            if self.tears {
+            if self.failures.tears {
                 tear(&mut self.newer, &mut self.older, how);
                 return Err(not_begun(true));
             }

@@ -48,13 +48,13 @@ fn begins<F: JournalFiles>(
     alloc: Global,
     journal: &mut JournalFile<F>,
     at: Moment,
-    start: &Start,
-    newer: &Found,
-    len: u64,
+    beginning: &Beginning,
 ) -> bool
-    ensures { IsBegun at newer.now start.now result (state_of F.world journal.old) (state_of F.world journal.new) }
+    ensures { IsBegun at beginning.now.newer beginning.now.start result (state_of F.world journal.old)
+        (state_of F.world journal.new) }
 {
-    journal.start(alloc, at, start, newer, len).is_ok()
+    let Beginning { newer, start } = beginning;
+    journal.start(alloc, at, start, newer, 0).is_ok()
 }
 
 /// Hands over an authenticator.
@@ -127,7 +127,7 @@ fn begins_and_serves<F: JournalFiles>(
         × Serves ok calls begun (state_of F.world journal.new)
         × (ok ≡ true → seen_in calls ≡ seen_asked asked.now) }
 {
-    if begins(alloc, journal, at, &beginning.start, &beginning.newer, 0) {
+    if begins(alloc, journal, at, beginning) {
         serves(alloc, journal, asked);
     }
 }

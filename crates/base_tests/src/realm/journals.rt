@@ -4,8 +4,9 @@ use crate::cryptography::fixtures::sized;
 use crate::expect::{are, bytes, holds, same};
 use crate::realm::fixtures::{T, at};
 use journal::{
-    Doubt, Found, JournalFault, JournalFile, JournalFiles, MemoryFiles, NotSealed, Part, Place,
-    Start, Written, read_journal, read_part, seal_journal, start_of, write_beginning, write_seen,
+    Doubt, Failures, Found, JournalFault, JournalFile, JournalFiles, MemoryFiles, NotSealed, Part,
+    Place, Start, Written, read_journal, read_part, seal_journal, start_of, write_beginning,
+    write_seen,
 };
 use krb_elements::Octets;
 use krb_fields::{Moment, Name};
@@ -353,7 +354,12 @@ fn files_hold_what_was_kept(rt: HostRuntime) {
 fn after(alloc: Global, failure: &Failure) -> Result<Kept, AllocError> {
     let (good, bad, cut, tears) = *failure;
     let mut files = MemoryFiles::new();
-    files.fail(good, bad, cut, tears);
+    files.fail(Failures {
+        good,
+        bad,
+        cut,
+        tears,
+    });
     let realm = Octets::from_slice(alloc, b"A.B")?;
     let boot = Octets::from_slice(alloc, b"boot")?;
     let mut journal = JournalFile::new(files, realm, boot, T + 301, 1_000_000);

@@ -1,5 +1,4 @@
-use Rattle.std.proofs.Common.{rules, ◌≡◌, ◌∙◌, true, subst, sym, SFits, w64}
-use Rattle.std.proofs.lemmas.Int.{to_z-of_z}
+use Rattle.std.proofs.Common.{rules, ◌≡◌, ◌∙◌, true, subst, sym}
 use Rattle.krb_fields.specs.NameLimits.{IsWithinLimits, is_within_limits}
 use Rattle.journal.proofs.Lengths.{entry_short}
 use Rattle.journal.proofs.keeping.entry_of.Goals as goal
