@@ -11,9 +11,8 @@ ghost use Rattle.ap_accept.specs.Stages.{accepted_if, cache_refusal, refusal_by,
 use crate::accepted::Accepted;
 use crate::clients::{Clients, empty_cache};
 use crate::fault::ApFault;
-use crate::judging::Judging;
-use crate::opening::open_request;
-use crate::presented::Presented;
+use crate::presented::{Presented, presented_to};
+use crate::receipt::Receipt;
 use crate::replies::reply_if;
 use crate::state::State;
 use crate::validity::ticket_refusal;
@@ -42,32 +41,32 @@ pub fn accept(
         return Err(ApFault::NotAnApReq);
     };
     let wanted = request.ap_options.has(ApOption::MutualRequired);
-    let presented = open_request(alloc, &state.keytab, &request)?;
-    let judging = Judging {
+    let presented = presented_to(alloc, &state.keytab, &request)?;
+    let receipt = Receipt {
         at,
         confounder: *confounder,
         wanted,
     };
-    judge(state, alloc, &judging, presented)
+    judge(state, alloc, &receipt, presented)
 }
 
 /// Accepts or refuses a decrypted ticket and authenticator.
 fn judge(
     state: &mut State,
     alloc: Global,
-    judging: &Judging,
+    receipt: &Receipt,
     presented: Presented,
 ) -> Result<Accepted, ApFault>
     ensures answer { IsAnswer result
-        (unless_seen state.old judging.now.at.sec judging.now.confounder judging.now.wanted presented
-        (cache_refusal state.old judging.now.at.sec presented)).answer }
+        (unless_seen state.old receipt.now.at.sec receipt.now.confounder receipt.now.wanted presented
+        (cache_refusal state.old receipt.now.at.sec presented)).answer }
     ensures state { IsAfter result state.old state.new
-        (unless_seen state.old judging.now.at.sec judging.now.confounder judging.now.wanted presented
-        (cache_refusal state.old judging.now.at.sec presented)).state }
+        (unless_seen state.old receipt.now.at.sec receipt.now.confounder receipt.now.wanted presented
+        (cache_refusal state.old receipt.now.at.sec presented)).state }
     ensures reply { IfOk result (λ accepted. IfSome accepted.ap_rep (λ octets.
-        IsApReply presented.session_key judging.now.confounder presented.authenticator octets)) }
+        IsApReply presented.session_key receipt.now.confounder presented.authenticator octets)) }
 {
-    match admit(state, alloc, judging, &presented) {
+    match admit(state, alloc, receipt, &presented) {
         Ok(reply) => Ok(accepted_with(reply, presented)),
         Err(fault) => Err(fault),
     }
@@ -77,29 +76,29 @@ fn judge(
 fn admit(
     state: &mut State,
     alloc: Global,
-    judging: &Judging,
+    receipt: &Receipt,
     presented: &Presented,
 ) -> Result<Option<Octets>, ApFault>
     ensures answer { IsAnswer (accepted_if presented.now result)
-        (unless_seen state.old judging.now.at.sec judging.now.confounder judging.now.wanted presented.now
-        (cache_refusal state.old judging.now.at.sec presented.now)).answer }
+        (unless_seen state.old receipt.now.at.sec receipt.now.confounder receipt.now.wanted presented.now
+        (cache_refusal state.old receipt.now.at.sec presented.now)).answer }
     ensures state { IsAfter (accepted_if presented.now result) state.old state.new
-        (unless_seen state.old judging.now.at.sec judging.now.confounder judging.now.wanted presented.now
-        (cache_refusal state.old judging.now.at.sec presented.now)).state }
+        (unless_seen state.old receipt.now.at.sec receipt.now.confounder receipt.now.wanted presented.now
+        (cache_refusal state.old receipt.now.at.sec presented.now)).state }
     ensures reply { IfOk result (λ reply. IfSome reply (λ octets.
-        IsApReply presented.now.session_key judging.now.confounder presented.now.authenticator octets)) }
+        IsApReply presented.now.session_key receipt.now.confounder presented.now.authenticator octets)) }
 {
-    if let Some(refusal) = cache_refusal(state, alloc, judging.at, presented) {
+    if let Some(refusal) = cache_refusal(state, alloc, receipt.at, presented) {
         return Err(ApFault::Refused(refusal));
     }
-    match ticket_refusal(&ticket_terms(&presented.ticket), judging.at) {
+    match ticket_refusal(&ticket_terms(&presented.ticket), receipt.at) {
         Some(refusal) => {
-            state.record_seen(alloc, judging.at, presented)?;
+            state.record_seen(alloc, receipt.at, presented)?;
             Err(ApFault::Refused(refusal))
         }
         None => {
-            let reply = reply_if(alloc, judging, presented)?;
-            state.record_seen(alloc, judging.at, presented)?;
+            let reply = reply_if(alloc, receipt, presented)?;
+            state.record_seen(alloc, receipt.at, presented)?;
             Ok(reply)
         }
     }

@@ -6,8 +6,8 @@ ghost use Rattle.krb_types.specs.EncApRepPart.{enc_ap_rep_part};
 ghost use Rattle.sealed_parts.specs.Encrypted.{decrypted};
 ghost use Rattle.ap_accept.specs.Reply.{IsApReply, reply_if, reply_of, reply_part};
 
-use crate::judging::Judging;
 use crate::presented::Presented;
+use crate::receipt::Receipt;
 use enctypes::{Key, KeyUsage};
 use krb_elements::Octets;
 use krb_fields::EncryptedData;
@@ -18,19 +18,19 @@ use std::alloc::{AllocError, Global};
 /// Returns the bytes of the AP-REP, if it is asked for.
 pub fn reply_if(
     alloc: Global,
-    judging: &Judging,
+    receipt: &Receipt,
     presented: &Presented,
 ) -> Result<Option<Octets>, AllocError>
-    ensures value { IfOk result (λ reply. reply ≡ reply_if judging.now.wanted
-        presented.now.session_key judging.now.confounder presented.now.authenticator) }
+    ensures value { IfOk result (λ reply. reply ≡ reply_if receipt.now.wanted
+        presented.now.session_key receipt.now.confounder presented.now.authenticator) }
     ensures opens { IfOk result (λ reply. IfSome reply (λ octets.
-        IsApReply presented.now.session_key judging.now.confounder presented.now.authenticator octets)) }
+        IsApReply presented.now.session_key receipt.now.confounder presented.now.authenticator octets)) }
 {
-    if !judging.wanted {
+    if !receipt.wanted {
         return Ok(None);
     }
     let key = &presented.session_key;
-    let reply = reply_of(alloc, key, &judging.confounder, &presented.authenticator)?;
+    let reply = reply_of(alloc, key, &receipt.confounder, &presented.authenticator)?;
     Ok(Some(Octets::new(encode_ap_rep(alloc, &reply)?)))
 }
 

@@ -2,7 +2,7 @@
 ghost use Rattle.std.specs.Prelude.{◌≡◌, IfOk, option_copied};
 ghost use Rattle.ap_opening.specs.Authenticators.{authenticator_in, authenticator_of, is_mismatched, subkey_in};
 
-use crate::opening::open_by;
+use crate::decryption::open_by;
 use crate::refusal::ApRefusal;
 use enctypes::{Key, KeyUsage};
 use krb_fields::{EncryptedDataRef, Typed};

@@ -7,9 +7,9 @@
 
 mod authenticated;
 mod authenticators;
+mod decryption;
 mod held_key;
 mod keytab_keys;
-mod opening;
 mod refusal;
 mod session_keys;
 mod tickets;

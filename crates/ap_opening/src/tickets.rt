@@ -5,8 +5,8 @@ ghost use Rattle.krb_types.specs.EncTicketPart.{enc_ticket_part};
 ghost use Rattle.sealed_parts.specs.Parts.{IsSpelledWithin};
 ghost use Rattle.ap_opening.specs.Tickets.{is_other_version, opened_with, shown_ticket, ticket_rules};
 
+use crate::decryption::open_by;
 use crate::held_key::{HeldKey, lacks_key, lacks_version};
-use crate::opening::open_by;
 use crate::refusal::ApRefusal;
 use enctypes::{Key, KeyUsage};
 use krb_fields::{ApOption, EncryptedDataRef};

@@ -1,10 +1,9 @@
-//! How an AP-REQ is judged.
+//! The receipt of an AP-REQ (RFC 4120, section 3.2.3).
 use krb_fields::Moment;
 
-/// What an AP-REQ is judged by, besides what it presents and what the acceptor keeps.
+/// The receipt of an AP-REQ: when it comes, and what a reply to it needs.
 #[derive(Clone, Copy)]
-pub struct Judging {
-    /// When it came in.
+pub struct Receipt {
     pub at: Moment,
     /// 16 random bytes, for the AP-REP.
     pub confounder: [u8; 16],

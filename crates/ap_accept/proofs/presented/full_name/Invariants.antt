@@ -1,5 +1,5 @@
 use Rattle.std.proofs.Common.{◌≡◌, ◌++◌, ◌∷◌}
-use Rattle.ap_accept.proofs.opening.full_name.Given as goal
+use Rattle.ap_accept.proofs.presented.full_name.Given as goal
 
 -- what is copied, with what is left, is the whole name
 abbrev pub invariant-loop-component : goal.invariant-loop-component
