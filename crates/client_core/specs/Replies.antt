@@ -105,6 +105,10 @@ part_of type asked key reply opened = decided (reply_rules type asked key reply)
 
 -- ---- the contents of the part
 
+-- the part answers another request
+abbrev pub is_other_nonce : Asked → EncKdcRepPart → Bool
+is_other_nonce asked part = not (int_eq part.nonce (pos asked.nonce))
+
 -- the part's service, or the ticket's
 abbrev pub is_other_service : Asked → Ticket → EncKdcRepPart → Bool
 is_other_service asked ticket part =
@@ -131,7 +135,7 @@ starts_elsewhere asked now part = not (may_start_elsewhere asked) && holds_of (i
 
 abbrev pub part_rules : Asked → ℤ → Ticket → EncKdcRepPart → List (Rule Rejection)
 part_rules asked now ticket part =
-    (not (int_eq part.nonce (pos asked.nonce)), Mismatched mismatches.Nonce)
+    (is_other_nonce asked part, Mismatched mismatches.Nonce)
     ∷ (is_other_service asked ticket part, Mismatched mismatches.Service)
     ∷ (ends_too_late asked part || starts_elsewhere asked now part, Mismatched mismatches.Times)
     ∷ []

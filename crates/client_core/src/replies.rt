@@ -4,7 +4,8 @@ ghost use Rattle.enctypes.specs.KeyUsage.{usage_number};
 ghost use Rattle.krb_types.specs.Ticket.{ticket};
 ghost use Rattle.lists.specs.Optional.{holds_of};
 ghost use Rattle.client_core.specs.Faults.{Gives};
-ghost use Rattle.client_core.specs.Replies.{as_part, ends_too_late, if_part, if_reply, is_other_service, is_principal};
+ghost use Rattle.client_core.specs.Replies.{as_part, ends_too_late, if_part, if_reply};
+ghost use Rattle.client_core.specs.Replies.{is_other_nonce, is_other_service, is_principal};
 ghost use Rattle.client_core.specs.Replies.{is_skewed, judged, may_start_elsewhere, ticket_reply_in};
 ghost use Rattle.client_core.specs.Replies.{opened_as, opened_in, part_of, part_rules, reads, reads_as, reads_tgs};
 ghost use Rattle.client_core.specs.Replies.{refusal_in, reply_in, reply_rules};
@@ -350,7 +351,7 @@ fn part_rules(
 {
     [
         (
-            part.nonce.get() != i64::from(asked.nonce),
+            is_other_nonce(asked, part),
             Rejection::Mismatched(Mismatch::Nonce),
         ),
         (
@@ -362,6 +363,13 @@ fn part_rules(
             Rejection::Mismatched(Mismatch::Times),
         ),
     ]
+}
+
+/// Checks whether the part answers another request.
+fn is_other_nonce(asked: &Asked, part: &EncKdcRepPart) -> bool
+    ensures { result ≡ is_other_nonce asked.now part.now }
+{
+    part.nonce.get() != i64::from(asked.nonce)
 }
 
 /// Checks whether the part's service, or the ticket's, is another one.
