@@ -17,7 +17,7 @@ use std::io::{Error, ErrorKind};
 #[tactic(auto, using(crate::proofs::HeldCaches::held))]
 pub fn read_cache<T: ClientStore>(alloc: Global, store: &mut T, path: &str) -> Result<Cache, Fault>
     ensures read { IfOk result (λ cache. HasCache (T.world store.old) path.now cache) }
-    ensures kept { T.world store.new ≡ T.world store.old }
+    ensures unchanged { T.world store.new ≡ T.world store.old }
 {
     at(alloc, path, check_cache(store.standing(path)))?;
     let octets = match read_file(alloc, store, path) {
@@ -36,7 +36,7 @@ pub fn read_keytab<T: ClientStore>(
     store: &mut T,
     path: &str,
 ) -> Result<Keytab, Fault>
-    ensures kept { T.world store.new ≡ T.world store.old }
+    ensures unchanged { T.world store.new ≡ T.world store.old }
 {
     at(alloc, path, check_plain(store.standing(path)))?;
     let octets = at_file(alloc, read_file(alloc, store, path))?;
@@ -119,7 +119,7 @@ pub fn write_new_cache<T: ClientStore>(
 ) -> Result<(), Fault>
     ensures written { OnOk result (T.world store.new
         ≡ option_map (with_file path.now (cache_text (new_cache credential.now))) (T.world store.old)) }
-    ensures kept { OnErr result (T.world store.new ≡ T.world store.old) }
+    ensures unchanged { OnErr result (T.world store.new ≡ T.world store.old) }
 {
     let cache = at(alloc, path, make_cache(alloc, credential))?;
     write_cache(alloc, store, path, &cache)
@@ -134,7 +134,7 @@ pub fn write_cache<T: ClientStore>(
 ) -> Result<(), Fault>
     ensures written { OnOk result (T.world store.new
         ≡ option_map (with_file path.now (cache_text cache.now)) (T.world store.old)) }
-    ensures kept { OnErr result (T.world store.new ≡ T.world store.old) }
+    ensures unchanged { OnErr result (T.world store.new ≡ T.world store.old) }
 {
     let octets = cache.write(alloc)?;
     match write_file(alloc, store, path, &octets) {
@@ -147,7 +147,7 @@ pub fn write_cache<T: ClientStore>(
 pub fn remove_cache<T: ClientStore>(alloc: Global, store: &mut T, path: &str) -> Result<(), Fault>
     ensures removed { OnOk result (
         T.world store.new ≡ option_map (without_file path.now) (T.world store.old)) }
-    ensures kept { OnErr result (T.world store.new ≡ T.world store.old) }
+    ensures unchanged { OnErr result (T.world store.new ≡ T.world store.old) }
 {
     match remove_ours(alloc, store, path) {
         Ok(()) => Ok(()),
@@ -158,7 +158,7 @@ pub fn remove_cache<T: ClientStore>(alloc: Global, store: &mut T, path: &str) ->
 fn remove_ours<T: ClientStore>(alloc: Global, store: &mut T, path: &str) -> Result<(), Cause>
     ensures removed { OnOk result (
         T.world store.new ≡ option_map (without_file path.now) (T.world store.old)) }
-    ensures kept { OnErr result (T.world store.new ≡ T.world store.old) }
+    ensures unchanged { OnErr result (T.world store.new ≡ T.world store.old) }
 {
     check_cache(store.standing(path))?;
     match store.remove(alloc, path) {

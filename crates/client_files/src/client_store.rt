@@ -29,21 +29,21 @@ pub enum PathKind {
 pub trait ClientStore: Store {
     /// Checks what a path has, without opening it.
     fn standing(&mut self, path: &str) -> io::Result<PathKind>
-        ensures kept { Self.world self.new ≡ Self.world self.old };
+        ensures unchanged { Self.world self.new ≡ Self.world self.old };
 
     /// Returns the number of the user whose rights the program has.
     fn user(&mut self) -> io::Result<u32>
-        ensures kept { Self.world self.new ≡ Self.world self.old };
+        ensures unchanged { Self.world self.new ≡ Self.world self.old };
 
     /// Removes a file.
     fn remove(&mut self, alloc: Global, path: &str) -> io::Result<()>
         ensures removed { OnOk result (
             Self.world self.new ≡ option_map (without_file path.now) (Self.world self.old)) }
-        ensures kept { OnErr result (Self.world self.new ≡ Self.world self.old) };
+        ensures unchanged { OnErr result (Self.world self.new ≡ Self.world self.old) };
 
     /// Returns the names of the files in a folder, in rising order.
     fn names_in(&mut self, alloc: Global, path: &str) -> io::Result<Vec<String>>
-        ensures kept { Self.world self.new ≡ Self.world self.old };
+        ensures unchanged { Self.world self.new ≡ Self.world self.old };
 }
 
 /// The group's and others' permissions to write a file.

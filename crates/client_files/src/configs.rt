@@ -42,7 +42,7 @@ impl Config {
         store: &mut T,
         defaults: &Defaults<'_>,
     ) -> Result<Config, Fault>
-        ensures kept { T.world store.new ≡ T.world store.old }
+        ensures unchanged { T.world store.new ≡ T.world store.old }
     {
         let path = defaults.config_path()?;
         let mut reading = Reading {
@@ -68,7 +68,7 @@ impl Config {
         store: &mut T,
         defaults: &Defaults<'_>,
     ) -> Result<Option<Config>, Fault>
-        ensures kept { T.world store.new ≡ T.world store.old }
+        ensures unchanged { T.world store.new ≡ T.world store.old }
     {
         let Ok(path) = defaults.config_path() else {
             return Ok(None);
@@ -137,7 +137,7 @@ fn with_included<T: ClientStore>(
     store: &mut T,
     reading: Reading,
 ) -> Result<Reading, Fault>
-    ensures kept { T.world store.new ≡ T.world store.old }
+    ensures unchanged { T.world store.new ≡ T.world store.old }
 {
     let Reading { text, notes } = reading;
     let mut whole = Reading {
@@ -162,7 +162,7 @@ fn push_line<T: ClientStore>(
     whole: &mut Reading,
     line: &[u8],
 ) -> Result<(), Fault>
-    ensures kept { T.world store.new ≡ T.world store.old }
+    ensures unchanged { T.world store.new ≡ T.world store.old }
 {
     match included_by(line) {
         Some(Included::Folder(folder)) => push_folder(alloc, store, whole, folder),
@@ -226,7 +226,7 @@ fn push_folder<T: ClientStore>(
     whole: &mut Reading,
     folder: &str,
 ) -> Result<(), Fault>
-    ensures kept { T.world store.new ≡ T.world store.old }
+    ensures unchanged { T.world store.new ≡ T.world store.old }
 {
     match store.names_in(alloc, folder) {
         Ok(names) => push_files(alloc, store, whole, folder, &names),
@@ -241,7 +241,7 @@ fn push_files<T: ClientStore>(
     folder: &str,
     names: &[String],
 ) -> Result<(), Fault>
-    ensures kept { T.world store.new ≡ T.world store.old }
+    ensures unchanged { T.world store.new ≡ T.world store.old }
 {
     for name in names {
         if is_config_name(name.as_str()) {
@@ -268,7 +268,7 @@ fn push_file<T: ClientStore>(
     whole: &mut Reading,
     path: &str,
 ) -> Result<(), Fault>
-    ensures kept { T.world store.new ≡ T.world store.old }
+    ensures unchanged { T.world store.new ≡ T.world store.old }
 {
     if let Ok(PathKind::NoFile) = store.standing(path) {
         let notes = &mut whole.notes;

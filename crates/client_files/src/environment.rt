@@ -44,7 +44,7 @@ impl<'a> Defaults<'a> {
     /// Returns the path of the cache: that of `KRB5CCNAME`, or else of the `krb5.conf`, or else the user's own, which MIT's
     /// and Heimdal's clients use too.
     pub fn cache_path<T: ClientStore>(&self, alloc: Global, store: &mut T) -> Result<String, Fault>
-        ensures kept { T.world store.new ≡ T.world store.old }
+        ensures unchanged { T.world store.new ≡ T.world store.old }
     {
         match self.cache {
             Variable::Absent => self.own_path(alloc, store),
@@ -58,7 +58,7 @@ impl<'a> Defaults<'a> {
 
     /// Returns the path of the user's own cache.
     fn own_path<T: ClientStore>(&self, alloc: Global, store: &mut T) -> Result<String, Fault>
-        ensures kept { T.world store.new ≡ T.world store.old }
+        ensures unchanged { T.world store.new ≡ T.world store.old }
     {
         let user = user_number(alloc, store.user())?;
         if let Some(config) = Config::read_if_there(alloc, store, self)?

@@ -91,11 +91,11 @@ IsCommandStopped before command stop after = (after ≡ before) ⊎ (IsFailed st
 
 -- ---- the words of a command line
 
--- what the words order was done
+-- what the words ask for was done
 abbrev pub IsSpelledDone : List Text → Option World → Option World → Type 0
 IsSpelledDone words before after = (command : Command) × Spells words command × IsDone before command after
 
--- the words order a batch that keeps going, and some of its lines were done
+-- the words ask for a batch that keeps going, and some of its lines were done
 abbrev pub IsSpelledTried : List Text → Option World → Option World → Type 0
 IsSpelledTried words before after = (command : Command) × Spells words command × IsTried before command after
 
@@ -103,8 +103,8 @@ abbrev pub IsStopped : List Text → Option World → Stop → Option World → 
 IsStopped words before stop after =
     (after ≡ before) ⊎ (IsFailed stop × (IsSpelledDone words before after ⊎ IsSpelledTried words before after))
 
--- `Done`: what the words order was done, or they ask for help. `Refused` and `Usage`: the files are unchanged, unless
--- the words order a batch that keeps going. `Failed`: they are unchanged, or at most the output failed
+-- `Done`: what the words ask for was done, or they ask for help. `Refused` and `Usage`: the files are unchanged, unless
+-- the words ask for a batch that keeps going. `Failed`: they are unchanged, or at most the output failed
 abbrev pub IsEnd : List Text → Option World → Status → Option World → Type 0
 IsEnd words before statuses.Done after =
     ((asks_help words ≡ true) × (after ≡ before)) ⊎ IsSpelledDone words before after

@@ -59,7 +59,7 @@ pub(crate) fn run_batch<'p, T: Store, W: Write, E: Write>(
     keep_going: bool,
 ) -> Result<bool, Stop<'p>>
     ensures done { IfOk result (λ whole. IsBatchDone (T.world store.old) command.now.db.now keep_going whole (T.world store.new)) }
-    ensures kept { OnErr result (T.world store.new ≡ T.world store.old) }
+    ensures unchanged { OnErr result (T.world store.new ≡ T.world store.old) }
 {
     let alloc = context.alloc;
     let lines = read_lines(alloc, store, &mut context.errors)?;
@@ -82,7 +82,7 @@ fn read_lines<T: Store, E: Write>(
     store: &mut T,
     errors: &mut E,
 ) -> Result<Vec<BatchLine>, Stop<'static>>
-    ensures kept { T.world store.new ≡ T.world store.old }
+    ensures unchanged { T.world store.new ≡ T.world store.old }
 {
     let mut lines = Vec::new(alloc);
     for number in 1..=MOST_LINES {
@@ -98,7 +98,7 @@ fn read_lines<T: Store, E: Write>(
 
 /// Reads the next line. `None` if the input has ended.
 fn next_line<T: Store>(alloc: Global, store: &mut T) -> Result<Option<Vec<u8>>, Stop<'static>>
-    ensures kept { T.world store.new ≡ T.world store.old }
+    ensures unchanged { T.world store.new ≡ T.world store.old }
 {
     match store.ask(alloc, PROMPT, LONGEST_LINE) {
         Ok(Some(line)) => Ok(Some(line)),
@@ -149,7 +149,7 @@ fn run_lines<T: Store, W: Write, E: Write>(
 ) -> Result<bool, Stop<'static>>
     ensures run { IfOk result (λ whole. IsRun (T.world store.old) batch.now.db.now batch.now.keep_going
         (line_texts batch.now.lines.now) draft.old.database draft.new.database whole) }
-    ensures kept { T.world store.new ≡ T.world store.old }
+    ensures unchanged { T.world store.new ≡ T.world store.old }
 {
     if batch.keep_going {
         return run_each(context, store, batch, draft);
@@ -167,7 +167,7 @@ fn run_all<T: Store, W: Write, E: Write>(
 ) -> Result<(), Stop<'static>>
     ensures done { OnOk result (AreDone (T.world store.old) batch.now.db.now (line_texts batch.now.lines.now)
         draft.old.database draft.new.database) }
-    ensures kept { T.world store.new ≡ T.world store.old }
+    ensures unchanged { T.world store.new ≡ T.world store.old }
 {
     let mut rest = batch.lines;
     while let [line, others @ ..] = rest {
@@ -203,7 +203,7 @@ fn run_each<T: Store, W: Write, E: Write>(
 ) -> Result<bool, Stop<'static>>
     ensures run { IfOk result (λ whole. IsRun (T.world store.old) batch.now.db.now true (line_texts batch.now.lines.now)
         draft.old.database draft.new.database whole) }
-    ensures kept { T.world store.new ≡ T.world store.old }
+    ensures unchanged { T.world store.new ≡ T.world store.old }
 {
     let mut whole = true;
     let mut rest = batch.lines;
@@ -226,7 +226,7 @@ fn try_line<T: Store, W: Write, E: Write>(
 ) -> Result<bool, Stop<'static>>
     ensures turn { IfOk result (λ whole_then. IsTurn (T.world store.old) db.now (line_text line.now)
         whole draft.old.database draft.new.database whole_then) }
-    ensures kept { T.world store.new ≡ T.world store.old }
+    ensures unchanged { T.world store.new ≡ T.world store.old }
 {
     // a command that is refused in its middle leaves its own copy changed in part
     let database = draft.database.copy(draft.alloc)?;
@@ -253,7 +253,7 @@ fn run_line<T: Store, W: Write, E: Write>(
 ) -> Result<Option<Status>, Stop<'static>>
     ensures done { IfOk result (λ end. IfNone end (IsLineDone (T.world store.old) db.now
         (line_text line.now) draft.old.database draft.new.database)) }
-    ensures kept { T.world store.new ≡ T.world store.old }
+    ensures unchanged { T.world store.new ≡ T.world store.old }
 {
     let words = in_batch(context.alloc, db, &line.words)?;
     let subject = Subject {
@@ -266,7 +266,7 @@ fn run_line<T: Store, W: Write, E: Write>(
     }
 }
 
-/// Makes the change that the words of a line order.
+/// Makes the change that the words of a line ask for.
 fn run_words<'a, T: Store, E: Write>(
     errors: &mut E,
     store: &mut T,
@@ -274,7 +274,7 @@ fn run_words<'a, T: Store, E: Write>(
     draft: &mut Draft,
 ) -> Result<(), Stop<'a>>
     ensures done { OnOk result (IsSpelledMade (T.world store.old) (texts subject.now.words.now) draft.old.database draft.new.database) }
-    ensures kept { T.world store.new ≡ T.world store.old }
+    ensures unchanged { T.world store.new ≡ T.world store.old }
 {
     let matches = read_args(draft.alloc, subject.words);
     check_words(errors, subject, &matches)?;
@@ -311,7 +311,7 @@ fn check_mode<E: Write>(errors: &mut E, subject: &Subject<'_>) -> Result<(), Sto
     Err(report_command_fault(errors, CommandFault::BadValue(NO_MODE)))
 }
 
-/// Makes a change that a line orders.
+/// Makes a change that a line asks for.
 fn run_command<'a, T: Store, E: Write>(
     errors: &mut E,
     store: &mut T,
@@ -320,7 +320,7 @@ fn run_command<'a, T: Store, E: Write>(
     draft: &mut Draft,
 ) -> Result<(), Stop<'a>>
     ensures done { OnOk result (IsCommandMade (T.world store.old) command.now draft.old.database draft.new.database) }
-    ensures kept { T.world store.new ≡ T.world store.old }
+    ensures unchanged { T.world store.new ≡ T.world store.old }
 {
     match command.kind {
         CommandKind::Write(WriteCommand::Update(update)) => {
@@ -333,7 +333,7 @@ fn run_command<'a, T: Store, E: Write>(
 /// Reports each second how far the batch is, if standard error is a terminal. Ignores a clock that can't be read and a
 /// failed write.
 fn report_progress<T: Store, W, E: Write>(context: &mut Context<W, E>, store: &mut T, number: usize)
-    ensures kept { T.world store.new ≡ T.world store.old }
+    ensures unchanged { T.world store.new ≡ T.world store.old }
 {
     if !context.progress.watched {
         return;

@@ -325,7 +325,7 @@ fn drop_args(words: &[&str]) -> Option<ChangeArgs>
     }
 }
 
-/// Returns the change by the settings that the words order, or `None` if there is none or one is invalid.
+/// Returns the change by the settings that the words ask for, or `None` if there is none or one is invalid.
 fn policy_args(words: &[&str]) -> Option<ChangeArgs>
     ensures { command_of (texts words.now) ≡ Some (codes "policy") → IfSome result (λ how. IsChangeSpelled (texts words.now) how) }
 {

@@ -30,7 +30,7 @@ pub(crate) fn print_lint<'p, T: Store, W: Write, E: Write>(
     store: &mut T,
     db: &'p str,
 ) -> Result<(), Stop<'p>>
-    ensures kept { T.world store.new ≡ T.world store.old }
+    ensures unchanged { T.world store.new ≡ T.world store.old }
 {
     let alloc = context.alloc;
     let database = read_database(context, store, db)?;

@@ -21,7 +21,7 @@ pub(crate) fn print_list<'p, T: Store, W: Write, E: Write>(
     db: &'p str,
     list: ListArgs<'_>,
 ) -> Result<(), Stop<'p>>
-    ensures kept { T.world store.new ≡ T.world store.old }
+    ensures unchanged { T.world store.new ≡ T.world store.old }
 {
     let database = read_database(context, store, db)?;
     if list.json {
@@ -145,7 +145,7 @@ pub(crate) fn print_row<'p, T: Store, W: Write, E: Write>(
     db: &'p str,
     name: &str,
 ) -> Result<(), Stop<'p>>
-    ensures kept { T.world store.new ≡ T.world store.old }
+    ensures unchanged { T.world store.new ≡ T.world store.old }
 {
     let name = Name::from_text(context.alloc, name)?;
     let database = read_database(context, store, db)?;

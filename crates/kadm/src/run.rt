@@ -37,8 +37,8 @@ pub(crate) struct CommandLine<'a> {
 }
 
 /// Runs a command line. Prints the outcome to `writer`, and the reason of a refusal or failure and what is wrong with the
-/// words to `errors`. `Done` means that what the words order was done, or that they ask for help. Otherwise the files are
-/// unchanged, unless the words order a batch that keeps going (`Refused`), or only the printing failed (`Failed`).
+/// words to `errors`. `Done` means that what the words ask for was done, or that they ask for help. Otherwise the files are
+/// unchanged, unless the words ask for a batch that keeps going (`Refused`), or only the printing failed (`Failed`).
 pub(crate) fn kadm_run<T: Store, W: Write + Drop, E: Write + Drop>(
     alloc: Global,
     line: CommandLine<'_>,
@@ -189,7 +189,7 @@ fn run_print<'a, T: Store, W: Write, E: Write>(
     print: PrintCommand<'a>,
 ) -> Result<Status, Stop<'a>>
     ensures done { IfOk result (λ status. status ≡ Done) }
-    ensures kept { T.world store.new ≡ T.world store.old }
+    ensures unchanged { T.world store.new ≡ T.world store.old }
 {
     match print {
         PrintCommand::List(list) => print_list(context, store, db, list)?,
@@ -225,7 +225,7 @@ fn write_files<'a, T: Store, W: Write, E: Write>(
     write: WriteCommand<'a>,
 ) -> Result<bool, Stop<'a>>
     ensures done { IfOk result (λ whole. IsWriteDone (T.world store.old) command.now write.entry whole (T.world store.new)) }
-    ensures kept { OnErr result (T.world store.new ≡ T.world store.old) }
+    ensures unchanged { OnErr result (T.world store.new ≡ T.world store.old) }
 {
     match write {
         WriteCommand::Batch { keep_going } => run_batch(context, store, command, keep_going),

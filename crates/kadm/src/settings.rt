@@ -1,4 +1,4 @@
-//! Which settings of a policy the words of a command line order, and which values a field accepts.
+//! Which settings of a policy the words of a command line ask for, and which values a field accepts.
 ghost use Rattle.std.specs.Prelude.{◌≡◌};
 ghost use Rattle.kadm_changes.specs.Words.{texts};
 ghost use Rattle.kadm.specs.Words.{sets_some};
@@ -32,7 +32,7 @@ pub(crate) fn is_setting(field: &str, value: &str) -> bool {
     setting_of(field, value).is_some() || setting_from(field, value, 0).is_some()
 }
 
-/// Checks whether the words order a setting, and have neither `--field` nor `--value` alone.
+/// Checks whether the words ask for a setting, and have neither `--field` nor `--value` alone.
 pub(crate) fn sets_some(words: &[&str]) -> bool
     ensures { result ≡ sets_some (texts words.now) }
 {
@@ -42,7 +42,7 @@ pub(crate) fn sets_some(words: &[&str]) -> bool
     !is_given(words, "--value") && is_given(words, "--set")
 }
 
-/// Returns the first setting that the words order and its field does not accept.
+/// Returns the first setting that the words ask for and its field does not accept.
 pub(crate) fn invalid_setting<'a>(words: &[&'a str]) -> Option<SettingWords<'a>> {
     let mut rest = words;
     while let [word, others @ ..] = rest {

@@ -1,4 +1,4 @@
--- The words of a command line that order changes.
+-- The words of a command line that ask for changes.
 use Rattle.std.specs.Prelude.{◌==◌, ◌&&◌, Bool, List, [], ◌∷◌, length, map, nat_lt, slice_get}
 use Rattle.std.specs.Prelude.{ℕ, Option, Some, None, option_map, unwrap_or, codes, bytes_eq, if◌then◌else◌}
 use Rattle.std.specs.Option.{option_or}

@@ -1,10 +1,10 @@
-//! The settings of a policy that the words of a command line order.
+//! The settings of a policy that the words of a command line ask for.
 ghost use Rattle.std.specs.Prelude.{◌≡◌, [], option_map, unwrap_or};
 ghost use Rattle.kadm_changes.specs.Words.{assigned, setting_at, texts, value_of};
 
 use crate::words::{value_at, value_of};
 
-/// The options that order a setting.
+/// The options that ask for a setting.
 #[derive(Clone, Copy, PartialEq, Eq)]
 pub enum SettingForm {
     /// `--set FIELD=VALUE`.

@@ -39,7 +39,7 @@ pub fn make_realm<'p, T: Store, W: Write, E: Write>(
 ) -> Result<(), Stop<'p>>
     ensures done { OnOk result (MadeRealm (T.world store.old) command.now.db.now command.now.etypes.items new.entry.realm.now
         (path_of new.entry.seed) (T.world store.new)) }
-    ensures kept { OnErr result (T.world store.new ≡ T.world store.old) }
+    ensures unchanged { OnErr result (T.world store.new ≡ T.world store.old) }
 {
     match component_from_text(context.alloc, new.realm) {
         Ok(realm) => make_new_realm(context, store, command, &realm, new.seed),
@@ -56,7 +56,7 @@ fn make_new_realm<'p, T: Store, W: Write, E: Write>(
 ) -> Result<(), Stop<'p>>
     ensures done { OnOk result (MadeNew (T.world store.old) command.now.db.now command.now.etypes.items realm.now
         (path_of seed.entry) (T.world store.new)) }
-    ensures kept { OnErr result (T.world store.new ≡ T.world store.old) }
+    ensures unchanged { OnErr result (T.world store.new ≡ T.world store.old) }
 {
     let alloc = context.alloc;
     let locked = lock_database(context, store, command)?;
@@ -101,7 +101,7 @@ pub(crate) fn change_all<'p, T: Store>(
     changes: &Changes<'p>,
 ) -> Result<(), Stop<'p>>
     ensures changed { OnOk result (AreChanged (T.world store.old) (texts changes.now.words.now) changes.now.how draft.old.database draft.new.database) }
-    ensures kept { T.world store.new ≡ T.world store.old }
+    ensures unchanged { T.world store.new ≡ T.world store.old }
 {
     let mut rest = changes.words;
     while let [word, others @ ..] = rest {
@@ -120,7 +120,7 @@ fn change_at<'p, T: Store>(
     name: Option<&'p str>,
 ) -> Result<(), Stop<'p>>
     ensures changed { OnOk result (IsChangedAt (T.world store.old) (texts changes.now.words.now) changes.now.how (path_of name.entry) draft.old.database draft.new.database) }
-    ensures kept { T.world store.new ≡ T.world store.old }
+    ensures unchanged { T.world store.new ≡ T.world store.old }
 {
     match name {
         Some(name) => change_named(store, draft, changes, name),
@@ -136,7 +136,7 @@ fn change_named<'p, T: Store>(
     name: &'p str,
 ) -> Result<(), Stop<'p>>
     ensures changed { OnOk result (IsNamedChanged (T.world store.old) (texts changes.now.words.now) changes.now.how name.entry.now draft.old.database draft.new.database) }
-    ensures kept { T.world store.new ≡ T.world store.old }
+    ensures unchanged { T.world store.new ≡ T.world store.old }
 {
     match change_text(store, draft, changes, name) {
         Ok(()) => Ok(()),
@@ -152,7 +152,7 @@ fn change_text<'p, T: Store>(
     name: &str,
 ) -> Result<(), Stop<'p>>
     ensures changed { OnOk result (IsNamedChanged (T.world store.old) (texts changes.now.words.now) changes.now.how name.now draft.old.database draft.new.database) }
-    ensures kept { T.world store.new ≡ T.world store.old }
+    ensures unchanged { T.world store.new ≡ T.world store.old }
 {
     let who = Name::from_text(draft.alloc, name)?;
     change(store, draft, &who, changes)
@@ -166,7 +166,7 @@ fn change<'p, T: Store>(
     changes: &Changes<'p>,
 ) -> Result<(), Stop<'p>>
     ensures changed { OnOk result (IsChanged (T.world store.old) (texts changes.now.words.now) changes.now.how who.now.components draft.old.database draft.new.database) }
-    ensures kept { T.world store.new ≡ T.world store.old }
+    ensures unchanged { T.world store.new ≡ T.world store.old }
 {
     match changes.how {
         ChangeArgs::Drop { version } => drop_keys(draft, who, version),
@@ -176,7 +176,7 @@ fn change<'p, T: Store>(
     }
 }
 
-/// Makes the settings that the words of a command line order, in their order. After an `Err` some may have been made.
+/// Makes the settings that the words of a command line ask for, in their order. After an `Err` some may have been made.
 pub(crate) fn set_all<'p, T: Store>(
     store: &mut T,
     draft: &mut Draft,
@@ -184,7 +184,7 @@ pub(crate) fn set_all<'p, T: Store>(
     words: &'p [&'p str],
 ) -> Result<(), Stop<'p>>
     ensures set { OnOk result (AreSet (T.world store.old) (texts words.entry.now) who.now.components draft.old.database draft.new.database) }
-    ensures kept { T.world store.new ≡ T.world store.old }
+    ensures unchanged { T.world store.new ≡ T.world store.old }
 {
     let mut rest = words;
     while let [word, others @ ..] = rest {
@@ -205,7 +205,7 @@ fn set_at<'p, T: Store>(
     ensures set { OnOk result (IsSetAt (T.world store.old)
         (option_map (λ setting. (setting.field.now, setting.value.now)) setting.entry)
         who.now.components draft.old.database draft.new.database) }
-    ensures kept { T.world store.new ≡ T.world store.old }
+    ensures unchanged { T.world store.new ≡ T.world store.old }
 {
     match setting {
         Some(setting) => set_policy(store, draft, who, setting),
@@ -240,7 +240,7 @@ fn set_policy<'p, T: Store>(
 ) -> Result<(), Stop<'p>>
     ensures changed { OnOk result (IsPolicySet (T.world store.old) words.entry.field.now words.entry.value.now who.now.components
         draft.old.database draft.new.database) }
-    ensures kept { T.world store.new ≡ T.world store.old }
+    ensures unchanged { T.world store.new ≡ T.world store.old }
 {
     let Some(row) = draft.database.get(who) else {
         return Err(Stop::from(ChangeFault::Absent));
@@ -282,7 +282,7 @@ fn denies_tickets(setting: Setting) -> bool
 /// Returns a field with its value. It reads the clock if the value is a time from now.
 fn setting<'p, T: Store>(store: &mut T, field: &str, value: &'p str) -> Result<Setting, Stop<'p>>
     ensures setting { IfOk result (λ setting. IsValueOf (T.world store.old) setting field.now value.entry.now) }
-    ensures kept { T.world store.new ≡ T.world store.old }
+    ensures unchanged { T.world store.new ≡ T.world store.old }
 {
     if let Some(setting) = setting_of(field, value) {
         return Ok(setting);

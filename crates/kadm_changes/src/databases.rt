@@ -48,7 +48,7 @@ pub fn lock_database<'p, T: Store, W: Write, E: Write>(
     command: &Command<'p>,
 ) -> Result<Locked<'p>, Stop<'p>>
     ensures locked { IfOk result (λ locked. locked ≡ command.now.db.now) }
-    ensures kept { T.world store.new ≡ T.world store.old }
+    ensures unchanged { T.world store.new ≡ T.world store.old }
 {
     let locked = Locked {
         path: command.db,
@@ -83,7 +83,7 @@ pub fn read_database<'p, T: Store, W: Write, E: Write>(
     db: &'p str,
 ) -> Result<Database, Stop<'p>>
     ensures read { IfOk result (λ database. HoldsDatabase (T.world store.old) db.now database) }
-    ensures kept { T.world store.new ≡ T.world store.old }
+    ensures unchanged { T.world store.new ≡ T.world store.old }
 {
     let octets = read_at_most(context.alloc, store, db, LONGEST_TEXT)?;
     let Ok(text) = str::from_utf8(&octets) else {
@@ -119,7 +119,7 @@ pub fn write_database<'p, T: Store>(
     database: &Database,
 ) -> Result<(), Stop<'p>>
     ensures written { OnOk result (T.world store.new ≡ with_database locked.now database.now (T.world store.old)) }
-    ensures kept { OnErr result (T.world store.new ≡ T.world store.old) }
+    ensures unchanged { OnErr result (T.world store.new ≡ T.world store.old) }
 {
     let text = principals_text::write(alloc, database)?;
     change_file(alloc, store, locked.path, text.as_bytes(), locked.keep_mode)
@@ -134,7 +134,7 @@ pub(crate) fn change_file<'p, T: Store>(
     keep_mode: bool,
 ) -> Result<(), Stop<'p>>
     ensures written { OnOk result (T.world store.new ≡ option_map (with_file path.now octets.now) (T.world store.old)) }
-    ensures kept { OnErr result (T.world store.new ≡ T.world store.old) }
+    ensures unchanged { OnErr result (T.world store.new ≡ T.world store.old) }
 {
     if keep_mode {
         update_file(alloc, store, path, octets)?;
@@ -148,7 +148,7 @@ pub(crate) fn change_file<'p, T: Store>(
 #[tactic(auto, using(crate::proofs::Doing::made_by))]
 pub(crate) fn apply(draft: &mut Draft, who: &Name, what: RowChange) -> Result<(), ChangeFault>
     ensures changed { OnOk result (Makes draft.old.database who.now.components what draft.new.database) }
-    ensures kept { OnErr result (draft.new.database ≡ draft.old.database) }
+    ensures unchanged { OnErr result (draft.new.database ≡ draft.old.database) }
 {
     let name = who.copy(draft.alloc)?;
     draft.database.apply(draft.alloc, &Change { name, what })

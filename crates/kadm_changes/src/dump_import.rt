@@ -39,7 +39,7 @@ pub fn import_dump<'p, T: Store, W: Write, E: Write>(
     from: DumpArgs<'p>,
 ) -> Result<(), Stop<'p>>
     ensures done { OnOk result (MadeFromDump (T.world store.old) command.now.db.now from.entry (T.world store.new)) }
-    ensures kept { OnErr result (T.world store.new ≡ T.world store.old) }
+    ensures unchanged { OnErr result (T.world store.new ≡ T.world store.old) }
 {
     let locked = lock_database(context, store, command)?;
     if has_file(store, command.db)? {
@@ -56,7 +56,7 @@ fn read_realm<'p, T: Store, W: Write, E: Write>(
     from: DumpArgs<'p>,
 ) -> Result<Database, Stop<'p>>
     ensures read { IfOk result (λ database. HasRealm (T.world store.old) from.entry database) }
-    ensures kept { T.world store.new ≡ T.world store.old }
+    ensures unchanged { T.world store.new ≡ T.world store.old }
 {
     let text = read_at_most(context.alloc, store, from.dump, LONGEST_TEXT)?;
     let stash = read_stash(context.alloc, store, from.stash)?;
@@ -70,7 +70,7 @@ fn read_realm<'p, T: Store, W: Write, E: Write>(
 /// Reads MIT's stash file, which is a keytab.
 fn read_stash<'p, T: Store>(alloc: Global, store: &mut T, path: &'p str) -> Result<Keytab, Stop<'p>>
     ensures read { IfOk result (λ stash. IsStash (T.world store.old) path.now stash) }
-    ensures kept { T.world store.new ≡ T.world store.old }
+    ensures unchanged { T.world store.new ≡ T.world store.old }
 {
     let octets = read_file(alloc, store, path)?;
     match Keytab::read(alloc, &octets) {

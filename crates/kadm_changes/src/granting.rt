@@ -41,7 +41,7 @@ pub(crate) fn give_password<'p, T: Store>(
 ) -> Result<(), Stop<'p>>
     ensures given { OnOk result (GivesPassword (T.world store.old) to.now.etypes.now to.now.pass.now grant to.now.who.now.components
         draft.old.database draft.new.database) }
-    ensures kept { T.world store.new ≡ T.world store.old }
+    ensures unchanged { T.world store.new ≡ T.world store.old }
 {
     let keys = keys_of(draft, to)?;
     give(draft, to.who, keys, grant)?;
@@ -57,7 +57,7 @@ pub(crate) fn give_random<'p, T: Store>(
 ) -> Result<(), Stop<'p>>
     ensures given { OnOk result (GivesRandom (T.world store.old) to.now.etypes.now (path_of random.entry.seed) random.entry.grant
         to.now.who.now.components draft.old.database draft.new.database) }
-    ensures kept { T.world store.new ≡ T.world store.old }
+    ensures unchanged { T.world store.new ≡ T.world store.old }
 {
     let seed = read_or_draw_seed(draft.alloc, store, random.seed)?;
     let keys = random_keys(draft.alloc, to.etypes, seed)?;
@@ -162,7 +162,7 @@ fn numbers_of(alloc: Global, versions: &[KeyVersion]) -> Result<Vec<u32>, AllocE
 /// Clears a `password_expires` that is past.
 fn clear_expiry<'p, T: Store>(store: &mut T, draft: &mut Draft, who: &Name) -> Result<(), Stop<'p>>
     ensures cleared { OnOk result (IsCleared (T.world store.old) who.now.components draft.old.database draft.new.database) }
-    ensures kept { T.world store.new ≡ T.world store.old }
+    ensures unchanged { T.world store.new ≡ T.world store.old }
 {
     let Some((policy, expires)) = expiring(&draft.database, who) else {
         return Ok(());

@@ -26,7 +26,7 @@ pub(crate) fn import<'p, T: Store>(
 ) -> Result<(), Stop<'p>>
     ensures imported { OnOk result (IsImported (T.world store.old) to.now.etypes.now keytab.now to.now.who.now.components
         draft.old.database draft.new.database) }
-    ensures kept { T.world store.new ≡ T.world store.old }
+    ensures unchanged { T.world store.new ≡ T.world store.old }
 {
     let versions = read_versions(store, draft, to, keytab)?;
     Ok(add_imported(draft, to.who, versions)?)
@@ -49,7 +49,7 @@ fn read_versions<'p, T: Store>(
 ) -> Result<Versions, Stop<'p>>
     ensures read { IfOk result (λ versions. HasVersions (T.world store.old) path.now
         (draft.now.database.realm ∷ to.now.who.now.components) to.now.etypes.now versions) }
-    ensures kept { T.world store.new ≡ T.world store.old }
+    ensures unchanged { T.world store.new ≡ T.world store.old }
 {
     let octets = read_file(draft.alloc, store, path)?;
     let keytab = Keytab::read(draft.alloc, &octets)?;

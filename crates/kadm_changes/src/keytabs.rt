@@ -34,7 +34,7 @@ pub fn write_keytab<'p, T: Store, W: Write, E: Write>(
     to: KeytabArgs<'p>,
 ) -> Result<(), Stop<'p>>
     ensures done { OnOk result (WroteKeytab (T.world store.old) command.now.db.now to.entry (T.world store.new)) }
-    ensures kept { OnErr result (T.world store.new ≡ T.world store.old) }
+    ensures unchanged { OnErr result (T.world store.new ≡ T.world store.old) }
 {
     let alloc = context.alloc;
     let name = Name::from_text(alloc, to.name)?;
@@ -49,7 +49,7 @@ pub fn write_keytab<'p, T: Store, W: Write, E: Write>(
 /// database that a command writes has a lock, and so has the one that this command locks, whatever path names it.
 fn check_path<'p, T: Store>(alloc: Global, store: &mut T, path: &'p str) -> Result<(), Stop<'p>>
     ensures free { OnOk result (IsFreePath (T.world store.old) path.now) }
-    ensures kept { T.world store.new ≡ T.world store.old }
+    ensures unchanged { T.world store.new ≡ T.world store.old }
 {
     if path.ends_with(LOCK_END) {
         return Err(Stop::Refused(Reason::IsLock));
@@ -77,7 +77,7 @@ fn is_other_file(first: Option<u8>) -> bool
 /// Checks whether there is a lock beside a file.
 fn has_lock<'p, T: Store>(alloc: Global, store: &mut T, path: &'p str) -> Result<bool, Stop<'p>>
     ensures there { IfOk result (λ found. IsThere (T.world store.old) (lock_of path.now) found) }
-    ensures kept { T.world store.new ≡ T.world store.old }
+    ensures unchanged { T.world store.new ≡ T.world store.old }
 {
     let beside = format!(in alloc; "{path}{LOCK_END}")?;
     match store.exists(&beside) {
@@ -98,7 +98,7 @@ fn new_octets<'p, T: Store>(
     to: KeytabArgs<'p>,
 ) -> Result<Vec<u8>, Stop<'p>>
     ensures holds { IfOk result (λ octets. IsKeytabFor (T.world store.old) to.entry name.now.components database.now octets.items) }
-    ensures kept { T.world store.new ≡ T.world store.old }
+    ensures unchanged { T.world store.new ≡ T.world store.old }
 {
     let old = read_old(alloc, store, to.out, to.append)?;
     let new = keytab_of(alloc, database, name)?;
@@ -114,7 +114,7 @@ fn put_octets<'p, T: Store>(
     octets: &[u8],
 ) -> Result<(), Stop<'p>>
     ensures written { OnOk result (T.world store.new ≡ option_map (with_file to.entry.out.now octets.now) (T.world store.old)) }
-    ensures kept { OnErr result (T.world store.new ≡ T.world store.old) }
+    ensures unchanged { OnErr result (T.world store.new ≡ T.world store.old) }
 {
     if to.append {
         return change_file(alloc, store, to.out, octets, command.keep_mode);
@@ -131,7 +131,7 @@ fn read_old<'p, T: Store>(
     append: bool,
 ) -> Result<Option<Vec<u8>>, Stop<'p>>
     ensures old { IfOk result (λ old. IsOldKeytab (T.world store.old) append path.now (option_map (λ octets. octets.items) old)) }
-    ensures kept { T.world store.new ≡ T.world store.old }
+    ensures unchanged { T.world store.new ≡ T.world store.old }
 {
     if append && has_file(store, path)? {
         Ok(Some(read_judged(alloc, store, path)?))
@@ -147,7 +147,7 @@ fn read_judged<'p, T: Store>(
     path: &'p str,
 ) -> Result<Vec<u8>, Stop<'p>>
     ensures read { IfOk result (λ octets. IsRead (T.world store.old) path.now octets.items) }
-    ensures kept { T.world store.new ≡ T.world store.old }
+    ensures unchanged { T.world store.new ≡ T.world store.old }
 {
     let octets = read_file(alloc, store, path)?;
     let _read = Keytab::read(alloc, &octets)?;

@@ -23,7 +23,7 @@ pub(crate) fn new_password<'p, T: Store, W: Write, E: Write>(
     row: &RowArgs<'p>,
 ) -> Result<Vec<u8>, Stop<'p>>
     ensures given { IfOk result (λ pass. IsSecretOf (T.world store.old) row.now.how pass.items) }
-    ensures kept { T.world store.new ≡ T.world store.old }
+    ensures unchanged { T.world store.new ≡ T.world store.old }
 {
     match &row.how {
         RowUpdate::Password(to) => {
@@ -50,7 +50,7 @@ fn any_password<'p, T: Store, W: Write, E: Write>(
     args: PasswordArgs<'p>,
 ) -> Result<Vec<u8>, Stop<'p>>
     ensures given { IfOk result (λ pass. IsPasswordOf (T.world store.old) (path_of args.entry.file) pass.items) }
-    ensures kept { T.world store.new ≡ T.world store.old }
+    ensures unchanged { T.world store.new ≡ T.world store.old }
 {
     let pass = match args.file {
         Some(path) => password_at(context.alloc, store, path)?,
@@ -66,7 +66,7 @@ pub(crate) fn batch_password<'p, T: Store>(
     how: &RowUpdate<'p>,
 ) -> Result<Vec<u8>, Stop<'p>>
     ensures given { IfOk result (λ pass. IsSecretOf (T.world store.old) how.now pass.items) }
-    ensures kept { T.world store.new ≡ T.world store.old }
+    ensures unchanged { T.world store.new ≡ T.world store.old }
 {
     match how {
         RowUpdate::Password(to) => file_password(alloc, store, to.password),
@@ -82,7 +82,7 @@ fn file_password<'p, T: Store>(
     args: PasswordArgs<'p>,
 ) -> Result<Vec<u8>, Stop<'p>>
     ensures given { IfOk result (λ pass. IsPasswordOf (T.world store.old) (path_of args.entry.file) pass.items) }
-    ensures kept { T.world store.new ≡ T.world store.old }
+    ensures unchanged { T.world store.new ≡ T.world store.old }
 {
     let Some(path) = args.file else {
         return Err(Stop::Refused(Reason::NoPassword));
@@ -97,7 +97,7 @@ fn password_at<'p, T: Store>(
     path: &'p str,
 ) -> Result<Vec<u8>, Stop<'p>>
     ensures line { IfOk result (λ pass. HasFirstLine (T.world store.old) path.now pass.items) }
-    ensures kept { T.world store.new ≡ T.world store.old }
+    ensures unchanged { T.world store.new ≡ T.world store.old }
 {
     match read_password(alloc, store, path)? {
         Some(pass) => Ok(pass),
@@ -137,7 +137,7 @@ fn asked_password<'p, T: Store, W: Write, E: Write>(
     store: &mut T,
     asked: Asked<'p>,
 ) -> Result<Vec<u8>, Stop<'p>>
-    ensures kept { T.world store.new ≡ T.world store.old }
+    ensures unchanged { T.world store.new ≡ T.world store.old }
 {
     let realm = realm_text(context, store, asked.db)?;
     if store.is_terminal() {
@@ -161,7 +161,7 @@ fn realm_text<'p, T: Store, W: Write, E: Write>(
     store: &mut T,
     db: &'p str,
 ) -> Result<String, Stop<'p>>
-    ensures kept { T.world store.new ≡ T.world store.old }
+    ensures unchanged { T.world store.new ≡ T.world store.old }
 {
     let database = read_database(context, store, db)?;
     Ok(component_to_text(context.alloc, database.realm())?)
@@ -174,7 +174,7 @@ fn ask_twice<T: Store>(
     name: &str,
     realm: &str,
 ) -> Result<Vec<u8>, Stop<'static>>
-    ensures kept { T.world store.new ≡ T.world store.old }
+    ensures unchanged { T.world store.new ≡ T.world store.old }
 {
     let pass = ask_once(alloc, store, name, realm)?;
     if !store.is_terminal() {
@@ -194,7 +194,7 @@ fn ask_once<T: Store>(
     name: &str,
     realm: &str,
 ) -> Result<Vec<u8>, Stop<'static>>
-    ensures kept { T.world store.new ≡ T.world store.old }
+    ensures unchanged { T.world store.new ≡ T.world store.old }
 {
     match ask_password(alloc, store, name, realm)? {
         Some(pass) => Ok(pass),

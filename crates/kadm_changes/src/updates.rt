@@ -32,7 +32,7 @@ pub fn update<'p, T: Store, W: Write, E: Write>(
 ) -> Result<(), Stop<'p>>
     ensures done { OnOk result
         (Updated (T.world store.old) command.now.db.now command.now.etypes.items update.entry (T.world store.new)) }
-    ensures kept { OnErr result (T.world store.new ≡ T.world store.old) }
+    ensures unchanged { OnErr result (T.world store.new ≡ T.world store.old) }
 {
     match update {
         Update::Row(to) => update_row(context, store, command, &to),
@@ -52,7 +52,7 @@ fn update_row<'p, T: Store, W: Write, E: Write>(
 ) -> Result<(), Stop<'p>>
     ensures done { OnOk result (Rewritten (T.world store.old) command.now.db.now
         (IsRowUpdated (T.world store.old) command.now.etypes.items to.now) (T.world store.new)) }
-    ensures kept { OnErr result (T.world store.new ≡ T.world store.old) }
+    ensures unchanged { OnErr result (T.world store.new ≡ T.world store.old) }
 {
     let alloc = context.alloc;
     let who = Name::from_text(alloc, to.name)?;
@@ -91,7 +91,7 @@ fn update_rows<'p, T: Store, W: Write, E: Write>(
 ) -> Result<(), Stop<'p>>
     ensures done { OnOk result (Rewritten (T.world store.old) command.now.db.now
         (AreChanged (T.world store.old) (texts changes.now.words.now) changes.now.how) (T.world store.new)) }
-    ensures kept { OnErr result (T.world store.new ≡ T.world store.old) }
+    ensures unchanged { OnErr result (T.world store.new ≡ T.world store.old) }
 {
     let alloc = context.alloc;
     check_names(alloc, changes.words)?;
@@ -111,7 +111,7 @@ fn migrate<'p, T: Store, W: Write, E: Write>(
 ) -> Result<(), Stop<'p>>
     ensures done { OnOk result (Rewritten (T.world store.old) command.now.db.now
         (IsMigrated users_are_no_services) (T.world store.new)) }
-    ensures kept { OnErr result (T.world store.new ≡ T.world store.old) }
+    ensures unchanged { OnErr result (T.world store.new ≡ T.world store.old) }
 {
     let alloc = context.alloc;
     let locked = lock_database(context, store, command)?;
@@ -131,7 +131,7 @@ pub fn update_in_batch<'p, T: Store, E: Write>(
     subject: &Subject<'_>,
 ) -> Result<(), Stop<'p>>
     ensures done { OnOk result (IsUpdated (T.world store.old) etypes.now update.entry draft.old.database draft.new.database) }
-    ensures kept { T.world store.new ≡ T.world store.old }
+    ensures unchanged { T.world store.new ≡ T.world store.old }
 {
     match update {
         Update::Row(to) => row_in_batch(errors, store, draft, etypes, &to, subject),
@@ -152,7 +152,7 @@ fn row_in_batch<'p, T: Store, E: Write>(
     subject: &Subject<'_>,
 ) -> Result<(), Stop<'p>>
     ensures done { OnOk result (IsRowUpdated (T.world store.old) etypes.now to.now draft.old.database draft.new.database) }
-    ensures kept { T.world store.new ≡ T.world store.old }
+    ensures unchanged { T.world store.new ≡ T.world store.old }
 {
     let who = Name::from_text(draft.alloc, to.name)?;
     let pass = batch_password(draft.alloc, store, &to.how)?;
@@ -182,7 +182,7 @@ fn change_row<'p, T: Store>(
 ) -> Result<(), Stop<'p>>
     ensures changed { OnOk result (IsRowChanged (T.world store.old) recipient.now.etypes.now recipient.now.pass.now to.now
         recipient.now.who.now.components draft.old.database draft.new.database) }
-    ensures kept { T.world store.new ≡ T.world store.old }
+    ensures unchanged { T.world store.new ≡ T.world store.old }
 {
     give_row(store, draft, recipient, &to.how)?;
     set_all(store, draft, recipient.who, to.words)
@@ -197,7 +197,7 @@ fn give_row<'p, T: Store>(
 ) -> Result<(), Stop<'p>>
     ensures given { OnOk result (IsRowGiven (T.world store.old) recipient.now.etypes.now recipient.now.pass.now how.now
         recipient.now.who.now.components draft.old.database draft.new.database) }
-    ensures kept { T.world store.new ≡ T.world store.old }
+    ensures unchanged { T.world store.new ≡ T.world store.old }
 {
     match how {
         RowUpdate::Password(to) => give_password(store, draft, recipient, to.grant),

@@ -44,7 +44,7 @@ pub(crate) fn get_first<T: ClientStore, X: AnyMessage>(
 ) -> Result<Printed, Fault>
     ensures made { OnOk result (
         Made (CameFirst X.finds X.carries X.answers) (T.world context.old.store) (T.world context.new.store)) }
-    ensures kept { OnErr result (T.world context.new.store ≡ T.world context.old.store) }
+    ensures unchanged { OnErr result (T.world context.new.store ≡ T.world context.old.store) }
 {
     let words = first_words(options)?;
     let mut first = prepare(context, options, defaults, &words)?;
@@ -80,7 +80,7 @@ fn prepare<T: ClientStore, X>(
     defaults: &Defaults<'_>,
     words: &FirstWords<'_>,
 ) -> Result<First, Fault>
-    ensures kept { T.world context.new.store ≡ T.world context.old.store }
+    ensures unchanged { T.world context.new.store ≡ T.world context.old.store }
 {
     let path = cache_path(context.alloc, &mut context.store, options, defaults)?;
     use_given_kdcs(context.alloc, &mut context.client.kdcs, options)?;
@@ -103,7 +103,7 @@ pub(crate) fn write_new<T: ClientStore, X>(
 ) -> Result<Printed, Fault>
     ensures written { OnOk result (T.world context.new.store
         ≡ option_map (with_file path.now (cache_text (new_cache credential.now))) (T.world context.old.store)) }
-    ensures kept { OnErr result (T.world context.new.store ≡ T.world context.old.store) }
+    ensures unchanged { OnErr result (T.world context.new.store ≡ T.world context.old.store) }
 {
     let printed = Printed::ok(context.alloc)?;
     write_new_cache(context.alloc, &mut context.store, path, credential)?;
@@ -116,7 +116,7 @@ pub(crate) fn generator<T: ClientStore>(
     store: &mut T,
     options: &ArgMatches<'_>,
 ) -> Result<ChaCha20Rng, Fault>
-    ensures kept { T.world store.new ≡ T.world store.old }
+    ensures unchanged { T.world store.new ≡ T.world store.old }
 {
     let seed = read_or_draw_seed(alloc, store, options.get_str("seed"));
     Ok(ChaCha20Rng::from_seed(at_file(alloc, seed)?))
@@ -129,7 +129,7 @@ fn read_login<T: ClientStore, X>(
     words: &FirstWords<'_>,
     path: &str,
 ) -> Result<Login, Fault>
-    ensures kept { T.world context.new.store ≡ T.world context.old.store }
+    ensures unchanged { T.world context.new.store ≡ T.world context.old.store }
 {
     let alloc = context.alloc;
     let given = given_client(alloc, words.client)?;
@@ -151,7 +151,7 @@ fn cached_client<T: ClientStore, X>(
     defaults: &Defaults<'_>,
     path: &str,
 ) -> Result<Principal, Fault>
-    ensures kept { T.world context.new.store ≡ T.world context.old.store }
+    ensures unchanged { T.world context.new.store ≡ T.world context.old.store }
 {
     let cache = match read_cache(context.alloc, &mut context.store, path) {
         Ok(cache) => cache,
@@ -170,7 +170,7 @@ fn own_client<T: ClientStore, X>(
     context: &mut Context<T, X>,
     defaults: &Defaults<'_>,
 ) -> Result<Principal, Fault>
-    ensures kept { T.world context.new.store ≡ T.world context.old.store }
+    ensures unchanged { T.world context.new.store ≡ T.world context.old.store }
 {
     let Variable::Text(user) = defaults.user else {
         return Err(Fault::usage(NO_NAME));
@@ -240,7 +240,7 @@ fn read_secret<T: ClientStore>(
     words: &FirstWords<'_>,
     client: &Principal,
 ) -> Result<Secret, Fault>
-    ensures kept { T.world store.new ≡ T.world store.old }
+    ensures unchanged { T.world store.new ≡ T.world store.old }
 {
     let pass = match words.secret {
         SecretWords::Keytab(path) => return Ok(Secret::Keytab(read_keytab(alloc, store, path)?)),

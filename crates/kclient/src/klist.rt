@@ -26,7 +26,7 @@ pub(crate) fn list<T: ClientStore, X>(
     options: &ArgMatches<'_>,
     defaults: &Defaults<'_>,
 ) -> Result<Printed, Fault>
-    ensures kept { T.world context.new.store ≡ T.world context.old.store }
+    ensures unchanged { T.world context.new.store ≡ T.world context.old.store }
 {
     let alloc = context.alloc;
     if let Some(path) = keytab_path(options)? {
@@ -62,7 +62,7 @@ fn has_good_ticket<T: ClientStore>(
     path: &str,
     at: Moment,
 ) -> Result<bool, Fault>
-    ensures kept { T.world store.new ≡ T.world store.old }
+    ensures unchanged { T.world store.new ≡ T.world store.old }
 {
     let cache = read_cache(alloc, store, path)?;
     let service = granting_service(alloc, &cache.principal().realm)?;
@@ -87,7 +87,7 @@ pub(crate) fn destroy<T: ClientStore, X>(
     defaults: &Defaults<'_>,
 ) -> Result<Printed, Fault>
     ensures removed { OnOk result (Removed (T.world context.old.store) (T.world context.new.store)) }
-    ensures kept { OnErr result (T.world context.new.store ≡ T.world context.old.store) }
+    ensures unchanged { OnErr result (T.world context.new.store ≡ T.world context.old.store) }
 {
     let path = cache_path(context.alloc, &mut context.store, options, defaults)?;
     let printed = Printed::ok(context.alloc)?;

@@ -96,7 +96,7 @@ fn get_each<T: ClientStore, X: AnyMessage>(
     services: &[Service],
 ) -> Result<String, Fault>
     ensures collected { Collected (CameFurther X.finds X.carries X.answers) session.old session.new }
-    ensures kept { T.world context.new.store ≡ T.world context.old.store }
+    ensures unchanged { T.world context.new.store ≡ T.world context.old.store }
 {
     let mut lines = String::new(context.alloc);
     for service in services {
@@ -121,7 +121,7 @@ fn read_wallet<T: ClientStore, X>(
 ) -> Result<CacheSession, Fault>
     ensures held { IfOk result (λ session.
         HasCache (T.world context.old.store) (string_bytes session.path) session.cache) }
-    ensures kept { T.world context.new.store ≡ T.world context.old.store }
+    ensures unchanged { T.world context.new.store ≡ T.world context.old.store }
 {
     let cache = read_cache(context.alloc, &mut context.store, path.as_str())?;
     let checks = read_checks(context.alloc, &mut context.store, keytab)?;
@@ -241,7 +241,7 @@ fn read_checks<T: ClientStore>(
     store: &mut T,
     path: Option<&str>,
 ) -> Result<Option<Checks>, Fault>
-    ensures kept { T.world store.new ≡ T.world store.old }
+    ensures unchanged { T.world store.new ≡ T.world store.old }
 {
     match path {
         Some(path) => Ok(Some(Checks {
@@ -277,7 +277,7 @@ fn get_ticket<T: ClientStore, X: AnyMessage>(
     service: &Name,
 ) -> Result<i64, Fault>
     ensures collected { Collected (CameFurther X.finds X.carries X.answers) session.old session.new }
-    ensures kept { T.world context.new.store ≡ T.world context.old.store }
+    ensures unchanged { T.world context.new.store ≡ T.world context.old.store }
 {
     let alloc = context.alloc;
     if let Some(version) = held_version(alloc, session, service, context.client.at)? {
@@ -359,7 +359,7 @@ fn unended<'c>(
 fn keep(alloc: Global, session: &mut CacheSession, credential: &Credential) -> Result<i64, Fault>
     ensures put { OnOk result (session.new.cache
         ≡ record session.old.cache { credentials = put_first credential.now session.old.cache.credentials }) }
-    ensures kept { OnErr result (session.new.cache ≡ session.old.cache) }
+    ensures unchanged { OnErr result (session.new.cache ≡ session.old.cache) }
     ensures path { session.new.path ≡ session.old.path }
 {
     let version = checked_version(alloc, &session.checks, credential)?;

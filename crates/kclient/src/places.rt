@@ -27,7 +27,7 @@ pub(crate) fn cache_path<T: ClientStore>(
     options: &ArgMatches<'_>,
     defaults: &Defaults<'_>,
 ) -> Result<String, Fault>
-    ensures kept { T.world store.new ≡ T.world store.old }
+    ensures unchanged { T.world store.new ≡ T.world store.old }
 {
     match options.get_str("cache") {
         Some(name) => Ok(String::from_str(alloc, path_in(name, NameOf::Cache)?)?),
@@ -68,7 +68,7 @@ pub(crate) fn find_realm<T: ClientStore, X>(
     defaults: &Defaults<'_>,
     given: Option<KerberosString>,
 ) -> Result<KerberosString, Fault>
-    ensures kept { T.world context.new.store ≡ T.world context.old.store }
+    ensures unchanged { T.world context.new.store ≡ T.world context.old.store }
 {
     match given {
         Some(realm) if has_kdcs(context) => Ok(realm),
@@ -81,7 +81,7 @@ fn configure<T: ClientStore, X>(
     defaults: &Defaults<'_>,
     given: Option<KerberosString>,
 ) -> Result<KerberosString, Fault>
-    ensures kept { T.world context.new.store ≡ T.world context.old.store }
+    ensures unchanged { T.world context.new.store ≡ T.world context.old.store }
 {
     let config = read_config(context, defaults)?;
     let realm = match given {
@@ -98,7 +98,7 @@ fn read_config<T: ClientStore, X>(
     context: &mut Context<T, X>,
     defaults: &Defaults<'_>,
 ) -> Result<Config, Fault>
-    ensures kept { T.world context.new.store ≡ T.world context.old.store }
+    ensures unchanged { T.world context.new.store ≡ T.world context.old.store }
 {
     let config = Config::read(context.alloc, &mut context.store, defaults)?;
     context.note_lines(config.notes())?;
@@ -110,7 +110,7 @@ pub(crate) fn configured_request<T: ClientStore, X>(
     context: &mut Context<T, X>,
     defaults: &Defaults<'_>,
 ) -> Result<TicketRequest, Fault>
-    ensures kept { T.world context.new.store ≡ T.world context.old.store }
+    ensures unchanged { T.world context.new.store ≡ T.world context.old.store }
 {
     let alloc = context.alloc;
     let Some(config) = Config::read_if_there(alloc, &mut context.store, defaults)? else {
@@ -126,7 +126,7 @@ pub(crate) fn use_kdcs_of<T: ClientStore, X>(
     defaults: &Defaults<'_>,
     realm: &[u8],
 ) -> Result<(), Fault>
-    ensures kept { T.world context.new.store ≡ T.world context.old.store }
+    ensures unchanged { T.world context.new.store ≡ T.world context.old.store }
 {
     if !has_kdcs(context) {
         let config = read_config(context, defaults)?;

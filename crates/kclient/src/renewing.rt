@@ -24,7 +24,7 @@ pub(crate) fn renew_ticket<T: ClientStore, X: AnyMessage>(
 ) -> Result<Printed, Fault>
     ensures made { OnOk result (
         Made (CameFurther X.finds X.carries X.answers) (T.world context.old.store) (T.world context.new.store)) }
-    ensures kept { OnErr result (T.world context.new.store ≡ T.world context.old.store) }
+    ensures unchanged { OnErr result (T.world context.new.store ≡ T.world context.old.store) }
 {
     let alloc = context.alloc;
     let path = cache_path(alloc, &mut context.store, options, defaults)?;

@@ -165,7 +165,7 @@ fn run_text<W: Write>(
 ) -> Result<(), Stop>
     ensures ok { OnOk result (PrintsText kdc.old text.now kdc.new (W.contents writer.old) (W.contents writer.new)) }
     ensures fault { result ≡ Err Fault → IsFaultText kdc.old text.now }
-    ensures kept { result ≡ Err Fault → W.contents writer.new ≡ W.contents writer.old }
+    ensures unchanged { result ≡ Err Fault → W.contents writer.new ≡ W.contents writer.old }
 {
     if text.is_empty() {
         return Ok(());

@@ -30,7 +30,7 @@ pub const STANDARD_INPUT: &str = "standard input";
 /// Checks whether there is a file.
 pub fn has_file<'p, S: Store>(store: &mut S, path: &'p str) -> Result<bool, FileFault<'p>>
     ensures there { IfOk result (λ found. IsThere (S.world store.old) path.now found) }
-    ensures kept { S.world store.new ≡ S.world store.old }
+    ensures unchanged { S.world store.new ≡ S.world store.old }
     ensures named { IfErr result (λ fault. fault.path.now ≡ path.now) }
     ensures shown { IsShown (S.fault_count store.old) result (S.fault_count store.new) }
 {
@@ -51,7 +51,7 @@ pub fn read_file<'p, S: Store>(
 ) -> Result<Vec<u8>, FileFault<'p>>
     ensures within { IfOk result (λ octets. vec_len octets ≤ 16777216) }
     ensures read { IfOk result (λ octets. IsRead (S.world store.old) path.now octets.items) }
-    ensures kept { S.world store.new ≡ S.world store.old }
+    ensures unchanged { S.world store.new ≡ S.world store.old }
     ensures named { IfErr result (λ fault. fault.path.now ≡ path.now) }
     ensures shown { IsShown (S.fault_count store.old) result (S.fault_count store.new) }
 {
@@ -67,7 +67,7 @@ pub fn read_at_most<'p, S: Store>(
 ) -> Result<Vec<u8>, FileFault<'p>>
     ensures within { IfOk result (λ octets. vec_len octets ≤ most) }
     ensures read { IfOk result (λ octets. IsRead (S.world store.old) path.now octets.items) }
-    ensures kept { S.world store.new ≡ S.world store.old }
+    ensures unchanged { S.world store.new ≡ S.world store.old }
     ensures named { IfErr result (λ fault. fault.path.now ≡ path.now) }
     ensures shown { IsShown (S.fault_count store.old) result (S.fault_count store.new) }
 {
@@ -93,7 +93,7 @@ pub fn read_stream<'p, S: Store>(
 ) -> Result<Vec<u8>, FileFault<'p>>
     ensures within { IfOk result (λ octets. vec_len octets ≤ 16777216) }
     ensures read { IfOk result (λ octets. IsRead (S.world store.old) path.now octets.items) }
-    ensures kept { S.world store.new ≡ S.world store.old }
+    ensures unchanged { S.world store.new ≡ S.world store.old }
     ensures named { IfErr result (λ fault. fault.path.now ≡ path.now) }
     ensures shown { IsShown (S.fault_count store.old) result (S.fault_count store.new) }
 {
@@ -112,7 +112,7 @@ pub fn read_stream<'p, S: Store>(
 
 /// Returns who may read and write a file.
 pub fn file_rights<'p, S: Store>(store: &mut S, path: &'p str) -> Result<FileRights, FileFault<'p>>
-    ensures kept { S.world store.new ≡ S.world store.old }
+    ensures unchanged { S.world store.new ≡ S.world store.old }
     ensures named { IfErr result (λ fault. fault.path.now ≡ path.now) }
     ensures shown { IsShown (S.fault_count store.old) result (S.fault_count store.new) }
 {
@@ -132,7 +132,7 @@ pub fn first_octet<'p, S: Store>(
     path: &'p str,
 ) -> Result<Option<u8>, FileFault<'p>>
     ensures first { IfOk result (λ octet. IsFirst (S.world store.old) path.now octet) }
-    ensures kept { S.world store.new ≡ S.world store.old }
+    ensures unchanged { S.world store.new ≡ S.world store.old }
     ensures named { IfErr result (λ fault. fault.path.now ≡ path.now) }
     ensures shown { IsShown (S.fault_count store.old) result (S.fault_count store.new) }
 {
@@ -154,7 +154,7 @@ pub fn write_file<'p, S: Store>(
     octets: &[u8],
 ) -> Result<(), FileFault<'p>>
     ensures written { OnOk result (S.world store.new ≡ option_map (with_file path.now octets.now) (S.world store.old)) }
-    ensures kept { OnErr result (S.world store.new ≡ S.world store.old) }
+    ensures unchanged { OnErr result (S.world store.new ≡ S.world store.old) }
     ensures named { IfErr result (λ fault. fault.path.now ≡ path.now) }
     ensures shown { IsShown (S.fault_count store.old) result (S.fault_count store.new) }
 {
@@ -175,7 +175,7 @@ pub fn update_file<'p, S: Store>(
     octets: &[u8],
 ) -> Result<(), FileFault<'p>>
     ensures written { OnOk result (S.world store.new ≡ option_map (with_file path.now octets.now) (S.world store.old)) }
-    ensures kept { OnErr result (S.world store.new ≡ S.world store.old) }
+    ensures unchanged { OnErr result (S.world store.new ≡ S.world store.old) }
     ensures named { IfErr result (λ fault. fault.path.now ≡ path.now) }
     ensures shown { IsShown (S.fault_count store.old) result (S.fault_count store.new) }
 {
@@ -196,7 +196,7 @@ pub fn update_private_file<'p, S: Store>(
     octets: &[u8],
 ) -> Result<(), FileFault<'p>>
     ensures written { OnOk result (S.world store.new ≡ option_map (with_file path.now octets.now) (S.world store.old)) }
-    ensures kept { OnErr result (S.world store.new ≡ S.world store.old) }
+    ensures unchanged { OnErr result (S.world store.new ≡ S.world store.old) }
     ensures named { IfErr result (λ fault. fault.path.now ≡ path.now) }
     ensures shown { IsShown (S.fault_count store.old) result (S.fault_count store.new) }
 {
@@ -215,7 +215,7 @@ pub fn lock_file<'p, S: Store>(
     store: &mut S,
     path: &'p str,
 ) -> Result<bool, FileFault<'p>>
-    ensures kept { S.world store.new ≡ S.world store.old }
+    ensures unchanged { S.world store.new ≡ S.world store.old }
     ensures named { IfErr result (λ fault. fault.path.now ≡ path.now) }
     ensures shown { IsShown (S.fault_count store.old) result (S.fault_count store.new) }
 {
@@ -231,7 +231,7 @@ pub fn lock_file<'p, S: Store>(
 /// Returns the whole seconds since the start of 1970.
 pub fn read_clock<S: Store>(store: &mut S) -> Result<u64, FileFault<'static>>
     ensures now { IfOk result (λ seconds. IsNow (S.world store.old) seconds) }
-    ensures kept { S.world store.new ≡ S.world store.old }
+    ensures unchanged { S.world store.new ≡ S.world store.old }
     ensures shown { IsShown (S.fault_count store.old) result (S.fault_count store.new) }
 {
     match store.seconds() {
@@ -250,7 +250,7 @@ pub fn read_seed<'p, S: Store>(
     path: &'p str,
 ) -> Result<[u8; 32], FileFault<'p>>
     ensures read { IfOk result (λ seed. HasSeed (S.world store.old) (Some path.now) seed) }
-    ensures kept { S.world store.new ≡ S.world store.old }
+    ensures unchanged { S.world store.new ≡ S.world store.old }
     ensures named { IfErr result (λ fault. fault.path.now ≡ path.now) }
     ensures shown { IsShown (S.fault_count store.old) result (S.fault_count store.new) }
 {
@@ -271,7 +271,7 @@ pub fn read_or_draw_seed<'p, S: Store>(
     path: Option<&'p str>,
 ) -> Result<[u8; 32], FileFault<'p>>
     ensures seed { IfOk result (λ seed. HasSeed (S.world store.old) (option_map (λ named. named.now) path.entry) seed) }
-    ensures kept { S.world store.new ≡ S.world store.old }
+    ensures unchanged { S.world store.new ≡ S.world store.old }
     ensures shown { IsShown (S.fault_count store.old) result (S.fault_count store.new) }
 {
     match path {
@@ -283,7 +283,7 @@ pub fn read_or_draw_seed<'p, S: Store>(
 /// Draws a seed from the system's random bytes.
 pub fn draw_seed<S: Store>(store: &mut S) -> Result<[u8; 32], FileFault<'static>>
     ensures drawn { IfOk result (λ seed. IsDrawn (S.world store.old) seed) }
-    ensures kept { S.world store.new ≡ S.world store.old }
+    ensures unchanged { S.world store.new ≡ S.world store.old }
     ensures shown { IsShown (S.fault_count store.old) result (S.fault_count store.new) }
 {
     match store.random() {
@@ -314,7 +314,7 @@ pub fn read_password<'p, S: Store>(
 ) -> Result<Option<Vec<u8>>, FileFault<'p>>
     ensures within { IfOk result (λ found. IfSome found (λ pass. vec_len pass ≤ 1024)) }
     ensures line { IfOk result (λ found. IfSome found (λ pass. HasFirstLine (S.world store.old) path.now pass.items)) }
-    ensures kept { S.world store.new ≡ S.world store.old }
+    ensures unchanged { S.world store.new ≡ S.world store.old }
     ensures named { IfErr result (λ fault. fault.path.now ≡ path.now) }
     ensures shown { IsShown (S.fault_count store.old) result (S.fault_count store.new) }
 {
@@ -336,7 +336,7 @@ pub fn ask_password<S: Store>(
     realm: &str,
 ) -> Result<Option<Vec<u8>>, FileFault<'static>>
     ensures within { IfOk result (λ found. IfSome found (λ pass. vec_len pass ≤ 1024)) }
-    ensures kept { S.world store.new ≡ S.world store.old }
+    ensures unchanged { S.world store.new ≡ S.world store.old }
     ensures shown { IsShown (S.fault_count store.old) result (S.fault_count store.new) }
 {
     match ask_line(alloc, store, name, realm) {
@@ -355,7 +355,7 @@ fn ask_line<S: Store>(
     realm: &str,
 ) -> io::Result<Option<Vec<u8>>>
     ensures within { IfOk result (λ found. IfSome found (λ pass. vec_len pass ≤ 1024)) }
-    ensures kept { S.world store.new ≡ S.world store.old }
+    ensures unchanged { S.world store.new ≡ S.world store.old }
     ensures shown { IfOk result (λ _. S.fault_count store.new ≡ S.fault_count store.old) }
 {
     let question = format!(in alloc; "Password for {name}@{realm}: ")?;

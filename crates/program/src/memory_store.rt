@@ -80,7 +80,7 @@ impl MemoryStore {
     /// Removes the file at a path, if there is one.
     pub fn remove_file(&mut self, alloc: Global, path: &str) -> Result<(), AllocError>
         ensures removed { OnOk result (world_of self.new ≡ without_file path.now (world_of self.old)) }
-        ensures kept { OnErr result (world_of self.new ≡ world_of self.old) }
+        ensures unchanged { OnErr result (world_of self.new ≡ world_of self.old) }
         ensures faults { self.new.faults ≡ self.old.faults }
     {
         let file = StoredFile {
@@ -94,7 +94,7 @@ impl MemoryStore {
     /// Makes a file with these bytes, which replaces the one there.
     pub fn set(&mut self, alloc: Global, path: &str, octets: &[u8]) -> Result<(), AllocError>
         ensures written { OnOk result (world_of self.new ≡ with_file path.now octets.now (world_of self.old)) }
-        ensures kept { OnErr result (world_of self.new ≡ world_of self.old) }
+        ensures unchanged { OnErr result (world_of self.new ≡ world_of self.old) }
         ensures faults { self.new.faults ≡ self.old.faults }
     {
         let file = StoredFile {
@@ -255,7 +255,7 @@ impl MemoryStore {
 
     fn replace(&mut self, alloc: Global, path: &str, octets: &[u8]) -> io::Result<()>
         ensures written { OnOk result (world_of self.new ≡ with_file path.now octets.now (world_of self.old)) }
-        ensures kept { OnErr result (world_of self.new ≡ world_of self.old) }
+        ensures unchanged { OnErr result (world_of self.new ≡ world_of self.old) }
         ensures faults { self.new.faults ≡ self.old.faults }
     {
         self.call()?;

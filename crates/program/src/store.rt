@@ -31,14 +31,14 @@ pub trait Store {
     /// Checks whether there is a file.
     fn exists(&mut self, path: &str) -> io::Result<bool>
         ensures there { IfOk result (λ found. IsThere (world self.old) path.now found) }
-        ensures kept { world self.new ≡ world self.old }
+        ensures unchanged { world self.new ≡ world self.old }
         ensures counted { IsCounted (fault_count self.old) result (fault_count self.new) };
 
     /// Reads a whole file. `None` if it has more than `most` bytes. A folder, a FIFO or a device is an `Err`.
     fn read(&mut self, alloc: Global, path: &str, most: usize) -> io::Result<Option<Vec<u8>>>
         ensures within { IfOk result (λ found. IfSome found (λ octets. vec_len octets ≤ most)) }
         ensures read { IfOk result (λ found. IfSome found (λ octets. IsRead (world self.old) path.now octets.items)) }
-        ensures kept { world self.new ≡ world self.old }
+        ensures unchanged { world self.new ≡ world self.old }
         ensures counted { IsCounted (fault_count self.old) result (fault_count self.new) };
 
     /// Reads what `read` reads, and also a FIFO or a device to its end: a shell passes a command's output as a FIFO. A
@@ -46,63 +46,63 @@ pub trait Store {
     fn read_stream(&mut self, alloc: Global, path: &str, most: usize) -> io::Result<Option<Vec<u8>>>
         ensures within { IfOk result (λ found. IfSome found (λ octets. vec_len octets ≤ most)) }
         ensures read { IfOk result (λ found. IfSome found (λ octets. IsRead (world self.old) path.now octets.items)) }
-        ensures kept { world self.new ≡ world self.old }
+        ensures unchanged { world self.new ≡ world self.old }
         ensures counted { IsCounted (fault_count self.old) result (fault_count self.new) };
 
     /// Reads the first byte of the file that a write would replace. `None` if there is none, or it is empty. A device
     /// or a folder is an `Err`, because neither is replaced.
     fn first_octet(&mut self, alloc: Global, path: &str) -> io::Result<Option<u8>>
         ensures first { IfOk result (λ octet. IsFirst (world self.old) path.now octet) }
-        ensures kept { world self.new ≡ world self.old }
+        ensures unchanged { world self.new ≡ world self.old }
         ensures counted { IsCounted (fault_count self.old) result (fault_count self.new) };
 
     /// Writes a new file, which replaces the one there. Only its owner may read and write it. After an `Err` the path
     /// is unchanged.
     fn write(&mut self, alloc: Global, path: &str, octets: &[u8]) -> io::Result<()>
         ensures written { OnOk result (world self.new ≡ option_map (with_file path.now octets.now) (world self.old)) }
-        ensures kept { OnErr result (world self.new ≡ world self.old) }
+        ensures unchanged { OnErr result (world self.new ≡ world self.old) }
         ensures counted { IsCounted (fault_count self.old) result (fault_count self.new) };
 
     /// Writes a file, and keeps the owner, the group and the mode of the one there. Fails if it can't keep them.
     /// Without a file there it does what `write` does. After an `Err` the path is unchanged.
     fn update(&mut self, alloc: Global, path: &str, octets: &[u8]) -> io::Result<()>
         ensures written { OnOk result (world self.new ≡ option_map (with_file path.now octets.now) (world self.old)) }
-        ensures kept { OnErr result (world self.new ≡ world self.old) }
+        ensures unchanged { OnErr result (world self.new ≡ world self.old) }
         ensures counted { IsCounted (fault_count self.old) result (fault_count self.new) };
 
     /// Does what `update` does, but gives the file the mode 600, so that only its owner may read and write it.
     fn update_private(&mut self, alloc: Global, path: &str, octets: &[u8]) -> io::Result<()>
         ensures written { OnOk result (world self.new ≡ option_map (with_file path.now octets.now) (world self.old)) }
-        ensures kept { OnErr result (world self.new ≡ world self.old) }
+        ensures unchanged { OnErr result (world self.new ≡ world self.old) }
         ensures counted { IsCounted (fault_count self.old) result (fault_count self.new) };
 
     /// Returns who may read and write a file.
     fn rights(&mut self, path: &str) -> io::Result<FileRights>
-        ensures kept { world self.new ≡ world self.old }
+        ensures unchanged { world self.new ≡ world self.old }
         ensures counted { IsCounted (fault_count self.old) result (fault_count self.new) };
 
     /// Takes the lock of a file, and keeps other programs from it until the store is dropped or is asked for the lock
     /// of another file. Returns `false` if another program has it. Something else than a file in the lock's place is an
     /// `Err`.
     fn lock(&mut self, alloc: Global, path: &str) -> io::Result<bool>
-        ensures kept { world self.new ≡ world self.old }
+        ensures unchanged { world self.new ≡ world self.old }
         ensures counted { IsCounted (fault_count self.old) result (fault_count self.new) };
 
     /// Waits for a tenth of a second.
     fn pause(&mut self)
-        ensures kept { world self.new ≡ world self.old }
+        ensures unchanged { world self.new ≡ world self.old }
         ensures counted { fault_count self.new ≡ fault_count self.old };
 
     /// Returns the whole seconds since the start of 1970.
     fn seconds(&mut self) -> io::Result<u64>
         ensures now { IfOk result (λ seconds. IsNow (world self.old) seconds) }
-        ensures kept { world self.new ≡ world self.old }
+        ensures unchanged { world self.new ≡ world self.old }
         ensures counted { IsCounted (fault_count self.old) result (fault_count self.new) };
 
     /// Draws 32 bytes from the system's own source.
     fn random(&mut self) -> io::Result<[u8; 32]>
         ensures drawn { IfOk result (λ seed. IsDrawn (world self.old) seed) }
-        ensures kept { world self.new ≡ world self.old }
+        ensures unchanged { world self.new ≡ world self.old }
         ensures counted { IsCounted (fault_count self.old) result (fault_count self.new) };
 
     /// Checks whether standard input is a terminal.
@@ -112,7 +112,7 @@ pub trait Store {
     /// terminal it first writes the question to standard error. An input that has ended is an `Err`.
     fn ask(&mut self, alloc: Global, question: &str, most: usize) -> io::Result<Option<Vec<u8>>>
         ensures within { IfOk result (λ found. IfSome found (λ octets. vec_len octets ≤ most)) }
-        ensures kept { world self.new ≡ world self.old }
+        ensures unchanged { world self.new ≡ world self.old }
         ensures counted { IsCounted (fault_count self.old) result (fault_count self.new) };
 
     /// Returns how often a call has failed. The count stops at the greatest `u64`.

@@ -4,9 +4,9 @@ use Rattle.kadm.proofs.batch.run_all.Goals as goal
 
 pub loop-rest-preserved : goal.loop-rest-preserved
 loop-rest-preserved g c = (
-  c.run_line.ensures.kept ∙ c.report_progress.ensures.kept ∙ c.loop-rest.invariant.0,
+  c.run_line.ensures.unchanged ∙ c.report_progress.ensures.unchanged ∙ c.loop-rest.invariant.0,
   done_on _ _ _ _ _ c.loop-rest.rest.now c.line-item.result c.loop-rest.draft.database c.run_line.new.draft.database
-      (c.report_progress.ensures.kept ∙ c.loop-rest.invariant.0) c.in-len1-up.len_at_least c.line-item.is c.loop-rest.invariant.1
+      (c.report_progress.ensures.unchanged ∙ c.loop-rest.invariant.0) c.in-len1-up.len_at_least c.line-item.is c.loop-rest.invariant.1
       (none_holds c.in_ok-status.field-0 c.in_default-2.is c.in_ok-status.ensures.done),
 )
 

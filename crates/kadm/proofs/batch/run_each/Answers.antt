@@ -4,8 +4,8 @@ use Rattle.kadm.proofs.batch.run_each.Goals as goal
 
 pub loop-rest-preserved : goal.loop-rest-preserved
 loop-rest-preserved g c =
-    let kept = c.report_progress.ensures.kept ∙ c.loop-rest.invariant.0 in (
-      c.try_line.ensures.kept ∙ kept,
+    let kept = c.report_progress.ensures.unchanged ∙ c.loop-rest.invariant.0 in (
+      c.try_line.ensures.unchanged ∙ kept,
       done_turn _ _ _ _ _ c.loop-rest.rest.now c.line-item.result c.loop-rest.draft.database c.try_line.new.draft.database c.loop-rest.whole
           c.in_ok-whole.whole kept c.in-len1-up.len_at_least c.line-item.is c.loop-rest.invariant.1 c.in_ok-whole.ensures.turn,
       tried_turn _ _ _ _ _ c.loop-rest.rest.now c.line-item.result c.loop-rest.draft.database c.try_line.new.draft.database c.loop-rest.whole

@@ -8,7 +8,7 @@ pub loop-rest-preserved : goal.loop-rest-preserved
 loop-rest-preserved g c =
     let set = subst (λ world. IsSetAt world (option_map (λ setting. (setting.field.now, setting.value.now)) c.setting_at-setting.result) c.args.who.now.components c.loop-rest.draft.database c.set_at.new.draft.database)
     c.loop-rest.invariant.0 c.in_ok-set_at.ensures.set in (
-      c.in_ok-set_at.ensures.kept ∙ c.loop-rest.invariant.0,
+      c.in_ok-set_at.ensures.unchanged ∙ c.loop-rest.invariant.0,
       made_on (SetBy (g.T.Store.world c.args.store.now) (texts c.args.words.now) c.args.who.now.components) _ _ c.loop-rest.rest.now _ c.loop-rest.draft.database c.set_at.new.draft.database c.in-len1-up.len_at_least
           c.loop-rest.invariant.1
           (subst (λ setting. IsSetAt (g.T.Store.world c.args.store.now) setting c.args.who.now.components c.loop-rest.draft.database c.set_at.new.draft.database)

@@ -9,6 +9,6 @@ returns-clause-done g c =
     subst (IsThere (g.T.Store.world c.lock_database.new.store) c.args.command.now.db.now) c.if-branch.false c.in_ok-has_file.ensures.there in
     made_from_dump c.write_database.result (g.T.Store.world c.args.store.now) (g.T.Store.world c.lock_database.new.store)
     (g.T.Store.world c.has_file.new.store) (g.T.Store.world c.read_realm.new.store) (g.T.Store.world c.write_database.new.store)
-    c.args.command.now.db.now c.in_ok-locked.locked c.args.from c.in_ok-database.database c.in_ok-locked.ensures.kept
-    c.in_ok-has_file.ensures.kept c.in_ok-database.ensures.kept c.in_ok-locked.ensures.locked free c.in_ok-database.ensures.read
+    c.args.command.now.db.now c.in_ok-locked.locked c.args.from c.in_ok-database.database c.in_ok-locked.ensures.unchanged
+    c.in_ok-has_file.ensures.unchanged c.in_ok-database.ensures.unchanged c.in_ok-locked.ensures.locked free c.in_ok-database.ensures.read
     c.write_database.ensures.written

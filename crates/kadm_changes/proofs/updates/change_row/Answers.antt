@@ -11,6 +11,6 @@ returns-clause-changed g c =
       c.give_row.new.draft.database,
       c.in_ok-give_row.ensures.given,
       subst (λ world. AreSet world (texts c.args.to.now.words.now) c.args.recipient.now.who.now.components c.give_row.new.draft.database c.set_all.new.draft.database)
-          c.in_ok-give_row.ensures.kept set,
+          c.in_ok-give_row.ensures.unchanged set,
     ))
     c.set_all.ensures.set

@@ -8,5 +8,5 @@ pub returns-clause-done : goal.returns-clause-done
 returns-clause-done g c =
     on_ok_weaker c.write_database.result
     (λ written. rewritten _ _ _ _ _ _ _ _ (IsMigrated c.args.users_are_no_services) c.in_ok-database.database c.migrate_rows.new.draft.database
-    refl c.in_ok-locked.ensures.kept c.in_ok-database.ensures.kept refl c.in_ok-locked.ensures.locked c.in_ok-database.ensures.read (search rules) written)
+    refl c.in_ok-locked.ensures.unchanged c.in_ok-database.ensures.unchanged refl c.in_ok-locked.ensures.locked c.in_ok-database.ensures.read (search rules) written)
     c.write_database.ensures.written

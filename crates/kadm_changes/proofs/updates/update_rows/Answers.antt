@@ -10,7 +10,7 @@ pub returns-clause-done : goal.returns-clause-done
 returns-clause-done g c =
     on_ok_weaker c.write_database.result
     (λ written. rewritten _ _ _ _ _ _ _ _ (AreChanged (g.T.Store.world c.args.store.now) (texts c.args.changes.now.words.now) c.args.changes.now.how)
-    c.in_ok-database.database c.change_all.new.draft.database refl c.in_ok-locked.ensures.kept c.in_ok-database.ensures.kept
-    c.in_ok-change_all.ensures.kept c.in_ok-locked.ensures.locked c.in_ok-database.ensures.read
-    (rows_changed _ _ _ _ _ _ (c.in_ok-database.ensures.kept ∙ c.in_ok-locked.ensures.kept) c.in_ok-change_all.ensures.changed) written)
+    c.in_ok-database.database c.change_all.new.draft.database refl c.in_ok-locked.ensures.unchanged c.in_ok-database.ensures.unchanged
+    c.in_ok-change_all.ensures.unchanged c.in_ok-locked.ensures.locked c.in_ok-database.ensures.read
+    (rows_changed _ _ _ _ _ _ (c.in_ok-database.ensures.unchanged ∙ c.in_ok-locked.ensures.unchanged) c.in_ok-change_all.ensures.changed) written)
     c.write_database.ensures.written

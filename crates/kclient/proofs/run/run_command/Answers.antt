@@ -7,7 +7,7 @@ returns-in-kinit-Some g c = record {
   world = did_make_further (CameFirst g.X.Network.finds g.X.Network.carries g.X.Network.answers)
       (CameFurther g.X.Network.finds g.X.Network.carries g.X.Network.answers)
       (g.T.Store.world c.args.context.now.store) (g.T.Store.world c.renew_ticket.new.context.store)
-      c.renew_ticket.result c.renew_ticket.ensures.made c.renew_ticket.ensures.kept;
+      c.renew_ticket.result c.renew_ticket.ensures.made c.renew_ticket.ensures.unchanged;
 }
 
 pub returns-in-kinit-None : goal.returns-in-kinit-None
@@ -15,5 +15,5 @@ returns-in-kinit-None g c = record {
   world = did_make_first (CameFirst g.X.Network.finds g.X.Network.carries g.X.Network.answers)
       (CameFurther g.X.Network.finds g.X.Network.carries g.X.Network.answers)
       (g.T.Store.world c.args.context.now.store) (g.T.Store.world c.get_first.new.context.store)
-      c.get_first.result c.get_first.ensures.made c.get_first.ensures.kept;
+      c.get_first.result c.get_first.ensures.made c.get_first.ensures.unchanged;
 }

@@ -22,7 +22,7 @@ returns-in_err-run_text-clause-fault g c = λ is.
     let fault : c.run_text.result ≡ Err Fault = search rules in
     run_stops_at_text _ _ _ _ _ _ c.loop-line.kdc c.loop-line.input.number c.loop-line.input.taken c.next_line.new.self.number
     c.next_line.new.self.taken c.next_line.new.line.items c.deref.result.now c.loop-line.invariant.run (c.in_ok-next_line.ensures.line c.if-branch.true)
-    (c.in_ok-next_line.ensures.number (search rules)) c.deref.ensures.value (c.run_text.ensures.fault fault) (c.run_text.ensures.kept fault)
+    (c.in_ok-next_line.ensures.number (search rules)) c.deref.ensures.value (c.run_text.ensures.fault fault) (c.run_text.ensures.unchanged fault)
 
 pub returns-clause-done : goal.returns-clause-done
 returns-clause-done g c =
