@@ -11,7 +11,7 @@ use krb_elements::Octets;
 use krb_fields::Moment;
 use rand_chacha::ChaCha20Rng;
 use rand_core::SeedableRng;
-use std::alloc::Global;
+use std::alloc::{AllocError, Global};
 use std::collections::VecDeque;
 use std::net::{Ipv4Addr, SocketAddr};
 use std::process::Abort;
@@ -215,8 +215,7 @@ fn datagram(alloc: Global, stream: &[u8], port: u16) -> Result<Event, Fail> {
     })
 }
 
-fn bytes(alloc: Global, stream: &[u8], conn: u64, from: usize, to: usize) -> Result<Event, Fail> {
-    let piece = stream.get(from..to).ok_or("a piece")?;
+fn bytes(alloc: Global, conn: u64, piece: &[u8]) -> Result<Event, AllocError> {
     Ok(Event::Bytes {
         conn,
         piece: Octets::from_slice(alloc, piece)?,
@@ -244,7 +243,10 @@ fn push_come(
     match come {
         Come::Datagram(port) => push(coming, datagram(alloc, stream, port)?),
         Come::Opened(first, last) => push_opened(coming, first, last),
-        Come::Bytes(conn, from, to) => push(coming, bytes(alloc, stream, conn, from, to)?),
+        Come::Bytes(conn, from, to) => {
+            let piece = stream.get(from..to).ok_or("a piece")?;
+            push(coming, bytes(alloc, conn, piece)?)
+        }
         Come::Closed(conn) => push(coming, Event::Closed { conn }),
     }
 }

@@ -204,30 +204,25 @@ impl<'a, R: Files<File = File> + RandomSource> FileStore<'a, R> {
         let mut how = OpenOptions::new();
         how.write(true).create_new(true).mode(OWNER_ONLY);
         let new = how.open(self.files, beside.as_str())?;
-        let filled = self.fill(new, &beside, path, octets, rights);
-        if filled.is_err() {
+        let moved = match fill(new, octets, rights) {
+            Ok(()) => fs::rename(self.files, beside.as_str(), path),
+            Err(error) => Err(error),
+        };
+        if moved.is_err() {
             let _removed = fs::remove_file(self.files, beside.as_str());
         }
-        filled
+        moved
     }
+}
 
-    /// Writes the whole new file, and only then moves it into place.
-    fn fill(
-        &self,
-        new: File,
-        beside: &str,
-        path: &str,
-        octets: &[u8],
-        rights: Option<Rights>,
-    ) -> io::Result<()> {
-        let mut new = new;
-        if let Some(rights) = rights {
-            rights.give(&new)?;
-        }
-        new.write_all(octets)?;
-        new.sync_all()?;
-        fs::rename(self.files, beside, path)
+/// Writes the whole of a new file, with these rights.
+fn fill(new: File, octets: &[u8], rights: Option<Rights>) -> io::Result<()> {
+    let mut new = new;
+    if let Some(rights) = rights {
+        rights.give(&new)?;
     }
+    new.write_all(octets)?;
+    new.sync_all()
 }
 
 /// Returns `PATH.HEX.new`: the path of a new file, with 16 random hexadecimal digits.

@@ -83,10 +83,9 @@ fn expect_fault(
     rt: &impl Abort,
     alloc: Global,
     client: &mut Client,
-    said: Said,
-    text: &str,
-    ways: &str,
+    row: &(Said, &str, &str),
 ) -> Result<(), Fail> {
+    let (said, text, ways) = *row;
     client.kdcs.network.said = said;
     client.kdcs.network.ways.clear();
     let found = fault(alloc, client)?;
@@ -98,8 +97,8 @@ fn expect_fault(
 #[test]
 fn kdcs_are_asked_until_one_may_do_no_better(rt: HostRuntime) -> Result<(), Fail> {
     let mut client = client(rt.alloc())?;
-    for (said, text, ways) in LOGINS {
-        expect_fault(&rt, rt.alloc(), &mut client, *said, text, ways)?;
+    for row in LOGINS {
+        expect_fault(&rt, rt.alloc(), &mut client, row)?;
     }
     Ok(())
 }
