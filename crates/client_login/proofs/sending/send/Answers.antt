@@ -1,4 +1,4 @@
-use Rattle.std.proofs.Common.{ℕ, List, subst}
+use Rattle.std.proofs.Common.{subst}
 use Rattle.rand_core.specs.Stream.{Stream}
 use Rattle.client_login.specs.Draws.{drawn_confounder}
 use Rattle.client_login.specs.Sending.{Spells}
@@ -6,8 +6,8 @@ use Rattle.client_login.proofs.Moving.{moved_twice}
 use Rattle.client_login.proofs.Wider.{unheard_wider}
 use Rattle.client_login.proofs.sending.send.Goals as goal
 
-pub send_once-then-is_error-requires-clause-carried : goal.send_once-then-is_error-requires-clause-carried
-send_once-then-is_error-requires-clause-carried g c = λ octets is.
+pub send_once-requires-then-is_error-clause-carried : goal.send_once-requires-then-is_error-clause-carried
+send_once-requires-then-is_error-clause-carried g c = λ octets is.
     c.requires.carried.again c.send_once.new.client.at octets c.in_ok-reply.ensures.next
     (subst (λ (random : Stream). Spells c.args.request.now c.send_once.new.client.at (drawn_confounder random) octets)
     c.in_ok-reply.ensures.drawn is)

@@ -1,5 +1,6 @@
-use Rattle.std.proofs.Common.{◌≡◌, ℕ, List, subst, sym}
+use Rattle.std.proofs.Common.{ℕ, List, subst, sym}
 use Rattle.krb_fields.specs.declared.moment.Moment.{Moment}
+use Rattle.client_login.specs.Draws.{drawn_confounder}
 use Rattle.client_login.specs.Sending.{Spells}
 use Rattle.client_login.proofs.sending.send_once.Goals as goal
 
@@ -10,4 +11,4 @@ ask-requires g c =
     let drawn = subst (λ (confounder : List ℕ). Spells c.args.request.now c.take_moment-at.result confounder c.deref.result.now)
     c.draw_confounder-confounder.ensures.value spelled in
     c.requires.carried c.deref.result.now
-    (subst (λ (at : Moment). Spells c.args.request.now at _ c.deref.result.now) c.take_moment-at.ensures.taken drawn)
+    (subst (λ (at : Moment). Spells c.args.request.now at (drawn_confounder (g.R.Rng.stream c.args.rng.now)) c.deref.result.now) c.take_moment-at.ensures.taken drawn)
