@@ -29,6 +29,8 @@ def take(kept, crate, taken):
     """Takes a crate's library, and returns whether it was there."""
     if crate.is_program or crate.is_static or not all(it.name in taken for it in crate.below()):
         return False
+    # What else stands there would have `rt` take the kept files for damaged ones, and remove them.
+    shutil.rmtree(pathlib.Path(crate.folder, "out/rlib"), ignore_errors=True)
     if not kept.give(crate, False, kept.key(crate)):
         return False
     kept.is_built(crate)

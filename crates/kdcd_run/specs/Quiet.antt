@@ -10,7 +10,7 @@ use Rattle.kdc_hub.specs.declared.event.Action.TheVariants.{SendTo, Pass, Write,
 use Rattle.tgs_exchange.specs.declared.outcome.TgsOutcome.{TgsOutcome}
 use Rattle.tgs_exchange.specs.declared.outcome.TgsOutcome.TheVariants.{Refused, Issued, Resent, TooBig}
 use Rattle.tgs_opening.specs.Refusal.{code_of}
-use Rattle.kdc_reports.specs.declared.clock_watch.Refused.{Refused}
+use Rattle.kdc_reports.specs.declared.clock_watch.Refused.{Refused as StartRefused}
 use Rattle.kdc_reports.specs.declared.clock_watch.Refused.TheVariants.{All, ServedLater}
 
 -- a refusal with KRB_AP_ERR_SKEW (37)
@@ -40,7 +40,7 @@ is_quiet (Some until) at action = int_lt at.sec until && sends_skew action
 is_quiet None at action = false
 
 -- the second before which a quiet start withholds refusals
-abbrev pub quiet_until : Option Refused → Bool → Option ℤ
+abbrev pub quiet_until : Option StartRefused → Bool → Option ℤ
 quiet_until None is_quiet = None
 quiet_until (Some (ServedLater until)) is_quiet = None
 quiet_until (Some (All until)) true = Some until
