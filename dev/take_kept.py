@@ -29,9 +29,12 @@ def take(kept, crate, taken):
     """Takes a crate's library, and returns whether it was there."""
     if crate.is_program or crate.is_static or not all(it.name in taken for it in crate.below()):
         return False
+    key = kept.key(crate)
+    if not pathlib.Path(kept.place(crate, False, key)).is_dir():
+        return False
     # What else stands there would have `rt` take the kept files for damaged ones, and remove them.
     shutil.rmtree(pathlib.Path(crate.folder, "out/rlib"), ignore_errors=True)
-    if not kept.give(crate, False, kept.key(crate)):
+    if not kept.give(crate, False, key):
         return False
     kept.is_built(crate)
     pathlib.Path(crate.folder, "out/rlib/stamp").write_text(crate.stamp())
