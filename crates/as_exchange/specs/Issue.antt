@@ -5,7 +5,7 @@ use Rattle.enctypes.specs.declared.key_usage.KeyUsage.TheVariants.{AsRepEncPart}
 use Rattle.kdc_replies.specs.Grant.{session_key}
 use Rattle.kdc_replies.specs.Reply.{reply_of}
 use Rattle.kdc_replies.specs.declared.grant.Grant.{Grant}
-use Rattle.kdc_replies.specs.declared.replies.ReplyKey.{ReplyKey}
+use Rattle.sealed_parts.specs.declared.encrypting.PartKey.{PartKey}
 use Rattle.krb_fields.specs.PaData.{PaData}
 use Rattle.krb_fields.specs.Salt.{default_salt}
 use Rattle.krb_fields.specs.declared.moment.Moment.{Moment}
@@ -32,7 +32,7 @@ grant_by v at random body admission = record {
 }
 
 -- the client's key with its key version
-abbrev pub reply_key_of : Terms → ReplyKey
+abbrev pub reply_key_of : Terms → PartKey
 reply_key_of terms = record { key = terms.reply_key; usage = AsRepEncPart; kvno = Some (pos terms.reply_version) }
 
 -- PA-ETYPE-INFO2, which says how to derive the reply key from a password

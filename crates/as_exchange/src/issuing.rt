@@ -17,12 +17,13 @@ use crate::terms::{Admission, Terms};
 use crate::view::AsView;
 use enctypes::KeyUsage;
 use kdc_replies::{
-    Grant, Granted, Incoming, ReplyInputs, ReplyKey, session_key, ticket_reply, version_number,
+    Grant, Granted, Incoming, ReplyInputs, session_key, ticket_reply, version_number,
 };
 use krb_elements::{KerberosStringRef, Lent, Seq};
 use krb_fields::{Flags, Moment, PaData};
 use krb_types::{AS_REP, ENC_AS_REP_PART, ReqBodyRef};
 use preauth::etype_info2;
+use sealed_parts::PartKey;
 use std::alloc::{AllocError, Global};
 use ticket_times::as_flags;
 
@@ -125,10 +126,10 @@ pub fn granted_of(at: Moment, body: &ReqBodyRef<'_>, admission: &Admission) -> G
 }
 
 /// Returns the client's key with its key version.
-fn reply_key_of(terms: &Terms) -> ReplyKey
+fn reply_key_of(terms: &Terms) -> PartKey
     ensures { result ≡ reply_key_of terms.now }
 {
-    ReplyKey {
+    PartKey {
         key: terms.reply_key,
         usage: KeyUsage::AsRepEncPart,
         kvno: Some(version_number(terms.reply_version)),

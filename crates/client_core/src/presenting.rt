@@ -15,7 +15,7 @@ use enctypes::{Key, KeyUsage};
 use krb_elements::UInt32;
 use krb_fields::{Flags, Moment, Typed};
 use krb_types::{AP_REQ, ApReq, Authenticator, PVNO, encode_ap_req};
-use sealed_parts::{encrypted, key_part};
+use sealed_parts::{PartKey, encrypted, key_part};
 use std::alloc::{AllocError, Global};
 
 /// Returns the authenticator, which the client encrypts with the session key.
@@ -107,7 +107,12 @@ fn presented(
     ensures short { IfOk result (λ made. length (ap_req.text made) ≤ 34000000) }
 {
     let Session { ticket, key } = session;
-    let sealed = encrypted(alloc, &key, usage, None, confounder, authenticator)?;
+    let key = PartKey {
+        key,
+        usage,
+        kvno: None,
+    };
+    let sealed = encrypted(alloc, &key, confounder, authenticator)?;
     Ok(ApReq {
         pvno: PVNO,
         msg_type: i32::from(AP_REQ),

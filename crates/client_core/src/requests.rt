@@ -20,7 +20,7 @@ use enctypes::{Key, KeyUsage};
 use krb_elements::{Octets, Seq, write};
 use krb_fields::{Moment, PA_ENC_TIMESTAMP, PaData};
 use krb_types::{Exchange, KdcReq, PVNO, PaEncTsEnc, ReqBody, encode_kdc_req};
-use sealed_parts::encrypted;
+use sealed_parts::{PartKey, encrypted};
 use std::alloc::{AllocError, Global};
 
 /// Returns the bytes of an AS-REQ without preauthentication.
@@ -114,14 +114,12 @@ fn timestamp_data(
         patimestamp: at.time(),
         pausec: Some(at.microseconds()),
     };
-    let sealed = encrypted(
-        alloc,
-        key,
-        KeyUsage::PaEncTimestamp,
-        None,
-        confounder,
-        &part,
-    )?;
+    let key = PartKey {
+        key: *key,
+        usage: KeyUsage::PaEncTimestamp,
+        kvno: None,
+    };
+    let sealed = encrypted(alloc, &key, confounder, &part)?;
     Ok(PaData {
         padata_type: PA_ENC_TIMESTAMP,
         padata_value: Octets::new(write(alloc, &sealed)?),

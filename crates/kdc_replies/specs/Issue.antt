@@ -14,7 +14,7 @@ use Rattle.krb_types.specs.declared.kdc_req.Exchange.TheVariants.{As, Tgs}
 use Rattle.krb_types.specs.KrbError.{KrbError, krb_error}
 use Rattle.krb_types.specs.Ticket.{Ticket}
 use Rattle.kdc_replies.specs.declared.grant.Grant.{Grant}
-use Rattle.kdc_replies.specs.declared.replies.ReplyKey.{ReplyKey}
+use Rattle.sealed_parts.specs.declared.encrypting.PartKey.{PartKey}
 use Rattle.kdc_replies.specs.declared.tickets.ServiceKey.{ServiceKey}
 use Rattle.sealed_parts.specs.Encrypted.{decrypted}
 use Rattle.kdc_replies.specs.Grant.{ticket_part, reply_part}
@@ -35,7 +35,7 @@ pub record Issue : Type 0 where
   pub exchange : Exchange
   pub grant : Grant
   pub service_key : ServiceKey
-  pub reply_key : ReplyKey
+  pub reply_key : PartKey
   pub padata : Option (List PaData)
   pub nonce : ℤ
   pub now : ℤ

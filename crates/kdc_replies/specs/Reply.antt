@@ -13,7 +13,7 @@ use Rattle.krb_types.specs.Ticket.{Ticket}
 use Rattle.preauth.specs.Keys.{key_named}
 use Rattle.principal_rows.specs.declared.row.Row.{Row}
 use Rattle.kdc_replies.specs.declared.grant.Grant.{Grant}
-use Rattle.kdc_replies.specs.declared.replies.ReplyKey.{ReplyKey}
+use Rattle.sealed_parts.specs.declared.encrypting.PartKey.{PartKey}
 use Rattle.kdc_replies.specs.declared.tickets.ServiceKey.{ServiceKey}
 use Rattle.sealed_parts.specs.Encrypted.{encrypted, decrypted}
 use Rattle.kdc_replies.specs.Grant.{ticket_part, reply_part}
@@ -37,13 +37,13 @@ granted_ticket grant service random = record {
 }
 
 -- the encrypted part, in the tag of its exchange
-abbrev pub sealed_part : ℕ → Grant → ReplyKey → ℤ → ℤ → List ℕ → EncryptedData
+abbrev pub sealed_part : ℕ → Grant → PartKey → ℤ → ℤ → List ℕ → EncryptedData
 sealed_part tag grant reply nonce now random =
     encrypted (under tag enc_kdc_rep_part) reply.key (usage_number reply.usage) reply.kvno (reply_confounder random)
     (reply_part grant nonce now)
 
 -- the reply of an exchange: `type` is its message type, and `tag` the tag of its encrypted part
-abbrev pub reply_of : (type tag : ℕ) → Grant → ServiceKey → ReplyKey → Option (List PaData) → ℤ → ℤ → List ℕ
+abbrev pub reply_of : (type tag : ℕ) → Grant → ServiceKey → PartKey → Option (List PaData) → ℤ → ℤ → List ℕ
     → KdcRep type
 reply_of type tag grant service reply padata nonce now random = record {
   padata = padata;

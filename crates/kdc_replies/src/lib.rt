@@ -16,7 +16,7 @@ pub use errors::{error_reply, too_big};
 pub use grant::Grant;
 pub use granted::Granted;
 pub use incoming::Incoming;
-pub use replies::{ReplyInputs, ReplyKey, ticket_reply};
+pub use replies::{ReplyInputs, ticket_reply};
 pub use services::{ServiceTerms, service_terms};
 pub use session_keys::session_key;
 pub use standing::{denies_tickets, has_come, is_disabled, is_expired};

@@ -12,21 +12,12 @@ ghost use Rattle.kdc_replies.specs.Reply.{OpensAlike, sealed_part, reply_of};
 
 use crate::grant::{Grant, LentName, LentRealm};
 use crate::tickets::{LentTicket, ServiceKey, confounder, ticket};
-use enctypes::{Key, KeyUsage};
 use krb_der::KTime;
 use krb_elements::{Lent, Seq, UInt32, write};
 use krb_fields::{EncryptedData, PaData};
 use krb_types::{KdcRep, Under};
-use sealed_parts::ReadyKeys;
+use sealed_parts::{PartKey, ReadyKeys};
 use std::alloc::{AllocError, Global};
-
-/// The key with which the client decrypts its part of a reply, its usage, and its key version if the reply names one.
-#[derive(Clone, Copy)]
-pub struct ReplyKey {
-    pub key: Key,
-    pub usage: KeyUsage,
-    pub kvno: Option<UInt32>,
-}
 
 /// What a reply copies from its request, the time when it is made, the random bytes, and the cache of keys.
 #[derive(Clone, Copy)]
@@ -52,7 +43,7 @@ pub fn ticket_reply<const TYPE: u8, const TAG: u8>(
     alloc: Global,
     grant: &Grant<'_>,
     service: &ServiceKey,
-    key: &ReplyKey,
+    key: &PartKey,
     padata: Option<Seq<PaData>>,
     inputs: &ReplyInputs<'_>,
 ) -> Result<Vec<u8>, AllocError>
@@ -79,7 +70,7 @@ fn whole_reply<'g, 'a, const TYPE: u8, const TAG: u8>(
     alloc: Global,
     grant: &'g Grant<'a>,
     service: &ServiceKey,
-    key: &ReplyKey,
+    key: &PartKey,
     padata: Option<Seq<PaData>>,
     inputs: &ReplyInputs<'_>,
 ) -> Result<LentReply<'g, 'a, TYPE>, AllocError>
@@ -108,7 +99,7 @@ fn whole_reply<'g, 'a, const TYPE: u8, const TAG: u8>(
 fn sealed<const TAG: u8>(
     alloc: Global,
     grant: &Grant<'_>,
-    key: &ReplyKey,
+    key: &PartKey,
     inputs: &ReplyInputs<'_>,
 ) -> Result<EncryptedData, AllocError>
     requires { IsShort grant.now }
@@ -122,12 +113,7 @@ fn sealed<const TAG: u8>(
     let part: Under<TAG, _> = Under {
         value: grant.reply_part(alloc, inputs.nonce, inputs.time)?,
     };
-    inputs.ready.encrypted(
-        alloc,
-        &key.key,
-        key.usage,
-        key.kvno,
-        &confounder(inputs.random, 48),
-        &part,
-    )
+    inputs
+        .ready
+        .encrypted(alloc, key, &confounder(inputs.random, 48), &part)
 }

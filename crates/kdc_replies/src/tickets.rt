@@ -12,7 +12,7 @@ use enctypes::{Key, KeyUsage};
 use krb_elements::{Lent, UInt32};
 use krb_fields::EncryptedData;
 use krb_types::{PVNO, Ticket};
-use sealed_parts::ReadyKeys;
+use sealed_parts::{PartKey, ReadyKeys};
 use std::alloc::{AllocError, Global};
 
 /// A key of a service, which encrypts its tickets, and its key version.
@@ -63,16 +63,12 @@ fn sealed(
     ensures most { IfOk result (λ sealed. length sealed.cipher ≤ 2147490100) }
 {
     let part = grant.ticket_part(alloc)?;
-    let kvno = Some(version_number(service.version));
-    let confounder = confounder(random, 32);
-    ready.encrypted(
-        alloc,
-        &service.key,
-        KeyUsage::Ticket,
-        kvno,
-        &confounder,
-        &part,
-    )
+    let key = PartKey {
+        key: service.key,
+        usage: KeyUsage::Ticket,
+        kvno: Some(version_number(service.version)),
+    };
+    ready.encrypted(alloc, &key, &confounder(random, 32), &part)
 }
 
 /// Returns a key version as a message has it.

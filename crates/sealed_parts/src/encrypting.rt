@@ -9,22 +9,30 @@ use krb_elements::{Encode, Octets, UInt32};
 use krb_fields::EncryptedData;
 use std::alloc::{AllocError, Global};
 
+/// The key of an encrypted part, its usage, and its key version if the message names one.
+#[derive(Clone, Copy)]
+pub struct PartKey {
+    pub key: Key,
+    pub usage: KeyUsage,
+    pub kvno: Option<UInt32>,
+}
+
 /// Encrypts a value. `confounder` is 16 random bytes.
 pub fn encrypted<T: Encode>(
     alloc: Global,
-    key: &Key,
-    usage: KeyUsage,
-    kvno: Option<UInt32>,
+    key: &PartKey,
     confounder: &[u8; 16],
     part: &T,
 ) -> Result<EncryptedData, AllocError>
     requires { length (T.codec.text part.now) < 2 ^ 32 }
     ensures value { IfOk result (λ sealed. sealed
-        ≡ encrypted T.codec key.now (usage_number usage) kvno confounder.now part.now) }
-    ensures opens { IfOk result (λ sealed. decrypted T.codec key.now (usage_number usage) sealed ≡ Some part.now) }
+        ≡ encrypted T.codec key.now.key (usage_number key.now.usage) key.now.kvno confounder.now part.now) }
+    ensures opens { IfOk result (λ sealed.
+        decrypted T.codec key.now.key (usage_number key.now.usage) sealed ≡ Some part.now) }
     ensures most { IfOk result (λ sealed. length sealed.cipher ≤ 46 + length (T.codec.text part.now)) }
 {
-    encrypted_by(alloc, &ReadyKey::new(key, usage), kvno, confounder, part)
+    let ready = ReadyKey::new(&key.key, key.usage);
+    encrypted_by(alloc, &ready, key.kvno, confounder, part)
 }
 
 /// Encrypts like `encrypted`, with a prepared key.

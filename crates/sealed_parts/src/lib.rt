@@ -15,7 +15,7 @@ ghost use Rattle.enctypes.specs.KeyUsage.{usage_number};
 ghost use Rattle.enctypes.specs.Sealing.{seal};
 ghost use Rattle.sealed_parts.specs.Parts.{IsSpelledWithin, opened_as};
 
-pub use encrypting::{encrypted, encrypted_by};
+pub use encrypting::{PartKey, encrypted, encrypted_by};
 use enctypes::{Key, KeyUsage, ReadyKey};
 pub use keys::{key_of, key_part, type_numbered};
 use krb_elements::{Encode, Fault, ReadOwned, read_owned, write};

@@ -5,11 +5,11 @@ ghost use Rattle.enctypes.specs.Sealing.{mac};
 ghost use Rattle.sealed_parts.specs.Encrypted.{encrypted, decrypted};
 ghost use Rattle.sealed_parts.specs.Parts.{IsSpelledWithin, opened_as};
 
-use crate::encrypting::{encrypted, encrypted_by};
+use crate::encrypting::{PartKey, encrypted, encrypted_by};
 use crate::places::{Places, made_ready, make_ready};
 use crate::{open_part, open_part_by};
 use enctypes::{Key, KeyUsage, ReadyChecksum, ReadyKey, verify};
-use krb_elements::{Encode, ReadOwned, UInt32};
+use krb_elements::{Encode, ReadOwned};
 use krb_fields::EncryptedData;
 use std::alloc::{AllocError, Global};
 use std::cell::RefMut;
@@ -71,24 +71,23 @@ impl ReadyKeys {
     pub fn encrypted<T: Encode>(
         &self,
         alloc: Global,
-        key: &Key,
-        usage: KeyUsage,
-        kvno: Option<UInt32>,
+        key: &PartKey,
         confounder: &[u8; 16],
         part: &T,
     ) -> Result<EncryptedData, AllocError>
         requires { length (T.codec.text part.now) < 2 ^ 32 }
         ensures value { IfOk result (λ sealed. sealed
-            ≡ encrypted T.codec key.now (usage_number usage) kvno confounder.now part.now) }
-        ensures opens { IfOk result (λ sealed. decrypted T.codec key.now (usage_number usage) sealed ≡ Some part.now) }
+            ≡ encrypted T.codec key.now.key (usage_number key.now.usage) key.now.kvno confounder.now part.now) }
+        ensures opens { IfOk result (λ sealed.
+            decrypted T.codec key.now.key (usage_number key.now.usage) sealed ≡ Some part.now) }
         ensures most { IfOk result (λ sealed. length sealed.cipher ≤ 46 + length (T.codec.text part.now)) }
     {
-        if let Some(mut place) = self.place_of(key, usage) {
-            if let Some(ready) = made_ready(&mut place, key, usage) {
-                return encrypted_by(alloc, ready, kvno, confounder, part);
+        if let Some(mut place) = self.place_of(&key.key, key.usage) {
+            if let Some(ready) = made_ready(&mut place, &key.key, key.usage) {
+                return encrypted_by(alloc, ready, key.kvno, confounder, part);
             }
         }
-        encrypted(alloc, key, usage, kvno, confounder, part)
+        encrypted(alloc, key, confounder, part)
     }
 
     /// Checks a checksum like `verify`, faster if the key is in the cache for checksums of this usage. It is afterwards.

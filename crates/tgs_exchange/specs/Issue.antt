@@ -5,7 +5,7 @@ use Rattle.enctypes.specs.declared.key_usage.KeyUsage.TheVariants.{TgsRepEncPart
 use Rattle.kdc_replies.specs.Grant.{session_key}
 use Rattle.kdc_replies.specs.Reply.{reply_of}
 use Rattle.kdc_replies.specs.declared.grant.Grant.{Grant}
-use Rattle.kdc_replies.specs.declared.replies.ReplyKey.{ReplyKey}
+use Rattle.sealed_parts.specs.declared.encrypting.PartKey.{PartKey}
 use Rattle.krb_fields.specs.declared.moment.Moment.{Moment}
 use Rattle.krb_types.specs.KdcRep.{KdcRep}
 use Rattle.krb_types.specs.ReqBody.{ReqBody}
@@ -29,11 +29,11 @@ grant_by v random body p admission = record {
 }
 
 -- the key that the client chose, else the session key of the presented ticket
-abbrev pub reply_key_by : Key → Option Key → ReplyKey
+abbrev pub reply_key_by : Key → Option Key → PartKey
 reply_key_by session (Some subkey) = record { key = subkey; usage = TgsRepEncPartSubkey; kvno = None }
 reply_key_by session None = record { key = session; usage = TgsRepEncPartSessionKey; kvno = None }
 
-abbrev pub reply_key_of : Presented → ReplyKey
+abbrev pub reply_key_of : Presented → PartKey
 reply_key_of p = reply_key_by p.session_key p.subkey
 
 abbrev pub tgs_rep : TgsView → Moment → List ℕ → ReqBody → Presented → Admission → KdcRep 13

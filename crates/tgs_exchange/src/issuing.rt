@@ -15,10 +15,11 @@ use crate::terms::Admission;
 use crate::view::TgsView;
 use ap_opening::ticket_terms;
 use enctypes::KeyUsage;
-use kdc_replies::{Grant, Granted, Incoming, ReplyInputs, ReplyKey, session_key, ticket_reply};
+use kdc_replies::{Grant, Granted, Incoming, ReplyInputs, session_key, ticket_reply};
 use krb_elements::{KerberosStringRef, Lent, Seq};
 use krb_fields::{Flags, Typed};
 use krb_types::{ENC_TGS_REP_PART, ReqBodyRef, TGS_REP};
+use sealed_parts::PartKey;
 use std::alloc::{AllocError, Global};
 use tgs_opening::Presented;
 use ticket_times::tgs_flags;
@@ -129,16 +130,16 @@ pub fn granted_of(body: &ReqBodyRef<'_>, presented: &Presented, admission: &Admi
 }
 
 /// Returns the key that the client chose, else the session key of the presented ticket.
-fn reply_key_of(presented: &Presented) -> ReplyKey
+fn reply_key_of(presented: &Presented) -> PartKey
     ensures { result ≡ reply_key_of presented.now }
 {
     match presented.subkey {
-        Some(subkey) => ReplyKey {
+        Some(subkey) => PartKey {
             key: subkey,
             usage: KeyUsage::TgsRepEncPartSubkey,
             kvno: None,
         },
-        None => ReplyKey {
+        None => PartKey {
             key: presented.session_key,
             usage: KeyUsage::TgsRepEncPartSessionKey,
             kvno: None,
