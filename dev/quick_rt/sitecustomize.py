@@ -4,7 +4,7 @@
 
 It is for the folder of a crate; the path counts from where `rt` runs. The stamp of a library covers the crates below
 it, and `rt` computes it anew along each path through the crates: three to five minutes of a processor in `kdcd` and
-`kdc_tests`, before anything is checked. With this folder on PYTHONPATH each stamp is computed once in a run of
+`exchange_tests`, before anything is checked. With this folder on PYTHONPATH each stamp is computed once in a run of
 `rt`. Sources must not change while it runs. `rt ci` uses no stamps and needs none of this.
 
     QUICK_RT=all PYTHONPATH=../../dev/quick_rt rt all check --jobs 4

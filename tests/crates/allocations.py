@@ -19,7 +19,7 @@ from harness.programs import refused_memory
 from harness.tests import add, Test
 
 # The crates whose tests have marks.
-CRATES = ("base_tests", "kdc_tests", "ticket_tests")
+CRATES = ("base_tests", "exchange_tests")
 
 
 class Seen:

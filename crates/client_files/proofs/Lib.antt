@@ -1,5 +1,2 @@
 mod HeldCaches
 mod NewCaches
-mod FirstLaws
-mod LineLaws
-mod TextLaws

@@ -2,15 +2,14 @@
 ghost use Rattle.std.specs.Prelude.{◌≡◌};
 
 use crate::client_store::{ClientStore, PathKind};
-use crate::defaults::{default_realm, kdcs, library_settings};
 use crate::environment::Defaults;
 use crate::faults::{Cause, Fault, at_file};
-use crate::kdc::kdc_address;
 use crate::principals::{name_of, principal_of};
 use client_login::KdcPlace;
 use cred_files::Principal;
 use krb_elements::KerberosString;
 use krb_fields::{component_to_text, is_component};
+use krb5_conf::{default_realm, kdc_address, kdcs, library_settings};
 use program::{FileCause, LONGEST_FILE, read_file};
 use std::alloc::{AllocError, Global};
 

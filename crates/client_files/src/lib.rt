@@ -14,29 +14,19 @@
 //!
 //! All of them fail with a [`Fault`], which names its subject and can be shown to a user.
 //!
-//! A line of a `krb5.conf` is one of four things: the start of a section (`[realms]`), the start of a group
-//! (`EXAMPLE.COM = {`), its end (`}`), or a relation (`kdc = 192.0.2.1:88`). The brace that starts a group may be on a
-//! line of its own, after `EXAMPLE.COM =`. Blanks around a line, a name or a value are ignored, and so are quotation
-//! marks around a value. Lines that start with `#` or `;`, and those in any other form, are ignored too.
-//!
-//! It does not send anything: `client_login` gets the tickets. A cache or a keytab is always a
+//! It does not send anything: `client_login` gets the tickets. `krb5_conf` says what a line of a `krb5.conf` means. A cache or a keytab is always a
 //! file: other types, such as `KEYRING:` and `KCM:`, are refused.
 #![tactic(auto)]
 
 mod cache_files;
 mod client_store;
 mod configs;
-mod defaults;
 mod environment;
 mod faults;
 mod file_names;
 mod holding;
-mod kdc;
-mod line;
-mod place;
 mod principals;
 mod settings;
-mod values;
 mod words;
 
 pub use cache_files::{
@@ -44,10 +34,8 @@ pub use cache_files::{
 };
 pub use client_store::{ClientStore, PathKind};
 pub use configs::Config;
-pub use defaults::{default_realm, kdcs, library_settings};
 pub use environment::{Defaults, Variable};
 pub use faults::{Cause, Fault, at, at_file, at_password, unknown_hosts};
 pub use file_names::{NameOf, path_in};
 pub use holding::{good_credential, granting_ticket};
-pub use kdc::kdc_address;
 pub use principals::{name_of, principal_text};

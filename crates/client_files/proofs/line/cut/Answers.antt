@@ -1,9 +1,0 @@
-use Rattle.std.proofs.Common.{sym, ◌∙◌}
-use Rattle.client_files.proofs.FirstLaws.{first_is, first_none}
-use Rattle.client_files.proofs.line.cut.Goals as goal
-
-pub returns-in_err-place-clause-none : goal.returns-in_err-place-clause-none
-returns-in_err-place-clause-none c = rw c.from_residual.ensures (first_none _ c.args.text.now (sym c.place_of.ensures ∙ c.in_err-place.was))
-
-pub returns-clause-some : goal.returns-clause-some
-returns-clause-some c = (first_is _ c.args.text.now c.in_ok-place.place (sym c.place_of.ensures ∙ c.in_ok-place.was)).0

@@ -1,0 +1,3 @@
+mod FirstLaws
+mod LineLaws
+mod TextLaws

@@ -1,0 +1,4 @@
+pub mod Line
+pub mod LinePlace
+pub mod Values
+pub mod Kdc
