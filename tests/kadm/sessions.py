@@ -10,7 +10,10 @@ A session is a file NAME.session, and the test kadm/sessions/NAME. The start of 
     ? TEXT       standard error contains this text
     ! LINE       a line of standard error; `! ...` stands for any text
     [NUMBER]     the status, if it is not 0
-    LINE         a line of standard output
+    = LINE       the line of a field of a policy in standard output. Such lines that follow each other stand for a whole
+                 policy: all other fields, each in its place, are as a new principal's with random keys (FIELDS in
+                 tests/harness/databases.py)
+    LINE         another line of standard output
 
 A line that ends in ` (no-eol)` has no line feed. Each session begins with the files in FILES. A command that does not
 succeed has to leave all files as they were; it may make an empty lock. `CLOCK=`, `DRAWS=` and `HELD=` are settings of
@@ -18,17 +21,23 @@ tests/harness/fixed_system.c. A command with `FAILS=NAME,..` runs once for each 
 fails each time, with the result that is written. These names have to be among the calls."""
 
 import dataclasses
+import itertools
 import pathlib
 import re
 
+from harness import databases
 from harness.checks import expect
 from harness.programs import HARNESS, TOP, fixed_system
 from harness.tests import add, Test
 from harness.trial import Trial
 
 FOLDER = TOP / "tests" / "kadm" / "sessions"
-# The files that each session begins with.
-FILES = {"seed": bytes([7] * 40), "short": bytes([7] * 31), "pass": b"password\nmore", "long": b"a" * 1025}
+# The files that each session begins with; `fields` has the names of the fields of a policy, a line each, and `newest` a
+# database in the newest version.
+FILES = {
+    "seed": bytes([7] * 40), "short": bytes([7] * 31), "pass": b"password\nmore", "long": b"a" * 1025,
+    "fields": "".join(f"{field.name}\n" for field in databases.FIELDS), "newest": databases.one_row_text(),
+}
 # The calls that a command has to make, and that fail one after another.
 FAILS = re.compile(r"\bFAILS=([a-z_,]+)")
 
@@ -82,11 +91,16 @@ def text_of(lines):
 
 def steps_of(path):
     steps = []
-    for number, line in enumerate(path.read_text().splitlines(), 1):
-        if line.startswith("$ "):
-            steps.append(Step(number, line[2:]))
-        elif line and not line.startswith("#"):
-            steps[-1].take(line)
+    lines = enumerate(path.read_text().splitlines(), 1)
+    for is_policy, block in itertools.groupby(lines, lambda numbered: numbered[1].startswith("= ")):
+        if is_policy:
+            steps[-1].printed += databases.policy_lines(line[2:] for _, line in block)
+            continue
+        for number, line in block:
+            if line.startswith("$ "):
+                steps.append(Step(number, line[2:]))
+            elif line and not line.startswith("#"):
+                steps[-1].take(line)
     return steps
 
 

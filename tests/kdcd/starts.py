@@ -4,6 +4,7 @@ import os
 import socket
 
 from harness import staged_realm as realm
+from harness.databases import VERSION
 from harness.stage import ask, Staged
 from harness.tests import test
 from harness.wire import answer, free_port
@@ -61,7 +62,7 @@ def files(trial):
     trial.enter()
     for what, text, refusal in (
         ("is no UTF-8", b'{"realm":"\xff"}', "NotJson"), ("is no object", "[]", "NotJson"),
-        ("has version 4", '{"version":4}', "BadVersion"),
+        ("has a later version", f'{{"version":{VERSION + 1}}}', "BadVersion"),
         ("has no realm", '{"principals":{},"version":3}', "BadRow"),
         ("has no row of krbtgt", '{"principals":{},"realm":"A.B","version":3}', "NoTicketGranter"),
     ):
