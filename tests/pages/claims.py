@@ -13,7 +13,8 @@ from harness.tests import test
 
 CRATES = TOP / "crates"
 WORDS = (
-    "no", "one", "two", "three", "four", "five", "six", "seven", "eight", "nine", "ten", "eleven", "twelve", "thirteen"
+    "no", "one", "two", "three", "four", "five", "six", "seven", "eight", "nine", "ten", "eleven", "twelve", "thirteen",
+    "fourteen", "fifteen", "sixteen", "seventeen", "eighteen", "nineteen", "twenty"
 )
 # The manual pages, and the files with the names of what a program refuses.
 REFUSALS = {

@@ -104,7 +104,7 @@ impl Reason {
             Reason::Locked => "cannot lock it: another kadm is still running after ten seconds",
             Reason::FileExists => "this file already exists; name a new one",
             Reason::NotJson => "this is not a database: its text is not a JSON object",
-            Reason::BadVersion => "this is not a database of version 1, 2 or 3",
+            Reason::BadVersion => "this is not a database of a version that this program reads",
             Reason::BadRow => "its realm or one of its rows is invalid",
             Reason::NoTicketGranter => "it has no row for krbtgt/REALM",
             Reason::Mismatch => "the two passwords differ; nothing was changed",
