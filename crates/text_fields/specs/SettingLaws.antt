@@ -6,7 +6,11 @@ use Rattle.std.proofs.lemmas.List.{take_all, length-map, length-set}
 use Rattle.std.proofs.lemmas.Grind.{take-set_at}
 use Rattle.principal_rows.specs.declared.policy.Policy.{Policy}
 use Rattle.text_fields.specs.declared.settings.Setting.{Setting}
-use Rattle.text_fields.specs.Settings.{settings_of, place, placed, with_setting, with_settings}
+use Rattle.text_fields.specs.Settings.{settings_of, place, with_setting, with_settings}
+
+-- setting one field replaces its value and leaves all others unchanged
+placed : (s : Setting) (p : Policy) → settings_of (with_setting s p) ≡ set (settings_of p) (place s) s
+placed s p = grind arith
 
 abbrev put_all : List Setting → List Setting → List Setting
 put_all settings all = fold (λ l s. set l (place s) s) all settings

@@ -1,6 +1,6 @@
 -- Settings of a policy, and the texts that spell them.
 use Rattle.std.specs.Prelude.{◌≡◌, ◌==◌, ℕ, ℤ, pos, ◌<◌, Bool, true, false, List, [], ◌∷◌, length, Option, Some, None}
-use Rattle.std.specs.Prelude.{codes, bytes_eq, if◌then◌else◌, refl, set}
+use Rattle.std.specs.Prelude.{codes, bytes_eq, if◌then◌else◌}
 use Rattle.std.specs.List.{before_first, after_first, position_or_len, fold}
 use Rattle.std.specs.Str.Parse.{IsNumeral, digits_value}
 use Rattle.krb_fields.specs.Moment.{IsSecond}
@@ -159,21 +159,6 @@ place (Flag Preauth on) = 8
 place (Flag Proxiable on) = 9
 place (Time RevokedBefore time) = 10
 place (Flag Service on) = 11
-
--- setting one field replaces its value and leaves all others unchanged
-pub placed : (s : Setting) (p : Policy) → settings_of (with_setting s p) ≡ set (settings_of p) (place s) s
-placed (Flag Disabled on) p = refl
-placed (Flag Preauth on) p = refl
-placed (Flag Forwardable on) p = refl
-placed (Flag Proxiable on) p = refl
-placed (Flag Postdate on) p = refl
-placed (Flag OkAsDelegate on) p = refl
-placed (Flag Service on) p = refl
-placed (Life GreatestLife life) p = refl
-placed (Life GreatestRenewable life) p = refl
-placed (Time Expires time) p = refl
-placed (Time PasswordExpires time) p = refl
-placed (Time RevokedBefore time) p = refl
 
 -- the policy with all of these set, in order
 abbrev pub with_settings : List Setting → Policy → Policy
