@@ -22,6 +22,11 @@ const VERSION_3: &str = "{\"principals\":{\"krbtgt/A.B\":{\"disabled\":false,\"e
     \"ok_as_delegate\":false,\"password_expires\":null,\"postdate\":false,\"preauth\":true,\
     \"proxiable\":true,\"revoked_before\":null,\"service\":true}},\"realm\":\"A.B\",\"version\":3}";
 
+/// The text in the newest version, which each of them becomes, and its end.
+const NEWEST: &str = VERSION_3;
+
+const END_OF_NEWEST: &str = "\"version\":3}";
+
 /// Whether the text of a database, and of its copy, are as expected.
 type Read = Result<(bool, bool), ReadFault>;
 
@@ -38,22 +43,18 @@ const AND_VERSION_1: &str =
 const AND_VERSION_2: &str =
     "1},{\"keys\":[{\"etype\":17,\"key\":\"000102030405060708090a0b0c0d0e0f\"}],\"version\":2}],";
 
-/// A part of `VERSION_3`, what replaces it, and how the text is then read. If an object has a member twice, the last
+/// A part of `NEWEST`, what replaces it, and how the text is then read. If an object has a member twice, the last
 /// one counts.
 const CHANGED: &[(&str, &str, Read)] = &[
+    (END_OF_NEWEST, "\"version\":4}", Err(ReadFault::BadVersion)),
     (
-        "\"version\":3}",
-        "\"version\":4}",
-        Err(ReadFault::BadVersion),
-    ),
-    (
-        "\"version\":3}",
+        END_OF_NEWEST,
         "\"version\":3.0}",
         Err(ReadFault::BadVersion),
     ),
     (",\"version\":3}", "}", Err(ReadFault::BadVersion)),
-    ("\"version\":3}", "\"version\":2}", Err(ReadFault::BadRow)),
-    ("\"version\":3}", "\"version\":1}", Err(ReadFault::BadRow)),
+    (END_OF_NEWEST, "\"version\":2}", Err(ReadFault::BadRow)),
+    (END_OF_NEWEST, "\"version\":1}", Err(ReadFault::BadRow)),
     (",\"service\":true", "", Err(ReadFault::BadRow)),
     (
         "\"service\":true",
@@ -118,20 +119,20 @@ fn is_written(alloc: Global, database: &Database, wanted: &str) -> Result<bool, 
     Ok(database.len() == 1 && principals_text::write(alloc, database)?.as_str() == wanted)
 }
 
-/// Reads `VERSION_3` with a part of it replaced.
+/// Reads `NEWEST` with a part of it replaced.
 fn read_with(alloc: Global, old: &str, new: &str) -> Read {
-    let text = VERSION_3.replace(alloc, old, new)?;
-    read_as(alloc, text.as_str(), VERSION_3)
+    let text = NEWEST.replace(alloc, old, new)?;
+    read_as(alloc, text.as_str(), NEWEST)
 }
 
 /// Checks whether the text of a principal that is no service is written as it is read.
 fn is_no_service_kept(alloc: Global) -> Read {
-    let text = VERSION_3.replace(alloc, "\"service\":true", "\"service\":false")?;
+    let text = NEWEST.replace(alloc, "\"service\":true", "\"service\":false")?;
     read_as(alloc, text.as_str(), text.as_str())
 }
 
 #[test]
-fn a_text_is_read_and_written_in_version_3(rt: HostRuntime) {
+fn a_text_is_read_and_written_in_the_newest_version(rt: HostRuntime) {
     let alloc = rt.alloc();
     for (text, wanted) in [
         (VERSION_1, Ok((true, true))),
@@ -140,10 +141,10 @@ fn a_text_is_read_and_written_in_version_3(rt: HostRuntime) {
         ("[]", Err(ReadFault::NotJson)),
     ] {
         mark(alloc, BEGIN);
-        let mut found = read_as(alloc, text, VERSION_3);
+        let mut found = read_as(alloc, text, NEWEST);
         mark(alloc, END);
         if found == Err(ReadFault::Memory) {
-            found = read_as(alloc, text, VERSION_3);
+            found = read_as(alloc, text, NEWEST);
         }
         same(&rt, &text, &found, &wanted);
         mark(alloc, JUDGED);
@@ -163,8 +164,8 @@ fn a_changed_text_is_refused_by_its_first_fault(rt: HostRuntime) {
         &Ok((true, true)),
     );
     // No proper prefix is JSON.
-    for end in 0..VERSION_3.len() {
-        if let Some(front) = VERSION_3.get(..end) {
+    for end in 0..NEWEST.len() {
+        if let Some(front) = NEWEST.get(..end) {
             same(
                 &rt,
                 &end,
@@ -179,7 +180,7 @@ fn a_changed_text_is_refused_by_its_first_fault(rt: HostRuntime) {
     same(&rt, &"a long text", &long, &Err(ReadFault::BadRow));
 }
 
-/// Reads `VERSION_3` with this character this many times as its realm, between these quotes.
+/// Reads `NEWEST` with this character this many times as its realm, between these quotes.
 fn read_with_realm(alloc: Global, quote: &str, fill: char, count: usize) -> Read {
     let realm = filled(alloc, quote, fill, count)?;
     read_with(alloc, "\"A.B\"", realm.as_str())
