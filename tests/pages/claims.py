@@ -75,7 +75,8 @@ def in_words(name):
 
 def logged(kind):
     """The names of rules in the log, by their names in the code."""
-    return dict(re.findall(rf'{kind}::(\w+) => "([\w-]+)"', read("crates/request_log/src/words.rt")))
+    crate = {"AsRefusal": "as_exchange", "TgsRefusal": "tgs_opening", "ApRefusal": "ap_opening"}[kind]
+    return dict(re.findall(rf'{kind}::(\w+) => "([\w-]+)"', read(f"crates/{crate}/src/refusal.rt")))
 
 
 def coded(kind, file):

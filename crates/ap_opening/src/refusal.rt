@@ -1,6 +1,6 @@
 //! The reasons to refuse an AP-REQ.
-ghost use Rattle.std.specs.Prelude.{◌≡◌};
-ghost use Rattle.ap_opening.specs.Refusal.{code_by, code_of};
+ghost use Rattle.std.specs.Prelude.{◌≡◌, ◌<◌};
+ghost use Rattle.ap_opening.specs.Refusal.{code_by, code_of, place_of, refusal_count, word_of};
 
 use krb_fields::Code;
 
@@ -31,6 +31,31 @@ pub enum ApRefusal {
 }
 
 impl ApRefusal {
+    /// How many there are.
+    pub const COUNT: usize = 18;
+
+    /// All of them, each at its place.
+    pub const ALL: [ApRefusal; ApRefusal::COUNT] = [
+        ApRefusal::BadVersion,
+        ApRefusal::BadMessageType,
+        ApRefusal::SessionKeyAsked,
+        ApRefusal::NotForUs,
+        ApRefusal::NoKey,
+        ApRefusal::BadKeyVersion,
+        ApRefusal::TicketNotOpened,
+        ApRefusal::ForeignClient,
+        ApRefusal::BoundAddress,
+        ApRefusal::BadSessionKey,
+        ApRefusal::AuthenticatorNotOpened,
+        ApRefusal::BadMatch,
+        ApRefusal::BadSubkey,
+        ApRefusal::Skewed,
+        ApRefusal::Repeated,
+        ApRefusal::Full,
+        ApRefusal::NotYetValid,
+        ApRefusal::TicketExpired,
+    ];
+
     /// Returns the code that a service answers with.
     pub fn code(self) -> Code
         ensures { result ≡ code_of self }
@@ -61,6 +86,59 @@ impl ApRefusal {
             ApRefusal::Full => Code::KdcErrSvcUnavailable,
             ApRefusal::NotYetValid => Code::KrbApErrTktNyv,
             ApRefusal::TicketExpired => Code::KrbApErrTktExpired,
+        }
+    }
+
+    /// Returns its name in the log and among the counters.
+    pub fn word(self) -> &'static str
+        ensures { result.now ≡ word_of self }
+    {
+        match self {
+            ApRefusal::BadVersion => "bad-ticket-version",
+            ApRefusal::BadMessageType => "bad-ap-message-type",
+            ApRefusal::SessionKeyAsked => "session-key-asked",
+            ApRefusal::NotForUs => "not-for-us",
+            ApRefusal::NoKey => "no-key",
+            ApRefusal::BadKeyVersion => "bad-key-version",
+            ApRefusal::TicketNotOpened => "ticket-not-opened",
+            ApRefusal::ForeignClient => "foreign-client",
+            ApRefusal::BoundAddress => "bound-address",
+            ApRefusal::BadSessionKey => "bad-session-key",
+            ApRefusal::AuthenticatorNotOpened => "authenticator-not-opened",
+            ApRefusal::BadMatch => "bad-match",
+            ApRefusal::BadSubkey => "bad-subkey",
+            ApRefusal::Skewed => "skewed",
+            ApRefusal::Repeated => "repeated",
+            ApRefusal::Full => "full",
+            ApRefusal::NotYetValid => "not-yet-valid",
+            ApRefusal::TicketExpired => "ticket-expired",
+        }
+    }
+
+    /// Returns its place among those of every AP-REQ.
+    pub fn place(self) -> usize
+        ensures value { result ≡ place_of self }
+        ensures range { result < refusal_count }
+    {
+        match self {
+            ApRefusal::BadVersion => 0,
+            ApRefusal::BadMessageType => 1,
+            ApRefusal::SessionKeyAsked => 2,
+            ApRefusal::NotForUs => 3,
+            ApRefusal::NoKey => 4,
+            ApRefusal::BadKeyVersion => 5,
+            ApRefusal::TicketNotOpened => 6,
+            ApRefusal::ForeignClient => 7,
+            ApRefusal::BoundAddress => 8,
+            ApRefusal::BadSessionKey => 9,
+            ApRefusal::AuthenticatorNotOpened => 10,
+            ApRefusal::BadMatch => 11,
+            ApRefusal::BadSubkey => 12,
+            ApRefusal::Skewed => 13,
+            ApRefusal::Repeated => 14,
+            ApRefusal::Full => 15,
+            ApRefusal::NotYetValid => 16,
+            ApRefusal::TicketExpired => 17,
         }
     }
 }

@@ -24,7 +24,8 @@ use Rattle.preauth.specs.declared.timestamp.Outcome.{Outcome}
 use Rattle.principal_rows.specs.declared.row.Row.{Row}
 use Rattle.replay.specs.declared.failures.Failures.{Failures}
 use Rattle.as_exchange.specs.View.{AsView, current_failures}
-use Rattle.as_exchange.specs.Rules.{is_good, code_of}
+use Rattle.as_exchange.specs.Refusal.{code_of}
+use Rattle.as_exchange.specs.Rules.{is_good}
 use Rattle.as_exchange.specs.Issue.{as_rep, grant_by}
 use Rattle.as_exchange.specs.Decision.{decision}
 use Rattle.as_exchange.specs.declared.decision.Decision.{Decision}

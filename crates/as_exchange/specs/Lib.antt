@@ -2,6 +2,7 @@ pub mod View
 pub mod Known
 pub mod Terms
 pub mod Rules
+pub mod Refusal
 pub mod Issue
 pub mod Decision
 pub mod Answer

@@ -15,7 +15,8 @@ use Rattle.kdc_replies.specs.Accounts.{IsErrorWith, WasIssuedTo}
 use Rattle.kdc_replies.specs.declared.granted.Granted.{Granted}
 use Rattle.ticket_times.specs.Flags.{as_flags}
 use Rattle.as_exchange.specs.View.{AsView}
-use Rattle.as_exchange.specs.Rules.{code_of, is_good}
+use Rattle.as_exchange.specs.Refusal.{code_of}
+use Rattle.as_exchange.specs.Rules.{is_good}
 use Rattle.as_exchange.specs.Issue.{as_rep}
 use Rattle.as_exchange.specs.Decision.{decision}
 use Rattle.as_exchange.specs.Answer.{as_error}

@@ -7,8 +7,6 @@ use Rattle.std.specs.Cmp.Lexicographic.{pointwise}
 use Rattle.lists.specs.Optional.{holds_of}
 use Rattle.lists.specs.Refusals.{Rule, decided}
 use Rattle.kdc_replies.specs.Standing.{denies_tickets, has_come, is_disabled, is_expired}
-use Rattle.krb_fields.specs.declared.code.Code.{Code}
-use Rattle.krb_fields.specs.declared.code.Code as codes
 use Rattle.krb_fields.specs.declared.kdc_option.KdcOption.TheVariants.{Forwarded, Proxy, AllowPostdate, Postdated}
 use Rattle.krb_fields.specs.declared.kdc_option.KdcOption.TheVariants.{EncTktInSkey, Renew, Validate}
 use Rattle.krb_types.specs.KdcReq.{Received}
@@ -143,24 +141,3 @@ admitted_by v now message timestamp found =
 
 abbrev pub admitted : AsView → ℤ → Received → Outcome → Result Admission AsRefusal
 admitted v now message timestamp = admitted_by v now message timestamp (terms v message.body.value)
-
-abbrev pub code_of : AsRefusal → Code
-code_of BadVersion = codes.TheVariants.KdcErrBadPvno
-code_of BadMessageType = codes.TheVariants.KrbApErrMsgType
-code_of ClientUnknown = codes.TheVariants.KdcErrCPrincipalUnknown
-code_of ServiceUnknown = codes.TheVariants.KdcErrSPrincipalUnknown
-code_of ServiceDenied = codes.TheVariants.KdcErrSPrincipalUnknown
-code_of ClientDisabled = codes.TheVariants.KdcErrClientRevoked
-code_of ClientLocked = codes.TheVariants.KdcErrClientRevoked
-code_of ClientExpired = codes.TheVariants.KdcErrNameExp
-code_of PasswordExpired = codes.TheVariants.KdcErrKeyExpired
-code_of ServiceRevoked = codes.TheVariants.KdcErrServiceRevoked
-code_of ServiceExpired = codes.TheVariants.KdcErrServiceExp
-code_of BadOption = codes.TheVariants.KdcErrBadoption
-code_of NoCommonType = codes.TheVariants.KdcErrEtypeNosupp
-code_of PreauthFailed = codes.TheVariants.KdcErrPreauthFailed
-code_of TimestampSkewed = codes.TheVariants.KrbApErrSkew
-code_of PreauthRequired = codes.TheVariants.KdcErrPreauthRequired
-code_of PostdatingRefused = codes.TheVariants.KdcErrPolicy
-code_of StartsTooLate = codes.TheVariants.KdcErrCannotPostdate
-code_of NeverValid = codes.TheVariants.KdcErrNeverValid

@@ -1,7 +1,7 @@
 //! The reasons to refuse an AS-REQ.
-ghost use Rattle.std.specs.Prelude.{◌≡◌};
+ghost use Rattle.std.specs.Prelude.{◌≡◌, ◌<◌};
 ghost use Rattle.as_exchange.specs.Answer.{sequel_of};
-ghost use Rattle.as_exchange.specs.Rules.{code_of};
+ghost use Rattle.as_exchange.specs.Refusal.{code_of, place_of, refusal_count, word_of};
 
 use krb_fields::Code;
 
@@ -42,6 +42,32 @@ pub enum Effect {
 }
 
 impl AsRefusal {
+    /// How many there are.
+    pub const COUNT: usize = 19;
+
+    /// All of them, each at its place.
+    pub const ALL: [AsRefusal; AsRefusal::COUNT] = [
+        AsRefusal::BadVersion,
+        AsRefusal::BadMessageType,
+        AsRefusal::ClientUnknown,
+        AsRefusal::ServiceUnknown,
+        AsRefusal::ServiceDenied,
+        AsRefusal::ClientDisabled,
+        AsRefusal::ClientLocked,
+        AsRefusal::ClientExpired,
+        AsRefusal::PasswordExpired,
+        AsRefusal::ServiceRevoked,
+        AsRefusal::ServiceExpired,
+        AsRefusal::BadOption,
+        AsRefusal::NoCommonType,
+        AsRefusal::PreauthFailed,
+        AsRefusal::TimestampSkewed,
+        AsRefusal::PreauthRequired,
+        AsRefusal::PostdatingRefused,
+        AsRefusal::StartsTooLate,
+        AsRefusal::NeverValid,
+    ];
+
     /// Returns the error code of the KRB-ERROR that answers it (RFC 4120, section 7.5.9).
     pub fn code(self) -> Code
         ensures { result ≡ code_of self }
@@ -79,6 +105,61 @@ impl AsRefusal {
                 Effect::FollowsTimestamp
             }
             _ => Effect::Nothing,
+        }
+    }
+
+    /// Returns its name in the log and among the counters.
+    pub fn word(self) -> &'static str
+        ensures { result.now ≡ word_of self }
+    {
+        match self {
+            AsRefusal::BadVersion => "bad-version",
+            AsRefusal::BadMessageType => "bad-message-type",
+            AsRefusal::ClientUnknown => "client-unknown",
+            AsRefusal::ServiceUnknown => "service-unknown",
+            AsRefusal::ServiceDenied => "service-denied",
+            AsRefusal::ClientDisabled => "client-disabled",
+            AsRefusal::ClientLocked => "client-locked",
+            AsRefusal::ClientExpired => "client-expired",
+            AsRefusal::PasswordExpired => "password-expired",
+            AsRefusal::ServiceRevoked => "service-revoked",
+            AsRefusal::ServiceExpired => "service-expired",
+            AsRefusal::BadOption => "bad-option",
+            AsRefusal::NoCommonType => "no-common-type",
+            AsRefusal::PreauthFailed => "preauthentication-failed",
+            AsRefusal::TimestampSkewed => "timestamp-skewed",
+            AsRefusal::PreauthRequired => "preauthentication-required",
+            AsRefusal::PostdatingRefused => "postdating-refused",
+            AsRefusal::StartsTooLate => "starts-too-late",
+            AsRefusal::NeverValid => "never-valid",
+        }
+    }
+
+    /// Returns its place among those of its exchange.
+    pub fn place(self) -> usize
+        ensures value { result ≡ place_of self }
+        ensures range { result < refusal_count }
+    {
+        match self {
+            AsRefusal::BadVersion => 0,
+            AsRefusal::BadMessageType => 1,
+            AsRefusal::ClientUnknown => 2,
+            AsRefusal::ServiceUnknown => 3,
+            AsRefusal::ServiceDenied => 4,
+            AsRefusal::ClientDisabled => 5,
+            AsRefusal::ClientLocked => 6,
+            AsRefusal::ClientExpired => 7,
+            AsRefusal::PasswordExpired => 8,
+            AsRefusal::ServiceRevoked => 9,
+            AsRefusal::ServiceExpired => 10,
+            AsRefusal::BadOption => 11,
+            AsRefusal::NoCommonType => 12,
+            AsRefusal::PreauthFailed => 13,
+            AsRefusal::TimestampSkewed => 14,
+            AsRefusal::PreauthRequired => 15,
+            AsRefusal::PostdatingRefused => 16,
+            AsRefusal::StartsTooLate => 17,
+            AsRefusal::NeverValid => 18,
         }
     }
 }

@@ -6,3 +6,4 @@ mod Fields
 pub mod Found
 pub mod Counting
 pub mod Appended
+pub mod Parts

@@ -2,7 +2,12 @@
 use Rattle.std.specs.Prelude.{ℕ, Bool, true, false, List, ◌++◌, codes}
 use Rattle.std.specs.List.{flat_map}
 use Rattle.replay.specs.declared.keep.Bears.TheVariants.{Ticket, Error}
-use Rattle.request_log.specs.Words.{as_rule_name, tgs_rule_name}
+use Rattle.ap_opening.specs.declared.refusal.ApRefusal.{ApRefusal}
+use Rattle.as_exchange.specs.Refusal.{word_of as as_word}
+use Rattle.as_exchange.specs.declared.refusal.AsRefusal.{AsRefusal}
+use Rattle.tgs_opening.specs.Refusal.{word_of as tgs_word}
+use Rattle.tgs_opening.specs.declared.refusal.TgsRefusal.{TgsRefusal}
+use Rattle.tgs_opening.specs.declared.refusal.TgsRefusal.TheVariants.{Ap}
 use Rattle.request_log.specs.declared.asker.Transport.{Transport as Carrier}
 use Rattle.request_log.specs.declared.asker.Transport.TheVariants.{Udp, Tcp}
 use Rattle.request_log.specs.Counts.{replies_in, requests_in}
@@ -45,11 +50,11 @@ rule_word NoRequest = codes ""
 rule_word Unanswered = codes ""
 rule_word AsTicket = codes ""
 rule_word AsTooBig = codes ""
-rule_word (AsRefused rule) = as_rule_name rule
+rule_word (AsRefused rule) = as_word rule
 rule_word TgsTicket = codes ""
 rule_word TgsTooBig = codes ""
 rule_word (TgsAgain bears) = codes ""
-rule_word (TgsRefused rule) = tgs_rule_name rule
+rule_word (TgsRefused rule) = tgs_word rule
 
 abbrev pub requests_name : List ℕ
 requests_name = codes "kdcd_requests_total"
@@ -61,6 +66,16 @@ request_labels kind =
 
 unfoldable pub request_sample : Counts → Kind → List ℕ
 request_sample counts kind = sample requests_name (request_labels kind) (requests_in counts kind)
+
+-- the samples of the requests that a rule refused
+abbrev pub as_sample : Counts → AsRefusal → List ℕ
+as_sample counts rule = request_sample counts (AsRefused rule)
+
+abbrev pub tgs_sample : Counts → TgsRefusal → List ℕ
+tgs_sample counts rule = request_sample counts (TgsRefused rule)
+
+abbrev pub ap_sample : Counts → ApRefusal → List ℕ
+ap_sample counts rule = tgs_sample counts (Ap rule)
 
 -- a sample for each kind
 abbrev pub requests_head : List ℕ

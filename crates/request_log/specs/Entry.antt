@@ -14,10 +14,10 @@ use Rattle.krb_fields.specs.declared.code.Code.TheVariants.{KrbErrResponseTooBig
 use Rattle.krb_fields.specs.declared.moment.Moment.{Moment}
 use Rattle.replay.specs.declared.keep.Bears.{Bears}
 use Rattle.replay.specs.declared.keep.Bears.TheVariants.{Ticket, Error}
-use Rattle.as_exchange.specs.Rules.{code_of as as_code}
+use Rattle.as_exchange.specs.Refusal.{code_of as as_code, word_of as as_word}
 use Rattle.as_exchange.specs.declared.outcome.AsOutcome.{AsOutcome}
 use Rattle.as_exchange.specs.declared.outcome.AsOutcome.TheVariants.{Refused as AsRefused, Issued as AsIssued, TooBig as AsTooBig}
-use Rattle.tgs_opening.specs.Refusal.{code_of as tgs_code}
+use Rattle.tgs_opening.specs.Refusal.{code_of as tgs_code, word_of as tgs_word}
 use Rattle.tgs_exchange.specs.declared.outcome.TgsOutcome.{TgsOutcome}
 use Rattle.tgs_exchange.specs.declared.outcome.TgsOutcome.TheVariants.{Refused, Issued, Resent, TooBig}
 use Rattle.kdc_replies.specs.declared.granted.Granted.{Granted}
@@ -26,7 +26,7 @@ use Rattle.kdc_core.specs.Account.{Account}
 use Rattle.kdc_core.specs.declared.account.Account.TheVariants.{NoRequest, As, Tgs}
 use Rattle.request_log.specs.Field.{Field, field}
 use Rattle.request_log.specs.Times.{date_text, life_text, valid_seconds}
-use Rattle.request_log.specs.Words.{as_rule_name, code_word, tgs_rule_name}
+use Rattle.request_log.specs.Words.{code_word}
 use Rattle.request_log.specs.declared.asker.Asker.{Asker}
 use Rattle.request_log.specs.declared.asker.Transport.{Transport as Carrier}
 use Rattle.request_log.specs.declared.asker.Transport.TheVariants.{Udp, Tcp}
@@ -124,12 +124,12 @@ again_fields Error =
     ∷ []
 
 abbrev pub as_fields : AsOutcome → List Field
-as_fields (AsRefused rule) = rule_fields (as_code rule) (as_rule_name rule)
+as_fields (AsRefused rule) = rule_fields (as_code rule) (as_word rule)
 as_fields (AsIssued granted) = ticket_fields granted
 as_fields AsTooBig = code_fields KrbErrResponseTooBig
 
 abbrev pub tgs_fields : TgsOutcome → List Field
-tgs_fields (Refused rule) = rule_fields (tgs_code rule) (tgs_rule_name rule)
+tgs_fields (Refused rule) = rule_fields (tgs_code rule) (tgs_word rule)
 tgs_fields (Issued granted) = ticket_fields granted
 tgs_fields (Resent bears) = again_fields bears
 tgs_fields TooBig = code_fields KrbErrResponseTooBig

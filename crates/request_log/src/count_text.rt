@@ -2,16 +2,16 @@
 ghost use Rattle.std.specs.Prelude.{◌≡◌, ◌++◌, OnOk};
 ghost use Rattle.std.specs.List.{flat_map};
 ghost use Rattle.request_log.specs.CountText.{counts_text, exchange_word, outcome_word, reply_labels, reply_sample};
-ghost use Rattle.request_log.specs.CountText.{replies_text, request_labels, request_sample, requests_text, rule_word};
+ghost use Rattle.request_log.specs.CountText.{ap_sample, as_sample, replies_text, request_labels, request_sample};
+ghost use Rattle.request_log.specs.CountText.{rule_word, tgs_sample};
 ghost use Rattle.request_log.specs.Places.{kinds};
 
 use crate::asker::Transport;
 use crate::counts::Counts;
 use crate::kind::Kind;
-use crate::places::KINDS;
+use crate::places::{BEFORE_RULES, BETWEEN_RULES};
 use crate::prometheus::{NumberType, push_head, push_sample, push_str, push_value};
-use crate::words::{as_rule_name, tgs_rule_name};
-use kdc_core::Bears;
+use kdc_core::{ApRefusal, AsRefusal, Bears, TgsRefusal};
 use std::alloc::AllocError;
 
 const REQUESTS: &str = "kdcd_requests_total";
@@ -29,9 +29,20 @@ impl Counts {
         ensures { OnOk result (text.new.items ≡ text.old.items ++ counts_text self.now) }
     {
         push_head(text, REQUESTS, NumberType::Counter, REQUESTS_HELP)?;
-        push_requests(text, self, KINDS.as_slice())?;
+        push_all_requests(text, self)?;
         push_replies(text, self)
     }
+}
+
+/// Appends the samples of all kinds of requests.
+fn push_all_requests(text: &mut Vec<u8>, counts: &Counts) -> Result<(), AllocError>
+    ensures { OnOk result (text.new.items ≡ text.old.items ++ flat_map (request_sample counts.now) kinds) }
+{
+    push_requests(text, counts, BEFORE_RULES.as_slice())?;
+    push_as_rules(text, counts, AsRefusal::ALL.as_slice())?;
+    push_requests(text, counts, BETWEEN_RULES.as_slice())?;
+    push_tgs_rules(text, counts, TgsRefusal::OWN.as_slice())?;
+    push_ap_rules(text, counts, ApRefusal::ALL.as_slice())
 }
 
 /// Appends the samples of these kinds of requests.
@@ -41,6 +52,46 @@ fn push_requests(text: &mut Vec<u8>, counts: &Counts, kinds: &[Kind]) -> Result<
     let mut rest = kinds;
     while let [kind, others @ ..] = rest {
         push_request(text, counts, *kind)?;
+        rest = others;
+    }
+    Ok(())
+}
+
+/// Appends the samples of AS-REQs that these rules refused.
+fn push_as_rules(text: &mut Vec<u8>, counts: &Counts, rules: &[AsRefusal]) -> Result<(), AllocError>
+    ensures { OnOk result (text.new.items ≡ text.old.items ++ flat_map (as_sample counts.now) rules.now) }
+{
+    let mut rest = rules;
+    while let [rule, others @ ..] = rest {
+        push_request(text, counts, Kind::AsRefused(*rule))?;
+        rest = others;
+    }
+    Ok(())
+}
+
+/// Appends the samples of TGS-REQs that these rules refused.
+fn push_tgs_rules(
+    text: &mut Vec<u8>,
+    counts: &Counts,
+    rules: &[TgsRefusal],
+) -> Result<(), AllocError>
+    ensures { OnOk result (text.new.items ≡ text.old.items ++ flat_map (tgs_sample counts.now) rules.now) }
+{
+    let mut rest = rules;
+    while let [rule, others @ ..] = rest {
+        push_request(text, counts, Kind::TgsRefused(*rule))?;
+        rest = others;
+    }
+    Ok(())
+}
+
+/// Appends the samples of TGS-REQs that these rules of every AP-REQ refused.
+fn push_ap_rules(text: &mut Vec<u8>, counts: &Counts, rules: &[ApRefusal]) -> Result<(), AllocError>
+    ensures { OnOk result (text.new.items ≡ text.old.items ++ flat_map (ap_sample counts.now) rules.now) }
+{
+    let mut rest = rules;
+    while let [rule, others @ ..] = rest {
+        push_request(text, counts, Kind::TgsRefused(TgsRefusal::Ap(*rule)))?;
         rest = others;
     }
     Ok(())
@@ -148,10 +199,10 @@ fn rule_word(kind: Kind) -> &'static str
         Kind::Unanswered => "",
         Kind::AsTicket => "",
         Kind::AsTooBig => "",
-        Kind::AsRefused(rule) => as_rule_name(rule),
+        Kind::AsRefused(rule) => rule.word(),
         Kind::TgsTicket => "",
         Kind::TgsTooBig => "",
         Kind::TgsAgain(_) => "",
-        Kind::TgsRefused(rule) => tgs_rule_name(rule),
+        Kind::TgsRefused(rule) => rule.word(),
     }
 }

@@ -37,4 +37,4 @@ pub use crate::kind::Kind;
 pub use crate::laws::rule_names;
 pub use crate::prometheus::{NumberType, push_head, push_sample, push_single};
 pub use crate::text_lines::text_line;
-pub use crate::words::{as_rule_name, code_word, tgs_rule_name};
+pub use crate::words::code_word;

@@ -11,7 +11,7 @@ use crate::field::{FieldName, FieldWriter};
 use crate::names::{ABSENT, put_or_dash};
 use crate::times::{put_date, put_life};
 use crate::values::push_number;
-use crate::words::{as_rule_name, code_word, tgs_rule_name};
+use crate::words::code_word;
 use enctypes::Etype;
 use itoa::Buffer;
 use kdc_core::{AsOutcome, Bears, Granted, TgsOutcome};
@@ -30,7 +30,7 @@ pub(crate) fn put_as_outcome<W: FieldWriter>(
         → OnOk result (W.Holds line.new (with_fields fields (as_fields outcome.now))) }
 {
     match outcome {
-        AsOutcome::Refused(rule) => put_rule(line, alloc, rule.code(), as_rule_name(*rule)),
+        AsOutcome::Refused(rule) => put_rule(line, alloc, rule.code(), rule.word()),
         AsOutcome::Issued(granted) => put_ticket(line, alloc, value, granted),
         AsOutcome::TooBig => put_code(line, alloc, Code::KrbErrResponseTooBig),
     }
@@ -46,7 +46,7 @@ pub(crate) fn put_tgs_outcome<W: FieldWriter>(
         → OnOk result (W.Holds line.new (with_fields fields (tgs_fields outcome.now))) }
 {
     match outcome {
-        TgsOutcome::Refused(rule) => put_rule(line, alloc, rule.code(), tgs_rule_name(*rule)),
+        TgsOutcome::Refused(rule) => put_rule(line, alloc, rule.code(), rule.word()),
         TgsOutcome::Issued(granted) => put_ticket(line, alloc, value, granted),
         TgsOutcome::Resent(bears) => put_again(line, alloc, *bears),
         TgsOutcome::TooBig => put_code(line, alloc, Code::KrbErrResponseTooBig),

@@ -1,6 +1,6 @@
 //! The reasons to refuse a TGS-REQ.
-ghost use Rattle.std.specs.Prelude.{◌≡◌};
-ghost use Rattle.tgs_opening.specs.Refusal.{code_of};
+ghost use Rattle.std.specs.Prelude.{◌≡◌, ◌<◌};
+ghost use Rattle.tgs_opening.specs.Refusal.{code_of, place_of, refusal_count, word_of};
 
 use ap_opening::ApRefusal;
 use krb_fields::Code;
@@ -41,7 +41,41 @@ pub enum TgsRefusal {
     NeverValid,
 }
 
+/// How many of them are not those of every AP-REQ.
+const OWN_COUNT: usize = 24;
+
 impl TgsRefusal {
+    /// How many there are, with those of every AP-REQ.
+    pub const COUNT: usize = OWN_COUNT + ApRefusal::COUNT;
+
+    /// Those of this exchange alone, each at its place. Behind them come those of every AP-REQ.
+    pub const OWN: [TgsRefusal; OWN_COUNT] = [
+        TgsRefusal::BadVersion,
+        TgsRefusal::BadMessageType,
+        TgsRefusal::NoApReq,
+        TgsRefusal::MalformedApReq,
+        TgsRefusal::NoChecksum,
+        TgsRefusal::BadChecksumType,
+        TgsRefusal::Modified,
+        TgsRefusal::ClientUnknown,
+        TgsRefusal::ClientDisabled,
+        TgsRefusal::ClientExpired,
+        TgsRefusal::TicketRevoked,
+        TgsRefusal::ServiceUnknown,
+        TgsRefusal::ServiceDenied,
+        TgsRefusal::ServiceRevoked,
+        TgsRefusal::ServiceExpired,
+        TgsRefusal::OtherService,
+        TgsRefusal::AuthorizationData,
+        TgsRefusal::BadOption,
+        TgsRefusal::NothingToValidate,
+        TgsRefusal::ValidatedTooEarly,
+        TgsRefusal::RenewedTooLate,
+        TgsRefusal::NoCommonType,
+        TgsRefusal::StartsTooLate,
+        TgsRefusal::NeverValid,
+    ];
+
     /// Returns the error code of the KRB-ERROR that answers it (RFC 4120, section 7.5.9).
     pub fn code(self) -> Code
         ensures { result ≡ code_of self }
@@ -72,6 +106,73 @@ impl TgsRefusal {
             TgsRefusal::NoCommonType => Code::KdcErrEtypeNosupp,
             TgsRefusal::StartsTooLate => Code::KdcErrCannotPostdate,
             TgsRefusal::NeverValid => Code::KdcErrNeverValid,
+        }
+    }
+
+    /// Returns its name in the log and among the counters.
+    pub fn word(self) -> &'static str
+        ensures { result.now ≡ word_of self }
+    {
+        match self {
+            TgsRefusal::BadVersion => "bad-version",
+            TgsRefusal::BadMessageType => "bad-message-type",
+            TgsRefusal::NoApReq => "no-ap-req",
+            TgsRefusal::MalformedApReq => "malformed-ap-req",
+            TgsRefusal::Ap(refusal) => refusal.word(),
+            TgsRefusal::NoChecksum => "no-checksum",
+            TgsRefusal::BadChecksumType => "bad-checksum-type",
+            TgsRefusal::Modified => "modified",
+            TgsRefusal::ClientUnknown => "client-unknown",
+            TgsRefusal::ClientDisabled => "client-disabled",
+            TgsRefusal::ClientExpired => "client-expired",
+            TgsRefusal::TicketRevoked => "ticket-revoked",
+            TgsRefusal::ServiceUnknown => "service-unknown",
+            TgsRefusal::ServiceDenied => "service-denied",
+            TgsRefusal::ServiceRevoked => "service-revoked",
+            TgsRefusal::ServiceExpired => "service-expired",
+            TgsRefusal::OtherService => "other-service",
+            TgsRefusal::AuthorizationData => "authorization-data",
+            TgsRefusal::BadOption => "bad-option",
+            TgsRefusal::NothingToValidate => "nothing-to-validate",
+            TgsRefusal::ValidatedTooEarly => "validated-too-early",
+            TgsRefusal::RenewedTooLate => "renewed-too-late",
+            TgsRefusal::NoCommonType => "no-common-type",
+            TgsRefusal::StartsTooLate => "starts-too-late",
+            TgsRefusal::NeverValid => "never-valid",
+        }
+    }
+
+    /// Returns its place among those of its exchange.
+    pub fn place(self) -> usize
+        ensures value { result ≡ place_of self }
+        ensures range { result < refusal_count }
+    {
+        match self {
+            TgsRefusal::BadVersion => 0,
+            TgsRefusal::BadMessageType => 1,
+            TgsRefusal::NoApReq => 2,
+            TgsRefusal::MalformedApReq => 3,
+            TgsRefusal::NoChecksum => 4,
+            TgsRefusal::BadChecksumType => 5,
+            TgsRefusal::Modified => 6,
+            TgsRefusal::ClientUnknown => 7,
+            TgsRefusal::ClientDisabled => 8,
+            TgsRefusal::ClientExpired => 9,
+            TgsRefusal::TicketRevoked => 10,
+            TgsRefusal::ServiceUnknown => 11,
+            TgsRefusal::ServiceDenied => 12,
+            TgsRefusal::ServiceRevoked => 13,
+            TgsRefusal::ServiceExpired => 14,
+            TgsRefusal::OtherService => 15,
+            TgsRefusal::AuthorizationData => 16,
+            TgsRefusal::BadOption => 17,
+            TgsRefusal::NothingToValidate => 18,
+            TgsRefusal::ValidatedTooEarly => 19,
+            TgsRefusal::RenewedTooLate => 20,
+            TgsRefusal::NoCommonType => 21,
+            TgsRefusal::StartsTooLate => 22,
+            TgsRefusal::NeverValid => 23,
+            TgsRefusal::Ap(refusal) => OWN_COUNT + refusal.place(),
         }
     }
 }

@@ -1,4 +1,3 @@
-use Rattle.std.proofs.Common.{rules, ◌≡◌, ◌++◌, ap, ◌∙◌}
 use Rattle.std.specs.List.{flat_map}
 use Rattle.std.proofs.lemmas.Result.{on_ok_weaker}
 use Rattle.request_log.specs.Places.{kinds}
@@ -8,9 +7,7 @@ use Rattle.request_log.proofs.counts.Counts.push_text.Goals as goal
 
 pub returns : goal.returns
 returns c =
-    let all : c.as_slice.result.now ≡ kinds = search rules in
     let samples = flat_map (request_sample c.args.self.now) kinds in
-    on_ok_weaker c.push_replies.result (three c.args.text.now.items requests_head samples (replies_text c.args.self.now) c.push_head.new.text.items c.push_requests.new.text.items
-    c.push_replies.new.text.items c.in_ok-push_head.ensures
-    (c.in_ok-push_requests.ensures ∙ ap (λ ks. c.push_head.new.text.items ++ flat_map (request_sample c.args.self.now) ks) all))
+    on_ok_weaker c.push_replies.result (three c.args.text.now.items requests_head samples (replies_text c.args.self.now) c.push_head.new.text.items c.push_all_requests.new.text.items
+    c.push_replies.new.text.items c.in_ok-push_head.ensures c.in_ok-push_all_requests.ensures)
     c.push_replies.ensures
