@@ -10,14 +10,18 @@ use Rattle.krb_fields.specs.declared.moment.Moment.{Moment}
 use Rattle.krb_types.specs.KdcReq.{Received}
 use Rattle.preauth.specs.declared.timestamp.Outcome.{Outcome}
 use Rattle.lists.specs.ClearLaws.{AreClear, decided_clear}
+use Rattle.lists.specs.ConditionLaws.{clear_of}
 use Rattle.ticket_times.specs.declared.times.Times.{Times}
 use Rattle.as_exchange.specs.View.{AsView}
 use Rattle.as_exchange.specs.Terms.{admission_of, terms, times_of}
+use Rattle.as_exchange.specs.Refusal.{place_of}
 use Rattle.as_exchange.specs.Rules.{admitted, rules_by, timestamp_of}
 use Rattle.as_exchange.specs.Decision.{by_admission}
 use Rattle.as_exchange.specs.Issued.{issued, issued_by}
 use Rattle.as_exchange.specs.declared.refusal.AsRefusal.{AsRefusal}
-use Rattle.as_exchange.specs.declared.refusal.AsRefusal.TheVariants.{NeverValid}
+use Rattle.as_exchange.specs.declared.refusal.AsRefusal.TheVariants.{ClientDisabled, ClientExpired, ClientUnknown}
+use Rattle.as_exchange.specs.declared.refusal.AsRefusal.TheVariants.{NeverValid, ServiceDenied, ServiceExpired}
+use Rattle.as_exchange.specs.declared.refusal.AsRefusal.TheVariants.{ServiceRevoked, ServiceUnknown}
 use Rattle.as_exchange.specs.declared.terms.Admission.{Admission}
 use Rattle.as_exchange.specs.declared.terms.Terms.{Terms}
 
@@ -29,11 +33,14 @@ module _ (v : AsView) (message : Received) where
       → AreClear (rules_by v now message timestamp found times) → AreInGoodStanding v.realm (service_name message) v.client v.service now
   clear_standing now timestamp found times clear =
       let body = message.body.value in
+      let rules = rules_by v now message timestamp found times in
       let client = or_parts (not (pointwise nat_eq body.realm v.realm) || is_none body.cname) (is_none v.client)
-      clear.1.1.0 in
-      let service = or_parts (is_none body.sname) (is_none v.service) clear.1.1.1.0 in
-      in_good_standing v.realm (service_name message) v.client v.service now client.1 clear.1.1.1.1.1.0 clear.1.1.1.1.1.1.1.0 service.1
-      clear.1.1.1.1.0 clear.1.1.1.1.1.1.1.1.1.0 clear.1.1.1.1.1.1.1.1.1.1.0
+      (clear_of place_of ClientUnknown rules clear) in
+      let service = or_parts (is_none body.sname) (is_none v.service) (clear_of place_of ServiceUnknown rules clear) in
+      in_good_standing v.realm (service_name message) v.client v.service now client.1
+      (clear_of place_of ClientDisabled rules clear) (clear_of place_of ClientExpired rules clear) service.1
+      (clear_of place_of ServiceDenied rules clear) (clear_of place_of ServiceRevoked rules clear)
+      (clear_of place_of ServiceExpired rules clear)
 
   module _ (at : Moment) (random : List ℕ) where
     admitted_standing : (timestamp : Outcome) (r : Result Admission AsRefusal)

@@ -8,3 +8,4 @@ pub mod Changed
 pub mod RefusalLaws
 pub mod StageLaws
 pub mod ClearLaws
+pub mod ConditionLaws

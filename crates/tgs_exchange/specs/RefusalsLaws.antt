@@ -1,7 +1,8 @@
 -- The stages in which a TGS-REQ is decided find what the one list of rules says.
-use Rattle.std.proofs.Common.{◌≡◌, ℤ, Bool, true, false, List, [], ◌∷◌, ◌++◌, Option, Some, None, Result, Ok, Err, refl, sym, ap, ◌∙◌}
+use Rattle.std.proofs.Common.{◌≡◌, ◌+◌, ℤ, Bool, true, false, List, [], ◌∷◌, ◌++◌, length, Option, Some, None, Result, Ok, Err, refl, sym, ap, ◌∙◌}
 use Rattle.std.specs.Prelude.{if◌then◌else◌, is_none, drop, option_map}
 use Rattle.lists.specs.ClearLaws.{decided_clear}
+use Rattle.lists.specs.ConditionLaws.{clear_of}
 use Rattle.lists.specs.Refusals.{Rule, decided, first_holding, unless_refused}
 use Rattle.lists.specs.Stages.{◌>>=◌}
 use Rattle.ap_opening.specs.Authenticators.{authenticator_in, authenticator_of, part_rules, session_key_of, subkey_in}
@@ -23,7 +24,7 @@ use Rattle.replay.specs.declared.verdict.Verdict.TheVariants.{Fresh, Skew, Repea
 use Rattle.sealed_parts.specs.Keys.{key_of}
 use Rattle.tgs_opening.specs.Authenticators.{authenticator_rules, subkey_of}
 use Rattle.tgs_opening.specs.Opening.{authenticated, by_authenticated, by_ticket, opened_ticket, presented, presented_as}
-use Rattle.tgs_opening.specs.Refusal.{by_ap}
+use Rattle.tgs_opening.specs.Refusal.{by_ap, place_of}
 use Rattle.tgs_opening.specs.Tickets.{ap_req_in, ap_req_of, held_key, request_rules, shown_ticket, tgs_data}
 use Rattle.tgs_opening.specs.View.{TicketView}
 use Rattle.tgs_opening.specs.declared.opened.OpenedTicket.{OpenedTicket}
@@ -78,6 +79,10 @@ first_wrapped {R} wrap (rule ∷ rules) rest = by rule.0 (first_wrapped wrap rul
         ≡ or_then wrap (if b then Some rule.1 else first_holding rules) (first_holding rest)
     by true e = refl
     by false e = e
+
+-- what comes behind these rules and the one for the value that they guard
+abbrev past : {R : Type 0} → List (Rule R) → List (Rule (Decision Kept)) → List (Rule (Decision Kept))
+past rules all = drop (length rules + 1) all
 
 abbrev nothing : (A : Type 0) → Option A
 nothing A = None
@@ -144,7 +149,9 @@ module _ (v : TgsView) (now : ℤ) (message : Received) where
       by None is =
           let clear = decided_clear (rules_by v now message.body.value p found times) (Some p) tgs.NeverValid p
           (ap (λ (o : Option TgsRefusal). unless_refused o (Some p) tgs.NeverValid) is) in
-          let there = admission_there found times clear.1.1.1.1.1.1.1.1.1.1.1.1.0 clear.1.1.1.1.1.1.1.1.1.1.1.1.1.1.0 in
+          let rules = rules_by v now message.body.value p found times in
+          let there = admission_there found times (clear_of place_of tgs.NoCommonType rules clear)
+          (clear_of place_of tgs.NeverValid rules clear) in
           sym (ap (λ (o : Option Admission). refusing (by_admission (unless_refused None o tgs.NeverValid))) there.1)
 
   abbrev facts_with : ApReq → HeldKey → EncTicketPart → Key → Authenticator → Verdict Kept → TgsFacts
@@ -161,8 +168,28 @@ module _ (v : TgsView) (now : ℤ) (message : Received) where
     subkey = subkey;
   }
 
+  -- the rules behind the value of each stage
+  abbrev from_ticket : TgsFacts → List (Rule (Decision Kept))
+  from_ticket k = past (request_rules message) (refusals v k)
+
+  abbrev from_key : ApReq → HeldKey → TgsFacts → List (Rule (Decision Kept))
+  from_key ap held k = past (ticket_rules held ap) (from_ticket k)
+
+  abbrev from_authenticator : ApReq → HeldKey → EncTicketPart → TgsFacts → List (Rule (Decision Kept))
+  from_authenticator ap held part k = past (part_rules v.realm part) (from_key ap held k)
+
+  abbrev from_subkey : ApReq → HeldKey → EncTicketPart → TgsFacts → List (Rule (Decision Kept))
+  from_subkey ap held part k = drop 1 (from_authenticator ap held part k)
+
+  abbrev from_client : ApReq → HeldKey → EncTicketPart → Key → Authenticator → TgsFacts → List (Rule (Decision Kept))
+  from_client ap held part key auth k =
+      past (authenticator_rules part key message.body.octets auth) (from_subkey ap held part k)
+
+  abbrev from_verdict : ApReq → HeldKey → EncTicketPart → Key → Authenticator → TgsFacts → List (Rule (Decision Kept))
+  from_verdict ap held part key auth k = drop (length (client_rules v now part.authtime)) (from_client ap held part key auth k)
+
   module _ (ap : ApReq) (held : HeldKey) (part : EncTicketPart) (key : Key) (auth : Authenticator) (subkey : Option Key) where
-    verdict_stage : (w : Verdict Kept) → first_holding (drop 24 (refusals v (facts_with ap held part key auth w)))
+    verdict_stage : (w : Verdict Kept) → first_holding (from_verdict ap held part key auth (facts_with ap held part key auth w))
         ≡ refusing (by_verdict v now message.body.value (shown_as ap part key auth subkey) w)
     verdict_stage Skew = refl
     verdict_stage (Repeat kept) = refl
@@ -171,15 +198,15 @@ module _ (v : TgsView) (now : ℤ) (message : Received) where
         last_stage (shown_as ap part key auth subkey) (terms v message.body.value)
         (times_of v.limits now (ticket_terms part) message.body.value (terms v message.body.value))
 
-    client_stage : first_holding (drop 20 (refusals v (facts_with ap held part key auth (verdict_on v now (shown_as ap part key auth subkey)))))
+    client_stage : first_holding (from_client ap held part key auth (facts_with ap held part key auth (verdict_on v now (shown_as ap part key auth subkey))))
         ≡ refusing (decision v now message.body.value (shown_as ap part key auth subkey))
     client_stage =
         first_wrapped Refuses (client_rules v now part.authtime)
-        (drop 24 (refusals v (facts_with ap held part key auth (verdict_on v now (shown_as ap part key auth subkey)))))
+        (from_verdict ap held part key auth (facts_with ap held part key auth (verdict_on v now (shown_as ap part key auth subkey))))
         ∙ by (first_holding (client_rules v now part.authtime))
       where
         by : (reason : Option TgsRefusal)
-            → or_then Refuses reason (first_holding (drop 24 (refusals v (facts_with ap held part key auth (verdict_on v now (shown_as ap part key auth subkey))))))
+            → or_then Refuses reason (first_holding (from_verdict ap held part key auth (facts_with ap held part key auth (verdict_on v now (shown_as ap part key auth subkey)))))
             ≡ refusing (by_client v now message.body.value (shown_as ap part key auth subkey) reason)
         by (Some r) = refl
         by None = verdict_stage (verdict_on v now (shown_as ap part key auth subkey))
@@ -202,52 +229,52 @@ module _ (v : TgsView) (now : ℤ) (message : Received) where
   go_part ap part = by_result of_ap (session_key_of v.realm part) (go_key ap part)
 
   subkey_stage : (ap : ApReq) (held : HeldKey) (part : EncTicketPart) (key : Key) (auth : Authenticator)
-      → first_holding (drop 15 (refusals v (facts_by v now message (Some (record { ap = ap; held = held })) (Some part) (Some key)
-      (Some (record { part = part; key = key; authenticator = auth }))))) ≡ go_authenticator ap part key auth
+      → first_holding (from_subkey ap held part (facts_by v now message (Some (record { ap = ap; held = held })) (Some part) (Some key)
+      (Some (record { part = part; key = key; authenticator = auth })))) ≡ go_authenticator ap part key auth
   subkey_stage ap held part key auth =
       stage Refuses (authenticator_rules part key message.body.octets auth) (tgs.Ap ap_refusals.BadSubkey)
-      (drop 20 (refusals v (facts_by v now message (Some (record { ap = ap; held = held })) (Some part) (Some key)
-      (Some (record { part = part; key = key; authenticator = auth })))))
+      (from_client ap held part key auth (facts_by v now message (Some (record { ap = ap; held = held })) (Some part) (Some key)
+      (Some (record { part = part; key = key; authenticator = auth }))))
       (go_subkey ap part key auth) (subkey_in auth.subkey)
       (λ subkey e. client_stage ap held part key auth subkey)
 
   authenticator_stage : (ap : ApReq) (held : HeldKey) (part : EncTicketPart) (key : Key) (auth : Option Authenticator)
-      → first_holding (drop 14 (refusals v (facts_by v now message (Some (record { ap = ap; held = held })) (Some part) (Some key)
-      (option_map (λ auth. record { part = part; key = key; authenticator = auth }) auth))))
+      → first_holding (from_authenticator ap held part (facts_by v now message (Some (record { ap = ap; held = held })) (Some part) (Some key)
+      (option_map (λ auth. record { part = part; key = key; authenticator = auth }) auth)))
       ≡ by_result of_ap (decided [] auth ap_refusals.AuthenticatorNotOpened) (go_authenticator ap part key)
   authenticator_stage ap held part key (Some auth) =
       stage_some of_ap [] ap_refusals.AuthenticatorNotOpened
-      (drop 15 (refusals v (facts_by v now message (Some (record { ap = ap; held = held })) (Some part) (Some key)
-      (Some (record { part = part; key = key; authenticator = auth })))))
+      (from_subkey ap held part (facts_by v now message (Some (record { ap = ap; held = held })) (Some part) (Some key)
+      (Some (record { part = part; key = key; authenticator = auth }))))
       (go_authenticator ap part key) auth (subkey_stage ap held part key auth)
   authenticator_stage ap held part key None =
       stage_none of_ap [] ap_refusals.AuthenticatorNotOpened
-      (drop 15 (refusals v (facts_by v now message (Some (record { ap = ap; held = held })) (Some part) (Some key) None)))
+      (from_subkey ap held part (facts_by v now message (Some (record { ap = ap; held = held })) (Some part) (Some key) None))
       (go_authenticator ap part key)
 
   key_stage : (ap : ApReq) (held : HeldKey) (part : EncTicketPart) (key : Option Key)
-      → first_holding (drop 11 (refusals v (facts_shown v now message (Some (record { ap = ap; held = held })) (Some part) key)))
+      → first_holding (from_key ap held (facts_shown v now message (Some (record { ap = ap; held = held })) (Some part) key))
       ≡ by_result of_ap (decided (part_rules v.realm part) key ap_refusals.BadSessionKey) (go_key ap part)
   key_stage ap held part (Some key) =
       stage_some of_ap (part_rules v.realm part) ap_refusals.BadSessionKey
-      (drop 14 (refusals v (facts_shown v now message (Some (record { ap = ap; held = held })) (Some part) (Some key))))
+      (from_authenticator ap held part (facts_shown v now message (Some (record { ap = ap; held = held })) (Some part) (Some key)))
       (go_key ap part) key
       (authenticator_stage ap held part key (authenticator_in TgsReqAuthenticator key ap.authenticator))
   key_stage ap held part None =
       stage_none of_ap (part_rules v.realm part) ap_refusals.BadSessionKey
-      (drop 14 (refusals v (facts_shown v now message (Some (record { ap = ap; held = held })) (Some part) None)))
+      (from_authenticator ap held part (facts_shown v now message (Some (record { ap = ap; held = held })) (Some part) None))
       (go_key ap part)
 
   part_stage : (ap : ApReq) (held : HeldKey) (part : Option EncTicketPart)
-      → first_holding (drop 4 (refusals v (facts_shown v now message (Some (record { ap = ap; held = held })) part (key_shown part))))
+      → first_holding (from_ticket (facts_shown v now message (Some (record { ap = ap; held = held })) part (key_shown part)))
       ≡ by_result of_ap (decided (ticket_rules held ap) part ap_refusals.TicketNotOpened) (go_part ap)
   part_stage ap held (Some part) =
       stage_some of_ap (ticket_rules held ap) ap_refusals.TicketNotOpened
-      (drop 11 (refusals v (facts_shown v now message (Some (record { ap = ap; held = held })) (Some part) (key_shown (Some part)))))
+      (from_key ap held (facts_shown v now message (Some (record { ap = ap; held = held })) (Some part) (key_shown (Some part))))
       (go_part ap) part (key_stage ap held part (key_of part.key.number part.key.octets))
   part_stage ap held None =
       stage_none of_ap (ticket_rules held ap) ap_refusals.TicketNotOpened
-      (drop 11 (refusals v (facts_shown v now message (Some (record { ap = ap; held = held })) None None)))
+      (from_key ap held (facts_shown v now message (Some (record { ap = ap; held = held })) None None))
       (go_part ap)
 
   module _ (granting : Option Row) where
@@ -261,10 +288,10 @@ module _ (v : TgsView) (now : ℤ) (message : Received) where
         ≡ by_result Refuses (decided (request_rules message) found tgs.MalformedApReq) go_ap
     ap_stage (Some ap) =
         stage_some Refuses (request_rules message) tgs.MalformedApReq
-        (drop 4 (refusals v (facts_of o v now message (Some ap)))) go_ap ap
+        (from_ticket (facts_of o v now message (Some ap))) go_ap ap
         (part_stage ap (held_key o message.body.value ap.ticket) (part_of (held_key o message.body.value ap.ticket) ap.ticket.enc_part))
     ap_stage None =
-        stage_none Refuses (request_rules message) tgs.MalformedApReq (drop 4 (refusals v (facts_of o v now message None))) go_ap
+        stage_none Refuses (request_rules message) tgs.MalformedApReq (from_ticket (facts_of o v now message None)) go_ap
 
     -- ---- the code's stages find the same
 

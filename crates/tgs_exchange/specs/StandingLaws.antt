@@ -9,14 +9,18 @@ use Rattle.krb_fields.specs.Name.{Components}
 use Rattle.krb_fields.specs.declared.moment.Moment.{Moment}
 use Rattle.krb_types.specs.ReqBody.{ReqBody}
 use Rattle.lists.specs.ClearLaws.{AreClear, decided_clear}
+use Rattle.lists.specs.ConditionLaws.{clear_of}
 use Rattle.lists.specs.Refusals.{first_holding, unless_refused}
 use Rattle.replay.specs.declared.keep.Kept.{Kept}
 use Rattle.replay.specs.declared.verdict.Verdict.{Verdict}
 use Rattle.replay.specs.declared.verdict.Verdict.TheVariants.{Fresh, Skew, Repeat, Full}
 use Rattle.ticket_times.specs.declared.times.Times.{Times}
+use Rattle.tgs_opening.specs.Refusal.{place_of}
 use Rattle.tgs_opening.specs.declared.presented.Presented.{Presented}
 use Rattle.tgs_opening.specs.declared.refusal.TgsRefusal.{TgsRefusal}
-use Rattle.tgs_opening.specs.declared.refusal.TgsRefusal.TheVariants.{NeverValid}
+use Rattle.tgs_opening.specs.declared.refusal.TgsRefusal.TheVariants.{ClientDisabled, ClientExpired, ClientUnknown}
+use Rattle.tgs_opening.specs.declared.refusal.TgsRefusal.TheVariants.{NeverValid, ServiceDenied, ServiceExpired}
+use Rattle.tgs_opening.specs.declared.refusal.TgsRefusal.TheVariants.{ServiceRevoked, ServiceUnknown}
 use Rattle.tgs_exchange.specs.View.{TgsView}
 use Rattle.ap_opening.specs.Validity.{ticket_terms}
 use Rattle.tgs_exchange.specs.Terms.{admission_of, terms, times_of}
@@ -34,10 +38,14 @@ module _ (v : TgsView) (body : ReqBody) (p : Presented) where
       → AreClear (client_rules v now p.ticket.authtime) → AreClear (rules_by v now body p found times)
       → AreInGoodStanding v.realm (service_name body) v.client v.service now
   clear_standing now found times client clear =
+      let first = client_rules v now p.ticket.authtime in
+      let rules = rules_by v now body p found times in
       let service = or_parts (not (pointwise nat_eq body.realm v.realm) || is_none body.sname) (is_none v.service)
-      clear.1.1.0 in
-      in_good_standing v.realm (service_name body) v.client v.service now client.0 client.1.0 client.1.1.0 service.1 clear.1.1.1.0
-      clear.1.1.1.1.0 clear.1.1.1.1.1.0
+      (clear_of place_of ServiceUnknown rules clear) in
+      in_good_standing v.realm (service_name body) v.client v.service now (clear_of place_of ClientUnknown first client)
+      (clear_of place_of ClientDisabled first client) (clear_of place_of ClientExpired first client) service.1
+      (clear_of place_of ServiceDenied rules clear) (clear_of place_of ServiceRevoked rules clear)
+      (clear_of place_of ServiceExpired rules clear)
 
   module _ (at : Moment) (random : List ℕ) where
     admitted_standing : AreClear (client_rules v at.sec p.ticket.authtime) → (r : Result Admission TgsRefusal)

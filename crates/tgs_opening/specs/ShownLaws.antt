@@ -5,6 +5,7 @@ use Rattle.std.specs.Prelude.{◌&&◌, not, if◌then◌else◌, nat_eq}
 use Rattle.std.specs.Cmp.Lexicographic.{pointwise}
 use Rattle.std.proofs.lemmas.Bool.{and_parts}
 use Rattle.lists.specs.ClearLaws.{decided_clear}
+use Rattle.lists.specs.ConditionLaws.{clear_of}
 use Rattle.lists.specs.RefusalLaws.{decided_found}
 use Rattle.lists.specs.StageLaws.{ok_is, stage_ok}
 use Rattle.lists.specs.Stages.{◌>>=◌}
@@ -19,9 +20,10 @@ use Rattle.krb_types.specs.EncTicketPart.{EncTicketPart, enc_ticket_part}
 use Rattle.preauth.specs.Keys.{key_named}
 use Rattle.principal_rows.specs.declared.row.Row.{Row}
 use Rattle.sealed_parts.specs.Parts.{opened_as}
+use Rattle.ap_opening.specs.Refusal.{place_of}
 use Rattle.ap_opening.specs.Tickets.{opened_with, part_of, shown_ticket as shown, ticket_rules}
 use Rattle.ap_opening.specs.declared.refusal.ApRefusal.{ApRefusal}
-use Rattle.ap_opening.specs.declared.refusal.ApRefusal.TheVariants.{TicketNotOpened}
+use Rattle.ap_opening.specs.declared.refusal.ApRefusal.TheVariants.{NotForUs, TicketNotOpened}
 use Rattle.tgs_opening.specs.Opening.{opened_ticket, presented}
 use Rattle.tgs_opening.specs.OpeningLaws.{ticket_opened}
 use Rattle.tgs_opening.specs.Refusal.{by_ap}
@@ -100,7 +102,8 @@ module _ (v : TicketView) (message : Received) where
       let held = held_key v message.body.value ap.ticket in
       let found : shown held ap ≡ Ok part = ap_ok (shown held ap) part shows in
       let clear = decided_clear (ticket_rules held ap) (part_of held ap.ticket.enc_part) TicketNotOpened part found in
-      let ours = and_parts (pointwise nat_eq ap.ticket.realm v.realm) _ (is_true held.is_for_us clear.1.1.1.0) in
+      let ours = and_parts (pointwise nat_eq ap.ticket.realm v.realm) _
+      (is_true held.is_for_us (clear_of place_of NotForUs (ticket_rules held ap) clear)) in
       subst (λ (x : OpenedTicket). IsShown v message x.part) (ok_is {R = TgsRefusal} (record { ap = ap; part = part }) o made)
       (key_found ap part (decided_found (request_rules message) (ap_req_in (tgs_data message)) MalformedApReq ap reads)
       ours.0 (holder v message.body.value ap.ticket) refl held.key refl
