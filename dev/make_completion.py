@@ -15,8 +15,11 @@ import typing
 
 TOP = pathlib.Path(__file__).resolve().parent.parent
 MADE = TOP / "docs" / "completion"
-# Where each program has its tables.
-TABLES = {"kadm": "kadm/src/options.rt", "kclient": "kclient/src/options.rt", "kdcd": "kdcd_run/src/args.rt"}
+# Where each program has its tables. A constant COMMANDS has them in their order, if they are in several files.
+TABLES = {
+    "kadm": [f"kadm/src/{name}.rt" for name in ("commands", "writing", "printing", "options")],
+    "kclient": ["kclient/src/options.rt"], "kdcd": ["kdcd_run/src/args.rt"],
+}
 # What a command takes besides its own table: the names of the constants, or of the function of an option whose value
 # may be left away.
 ADDED = {"kinit": ("KINIT_OPTIONS", "KINIT_FLAGS"), "serve": ("journal_option",)}
@@ -59,7 +62,7 @@ class Reader:
 
     def __init__(self, text):
         self.text = re.sub(r"//.*", "", text)
-        self.places = {each[1]: each.end() for each in re.finditer(r"\bconst (\w+): &?\[?&?\w+\]? =", self.text)}
+        self.places = {each[1]: each.end() for each in re.finditer(r"\bconst (\w+): [&\[]*\w+\]* =", self.text)}
         self.rows, self.used = [], set()
 
     def constant(self, name):
@@ -119,12 +122,19 @@ def option_of(row):
     return Option(fields["name"], fields["help"], fields.get("shape", ""), is_repeated)
 
 
-def commands_in(source):
+def rows_in(reader):
+    """The rows of all commands."""
+    if "COMMANDS" in reader.places:
+        return [row for table in reader.constant("COMMANDS") for row in table]
+    return [reader.value(place.start())[0] for place in re.finditer(r"\bSubcommandRow \{", reader.text)]
+
+
+def commands_in(sources):
     """The commands of a program with what each is for and its options."""
-    reader = Reader((TOP / "crates" / source).read_text() + SETTINGS.read_text())
+    texts = [(TOP / "crates" / source).read_text() for source in sources]
+    reader = Reader("".join(texts) + SETTINGS.read_text())
     found, named = {}, set()
-    for place in re.finditer(r"\bSubcommandRow \{", reader.text):
-        row = reader.value(place.start())[0].fields
+    for row in (row.fields for row in rows_in(reader)):
         rows = [*row["options"], *row["flags"]]
         added = ADDED.get(row["name"], ())
         rows += [each for name in added if name in reader.places for each in reader.constant(name)]
@@ -134,7 +144,7 @@ def commands_in(source):
     written = set(re.findall(r'\b(?:OptionRow|FlagRow) \{\s*name: "([\w-]+)"|\.long\(\s*"([\w-]+)"', reader.text))
     written = {one or other for one, other in written}
     if not found or written - named:
-        raise Unreadable(f"{source}: no command has {', '.join(sorted(written - named)) or 'a row'}")
+        raise Unreadable(f"{sources[0]}: no command has {', '.join(sorted(written - named)) or 'a row'}")
     return found
 
 
@@ -231,8 +241,8 @@ def made():
     """Each file, by its name, with its text."""
     WORDS["FIELD"] = " ".join(FIELD.findall(SETTINGS.read_text()))
     files = {}
-    for program, source in TABLES.items():
-        commands = commands_in(source)
+    for program, sources in TABLES.items():
+        commands = commands_in(sources)
         files |= {f"{program}.bash": bash(program, commands), f"_{program}": zsh(program, commands)}
     return files
 

@@ -18,7 +18,8 @@ WORDS = (
 )
 # The manual pages, and the files with the names of what a program refuses.
 REFUSALS = {
-    "kadm.8": ["kadm_changes/src/reason.rt", "program/src/faults.rt"], "kclient.1": ["client_files/src/words.rt"],
+    "kadm.8": ["kadm_changes/src/reason.rt", "kadm/src/reports.rt", "program/src/faults.rt"],
+    "kclient.1": ["client_files/src/words.rt"],
     "kdcd.8": ["program/src/faults.rt", "kdc_files/src/files.rt", "kdc_files/src/sealing.rt"],
 }
 # Names there that the program never meets: those of a program over `client_files`.
@@ -314,7 +315,7 @@ def command_faults(line, known):
 @test()
 def commands(trial):
     """The command lines of the pages, in blocks and between backticks, have commands and options that there are."""
-    known = {program: commands_in(source) for program, source in TABLES.items()}
+    known = {program: commands_in(sources) for program, sources in TABLES.items()}
     options = {option.word for commands in known.values() for _, row in commands.values() for option in row} | GENERAL
     own = (file for file in scripts() if file.suffix == ".py")
     options |= {word for file in own for word in re.findall(r'"(--[a-z][a-z-]+)"', file.read_text())} | OTHERS

@@ -10,6 +10,8 @@ import re
 import shutil
 import subprocess
 
+from make_completion import TABLES
+
 from harness.programs import TOP
 from harness.tests import all_tests, test
 
@@ -67,10 +69,8 @@ KEPT = (
 # How many wide lines a page still has. A number may only fall.
 WIDE = {}
 
-# The manual pages, and where each program has its commands and options.
-MANUALS = {
-    "kdcd.8": "kdcd_run/src/args.rt", "kadm.8": "kadm/src/options.rt", "kclient.1": "kclient/src/options.rt"
-}
+# The manual pages, and the programs that they describe.
+MANUALS = {"kdcd.8": "kdcd", "kadm.8": "kadm", "kclient.1": "kclient"}
 # Options that each program has from the library of command lines.
 GENERAL = {"help", "version"}
 
@@ -191,12 +191,13 @@ def names_of_tests(notes):
 @test()
 def options(notes):
     """The commands and options of the manual pages."""
-    for name, source in MANUALS.items():
-        page, code = (TOP / "docs" / "man" / name).read_text(), (TOP / "crates" / source).read_text()
+    for name, program in MANUALS.items():
+        page = (TOP / "docs" / "man" / name).read_text()
+        code = "".join((TOP / "crates" / source).read_text() for source in TABLES[program])
         described = set(re.findall(r"\b(?:Fl -?|Cm )([a-z-]+)", page))
         known = set(re.findall(r'(?:name: |const [A-Z_]+: &str = )"([a-z-]+)"', code))
         faults = [f"it lacks {word}" for word in sorted(known - described)]
-        faults += [f"{word} is not in {source}" for word in sorted(described - known - GENERAL)]
+        faults += [f"{word} is not in a table of {program}" for word in sorted(described - known - GENERAL)]
         notes.note(f"{name}: its commands and options", "; ".join(faults))
 
 

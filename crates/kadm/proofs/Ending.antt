@@ -9,11 +9,12 @@ use Rattle.kadm_changes.specs.Stops.{IsFailed, IsFailure}
 use Rattle.kadm.specs.Ends.{IsEnd, IsFileCauseStatus, IsCommandEnd, IsCommandStopped, IsStatusOf, IsStopped, IsKindDone, IsWriteDone, IsWriteEnd, IsWriteStopped}
 use Rattle.kadm_changes.specs.Words.{Text}
 use Rattle.kadm.specs.Words.{Spells}
-use Rattle.kadm_changes.specs.declared.command.Command.{Command}
-use Rattle.kadm_changes.specs.declared.command.PrintCommand.{PrintCommand}
-use Rattle.kadm_changes.specs.declared.command.CommandKind.TheVariants as kinds
-use Rattle.kadm_changes.specs.declared.command.WriteCommand.{WriteCommand}
-use Rattle.kadm_changes.specs.declared.command.WriteCommand.TheVariants as writes
+use Rattle.kadm_changes.specs.declared.target.Target.{Target}
+use Rattle.kadm.specs.declared.commands.Command.{Command}
+use Rattle.kadm.specs.declared.printing.PrintCommand.{PrintCommand}
+use Rattle.kadm.specs.declared.commands.CommandKind.TheVariants as kinds
+use Rattle.kadm.specs.declared.writing.WriteCommand.{WriteCommand}
+use Rattle.kadm.specs.declared.writing.WriteCommand.TheVariants as writes
 use Rattle.program.specs.declared.status.Status.{Status}
 use Rattle.program.specs.declared.status.Status.TheVariants as statuses
 use Rattle.kadm_changes.specs.declared.stop.Stop.{Stop}
@@ -21,35 +22,35 @@ use Rattle.kadm_changes.specs.declared.stop.Stop.TheVariants as stops
 
 -- ---- commands that write
 
-pub batch_write : {E : Type 0} (r : Result Bool E) (before : Option World) (command : Command) (keep : Bool) (after : Option World)
-    → IfOk r (λ whole. IsBatchDone before command.db.now keep whole after) → IfOk r (λ whole. IsWriteDone before command (writes.Batch keep) whole after)
-batch_write (Ok true) before command keep after done = done
-batch_write (Ok false) before command keep after (keeps, tried) = (ap writes.Batch keeps, tried)
-batch_write (Err e) before command keep after done = tt
+pub batch_write : {E : Type 0} (r : Result Bool E) (before : Option World) (target : Target) (keep : Bool) (after : Option World)
+    → IfOk r (λ whole. IsBatchDone before target.db.now keep whole after) → IfOk r (λ whole. IsWriteDone before target (writes.Batch keep) whole after)
+batch_write (Ok true) before target keep after done = done
+batch_write (Ok false) before target keep after (keeps, tried) = (ap writes.Batch keeps, tried)
+batch_write (Err e) before target keep after done = tt
 
 -- ---- commands
 
 pub write_end : {E : Type 0} (r : Result Status E) (before : Option World) (command : Command) (write : WriteCommand) (after : Option World)
-    → command.kind ≡ kinds.Write write → IfOk r (λ status. IsWriteEnd before command write status after) → IfOk r (λ status. IsCommandEnd before command status after)
+    → command.kind ≡ kinds.Write write → IfOk r (λ status. IsWriteEnd before command.target write status after) → IfOk r (λ status. IsCommandEnd before command status after)
 write_end (Ok statuses.Done) before command write after is done =
-    subst (λ kind. IsKindDone before command.db.now command.etypes.items kind after) (sym is) done
+    subst (λ kind. IsKindDone before command.target.db.now command.target.etypes.items kind after) (sym is) done
 write_end (Ok statuses.Refused) before command write after is (keeps, tried) = (is ∙ ap kinds.Write keeps, tried)
 write_end (Ok statuses.Usage) before command write after is done = done
 write_end (Ok statuses.Failed) before command write after is done = done
 write_end (Err e) before command write after is done = tt
 
 pub write_stop : {A : Type 0} (r : Result A Stop) (before : Option World) (command : Command) (write : WriteCommand) (after : Option World)
-    → command.kind ≡ kinds.Write write → IfErr r (λ stop. IsWriteStopped before command write stop after) → IfErr r (λ stop. IsCommandStopped before command stop after)
+    → command.kind ≡ kinds.Write write → IfErr r (λ stop. IsWriteStopped before command.target write stop after) → IfErr r (λ stop. IsCommandStopped before command stop after)
 write_stop (Ok x) before command write after is stopped = tt
 write_stop (Err stop) before command write after is (inl same) = inl same
 write_stop (Err stop) before command write after is (inr (failed, done)) =
-    inr (failed, subst (λ kind. IsKindDone before command.db.now command.etypes.items kind after) (sym is) done)
+    inr (failed, subst (λ kind. IsKindDone before command.target.db.now command.target.etypes.items kind after) (sym is) done)
 
 pub print_end : {E : Type 0} (r : Result Status E) (before : Option World) (command : Command) (print : PrintCommand) (after : Option World)
     → command.kind ≡ kinds.Print print → after ≡ before → IfOk r (λ status. status ≡ statuses.Done) → IfOk r (λ status. IsCommandEnd before command status after)
 print_end (Ok status) before command print after is same done =
     subst (λ s. IsCommandEnd before command s after) (sym done)
-    (subst (λ kind. IsKindDone before command.db.now command.etypes.items kind after) (sym is) same)
+    (subst (λ kind. IsKindDone before command.target.db.now command.target.etypes.items kind after) (sym is) same)
 print_end (Err e) before command print after is same done = tt
 
 -- ---- words
@@ -111,6 +112,7 @@ other : (stop : Stop) (status : Status) → IsStatusOf stop status → IsOther s
 other stops.Usage status is = subst IsOther (sym is) tt
 other stops.LineRefused status is = subst IsOther (sym is) tt
 other stops.LineFailed status is = subst IsOther (sym is) tt
+other stops.NotInBatch status is = subst IsOther (sym is) tt
 other (stops.Refused reason) status is = subst IsOther (sym is) tt
 other (stops.RefusedOf word reason) status is = subst IsOther (sym is) tt
 other (stops.File fault) status is = cause_other fault.cause status is
@@ -131,6 +133,7 @@ failed_status : (stop : Stop) (status : Status) → IsFailed stop → IsStatusOf
 failed_status stops.Usage status failed is = absurd failed
 failed_status stops.LineRefused status failed is = absurd failed
 failed_status stops.LineFailed status failed is = absurd failed
+failed_status stops.NotInBatch status failed is = absurd failed
 failed_status (stops.Refused reason) status failed is = absurd failed
 failed_status (stops.RefusedOf word reason) status failed is = absurd failed
 failed_status (stops.File fault) status failed is = failed_cause fault.cause status failed is

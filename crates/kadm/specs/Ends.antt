@@ -9,15 +9,16 @@ use Rattle.kadm_changes.specs.Words.{Text, path_of}
 use Rattle.kadm.specs.Words.{Spells, asks_help}
 use Rattle.kadm_changes.specs.Worlds.{MadeFromDump, MadeRealm, Updated, WroteKeytab}
 use Rattle.kadm.specs.Lines.{Batched, Tried}
-use Rattle.kadm_changes.specs.declared.command.Command.{Command}
-use Rattle.kadm_changes.specs.declared.command.CommandKind.{CommandKind}
-use Rattle.kadm_changes.specs.declared.command.CommandKind.TheVariants.{Print, Write}
-use Rattle.kadm_changes.specs.declared.command.WriteCommand.{WriteCommand}
-use Rattle.kadm_changes.specs.declared.command.WriteCommand.TheVariants as writes
+use Rattle.kadm_changes.specs.declared.target.Target.{Target}
+use Rattle.kadm.specs.declared.commands.Command.{Command}
+use Rattle.kadm.specs.declared.commands.CommandKind.{CommandKind}
+use Rattle.kadm.specs.declared.commands.CommandKind.TheVariants.{Print, Write}
+use Rattle.kadm.specs.declared.writing.WriteCommand.{WriteCommand}
+use Rattle.kadm.specs.declared.writing.WriteCommand.TheVariants as writes
 use Rattle.program.specs.declared.status.Status.{Status}
 use Rattle.program.specs.declared.status.Status.TheVariants as statuses
 use Rattle.kadm_changes.specs.declared.stop.Stop.{Stop}
-use Rattle.kadm_changes.specs.declared.stop.Stop.TheVariants.{Usage, LineRefused, LineFailed, Refused, RefusedOf, File}
+use Rattle.kadm_changes.specs.declared.stop.Stop.TheVariants.{Usage, LineRefused, LineFailed, NotInBatch, Refused, RefusedOf, File}
 
 -- refused or failed
 abbrev pub IsNotDone : Status → Type 0
@@ -35,6 +36,7 @@ abbrev pub IsStatusOf : Stop → Status → Type 0
 IsStatusOf Usage status = status ≡ statuses.Usage
 IsStatusOf LineRefused status = status ≡ statuses.Refused
 IsStatusOf LineFailed status = status ≡ statuses.Failed
+IsStatusOf NotInBatch status = status ≡ statuses.Refused
 IsStatusOf (Refused reason) status = status ≡ statuses.Refused
 IsStatusOf (RefusedOf word reason) status = status ≡ statuses.Refused
 IsStatusOf (File fault) status = IsFileCauseStatus fault.cause status
@@ -54,31 +56,31 @@ IsKindDone before db etypes (Print what) after = after ≡ before
 IsKindDone before db etypes (Write write) after = Did before db etypes write after
 
 abbrev pub IsDone : Option World → Command → Option World → Type 0
-IsDone before command after = IsKindDone before command.db.now command.etypes.items command.kind after
+IsDone before command after = IsKindDone before command.target.db.now command.target.etypes.items command.kind after
 
 -- the command is a batch that keeps going, and some of its lines were done
 abbrev pub IsWriteTried : Option World → List ℕ → WriteCommand → Option World → Type 0
 IsWriteTried before db write after = (write ≡ writes.Batch true) × Tried before db after
 
 -- all was done, or some lines of a batch were
-abbrev pub IsWriteDone : Option World → Command → WriteCommand → Bool → Option World → Type 0
-IsWriteDone before command write true after = Did before command.db.now command.etypes.items write after
-IsWriteDone before command write false after = IsWriteTried before command.db.now write after
+abbrev pub IsWriteDone : Option World → Target → WriteCommand → Bool → Option World → Type 0
+IsWriteDone before target write true after = Did before target.db.now target.etypes.items write after
+IsWriteDone before target write false after = IsWriteTried before target.db.now write after
 
-abbrev pub IsWriteEnd : Option World → Command → WriteCommand → Status → Option World → Type 0
-IsWriteEnd before command write statuses.Done after = Did before command.db.now command.etypes.items write after
-IsWriteEnd before command write statuses.Refused after = IsWriteTried before command.db.now write after
-IsWriteEnd before command write statuses.Usage after = ⊥
-IsWriteEnd before command write statuses.Failed after = ⊥
+abbrev pub IsWriteEnd : Option World → Target → WriteCommand → Status → Option World → Type 0
+IsWriteEnd before target write statuses.Done after = Did before target.db.now target.etypes.items write after
+IsWriteEnd before target write statuses.Refused after = IsWriteTried before target.db.now write after
+IsWriteEnd before target write statuses.Usage after = ⊥
+IsWriteEnd before target write statuses.Failed after = ⊥
 
 -- a command that stops early leaves the files unchanged, unless it was done and then the output failed
-abbrev pub IsWriteStopped : Option World → Command → WriteCommand → Stop → Option World → Type 0
-IsWriteStopped before command write stop after =
-    (after ≡ before) ⊎ (IsFailed stop × Did before command.db.now command.etypes.items write after)
+abbrev pub IsWriteStopped : Option World → Target → WriteCommand → Stop → Option World → Type 0
+IsWriteStopped before target write stop after =
+    (after ≡ before) ⊎ (IsFailed stop × Did before target.db.now target.etypes.items write after)
 
 -- the command is a batch that keeps going, and some of its lines were done
 abbrev pub IsTried : Option World → Command → Option World → Type 0
-IsTried before command after = (command.kind ≡ Write (writes.Batch true)) × Tried before command.db.now after
+IsTried before command after = (command.kind ≡ Write (writes.Batch true)) × Tried before command.target.db.now after
 
 abbrev pub IsCommandEnd : Option World → Command → Status → Option World → Type 0
 IsCommandEnd before command statuses.Done after = IsDone before command after

@@ -5,10 +5,10 @@ use Rattle.principals.specs.Database.{Principals}
 use Rattle.kadm_changes.specs.Updates.{IsUpdated}
 use Rattle.kadm_changes.specs.Words.{Text}
 use Rattle.kadm_changes.specs.Worlds.{Rewritten}
-use Rattle.kadm_changes.specs.declared.command.Command.{Command}
-use Rattle.kadm_changes.specs.declared.command.CommandKind.TheVariants as kinds
-use Rattle.kadm_changes.specs.declared.command.Update.{Update}
-use Rattle.kadm_changes.specs.declared.command.WriteCommand.TheVariants as writes
+use Rattle.kadm.specs.declared.commands.Command.{Command}
+use Rattle.kadm.specs.declared.commands.CommandKind.TheVariants as kinds
+use Rattle.kadm_changes.specs.declared.updates.Update.{Update}
+use Rattle.kadm.specs.declared.writing.WriteCommand.TheVariants as writes
 use Rattle.kadm.specs.Words.{Spells, in_batch}
 
 -- ---- the database
@@ -16,7 +16,7 @@ use Rattle.kadm.specs.Words.{Spells, in_batch}
 -- the change that was ordered is made
 abbrev pub IsCommandMade : Option World → Command → Principals → Principals → Type 0
 IsCommandMade world command p new =
-    (update : Update) × (command.kind ≡ kinds.Write (writes.Update update)) × IsUpdated world command.etypes.items update p new
+    (update : Update) × (command.kind ≡ kinds.Write (writes.Update update)) × IsUpdated world command.target.etypes.items update p new
 
 -- the change that words spell is made
 abbrev pub IsSpelledMade : Option World → List Text → Principals → Principals → Type 0

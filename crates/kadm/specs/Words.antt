@@ -3,21 +3,21 @@ use Rattle.std.specs.Prelude.{◌≡◌, ◌&&◌, ◌||◌, Bool, true, false, 
 use Rattle.std.specs.Prelude.{Option, Some, None, is_some, unwrap_or, codes, bytes_eq, if◌then◌else◌}
 use Rattle.std.specs.Str.Parse.{IsNumeral, digits_value}
 use Rattle.kadm_changes.specs.Words.{Text, path_of, texts, value_of}
-use Rattle.kadm_changes.specs.declared.command.ChangeArgs.{ChangeArgs}
-use Rattle.kadm_changes.specs.declared.command.ChangeArgs.TheVariants.{Drop, DropOlder, Policy, Remove}
-use Rattle.kadm_changes.specs.declared.command.Grant.{Grant}
-use Rattle.kadm_changes.specs.declared.command.Grant.TheVariants.{New, NewUser, Next, Replace, Either}
-use Rattle.kadm_changes.specs.declared.command.Command.{Command}
-use Rattle.kadm_changes.specs.declared.command.PrintCommand.{PrintCommand}
-use Rattle.kadm_changes.specs.declared.command.PrintCommand.TheVariants as prints
-use Rattle.kadm_changes.specs.declared.command.RowUpdate.{RowUpdate}
-use Rattle.kadm_changes.specs.declared.command.RowUpdate.TheVariants as rows
-use Rattle.kadm_changes.specs.declared.command.CommandKind.{CommandKind}
-use Rattle.kadm_changes.specs.declared.command.CommandKind.TheVariants as kinds
-use Rattle.kadm_changes.specs.declared.command.Update.{Update}
-use Rattle.kadm_changes.specs.declared.command.Update.TheVariants as updates
-use Rattle.kadm_changes.specs.declared.command.WriteCommand.{WriteCommand}
-use Rattle.kadm_changes.specs.declared.command.WriteCommand.TheVariants as writes
+use Rattle.kadm_changes.specs.declared.changes.ChangeArgs.{ChangeArgs}
+use Rattle.kadm_changes.specs.declared.changes.ChangeArgs.TheVariants.{Drop, DropOlder, Policy, Remove}
+use Rattle.kadm_changes.specs.declared.granting.Grant.{Grant}
+use Rattle.kadm_changes.specs.declared.granting.Grant.TheVariants.{New, NewUser, Next, Replace, Either}
+use Rattle.kadm.specs.declared.commands.Command.{Command}
+use Rattle.kadm.specs.declared.printing.PrintCommand.{PrintCommand}
+use Rattle.kadm.specs.declared.printing.PrintCommand.TheVariants as prints
+use Rattle.kadm_changes.specs.declared.updates.RowUpdate.{RowUpdate}
+use Rattle.kadm_changes.specs.declared.updates.RowUpdate.TheVariants as rows
+use Rattle.kadm.specs.declared.commands.CommandKind.{CommandKind}
+use Rattle.kadm.specs.declared.commands.CommandKind.TheVariants as kinds
+use Rattle.kadm_changes.specs.declared.updates.Update.{Update}
+use Rattle.kadm_changes.specs.declared.updates.Update.TheVariants as updates
+use Rattle.kadm.specs.declared.writing.WriteCommand.{WriteCommand}
+use Rattle.kadm.specs.declared.writing.WriteCommand.TheVariants as writes
 
 -- ---- words
 
@@ -135,5 +135,5 @@ IsKindSpelled words (kinds.Write write) = IsWriteSpelled words write
 
 -- the command that the words of a command line spell: its database, and what to do with it
 pub record Spells (words : List Text) (command : Command) : Type 0 where
-  pub db : value_of words (codes "--db") ≡ Some command.db.now
+  pub db : value_of words (codes "--db") ≡ Some command.target.db.now
   pub kind : IsKindSpelled words command.kind

@@ -4,17 +4,17 @@ ghost use Rattle.kadm_changes.specs.Words.{texts};
 ghost use Rattle.kadm.specs.Batches.{IsBatchDone, line_text, line_texts};
 ghost use Rattle.kadm.specs.Lines.{AreDone, IsLineDone, IsCommandMade, IsRun, IsSpelledMade, IsTurn};
 
-use crate::command_words::{CommandFault, NO_MODE, read_command};
+use crate::commands::{Command, CommandKind, read_args, read_command};
 use crate::line_words::{LineFault, line_words};
-use crate::options::read_args;
 use crate::reports::report;
-use crate::usage::{report_command_fault, report_fault};
+use crate::usage::{CommandFault, report_command_fault, report_fault};
 use crate::words::{has_flag, in_batch};
+use crate::writing::WriteCommand;
 use clap::ArgMatches;
 use clap::error::Error;
 use kadm_changes::{
-    Command, CommandKind, Context, Draft, Reason, Stop, Subject, WriteCommand, begin_line,
-    lock_database, read_database, update_in_batch, write_database,
+    Context, Draft, Stop, Subject, Target, begin_line, lock_database, read_database,
+    update_in_batch, write_database,
 };
 use program::{FileCause, FileFault, Status, Store};
 use std::alloc::{AllocError, Global};
@@ -25,6 +25,9 @@ const LONGEST_LINE: usize = 65_536;
 
 /// How many lines a batch may have.
 const MOST_LINES: usize = 1_000_000;
+
+/// What a line must not have.
+const NO_MODE: &str = "--keep-mode is an option of batch itself, and not of its lines";
 
 /// What a terminal shows before each line.
 const PROMPT: &str = "kadm> ";
@@ -55,19 +58,19 @@ struct Batch<'a> {
 pub(crate) fn run_batch<'p, T: Store, W: Write, E: Write>(
     context: &mut Context<W, E>,
     store: &mut T,
-    command: &Command<'p>,
+    target: &Target<'p>,
     keep_going: bool,
 ) -> Result<bool, Stop<'p>>
-    ensures done { IfOk result (λ whole. IsBatchDone (T.world store.old) command.now.db.now keep_going whole (T.world store.new)) }
+    ensures done { IfOk result (λ whole. IsBatchDone (T.world store.old) target.now.db.now keep_going whole (T.world store.new)) }
     ensures unchanged { OnErr result (T.world store.new ≡ T.world store.old) }
 {
     let alloc = context.alloc;
     let lines = read_lines(alloc, store, &mut context.errors)?;
-    let locked = lock_database(context, store, command)?;
-    let database = read_database(context, store, command.db)?;
+    let locked = lock_database(context, store, target)?;
+    let database = read_database(context, store, target.db)?;
     let mut draft = Draft { alloc, database };
     let batch = Batch {
-        db: command.db,
+        db: target.db,
         lines: &lines,
         keep_going,
     };
@@ -287,28 +290,24 @@ fn run_words<'a, T: Store, E: Write>(
     }
 }
 
-/// Reports what is wrong with the words of a line, as the parser finds it.
+/// Reports what is wrong with the words of a line, as the parser finds it. Also refuses `--keep-mode`, which a line
+/// can't keep: the batch writes the file.
 fn check_words<E: Write>(
     errors: &mut E,
     subject: &Subject<'_>,
     matches: &Result<ArgMatches<'_>, Error>,
 ) -> Result<(), Stop<'static>> {
     match matches {
-        Ok(_) => check_mode(errors, subject),
         Err(error) => {
             begin_line(errors, subject);
             Err(report_fault(errors, error))
         }
+        Ok(_) if has_flag(subject.words, "--keep-mode") => {
+            begin_line(errors, subject);
+            Err(report_command_fault(errors, CommandFault::BadValue(NO_MODE)))
+        }
+        Ok(_) => Ok(()),
     }
-}
-
-/// Refuses `--keep-mode`, which a line can't keep: the batch writes the file.
-fn check_mode<E: Write>(errors: &mut E, subject: &Subject<'_>) -> Result<(), Stop<'static>> {
-    if !has_flag(subject.words, "--keep-mode") {
-        return Ok(());
-    }
-    begin_line(errors, subject);
-    Err(report_command_fault(errors, CommandFault::BadValue(NO_MODE)))
 }
 
 /// Makes a change that a line asks for.
@@ -324,9 +323,16 @@ fn run_command<'a, T: Store, E: Write>(
 {
     match command.kind {
         CommandKind::Write(WriteCommand::Update(update)) => {
-            update_in_batch(errors, store, draft, &command.etypes, update, subject)
+            update_in_batch(
+                errors,
+                store,
+                draft,
+                &command.target.etypes,
+                update,
+                subject,
+            )
         }
-        _ => Err(Stop::Refused(Reason::NotInBatch)),
+        _ => Err(Stop::NotInBatch),
     }
 }
 

@@ -4,8 +4,6 @@ use json::Writer;
 use krb_fields::Second;
 use principal_rows::Row;
 use std::alloc::{AllocError, Global};
-use std::io;
-use std::io::Write;
 use text_fields::UtcDate;
 
 /// Returns a principal's name, a space, and an object with the columns of its line. Lines then have the order of names.
@@ -70,17 +68,8 @@ fn put_time(
     }
 }
 
-/// Prints the objects, each on a line.
-pub(crate) fn print_json<W: Write>(lines: &[Vec<u8>], out: &mut W) -> io::Result<()> {
-    for line in lines {
-        out.write_all(behind_name(line))?;
-        writeln!(out)?;
-    }
-    Ok(())
-}
-
-/// Returns what follows the first space of a line.
-fn behind_name(line: &[u8]) -> &[u8] {
+/// Returns the object of a line, which follows the first space.
+pub(crate) fn behind_name(line: &[u8]) -> &[u8] {
     match line.iter().position(|octet| *octet == b' ') {
         Some(end) => line.get(end.saturating_add(1)..).unwrap_or(&[]),
         None => line,

@@ -1,16 +1,15 @@
 //! The command that prints what an administrator should check.
 ghost use Rattle.std.specs.Prelude.{◌≡◌};
 
-use crate::listing::print_lines;
 use crate::quoting::shell_word;
 use enctypes::Etype;
 use kadm_changes::{Context, Stop, is_past, read_database};
-use krb_elements::KerberosString;
-use krb_fields::{Name, Second};
+use krb_fields::Name;
 use principal_rows::Row;
 use principals::Database;
 use program::{FileRights, Store, file_rights, read_clock};
 use std::alloc::{AllocError, Global};
+use std::io;
 use std::io::Write;
 use text_fields::UtcDate;
 
@@ -43,7 +42,14 @@ pub(crate) fn print_lint<'p, T: Store, W: Write, E: Write>(
         db: &db,
         now,
     };
-    Ok(print_lines(&sorted_findings(&place, &database)?, &mut context.out)?)
+    Ok(print_lines(&findings(&place, &database)?, &mut context.out)?)
+}
+
+fn print_lines<W: Write>(lines: &[String], out: &mut W) -> io::Result<()> {
+    for line in lines {
+        writeln!(out, "{line}")?;
+    }
+    Ok(())
 }
 
 /// Returns what is wrong with the rights on the database.
@@ -75,13 +81,6 @@ struct Place<'a> {
     now: u64,
 }
 
-fn sorted_findings(place: &Place<'_>, database: &Database) -> Result<Vec<String>, AllocError> {
-    let mut lines = findings(place, database)?;
-    // no text of a name has a byte as low as the space after it, so lines have the order of names
-    lines.sort()?;
-    Ok(lines)
-}
-
 /// A principal to look at.
 #[derive(Clone, Copy)]
 struct Subject<'a> {
@@ -99,6 +98,8 @@ fn findings(place: &Place<'_>, database: &Database) -> Result<Vec<String>, Alloc
             push_findings(place, &mut lines, name, row)?;
         }
     }
+    // no text of a name has a byte as low as the space after it, so lines have the order of names
+    lines.sort()?;
     Ok(lines)
 }
 
@@ -136,17 +137,14 @@ fn push_times(
         ("expired", policy.expires, "remove"),
         ("password_expired", policy.password_expires, "passwd"),
     ] {
-        if let Some(second) = past(time, now) {
+        if let Some(second) = time
+            && is_past(second, now)
+        {
             let date = UtcDate(second);
             lines.push(format!(in alloc; "{name} {word} {date} # kadm {command} {options}")?)?;
         }
     }
     Ok(())
-}
-
-/// Returns a time, if it has passed.
-fn past(time: Option<Second>, now: u64) -> Option<Second> {
-    time.filter(|second| is_past(*second, now))
 }
 
 /// Adds the risks of a principal's keys. A principal for which there are no tickets needs no older key.
@@ -207,12 +205,14 @@ fn push_service(
     if !subject.row.policy.service || is_krbtgt(name) {
         return Ok(());
     }
-    if !names_host(name) {
-        lines.push(format!(in alloc;
+    match host_of(name) {
+        None => lines.push(format!(in alloc;
             "{text} may_be_service # kadm policy {options} --field service --value false"
-        )?)?;
-    } else if names_odd_host(name) {
-        lines.push(format!(in alloc; "{text} odd_host # kadm remove {options}")?)?;
+        )?)?,
+        Some(host) if is_odd(host) => {
+            lines.push(format!(in alloc; "{text} odd_host # kadm remove {options}")?)?
+        }
+        Some(_) => (),
     }
     Ok(())
 }
@@ -222,22 +222,6 @@ fn is_krbtgt(name: &Name) -> bool {
     match name.components.as_slice() {
         [service, _] => service.as_slice() == KRBTGT,
         _ => false,
-    }
-}
-
-/// Checks whether a name ends in a host's, which has a dot. Those of users with a role, such as `alice/admin`, do not.
-fn names_host(name: &Name) -> bool {
-    match host_of(name) {
-        Some(host) => host.as_slice().contains(&b'.'),
-        None => false,
-    }
-}
-
-/// Checks whether a name's host is written as no client writes it.
-fn names_odd_host(name: &Name) -> bool {
-    match host_of(name) {
-        Some(host) => is_odd(host.as_slice()),
-        None => false,
     }
 }
 
@@ -253,10 +237,10 @@ fn is_hosts(octet: &u8) -> bool {
         || matches!(octet, b'-' | b'.' | b'_' | b':')
 }
 
-/// Returns the last component of a name that has several.
-fn host_of(name: &Name) -> Option<&KerberosString> {
+/// Returns the host in which a name ends, which has a dot. Names of users with a role, such as `alice/admin`, have none.
+fn host_of(name: &Name) -> Option<&[u8]> {
     match name.components.as_slice() {
-        [_, .., last] => Some(last),
+        [_, .., host] if host.as_slice().contains(&b'.') => Some(host.as_slice()),
         _ => None,
     }
 }

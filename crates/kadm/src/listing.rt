@@ -1,9 +1,9 @@
 //! The commands that print the contents of a database, without keys.
 ghost use Rattle.std.specs.Prelude.{◌≡◌};
 
-use crate::json_lines::{json_line, print_json};
+use crate::json_lines::{behind_name, json_line};
 use crate::patterns::is_like;
-use kadm_changes::{Context, ListArgs, Stop, read_database};
+use kadm_changes::{Context, Stop, read_database};
 use krb_fields::{Name, Second};
 use principal_rows::{KeyList, Row};
 use principals::{ChangeFault, Database};
@@ -12,6 +12,17 @@ use std::alloc::{AllocError, Global};
 use std::io;
 use std::io::Write;
 use text_fields::{Setting, UtcDate};
+
+/// Which principals to list, and what to print of each.
+#[derive(Clone, Copy)]
+pub(crate) struct ListArgs<'a> {
+    /// The pattern that the names fit, if there is one.
+    pub like: Option<&'a str>,
+    /// Whether a line has more columns.
+    pub long: bool,
+    /// Whether a line is an object of JSON.
+    pub json: bool,
+}
 
 /// Prints `NAME VERSION TYPES` for each principal whose name fits, in the order of the names' texts. A long line
 /// continues with `EXPIRES PASSWORD_EXPIRES DISABLED VERSIONS SERVICE`.
@@ -24,51 +35,26 @@ pub(crate) fn print_list<'p, T: Store, W: Write, E: Write>(
     ensures unchanged { T.world store.new ≡ T.world store.old }
 {
     let database = read_database(context, store, db)?;
-    if list.json {
-        let lines = sorted_json(context.alloc, &database, list)?;
-        return Ok(print_json(&lines, &mut context.out)?);
-    }
-    let lines = sorted_lines(context.alloc, &database, list)?;
-    Ok(print_lines(&lines, &mut context.out)?)
+    let lines = lines_of(context.alloc, &database, list)?;
+    Ok(print_lines(&lines, list.json, &mut context.out)?)
 }
 
-pub(crate) fn print_lines<W: Write>(lines: &[String], out: &mut W) -> io::Result<()> {
+/// Prints the lines, or the objects in them.
+fn print_lines<W: Write>(lines: &[Vec<u8>], json: bool, out: &mut W) -> io::Result<()> {
     for line in lines {
-        writeln!(out, "{line}")?;
+        let text = if json {
+            behind_name(line)
+        } else {
+            line.as_slice()
+        };
+        out.write_all(text)?;
+        writeln!(out)?;
     }
     Ok(())
 }
 
-fn sorted_lines(
-    alloc: Global,
-    database: &Database,
-    list: ListArgs<'_>,
-) -> Result<Vec<String>, AllocError> {
-    let mut lines = lines_of(alloc, database, list)?;
-    // no text of a name has a byte as low as the space after it, so lines have the order of names
-    lines.sort()?;
-    Ok(lines)
-}
-
+/// Returns the line of each principal whose name fits, in the order of the names.
 fn lines_of(
-    alloc: Global,
-    database: &Database,
-    list: ListArgs<'_>,
-) -> Result<Vec<String>, AllocError> {
-    let mut lines = Vec::new(alloc);
-    for place in 0..database.len() {
-        if let Some((name, row)) = database.at(place) {
-            let name = name.to_text(alloc)?;
-            if fits(list.like, &name) {
-                lines.push(line_of(alloc, &name, row, list.long)?)?;
-            }
-        }
-    }
-    Ok(lines)
-}
-
-/// Returns the lines of JSON, each behind its name and a space.
-fn sorted_json(
     alloc: Global,
     database: &Database,
     list: ListArgs<'_>,
@@ -78,10 +64,11 @@ fn sorted_json(
         if let Some((name, row)) = database.at(place) {
             let name = name.to_text(alloc)?;
             if fits(list.like, &name) {
-                lines.push(json_line(alloc, &name, row, list.long)?)?;
+                lines.push(line_of(alloc, &name, row, list)?)?;
             }
         }
     }
+    // no text of a name has a byte as low as the space after it, so lines have the order of names
     lines.sort()?;
     Ok(lines)
 }
@@ -94,14 +81,23 @@ fn fits(like: Option<&str>, name: &str) -> bool {
     }
 }
 
-fn line_of(alloc: Global, name: &str, row: &Row, long: bool) -> Result<String, AllocError> {
+/// Returns the line of a principal. An object of JSON is behind its name and a space.
+fn line_of(
+    alloc: Global,
+    name: &str,
+    row: &Row,
+    list: ListArgs<'_>,
+) -> Result<Vec<u8>, AllocError> {
+    if list.json {
+        return json_line(alloc, name, row, list.long);
+    }
     let current = row.versions.current();
     let types = types_of(alloc, &current.keys)?;
     let mut line = format!(in alloc; "{name} {} {types}", current.number)?;
-    if long {
+    if list.long {
         push_columns(&mut line, row)?;
     }
-    Ok(line)
+    Ok(line.into_bytes())
 }
 
 /// Adds the further columns of a long line.
@@ -149,15 +145,11 @@ pub(crate) fn print_row<'p, T: Store, W: Write, E: Write>(
 {
     let name = Name::from_text(context.alloc, name)?;
     let database = read_database(context, store, db)?;
-    match database.get(&name) {
-        Some(row) => print_found(context.alloc, row, &mut context.out),
-        None => Err(Stop::from(ChangeFault::Absent)),
-    }
-}
-
-fn print_found<'p, W: Write>(alloc: Global, row: &Row, out: &mut W) -> Result<(), Stop<'p>> {
-    print_policy(row, out)?;
-    print_versions(alloc, row, out)
+    let Some(row) = database.get(&name) else {
+        return Err(Stop::from(ChangeFault::Absent));
+    };
+    print_policy(row, &mut context.out)?;
+    print_versions(context.alloc, row, &mut context.out)
 }
 
 fn print_policy<W: Write>(row: &Row, out: &mut W) -> io::Result<()> {

@@ -3,18 +3,21 @@
 
 mod batch;
 mod command_words;
+mod commands;
 mod json_lines;
 mod line_words;
 mod linting;
 mod listing;
 mod options;
 mod patterns;
+mod printing;
 mod quoting;
 mod reports;
 mod run;
 mod settings;
 mod usage;
 mod words;
+mod writing;
 
 use crate::run::{CommandLine, kadm_run};
 use program::{FileStore, Status, read_words, report_failure};

@@ -3,14 +3,14 @@ ghost use Rattle.std.specs.Prelude.{◌≡◌, IfOk};
 ghost use Rattle.kadm.specs.Ends.{IsStatusOf};
 ghost use Rattle.program.specs.declared.status.Status.TheVariants.{Failed, Refused};
 
+use crate::writing::NOT_IN_BATCH;
 use kadm_changes::{Context, KEYTAB, Reason, Stop, Subject, begin_line, value_of};
 use program::{FileCause, Status};
 use std::io;
 use std::io::Write;
 
 /// Reports why a command ended early: a word for programs on standard output, and the subject and reason on
-/// standard error. Returns the
-/// status.
+/// standard error. Returns the status.
 pub(crate) fn report<W: Write, E: Write>(
     context: &mut Context<W, E>,
     subject: &Subject<'_>,
@@ -22,6 +22,11 @@ pub(crate) fn report<W: Write, E: Write>(
         Stop::Usage => Ok(Status::Usage),
         Stop::LineRefused => Ok(Status::Refused),
         Stop::LineFailed => Ok(Status::Failed),
+        Stop::NotInBatch => {
+            begin_line(&mut context.errors, subject);
+            let _ = writeln!(context.errors, "{NOT_IN_BATCH}");
+            print_refusal(&mut context.out, "NotInBatch")
+        }
         Stop::Refused(reason) => {
             let word = word_of(subject.words, reason.option());
             report_reason(&mut context.errors, subject, reason, word);
@@ -57,17 +62,10 @@ fn some_text(text: &str) -> Option<&str> {
 /// Names the principal that is imported, if the word is the keytab with its keys: it may be that of many. Ignores a
 /// failed write.
 fn name_imported<E: Write>(errors: &mut E, subject: &Subject<'_>, word: &str) {
-    if let Some(name) = imported_from(subject.words, word) {
+    if value_of(subject.words, KEYTAB) == Some(word)
+        && let Some(name) = value_of(subject.words, "--name")
+    {
         let _ = write!(errors, "{name}: ");
-    }
-}
-
-/// Returns the principal that is imported, if the word is the keytab with its keys.
-fn imported_from<'a>(words: &[&'a str], word: &str) -> Option<&'a str> {
-    if value_of(words, KEYTAB)? == word {
-        value_of(words, "--name")
-    } else {
-        None
     }
 }
 
@@ -80,10 +78,6 @@ fn report_reason<E: Write>(
 ) {
     let (option, text) = (reason.option(), reason.text());
     begin_line(errors, subject);
-    if option.is_empty() {
-        let _ = writeln!(errors, "{text}");
-        return;
-    }
     let Some(word) = word else {
         let _ = writeln!(errors, "{option}: {text}");
         return;

@@ -1,25 +1,17 @@
 //! One command line: from its words to the files.
-ghost use Rattle.std.specs.Prelude.{◌≡◌, IfErr, IfOk, OnErr, map, string_bytes, true};
+ghost use Rattle.std.specs.Prelude.{◌≡◌, IfErr, IfOk, OnErr, map, string_bytes};
 ghost use Rattle.kadm_changes.specs.Words.{path_of, texts};
-ghost use Rattle.kadm.specs.Ends.{IsCommandEnd, IsCommandStopped, IsEnd, IsStopped, IsWriteDone, IsWriteEnd};
-ghost use Rattle.kadm.specs.Ends.{IsWriteStopped};
-ghost use Rattle.kadm.specs.Words.{asks_help, with_db};
-ghost use Rattle.program.specs.declared.status.Status.TheVariants.{Done, Failed};
+ghost use Rattle.kadm.specs.Ends.{IsCommandEnd, IsCommandStopped, IsEnd, IsStopped};
+ghost use Rattle.kadm.specs.Words.{with_db};
+ghost use Rattle.program.specs.declared.status.Status.TheVariants.{Failed};
 
-use crate::batch::run_batch;
-use crate::command_words::read_command;
-use crate::linting::print_lint;
-use crate::listing::{print_list, print_row};
-use crate::options::read_args;
+use crate::commands::{Command, CommandKind, read_args, read_command};
+use crate::printing::run_print;
 use crate::reports::report;
-use crate::usage::{print_help, report_command_fault};
+use crate::usage::{asks, report_command_fault};
 use crate::words::{with_db, words_of};
-use clap::ArgMatches;
-use clap::error::Error;
-use kadm_changes::{
-    Command, CommandKind, Context, PrintCommand, Progress, Stop, Subject, WriteCommand,
-    import_dump, make_realm, update, write_keytab,
-};
+use crate::writing::run_write;
+use kadm_changes::{Context, Progress, Stop, Subject};
 use program::{Status, Store};
 use std::alloc::{AllocError, Global};
 use std::io;
@@ -132,23 +124,6 @@ fn run_words<'a, T: Store, W: Write, E: Write>(
     run_read(context, store, words)
 }
 
-/// Prints the help, and returns whether the words ask for it.
-fn asks<'a, W: Write, E: Write>(
-    context: &mut Context<W, E>,
-    matches: &Result<ArgMatches<'a>, Error>,
-    words: &[&str],
-) -> Result<bool, Stop<'static>>
-    ensures { IfOk result (λ asks. asks ≡ true → asks_help (texts words.now) ≡ true) }
-{
-    match matches {
-        Ok(_) => Ok(false),
-        Err(error) => {
-            print_help(context, words, error)?;
-            Ok(true)
-        }
-    }
-}
-
 /// Runs the command that the parser has read.
 #[tactic(auto, using(crate::proofs::Ending::spelled_end, crate::proofs::Ending::spelled_stop))]
 fn run_read<'a, T: Store, W: Write, E: Write>(
@@ -176,74 +151,7 @@ fn run_command<'a, T: Store, W: Write, E: Write>(
     ensures stopped { IfErr result (λ stop. IsCommandStopped (T.world store.old) command.now stop (T.world store.new)) }
 {
     match command.kind {
-        CommandKind::Print(print) => run_print(context, store, command.db, print),
-        CommandKind::Write(write) => run_write(context, store, command, write),
-    }
-}
-
-/// Runs a command that only prints.
-fn run_print<'a, T: Store, W: Write, E: Write>(
-    context: &mut Context<W, E>,
-    store: &mut T,
-    db: &'a str,
-    print: PrintCommand<'a>,
-) -> Result<Status, Stop<'a>>
-    ensures done { IfOk result (λ status. status ≡ Done) }
-    ensures unchanged { T.world store.new ≡ T.world store.old }
-{
-    match print {
-        PrintCommand::List(list) => print_list(context, store, db, list)?,
-        PrintCommand::Lint => print_lint(context, store, db)?,
-        PrintCommand::Show { name } => print_row(context, store, db, name)?,
-    }
-    Ok(Status::Done)
-}
-
-/// Runs a command that writes a file, and prints `ok` if it was done.
-fn run_write<'a, T: Store, W: Write, E: Write>(
-    context: &mut Context<W, E>,
-    store: &mut T,
-    command: &Command<'a>,
-    write: WriteCommand<'a>,
-) -> Result<Status, Stop<'a>>
-    ensures done { IfOk result (λ status. IsWriteEnd (T.world store.old) command.now write.entry status (T.world store.new)) }
-    ensures stopped { IfErr result (λ stop. IsWriteStopped (T.world store.old) command.now write.entry stop (T.world store.new)) }
-{
-    if !write_files(context, store, command, write)? {
-        return Ok(Status::Refused);
-    }
-    writeln!(context.out, "ok")?;
-    Ok(Status::Done)
-}
-
-/// Writes the files of a command. Returns whether all was done: a batch that keeps going may have been done in part.
-#[tactic(auto, using(crate::proofs::Ending::batch_write))]
-fn write_files<'a, T: Store, W: Write, E: Write>(
-    context: &mut Context<W, E>,
-    store: &mut T,
-    command: &Command<'a>,
-    write: WriteCommand<'a>,
-) -> Result<bool, Stop<'a>>
-    ensures done { IfOk result (λ whole. IsWriteDone (T.world store.old) command.now write.entry whole (T.world store.new)) }
-    ensures unchanged { OnErr result (T.world store.new ≡ T.world store.old) }
-{
-    match write {
-        WriteCommand::Batch { keep_going } => run_batch(context, store, command, keep_going),
-        WriteCommand::Init(new) => {
-            make_realm(context, store, command, new)?;
-            Ok(true)
-        }
-        WriteCommand::Update(changes) => {
-            update(context, store, command, changes)?;
-            Ok(true)
-        }
-        WriteCommand::Keytab(to) => {
-            write_keytab(context, store, command, to)?;
-            Ok(true)
-        }
-        WriteCommand::Dump(from) => {
-            import_dump(context, store, command, from)?;
-            Ok(true)
-        }
+        CommandKind::Print(print) => run_print(context, store, command.target.db, print),
+        CommandKind::Write(write) => run_write(context, store, &command.target, write),
     }
 }

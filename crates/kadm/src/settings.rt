@@ -27,11 +27,6 @@ pub(crate) fn accepted_by(field: &str) -> Option<&'static str> {
     }
 }
 
-/// Checks whether a field accepts a value.
-pub(crate) fn is_setting(field: &str, value: &str) -> bool {
-    setting_of(field, value).is_some() || setting_from(field, value, 0).is_some()
-}
-
 /// Checks whether the words ask for a setting, and have neither `--field` nor `--value` alone.
 pub(crate) fn sets_some(words: &[&str]) -> bool
     ensures { result ≡ sets_some (texts words.now) }
@@ -47,7 +42,8 @@ pub(crate) fn invalid_setting<'a>(words: &[&'a str]) -> Option<SettingWords<'a>>
     let mut rest = words;
     while let [word, others @ ..] = rest {
         if let Some(setting) = setting_at(words, word, others)
-            && !is_setting(setting.field, setting.value)
+            && setting_of(setting.field, setting.value).is_none()
+            && setting_from(setting.field, setting.value, 0).is_none()
         {
             return Some(setting);
         }

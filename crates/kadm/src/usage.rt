@@ -1,29 +1,57 @@
 //! What is wrong with a command line, in words.
-ghost use Rattle.std.specs.Prelude.{◌≡◌, OnOk, true};
+ghost use Rattle.std.specs.Prelude.{◌≡◌, IfOk, true};
 ghost use Rattle.kadm_changes.specs.Words.{texts};
 ghost use Rattle.kadm.specs.Words.{asks_help};
 
-use crate::command_words::CommandFault;
-use crate::settings::accepted_by;
+use crate::settings::{accepted_by, invalid_setting};
 use crate::words::asks_help;
+use clap::ArgMatches;
 use clap::error::{Error, ErrorKind};
-use kadm_changes::{Context, Stop};
+use kadm_changes::{Context, SettingWords, Stop};
 use std::alloc::AllocError;
 use std::io::Write;
 
-/// Prints the help that the command line asks for, or what is wrong with it to standard error. That is an `Err`.
-pub(crate) fn print_help<'a, W: Write, E: Write>(
-    context: &mut Context<W, E>,
-    words: &[&str],
-    error: &Error,
-) -> Result<(), Stop<'a>>
-    ensures { OnOk result (asks_help (texts words.now) ≡ true) }
-{
-    if error.exit_code() == 0 && asks_help(words) {
-        write!(context.out, "{error}")?;
-        return Ok(());
+/// What follows `error:` if a command line gives no command.
+pub(crate) const NO_COMMAND: &str = "give a command; 'kadm --help' lists them";
+
+/// Why a command line gives no command.
+#[derive(Clone, Copy)]
+pub(crate) enum CommandFault<'a> {
+    /// An option is wrong. The text says what is right.
+    BadValue(&'static str),
+    /// A policy has no field with this name.
+    NoField(SettingWords<'a>),
+    /// A field of a policy does not accept this value.
+    NoSetting(SettingWords<'a>),
+    Memory,
+}
+
+/// Returns what is wrong with the first invalid setting, if there is one.
+pub(crate) fn setting_fault<'a>(words: &[&'a str]) -> Option<CommandFault<'a>> {
+    let setting = invalid_setting(words)?;
+    if accepted_by(setting.field).is_none() {
+        return Some(CommandFault::NoField(setting));
     }
-    Err(report_fault(&mut context.errors, error))
+    Some(CommandFault::NoSetting(setting))
+}
+
+/// Prints the help, and returns whether the words ask for it. If something is wrong with them, reports that to standard
+/// error: an `Err`.
+pub(crate) fn asks<'a, W: Write, E: Write>(
+    context: &mut Context<W, E>,
+    matches: &Result<ArgMatches<'a>, Error>,
+    words: &[&str],
+) -> Result<bool, Stop<'static>>
+    ensures { IfOk result (λ asks. asks ≡ true → asks_help (texts words.now) ≡ true) }
+{
+    match matches {
+        Ok(_) => Ok(false),
+        Err(error) if error.exit_code() == 0 && asks_help(words) => {
+            write!(context.out, "{error}")?;
+            Ok(true)
+        }
+        Err(error) => Err(report_fault(&mut context.errors, error)),
+    }
 }
 
 /// Reports what the parser says of a command line. Returns how it ends. Ignores a failed write.

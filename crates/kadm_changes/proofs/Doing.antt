@@ -23,9 +23,9 @@ use Rattle.kadm_changes.specs.Keytabs.{IsBehind, IsFreePath, IsFront, IsKeytabFo
 use Rattle.kadm_changes.specs.Updates.{IsRowChanged, IsRowUpdated, IsSecretOf}
 use Rattle.kadm_changes.specs.Words.{Text}
 use Rattle.kadm_changes.specs.Worlds.{HoldsDatabase, Rewritten, WroteKeytab, with_database}
-use Rattle.kadm_changes.specs.declared.command.KeytabArgs.{KeytabArgs}
-use Rattle.kadm_changes.specs.declared.command.ChangeArgs.{ChangeArgs}
-use Rattle.kadm_changes.specs.declared.command.RowArgs.{RowArgs}
+use Rattle.kadm_changes.specs.declared.keytabs.KeytabArgs.{KeytabArgs}
+use Rattle.kadm_changes.specs.declared.changes.ChangeArgs.{ChangeArgs}
+use Rattle.kadm_changes.specs.declared.updates.RowArgs.{RowArgs}
 
 -- ---- a change of a row
 

@@ -17,7 +17,7 @@ use Rattle.principals.specs.Database.{Principals}
 use Rattle.principals.specs.NamesLaws.{AllNamesFit, names_fit-insert}
 use Rattle.kadm_changes.specs.Dumps.{AreRowsOf, HasRealm, IsDatabaseOf, IsKept, IsPushedRow, IsRealmOf}
 use Rattle.kadm_changes.specs.Worlds.{MadeFromDump, with_database}
-use Rattle.kadm_changes.specs.declared.command.DumpArgs.{DumpArgs}
+use Rattle.kadm_changes.specs.declared.dump_import.DumpArgs.{DumpArgs}
 use Rattle.kadm_changes.proofs.Imports.{here_is}
 
 abbrev HasRow : Entry Row → Type 0

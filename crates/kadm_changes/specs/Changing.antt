@@ -7,8 +7,8 @@ use Rattle.principals.specs.Database.{Principals}
 use Rattle.principals.specs.declared.change.RowChange.TheVariants as row_changes
 use Rattle.kadm_changes.specs.Granting.{IsOlderDropped, IsPolicySet, Makes}
 use Rattle.kadm_changes.specs.Words.{Text, setting_at, value_at}
-use Rattle.kadm_changes.specs.declared.command.ChangeArgs.{ChangeArgs}
-use Rattle.kadm_changes.specs.declared.command.ChangeArgs.TheVariants.{Drop, DropOlder, Policy, Remove}
+use Rattle.kadm_changes.specs.declared.changes.ChangeArgs.{ChangeArgs}
+use Rattle.kadm_changes.specs.declared.changes.ChangeArgs.TheVariants.{Drop, DropOlder, Policy, Remove}
 
 -- the changes that begin at each word, which is given with those after it, are made one after another
 abbrev pub AreMade : (Text → List Text → Principals → Principals → Type 0) → List Text → Principals → Principals → Type 0

@@ -15,7 +15,7 @@ use Rattle.principal_rows.specs.declared.name_map.Entry.{Entry}
 use Rattle.principal_rows.specs.declared.row.Row.{Row}
 use Rattle.principals.specs.Database.{Principals}
 use Rattle.kadm_changes.specs.Importing.{AreVersionsOf}
-use Rattle.kadm_changes.specs.declared.command.DumpArgs.{DumpArgs}
+use Rattle.kadm_changes.specs.declared.dump_import.DumpArgs.{DumpArgs}
 
 -- ---- rows
 

@@ -17,10 +17,10 @@ use Rattle.text_fields.specs.declared.settings.FlagField.TheVariants as flags
 use Rattle.text_fields.specs.declared.settings.Setting.{Setting}
 use Rattle.text_fields.specs.declared.settings.Setting.TheVariants as settings
 use Rattle.kadm_changes.specs.Denying.{denied}
-use Rattle.kadm_changes.specs.declared.command.Grant.{Grant}
-use Rattle.kadm_changes.specs.declared.command.Grant.TheVariants.{New, NewUser, Next, Replace, Either}
-use Rattle.kadm_changes.specs.declared.command.KeyChange.{KeyChange}
-use Rattle.kadm_changes.specs.declared.command.KeyChange.TheVariants as changes
+use Rattle.kadm_changes.specs.declared.granting.Grant.{Grant}
+use Rattle.kadm_changes.specs.declared.granting.Grant.TheVariants.{New, NewUser, Next, Replace, Either}
+use Rattle.kadm_changes.specs.declared.granting.KeyChange.{KeyChange}
+use Rattle.kadm_changes.specs.declared.granting.KeyChange.TheVariants as changes
 
 -- a change of a principal that no rule refuses, so the principal exists, or doesn't yet, as the change requires
 pub record Makes (p : Principals) (who : Components) (what : RowChange) (new : Principals) : Type 0 where

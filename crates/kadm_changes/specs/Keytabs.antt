@@ -13,7 +13,7 @@ use Rattle.principal_rows.specs.declared.row.KeyVersion.{KeyVersion}
 use Rattle.principal_rows.specs.declared.row.Row.{Row}
 use Rattle.principals.specs.Database.{Principals}
 use Rattle.principals_text.specs.Value.{text_database}
-use Rattle.kadm_changes.specs.declared.command.KeytabArgs.{KeytabArgs}
+use Rattle.kadm_changes.specs.declared.keytabs.KeytabArgs.{KeytabArgs}
 
 -- ---- where it may be written
 

@@ -2,7 +2,7 @@
 use Rattle.program.specs.declared.faults.FileCause.{FileCause}
 use Rattle.program.specs.declared.faults.FileCause.TheVariants.{LongFile, ShortSeed, Failed}
 use Rattle.kadm_changes.specs.declared.stop.Stop.{Stop}
-use Rattle.kadm_changes.specs.declared.stop.Stop.TheVariants.{Usage, LineRefused, LineFailed, Refused, RefusedOf, File}
+use Rattle.kadm_changes.specs.declared.stop.Stop.TheVariants.{Usage, LineRefused, LineFailed, NotInBatch, Refused, RefusedOf, File}
 
 abbrev pub IsFailure : FileCause → Type 0
 IsFailure LongFile = ⊥
@@ -14,6 +14,7 @@ abbrev pub IsFailed : Stop → Type 0
 IsFailed Usage = ⊥
 IsFailed LineRefused = ⊥
 IsFailed LineFailed = ⊥
+IsFailed NotInBatch = ⊥
 IsFailed (Refused reason) = ⊥
 IsFailed (RefusedOf word reason) = ⊥
 IsFailed (File fault) = IsFailure fault.cause

@@ -13,12 +13,12 @@ use Rattle.kadm_changes.specs.Denying.{migrated_rows}
 use Rattle.kadm_changes.specs.Granting.{IsCleared, IsGranted}
 use Rattle.kadm_changes.specs.Importing.{HasVersions, Imports}
 use Rattle.kadm_changes.specs.Words.{Text, path_of, texts}
-use Rattle.kadm_changes.specs.declared.command.Grant.{Grant}
-use Rattle.kadm_changes.specs.declared.command.RowArgs.{RowArgs}
-use Rattle.kadm_changes.specs.declared.command.RowUpdate.{RowUpdate}
-use Rattle.kadm_changes.specs.declared.command.RowUpdate.TheVariants as rows
-use Rattle.kadm_changes.specs.declared.command.Update.{Update}
-use Rattle.kadm_changes.specs.declared.command.Update.TheVariants as updates
+use Rattle.kadm_changes.specs.declared.granting.Grant.{Grant}
+use Rattle.kadm_changes.specs.declared.updates.RowArgs.{RowArgs}
+use Rattle.kadm_changes.specs.declared.updates.RowUpdate.{RowUpdate}
+use Rattle.kadm_changes.specs.declared.updates.RowUpdate.TheVariants as rows
+use Rattle.kadm_changes.specs.declared.updates.Update.{Update}
+use Rattle.kadm_changes.specs.declared.updates.Update.TheVariants as updates
 
 -- ---- one row
 

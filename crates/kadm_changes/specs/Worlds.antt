@@ -13,9 +13,9 @@ use Rattle.kadm_changes.specs.Dumps.{HasRealm}
 use Rattle.kadm_changes.specs.Keytabs.{IsFreePath, IsKeytabFor}
 use Rattle.kadm_changes.specs.Updates.{IsUpdated}
 use Rattle.kadm_changes.specs.Words.{path_of}
-use Rattle.kadm_changes.specs.declared.command.DumpArgs.{DumpArgs}
-use Rattle.kadm_changes.specs.declared.command.KeytabArgs.{KeytabArgs}
-use Rattle.kadm_changes.specs.declared.command.Update.{Update}
+use Rattle.kadm_changes.specs.declared.dump_import.DumpArgs.{DumpArgs}
+use Rattle.kadm_changes.specs.declared.keytabs.KeytabArgs.{KeytabArgs}
+use Rattle.kadm_changes.specs.declared.updates.Update.{Update}
 
 -- the path has the text of a database
 abbrev pub HoldsDatabase : Option World → List ℕ → Principals → Type 0

@@ -9,7 +9,6 @@ ghost use Rattle.kadm_changes.specs.Words.{path_of, texts};
 ghost use Rattle.kadm_changes.specs.Worlds.{MadeNew, MadeRealm};
 
 use crate::assigning::{SettingWords, setting_at};
-use crate::command::{ChangeArgs, Changes, Command, InitArgs};
 use crate::context::Context;
 use crate::databases::{apply, lock_database, write_database};
 use crate::denying::deny_users;
@@ -17,6 +16,7 @@ use crate::draft::Draft;
 use crate::granting::drop_older;
 use crate::reason::Reason;
 use crate::stop::{Stop, of_realm};
+use crate::target::Target;
 use crate::values::{setting_from, setting_of};
 use crate::words::value_at;
 use krb_elements::KerberosString;
@@ -30,19 +30,44 @@ use text_fields::{FlagField, Setting, random_keys};
 /// The option that names a principal.
 const NAME: &str = "--name";
 
+/// The new realm, and the file with the seed of its keys. If no file has it, the system draws it.
+#[derive(Clone, Copy)]
+pub struct InitArgs<'a> {
+    pub realm: &'a str,
+    pub seed: Option<&'a str>,
+}
+
+/// The words that name principals, and how each is changed.
+#[derive(Clone, Copy)]
+pub struct Changes<'a> {
+    pub words: &'a [&'a str],
+    pub how: ChangeArgs,
+}
+
+/// How a principal is changed.
+#[derive(Clone, Copy)]
+pub enum ChangeArgs {
+    Drop { version: u32 },
+    /// Drops all versions but the current one.
+    DropOlder,
+    /// Makes the settings of the command line.
+    Policy,
+    Remove,
+}
+
 /// Makes the database of a new realm.
 pub fn make_realm<'p, T: Store, W: Write, E: Write>(
     context: &mut Context<W, E>,
     store: &mut T,
-    command: &Command<'p>,
+    target: &Target<'p>,
     new: InitArgs<'p>,
 ) -> Result<(), Stop<'p>>
-    ensures done { OnOk result (MadeRealm (T.world store.old) command.now.db.now command.now.etypes.items new.entry.realm.now
+    ensures done { OnOk result (MadeRealm (T.world store.old) target.now.db.now target.now.etypes.items new.entry.realm.now
         (path_of new.entry.seed) (T.world store.new)) }
     ensures unchanged { OnErr result (T.world store.new ≡ T.world store.old) }
 {
     match component_from_text(context.alloc, new.realm) {
-        Ok(realm) => make_new_realm(context, store, command, &realm, new.seed),
+        Ok(realm) => make_new_realm(context, store, target, &realm, new.seed),
         Err(fault) => Err(of_realm(fault)),
     }
 }
@@ -50,22 +75,22 @@ pub fn make_realm<'p, T: Store, W: Write, E: Write>(
 fn make_new_realm<'p, T: Store, W: Write, E: Write>(
     context: &mut Context<W, E>,
     store: &mut T,
-    command: &Command<'p>,
+    target: &Target<'p>,
     realm: &KerberosString,
     seed: Option<&'p str>,
 ) -> Result<(), Stop<'p>>
-    ensures done { OnOk result (MadeNew (T.world store.old) command.now.db.now command.now.etypes.items realm.now
+    ensures done { OnOk result (MadeNew (T.world store.old) target.now.db.now target.now.etypes.items realm.now
         (path_of seed.entry) (T.world store.new)) }
     ensures unchanged { OnErr result (T.world store.new ≡ T.world store.old) }
 {
     let alloc = context.alloc;
-    let locked = lock_database(context, store, command)?;
-    if has_file(store, command.db)? {
+    let locked = lock_database(context, store, target)?;
+    if has_file(store, target.db)? {
         return Err(Stop::Refused(Reason::FileExists));
     }
     let keys = random_keys(
         alloc,
-        &command.etypes,
+        &target.etypes,
         read_or_draw_seed(alloc, store, seed)?,
     )?;
     match Database::first(alloc, realm.as_slice(), keys) {
@@ -79,18 +104,13 @@ pub(crate) fn check_names<'p>(alloc: Global, words: &'p [&'p str]) -> Result<(),
     let mut rest = words;
     while let [word, others @ ..] = rest {
         if let Some(name) = value_at(NAME, word, others) {
-            check_name(alloc, name)?;
+            if let Err(fault) = Name::from_text(alloc, name) {
+                return Err(Stop::from(fault).about(name));
+            }
         }
         rest = others;
     }
     Ok(())
-}
-
-fn check_name<'p>(alloc: Global, name: &'p str) -> Result<(), Stop<'p>> {
-    match Name::from_text(alloc, name) {
-        Ok(_) => Ok(()),
-        Err(fault) => Err(Stop::from(fault).about(name)),
-    }
 }
 
 /// Changes each principal that the words of a command line name, without new keys. After an `Err` some may have been

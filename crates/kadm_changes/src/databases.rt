@@ -4,11 +4,11 @@ ghost use Rattle.program.specs.World.{with_file};
 ghost use Rattle.kadm_changes.specs.Granting.{Makes};
 ghost use Rattle.kadm_changes.specs.Worlds.{HoldsDatabase, with_database};
 
-use crate::command::Command;
 use crate::context::Context;
 use crate::draft::Draft;
 use crate::reason::Reason;
 use crate::stop::Stop;
+use crate::target::Target;
 use krb_fields::Name;
 use principals::{Change, ChangeFault, Database, RowChange};
 use principals_text::{LONGEST_TEXT, ReadFault, fault_place};
@@ -45,17 +45,17 @@ impl<'p> Model for Locked<'p> {
 pub fn lock_database<'p, T: Store, W: Write, E: Write>(
     context: &mut Context<W, E>,
     store: &mut T,
-    command: &Command<'p>,
+    target: &Target<'p>,
 ) -> Result<Locked<'p>, Stop<'p>>
-    ensures locked { IfOk result (λ locked. locked ≡ command.now.db.now) }
+    ensures locked { IfOk result (λ locked. locked ≡ target.now.db.now) }
     ensures unchanged { T.world store.new ≡ T.world store.old }
 {
     let locked = Locked {
-        path: command.db,
-        keep_mode: command.keep_mode,
+        path: target.db,
+        keep_mode: target.keep_mode,
     };
     for looks in 0..LOOKS {
-        if lock_file(context.alloc, store, command.db)? {
+        if lock_file(context.alloc, store, target.db)? {
             return Ok(locked);
         }
         if looks == QUIET_LOOKS {
@@ -63,7 +63,7 @@ pub fn lock_database<'p, T: Store, W: Write, E: Write>(
         }
         store.pause();
     }
-    if lock_file(context.alloc, store, command.db)? {
+    if lock_file(context.alloc, store, target.db)? {
         Ok(locked)
     } else {
         Err(Stop::Refused(Reason::Locked))

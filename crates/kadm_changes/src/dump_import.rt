@@ -11,7 +11,6 @@ ghost use Rattle.kadm_changes.specs.Dumps.{AreRowsOf, HasRealm, IsDatabaseOf, Is
 ghost use Rattle.kadm_changes.specs.Importing.{AreVersionsOf};
 ghost use Rattle.kadm_changes.specs.Worlds.{MadeFromDump};
 
-use crate::command::{Command, DumpArgs};
 use crate::context::Context;
 use crate::databases::{lock_database, write_database};
 use crate::dump_reports::{
@@ -20,6 +19,7 @@ use crate::dump_reports::{
 use crate::importing::{KeytabKeys, versions_of};
 use crate::reason::Reason;
 use crate::stop::Stop;
+use crate::target::Target;
 use cred_files::{Keytab, KeytabEntry};
 use krb_elements::KerberosString;
 use krb_fields::is_component;
@@ -31,18 +31,26 @@ use program::{Store, has_file, read_at_most, read_file};
 use std::alloc::{AllocError, Global};
 use std::io::Write;
 
+/// The dump of MIT's database, its stash file, and whether what has no place is left out.
+#[derive(Clone, Copy)]
+pub struct DumpArgs<'a> {
+    pub dump: &'a str,
+    pub stash: &'a str,
+    pub skip: bool,
+}
+
 /// Makes the database of a realm from the dump of MIT's database.
 pub fn import_dump<'p, T: Store, W: Write, E: Write>(
     context: &mut Context<W, E>,
     store: &mut T,
-    command: &Command<'p>,
+    target: &Target<'p>,
     from: DumpArgs<'p>,
 ) -> Result<(), Stop<'p>>
-    ensures done { OnOk result (MadeFromDump (T.world store.old) command.now.db.now from.entry (T.world store.new)) }
+    ensures done { OnOk result (MadeFromDump (T.world store.old) target.now.db.now from.entry (T.world store.new)) }
     ensures unchanged { OnErr result (T.world store.new ≡ T.world store.old) }
 {
-    let locked = lock_database(context, store, command)?;
-    if has_file(store, command.db)? {
+    let locked = lock_database(context, store, target)?;
+    if has_file(store, target.db)? {
         return Err(Stop::Refused(Reason::FileExists));
     }
     let database = read_realm(context, store, from)?;

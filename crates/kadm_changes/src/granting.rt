@@ -4,13 +4,11 @@ ghost use Rattle.std.specs.FinMap as finite;
 ghost use Rattle.krb_fields.specs.Salt.{default_salt};
 ghost use Rattle.text_fields.specs.Keys.{password_key};
 ghost use Rattle.principal_rows.specs.declared.row.Row as rows;
-ghost use Rattle.principals.specs.declared.change.RowChange.TheVariants as row_changes;
 ghost use Rattle.kadm_changes.specs.Granting.{IsCleared, IsGiven, IsGranted, IsOlderDropped, IsReplaced, IsUserAdded};
-ghost use Rattle.kadm_changes.specs.Granting.{Makes, older_numbers, password_expiry};
+ghost use Rattle.kadm_changes.specs.Granting.{Makes, key_change, older_numbers, password_expiry};
 ghost use Rattle.kadm_changes.specs.Updates.{GivesPassword, GivesRandom};
 ghost use Rattle.kadm_changes.specs.Words.{path_of};
 
-use crate::command::{Grant, KeyChange, RandomGrant};
 use crate::databases::apply;
 use crate::denying::deny_service;
 use crate::draft::Draft;
@@ -23,6 +21,51 @@ use principals::{ChangeFault, Database, RowChange};
 use program::{Store, read_clock, read_or_draw_seed};
 use std::alloc::{AllocError, Global};
 use text_fields::{password_keys, random_keys};
+
+/// The principal that gets keys.
+#[derive(Clone, Copy, PartialEq, Eq)]
+pub enum Grant {
+    /// A new principal.
+    New,
+    /// A new principal for which tickets are denied.
+    NewUser,
+    /// A principal that exists. The keys are a new version beside the older ones.
+    Next,
+    /// A principal that exists. The older versions are dropped.
+    Replace,
+    /// `Next` if the principal exists, else `New`.
+    Either,
+}
+
+/// The change once it is known whether the principal exists.
+#[derive(Clone, Copy)]
+pub(crate) enum KeyChange {
+    New,
+    NewUser,
+    Next,
+    Replace,
+}
+
+impl Grant {
+    /// Returns the change, given whether the principal exists.
+    pub(crate) fn key_change(self, there: bool) -> KeyChange
+        ensures { result ≡ key_change self there }
+    {
+        match (self, there) {
+            (Grant::New, _) | (Grant::Either, false) => KeyChange::New,
+            (Grant::NewUser, _) => KeyChange::NewUser,
+            (Grant::Next, _) | (Grant::Either, true) => KeyChange::Next,
+            (Grant::Replace, _) => KeyChange::Replace,
+        }
+    }
+}
+
+/// Random keys, and who gets them.
+#[derive(Clone, Copy)]
+pub struct RandomGrant<'a> {
+    pub seed: Option<&'a str>,
+    pub grant: Grant,
+}
 
 /// The principal that gets keys, their encryption types, and the password for those that are made from one.
 #[derive(Clone, Copy)]
@@ -87,7 +130,7 @@ fn give_by(draft: &mut Draft, who: &Name, keys: KeyList, how: KeyChange) -> Resu
     match how {
         KeyChange::New => apply(draft, who, RowChange::Add(keys)),
         KeyChange::NewUser => add_user(draft, who, keys),
-        KeyChange::Next => renew(draft, who, keys),
+        KeyChange::Next => apply(draft, who, RowChange::NewKeys(keys)),
         KeyChange::Replace => replace(draft, who, keys),
     }
 }
@@ -110,18 +153,11 @@ fn add_user(draft: &mut Draft, who: &Name, keys: KeyList) -> Result<(), ChangeFa
     deny_service(draft, who)
 }
 
-/// Gives an existing principal new keys, as its next version.
-fn renew(draft: &mut Draft, who: &Name, keys: KeyList) -> Result<(), ChangeFault>
-    ensures { OnOk result (Makes draft.old.database who.now.components (row_changes.NewKeys keys) draft.new.database) }
-{
-    apply(draft, who, RowChange::NewKeys(keys))
-}
-
 /// Gives a principal new keys, and drops all older versions.
 fn replace(draft: &mut Draft, who: &Name, keys: KeyList) -> Result<(), ChangeFault>
     ensures { OnOk result (IsReplaced who.now.components keys draft.old.database draft.new.database) }
 {
-    renew(draft, who, keys)?;
+    apply(draft, who, RowChange::NewKeys(keys))?;
     drop_older(draft, who)
 }
 
@@ -178,7 +214,7 @@ fn clear_expiry<'p, T: Store>(store: &mut T, draft: &mut Draft, who: &Name) -> R
 }
 
 /// Returns the policy of a principal whose password expires, and when it does.
-fn expiring(database: &Database, who: &Name) -> Option<(Policy, Second)>
+pub(crate) fn expiring(database: &Database, who: &Name) -> Option<(Policy, Second)>
     ensures some { IfSome result (λ found. (row : rows.Row) × (finite.get database.now.rows who.now.components ≡ Some row)
         × (row.policy ≡ found.0) × (row.policy.password_expires ≡ Some found.1)) }
     ensures none { IfNone result (password_expiry (finite.get database.now.rows who.now.components) ≡ None) }

@@ -4,12 +4,12 @@ ghost use Rattle.program.specs.World.{IsRead, IsThere, with_file};
 ghost use Rattle.kadm_changes.specs.Keytabs.{IsBehind, IsFreePath, IsKeytabFor, IsKeytabStart, IsNewKeytab, IsOldKeytab, entries_of, lock_of};
 ghost use Rattle.kadm_changes.specs.Worlds.{WroteKeytab};
 
-use crate::command::{Command, KeytabArgs};
 use crate::context::Context;
 use crate::databases::{change_file, lock_database, read_database};
 use crate::joining::joined;
 use crate::reason::Reason;
 use crate::stop::Stop;
+use crate::target::Target;
 use cred_files::{Keytab, KeytabEntry};
 use krb_elements::KerberosString;
 use krb_fields::Name;
@@ -25,24 +25,32 @@ const LOCK_END: &str = ".lock";
 /// The first byte of a keytab. No text of a database begins with it.
 const KEYTAB_START: u8 = 5;
 
+/// The principal whose current keys are written, the keytab for them, and whether it keeps its content.
+#[derive(Clone, Copy)]
+pub struct KeytabArgs<'a> {
+    pub name: &'a str,
+    pub out: &'a str,
+    pub append: bool,
+}
+
 /// Writes a keytab of a principal's current keys. With `append` the keytab keeps its content, before the new entries,
 /// and its owner and group.
 pub fn write_keytab<'p, T: Store, W: Write, E: Write>(
     context: &mut Context<W, E>,
     store: &mut T,
-    command: &Command<'p>,
+    target: &Target<'p>,
     to: KeytabArgs<'p>,
 ) -> Result<(), Stop<'p>>
-    ensures done { OnOk result (WroteKeytab (T.world store.old) command.now.db.now to.entry (T.world store.new)) }
+    ensures done { OnOk result (WroteKeytab (T.world store.old) target.now.db.now to.entry (T.world store.new)) }
     ensures unchanged { OnErr result (T.world store.new ≡ T.world store.old) }
 {
     let alloc = context.alloc;
     let name = Name::from_text(alloc, to.name)?;
-    lock_database(context, store, command)?;
-    let database = read_database(context, store, command.db)?;
+    lock_database(context, store, target)?;
+    let database = read_database(context, store, target.db)?;
     check_path(alloc, store, to.out)?;
     let octets = new_octets(alloc, store, &database, &name, to)?;
-    put_octets(alloc, store, command, to, &octets)
+    put_octets(alloc, store, target, to, &octets)
 }
 
 /// Refuses the path of a lock, a path with a lock beside it, and a file that is neither empty nor a keytab. Each
@@ -109,7 +117,7 @@ fn new_octets<'p, T: Store>(
 fn put_octets<'p, T: Store>(
     alloc: Global,
     store: &mut T,
-    command: &Command<'p>,
+    target: &Target<'p>,
     to: KeytabArgs<'p>,
     octets: &[u8],
 ) -> Result<(), Stop<'p>>
@@ -117,7 +125,7 @@ fn put_octets<'p, T: Store>(
     ensures unchanged { OnErr result (T.world store.new ≡ T.world store.old) }
 {
     if to.append {
-        return change_file(alloc, store, to.out, octets, command.keep_mode);
+        return change_file(alloc, store, to.out, octets, target.keep_mode);
     }
     write_file(alloc, store, to.out, octets)?;
     Ok(())

@@ -4,15 +4,32 @@ ghost use Rattle.kadm_changes.specs.Updates.{IsPasswordOf, IsSecretOf};
 ghost use Rattle.kadm_changes.specs.Words.{path_of};
 ghost use Rattle.program.specs.World.{HasFirstLine};
 
-use crate::command::{PasswordArgs, RowArgs, RowUpdate};
 use crate::context::Context;
 use crate::databases::read_database;
+use crate::granting::Grant;
 use crate::reason::Reason;
 use crate::stop::Stop;
+use crate::updates::{RowArgs, RowUpdate};
 use krb_fields::component_to_text;
 use program::{STANDARD_INPUT, Store, ask_password, read_password};
 use std::alloc::Global;
 use std::io::Write;
+
+/// Where a password comes from.
+#[derive(Clone, Copy)]
+pub struct PasswordArgs<'a> {
+    /// If no file has the password, it is read from standard input.
+    pub file: Option<&'a str>,
+    /// Whether to accept a password that is empty or ends in a carriage return.
+    pub any: bool,
+}
+
+/// The keys of a password, and who gets them.
+#[derive(Clone, Copy)]
+pub struct PasswordGrant<'a> {
+    pub password: PasswordArgs<'a>,
+    pub grant: Grant,
+}
 
 /// Gets the password that a change takes, before the database is locked: from its file, or from standard input. It is
 /// empty if the change takes none.
@@ -139,7 +156,8 @@ fn asked_password<'p, T: Store, W: Write, E: Write>(
 ) -> Result<Vec<u8>, Stop<'p>>
     ensures unchanged { T.world store.new ≡ T.world store.old }
 {
-    let realm = realm_text(context, store, asked.db)?;
+    let database = read_database(context, store, asked.db)?;
+    let realm = component_to_text(context.alloc, database.realm())?;
     if store.is_terminal() {
         warn_of_echo(&mut context.errors);
     }
@@ -153,18 +171,6 @@ fn warn_of_echo<E: Write>(errors: &mut E) {
         "kadm: the password shows as you type it; run `stty -echo` first to hide it"
     );
     let _ = errors.flush();
-}
-
-/// Returns the text of the realm's name.
-fn realm_text<'p, T: Store, W: Write, E: Write>(
-    context: &mut Context<W, E>,
-    store: &mut T,
-    db: &'p str,
-) -> Result<String, Stop<'p>>
-    ensures unchanged { T.world store.new ≡ T.world store.old }
-{
-    let database = read_database(context, store, db)?;
-    Ok(component_to_text(context.alloc, database.realm())?)
 }
 
 /// Asks twice at a terminal. Both answers have to be the same.

@@ -25,8 +25,6 @@ pub enum Reason {
     LongPassword,
     /// A line of a batch names no file of the password.
     NoPassword,
-    /// A line of a batch has a command that is not for a batch.
-    NotInBatch,
     /// A time from now is after the year 9999.
     BadTime,
     Exists,
@@ -77,7 +75,6 @@ impl Reason {
             Reason::BadPassword => "BadPassword",
             Reason::LongPassword => "LongPassword",
             Reason::NoPassword => "NoPassword",
-            Reason::NotInBatch => "NotInBatch",
             Reason::BadTime => "BadTime",
             Reason::Protected | Reason::ServesAll => "Protected",
             Reason::Absent | Reason::NoVersion => "Absent",
@@ -115,9 +112,6 @@ impl Reason {
             Reason::NoPassword => {
                 "standard input has the commands; name the password's file by `--password-file`"
             }
-            Reason::NotInBatch => {
-                "a batch takes add, passwd, random, import, drop, policy, remove and migrate"
-            }
             Reason::BadTime => "this time is past the end of the year 9999",
             Reason::Exists => "this principal already exists",
             Reason::Protected => "cannot remove it: the realm's tickets are made with its keys",
@@ -140,10 +134,10 @@ impl Reason {
         }
     }
 
-    /// Returns the option whose value is refused. It is empty if the command is.
+    /// Returns the option whose value is refused. A report has it in place of a value that is empty or left out; a
+    /// password that is too long always has its file, or standard input, as its word.
     pub fn option(self) -> &'static str {
         match self {
-            Reason::NotInBatch => "",
             Reason::BadRealm => "--realm",
             Reason::BadTime => "--value",
             Reason::Locked

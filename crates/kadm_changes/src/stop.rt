@@ -25,6 +25,8 @@ pub enum Stop<'p> {
     LineRefused,
     /// A file that a line of a batch names failed, and the reason has been printed.
     LineFailed,
+    /// A line of a batch has a command that is not for a batch.
+    NotInBatch,
     /// The command is refused. The report begins with the word of the option that the reason names.
     Refused(Reason),
     /// The command is refused for this word.

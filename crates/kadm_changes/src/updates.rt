@@ -5,17 +5,17 @@ ghost use Rattle.kadm_changes.specs.Updates.{IsMigrated, IsRowChanged, IsRowGive
 ghost use Rattle.kadm_changes.specs.Words.{texts};
 ghost use Rattle.kadm_changes.specs.Worlds.{Rewritten, Updated};
 
-use crate::changes::{change_all, check_names, migrate_rows, set_all};
-use crate::command::{Changes, Command, Grant, RowArgs, RowUpdate, Update};
+use crate::changes::{Changes, change_all, check_names, migrate_rows, set_all};
 use crate::context::Context;
 use crate::databases::{lock_database, read_database, write_database};
 use crate::denying::is_user;
 use crate::draft::Draft;
-use crate::granting::{Recipient, give_password, give_random};
+use crate::granting::{Grant, RandomGrant, Recipient, expiring, give_password, give_random};
 use crate::importing::import;
-use crate::passwords::{batch_password, new_password};
+use crate::passwords::{PasswordGrant, batch_password, new_password};
 use crate::stop::Stop;
 use crate::subject::{Subject, begin_line};
+use crate::target::Target;
 use enctypes::Etype;
 use krb_fields::Name;
 use principals::Database;
@@ -23,23 +23,52 @@ use program::Store;
 use std::alloc::Global;
 use std::io::Write;
 
+/// How a database is changed.
+#[derive(Clone, Copy)]
+pub enum Update<'a> {
+    /// Gives one principal keys, or adds it with them.
+    Row(RowArgs<'a>),
+    /// Changes each principal that the words of the command line name, without new keys.
+    Changes(Changes<'a>),
+    Migrate { users_are_no_services: bool },
+}
+
+/// A principal that gets keys, and then the settings of the command line with these words.
+#[derive(Clone, Copy)]
+pub struct RowArgs<'a> {
+    pub name: &'a str,
+    pub how: RowUpdate<'a>,
+    pub words: &'a [&'a str],
+}
+
+/// The keys that a principal gets.
+#[derive(Clone, Copy)]
+pub enum RowUpdate<'a> {
+    /// Gives the principal the keys of a password.
+    Password(PasswordGrant<'a>),
+    /// Gives the principal random keys.
+    Random(RandomGrant<'a>),
+    /// Adds the principal with keys from a keytab.
+    Import { keytab: &'a str },
+}
+
 /// Changes the database.
-pub fn update<'p, T: Store, W: Write, E: Write>(
+pub fn make_update<'p, T: Store, W: Write, E: Write>(
     context: &mut Context<W, E>,
     store: &mut T,
-    command: &Command<'p>,
+    target: &Target<'p>,
     update: Update<'p>,
 ) -> Result<(), Stop<'p>>
     ensures done { OnOk result
-        (Updated (T.world store.old) command.now.db.now command.now.etypes.items update.entry (T.world store.new)) }
+        (Updated (T.world store.old) target.now.db.now target.now.etypes.items update.entry (T.world store.new)) }
     ensures unchanged { OnErr result (T.world store.new ≡ T.world store.old) }
 {
     match update {
-        Update::Row(to) => update_row(context, store, command, &to),
-        Update::Changes(changes) => update_rows(context, store, command, &changes),
+        Update::Row(to) => update_row(context, store, target, &to),
+        Update::Changes(changes) => update_rows(context, store, target, &changes),
         Update::Migrate {
             users_are_no_services,
-        } => migrate(context, store, command, users_are_no_services),
+        } => migrate(context, store, target, users_are_no_services),
     }
 }
 
@@ -47,23 +76,23 @@ pub fn update<'p, T: Store, W: Write, E: Write>(
 fn update_row<'p, T: Store, W: Write, E: Write>(
     context: &mut Context<W, E>,
     store: &mut T,
-    command: &Command<'p>,
+    target: &Target<'p>,
     to: &RowArgs<'p>,
 ) -> Result<(), Stop<'p>>
-    ensures done { OnOk result (Rewritten (T.world store.old) command.now.db.now
-        (IsRowUpdated (T.world store.old) command.now.etypes.items to.now) (T.world store.new)) }
+    ensures done { OnOk result (Rewritten (T.world store.old) target.now.db.now
+        (IsRowUpdated (T.world store.old) target.now.etypes.items to.now) (T.world store.new)) }
     ensures unchanged { OnErr result (T.world store.new ≡ T.world store.old) }
 {
     let alloc = context.alloc;
     let who = Name::from_text(alloc, to.name)?;
-    let pass = new_password(context, store, command.db, to)?;
-    let locked = lock_database(context, store, command)?;
-    let database = read_database(context, store, command.db)?;
+    let pass = new_password(context, store, target.db, to)?;
+    let locked = lock_database(context, store, target)?;
+    let database = read_database(context, store, target.db)?;
     let mut draft = Draft { alloc, database };
-    let expires = password_expires(&draft.database, &who);
+    let expires = expiring(&draft.database, &who).is_some();
     let recipient = Recipient {
         who: &who,
-        etypes: &command.etypes,
+        etypes: &target.etypes,
         pass: &pass,
     };
     change_row(store, &mut draft, &recipient, to)?;
@@ -86,17 +115,17 @@ fn update_row<'p, T: Store, W: Write, E: Write>(
 fn update_rows<'p, T: Store, W: Write, E: Write>(
     context: &mut Context<W, E>,
     store: &mut T,
-    command: &Command<'p>,
+    target: &Target<'p>,
     changes: &Changes<'p>,
 ) -> Result<(), Stop<'p>>
-    ensures done { OnOk result (Rewritten (T.world store.old) command.now.db.now
+    ensures done { OnOk result (Rewritten (T.world store.old) target.now.db.now
         (AreChanged (T.world store.old) (texts changes.now.words.now) changes.now.how) (T.world store.new)) }
     ensures unchanged { OnErr result (T.world store.new ≡ T.world store.old) }
 {
     let alloc = context.alloc;
     check_names(alloc, changes.words)?;
-    let locked = lock_database(context, store, command)?;
-    let database = read_database(context, store, command.db)?;
+    let locked = lock_database(context, store, target)?;
+    let database = read_database(context, store, target.db)?;
     let mut draft = Draft { alloc, database };
     change_all(store, &mut draft, changes)?;
     write_database(alloc, store, &locked, &draft.database)
@@ -106,16 +135,16 @@ fn update_rows<'p, T: Store, W: Write, E: Write>(
 fn migrate<'p, T: Store, W: Write, E: Write>(
     context: &mut Context<W, E>,
     store: &mut T,
-    command: &Command<'p>,
+    target: &Target<'p>,
     users_are_no_services: bool,
 ) -> Result<(), Stop<'p>>
-    ensures done { OnOk result (Rewritten (T.world store.old) command.now.db.now
+    ensures done { OnOk result (Rewritten (T.world store.old) target.now.db.now
         (IsMigrated users_are_no_services) (T.world store.new)) }
     ensures unchanged { OnErr result (T.world store.new ≡ T.world store.old) }
 {
     let alloc = context.alloc;
-    let locked = lock_database(context, store, command)?;
-    let database = read_database(context, store, command.db)?;
+    let locked = lock_database(context, store, target)?;
+    let database = read_database(context, store, target.db)?;
     let mut draft = Draft { alloc, database };
     migrate_rows(&mut draft, users_are_no_services)?;
     write_database(alloc, store, &locked, &draft.database)
@@ -156,7 +185,7 @@ fn row_in_batch<'p, T: Store, E: Write>(
 {
     let who = Name::from_text(draft.alloc, to.name)?;
     let pass = batch_password(draft.alloc, store, &to.how)?;
-    let expires = password_expires(&draft.database, &who);
+    let expires = expiring(&draft.database, &who).is_some();
     let recipient = Recipient {
         who: &who,
         etypes,
@@ -206,14 +235,6 @@ fn give_row<'p, T: Store>(
     }
 }
 
-/// Checks whether the password of a principal expires.
-fn password_expires(database: &Database, who: &Name) -> bool {
-    match database.get(who) {
-        Some(row) => row.policy.password_expires.is_some(),
-        None => false,
-    }
-}
-
 /// A principal that was given keys.
 #[derive(Clone, Copy)]
 struct RowChanged<'a, 'p> {
@@ -230,7 +251,7 @@ fn report_change<E: Write>(errors: &mut E, subject: &Subject<'_>, change: &RowCh
     let name = change.to.name;
     match &change.to.how {
         RowUpdate::Password(_)
-            if change.expires && !password_expires(change.database, change.who) => {
+            if change.expires && expiring(change.database, change.who).is_none() => {
             begin_line(errors, subject);
             let _ = writeln!(errors, "{name}: password_expires was past; it is now never");
         }

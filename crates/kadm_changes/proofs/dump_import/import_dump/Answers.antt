@@ -5,10 +5,10 @@ use Rattle.kadm_changes.proofs.dump_import.import_dump.Goals as goal
 
 pub returns-clause-done : goal.returns-clause-done
 returns-clause-done g c =
-    let free : IsThere (g.T.Store.world c.lock_database.new.store) c.args.command.now.db.now false =
-    subst (IsThere (g.T.Store.world c.lock_database.new.store) c.args.command.now.db.now) c.if-branch.false c.in_ok-has_file.ensures.there in
+    let free : IsThere (g.T.Store.world c.lock_database.new.store) c.args.target.now.db.now false =
+    subst (IsThere (g.T.Store.world c.lock_database.new.store) c.args.target.now.db.now) c.if-branch.false c.in_ok-has_file.ensures.there in
     made_from_dump c.write_database.result (g.T.Store.world c.args.store.now) (g.T.Store.world c.lock_database.new.store)
     (g.T.Store.world c.has_file.new.store) (g.T.Store.world c.read_realm.new.store) (g.T.Store.world c.write_database.new.store)
-    c.args.command.now.db.now c.in_ok-locked.locked c.args.from c.in_ok-database.database c.in_ok-locked.ensures.unchanged
+    c.args.target.now.db.now c.in_ok-locked.locked c.args.from c.in_ok-database.database c.in_ok-locked.ensures.unchanged
     c.in_ok-has_file.ensures.unchanged c.in_ok-database.ensures.unchanged c.in_ok-locked.ensures.locked free c.in_ok-database.ensures.read
     c.write_database.ensures.written

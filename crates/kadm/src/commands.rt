@@ -1,0 +1,107 @@
+//! The commands of `kadm`: all that their tables have, and the command that the words of a command line give.
+ghost use Rattle.std.specs.Prelude.{◌≡◌, IfOk, Some};
+ghost use Rattle.kadm_changes.specs.Words.{texts};
+ghost use Rattle.kadm.specs.Words.{IsKindSpelled, Spells, command_of};
+
+use crate::printing::{PRINTS, PrintCommand, print_of};
+use crate::usage::{CommandFault, NO_COMMAND};
+use crate::words::{command_of, has_flag};
+use crate::writing::{CHANGES, LATER_CHANGES, WriteCommand, write_of};
+use clap::error::Error;
+use clap::{ArgMatches, Command as Parser};
+use enctypes::Etype;
+use kadm_changes::{DB, Target, value_of};
+use program::{SubcommandRow, with_subcommands};
+use std::alloc::{AllocError, Global};
+use text_fields::{offered, read_etypes};
+
+const EXAMPLE: &str = "\
+A first realm:
+  kadm init --db database --realm EXAMPLE.COM
+  kadm add --db database --name alice
+  kadm add --db database --name host/www.example.com --random
+  kadm keytab --db database --name host/www.example.com --out www.keytab
+  kadm list --db database
+
+Each command prints `ok`; `list`, `lint` and `show` print what they found. A command that is refused prints `refused`
+and the reason, with status 1. If a file can't be read or written, or memory runs out, it prints `failed`, with status 3.
+Standard error then says which name or file, and why. A usage error has status 2.
+
+Without --db the database is the file that KADM_DB names in the environment.
+
+A name is components joined by `/`. Write `/`, `\\` and `@` inside a component, and all bytes other than 21 to 7e, as `\\`
+and two lower case hexadecimal digits.";
+
+const NO_TYPES: &str = "\
+--types takes the numbers 18, 17, 20 and 19, each at most once, separated by commas";
+
+/// The tables of the commands, in the order of the help.
+const COMMANDS: &[&[SubcommandRow]] = &[CHANGES, PRINTS, LATER_CHANGES];
+
+/// What one command line asks for.
+#[derive(Drop)]
+pub(crate) struct Command<'a> {
+    pub target: Target<'a>,
+    pub kind: CommandKind<'a>,
+}
+
+/// What a command does. Paths and names are the command line's.
+#[derive(Clone, Copy)]
+pub(crate) enum CommandKind<'a> {
+    Print(PrintCommand<'a>),
+    Write(WriteCommand<'a>),
+}
+
+/// Parses the command line, whose first word is the program's name. Its values are then where `value_of` finds them: the
+/// parser takes no word that begins with `--` as a value, and no option twice.
+pub(crate) fn read_args<'a>(alloc: Global, words: &'a [&'a str]) -> Result<ArgMatches<'a>, Error> {
+    let mut kadm = Parser::new(alloc, "kadm")
+        .about("Makes, changes and lists the database of a Kerberos realm")
+        .after_help(EXAMPLE);
+    for table in COMMANDS {
+        kadm = with_subcommands(alloc, kadm, *table)?;
+    }
+    kadm.try_get_matches_from(words)
+}
+
+/// Returns the command that the words give.
+pub(crate) fn read_command<'a>(
+    alloc: Global,
+    words: &'a [&'a str],
+) -> Result<Command<'a>, CommandFault<'a>>
+    ensures { IfOk result (λ command. Spells (texts words.now) command) }
+{
+    let (Some(command), Some(db)) = (command_of(words), value_of(words, DB)) else {
+        return Err(CommandFault::BadValue(NO_COMMAND));
+    };
+    let etypes = match read_key_types(alloc, words) {
+        Ok(Some(etypes)) => etypes,
+        Ok(None) => return Err(CommandFault::BadValue(NO_TYPES)),
+        Err(_) => return Err(CommandFault::Memory),
+    };
+    let kind = kind_of(command, words)?;
+    let target = Target {
+        db,
+        etypes,
+        keep_mode: has_flag(words, "--keep-mode"),
+    };
+    Ok(Command { target, kind })
+}
+
+/// Returns the encryption types of the new keys: all four by default. Returns `None` if `--types` is no list of types.
+fn read_key_types(alloc: Global, words: &[&str]) -> Result<Option<Vec<Etype>>, AllocError> {
+    match value_of(words, "--types") {
+        Some(text) => read_etypes(alloc, text),
+        None => Ok(Some(offered(alloc)?)),
+    }
+}
+
+/// Returns what the command does.
+fn kind_of<'a>(command: &str, words: &'a [&'a str]) -> Result<CommandKind<'a>, CommandFault<'a>>
+    ensures { command_of (texts words.now) ≡ Some command.now → IfOk result (λ kind. IsKindSpelled (texts words.now) kind) }
+{
+    match print_of(command, words) {
+        Some(print) => Ok(CommandKind::Print(print)),
+        None => Ok(CommandKind::Write(write_of(command, words)?)),
+    }
+}

@@ -1,0 +1,99 @@
+//! The commands that only print: the row of each, its words and how it is run.
+ghost use Rattle.std.specs.Prelude.{◌≡◌, IfOk, IfSome, Some};
+ghost use Rattle.kadm_changes.specs.Words.{texts};
+ghost use Rattle.kadm.specs.Words.{IsPrintSpelled, command_of};
+ghost use Rattle.program.specs.declared.status.Status.TheVariants.{Done};
+
+use crate::linting::print_lint;
+use crate::listing::{ListArgs, print_list, print_row};
+use crate::options::{DATABASE, NAME};
+use crate::words::has_flag;
+use kadm_changes::{Context, Stop, value_of};
+use program::{FlagRow, OptionRow, Status, Store, SubcommandRow, Times};
+use std::convert::AsStr;
+use std::io::Write;
+
+/// The rows of the commands that only print.
+pub(crate) const PRINTS: &[SubcommandRow] = &[
+    SubcommandRow {
+        name: "list",
+        about: "Prints a line for each principal: its name, its current key version, and the types of its keys",
+        options: &[DATABASE, LIKE],
+        flags: &[LONGS, JSONS],
+    },
+    SubcommandRow {
+        name: "lint",
+        about: "Prints what to check, with the command that mends it: rights on the file, what has expired, weak or older keys, and tickets for users",
+        options: &[DATABASE],
+        flags: &[],
+    },
+    SubcommandRow {
+        name: "show",
+        about: "Prints a principal's policy, and its key versions with their types",
+        options: &[DATABASE, NAME],
+        flags: &[],
+    },
+];
+
+const LIKE: OptionRow = OptionRow {
+    name: "like",
+    shape: "PATTERN",
+    help: "Prints only the principals whose names match; `*` matches any bytes, as in 'host/*'",
+    times: Times::AtMostOnce,
+};
+
+const LONGS: FlagRow = FlagRow {
+    name: "long",
+    help: "Also prints expires, password_expires, disabled, the number of key versions, and service",
+};
+
+const JSONS: FlagRow = FlagRow {
+    name: "json",
+    help: "Prints each line as a JSON object, with the columns by their names",
+};
+
+/// A command that prints what a database has.
+#[derive(Clone, Copy)]
+pub(crate) enum PrintCommand<'a> {
+    /// A line for each principal.
+    List(ListArgs<'a>),
+    /// A line for each oddity of a principal.
+    Lint,
+    Show { name: &'a str },
+}
+
+/// Returns what the command prints. `None` if it is a command that writes.
+pub(crate) fn print_of<'a>(command: &str, words: &'a [&'a str]) -> Option<PrintCommand<'a>>
+    ensures { command_of (texts words.now) ≡ Some command.now → IfSome result (λ print. IsPrintSpelled (texts words.now) print) }
+{
+    match command {
+        "list" => Some(PrintCommand::List(ListArgs {
+            like: value_of(words, "--like"),
+            long: has_flag(words, "--long"),
+            json: has_flag(words, "--json"),
+        })),
+        "lint" => Some(PrintCommand::Lint),
+        "show" => Some(PrintCommand::Show {
+            name: value_of(words, "--name")?,
+        }),
+        _ => None,
+    }
+}
+
+/// Runs a command that only prints.
+pub(crate) fn run_print<'a, T: Store, W: Write, E: Write>(
+    context: &mut Context<W, E>,
+    store: &mut T,
+    db: &'a str,
+    print: PrintCommand<'a>,
+) -> Result<Status, Stop<'a>>
+    ensures done { IfOk result (λ status. status ≡ Done) }
+    ensures unchanged { T.world store.new ≡ T.world store.old }
+{
+    match print {
+        PrintCommand::List(list) => print_list(context, store, db, list)?,
+        PrintCommand::Lint => print_lint(context, store, db)?,
+        PrintCommand::Show { name } => print_row(context, store, db, name)?,
+    }
+    Ok(Status::Done)
+}

@@ -1,0 +1,14 @@
+//! The database that a command works on.
+
+use enctypes::Etype;
+
+/// The database that a command works on, and what the command line says of what it writes there.
+#[derive(Drop)]
+pub struct Target<'a> {
+    /// The path of the database.
+    pub db: &'a str,
+    /// The encryption types of new keys.
+    pub etypes: Vec<Etype>,
+    /// Whether a changed file keeps its mode. Otherwise only its owner may read and write it.
+    pub keep_mode: bool,
+}
