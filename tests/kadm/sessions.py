@@ -3,6 +3,7 @@
 A session is a file NAME.session, and the test kadm/sessions/NAME. The start of a line says what it is:
 
     # COMMENT
+    % ROW        the options of a command, which usage.py tries: `list db! like long-`
     $ COMMAND    a command line for `sh`; `show_keytab` is tests/harness/show_keytab.py
     > MORE       the command goes on
     < LINE       this is typed at a terminal, which standard input then is; `^D` ends the input
@@ -99,7 +100,7 @@ def steps_of(path):
         for number, line in block:
             if line.startswith("$ "):
                 steps.append(Step(number, line[2:]))
-            elif line and not line.startswith("#"):
+            elif line and not line.startswith(("#", "%")):
                 steps[-1].take(line)
     return steps
 

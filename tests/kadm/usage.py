@@ -1,28 +1,31 @@
 """The help of `kadm`, and each of its options with bad values, left out, given twice, and without a value."""
 
+import re
+
 from harness.options import try_program
+from harness.programs import TOP
 from harness.tests import test
 
-# The options of each command: `!` is required, `*` may be given more than once, and `-` has no value.
-COMMANDS = {
-    "kadm init": "db! realm! seed",
-    "kadm add": "db! name! password-file types expires random- service- disabled- any-password- keep-mode-",
-    "kadm passwd": "db! name! password-file types replace- any-password- keep-mode-",
-    "kadm random": "db! name! seed types replace- existing- keep-mode-",
-    "kadm drop": "db! name!* version older- keep-mode-",
-    "kadm policy": "db! name!* set* field value keep-mode-",
-    "kadm batch": "db! keep-going- keep-mode-",
-    "kadm remove": "db! name!* keep-mode-",
-    "kadm import": "db! name! keytab! types keep-mode- dump stash skip-",
-    "kadm list": "db! like long- json-",
-    "kadm lint": "db!",
-    "kadm show": "db! name!",
-    "kadm keytab": "db! name! out! append- keep-mode-",
-    "kadm migrate": "db! users-are-no-services- keep-mode-",
-}
+# A line of a session with the options of a command: `!` is required, `*` may be given more than once, and `-` has no
+# value. Each command has one such line, in a session of its own.
+ROW = re.compile(r"^% (\w+) (.*)$", re.M)
+
+
+def rows():
+    """The options of each command, as the sessions have them."""
+    texts = [path.read_text() for path in sorted((TOP / "tests" / "kadm" / "sessions").glob("*.session"))]
+    return [(f"kadm {command}", options) for text in texts for command, options in ROW.findall(text)]
+
+
+def commands_in(text):
+    """The commands that a help lists."""
+    return re.findall(r"^  (\w+) ", text.partition("Commands:\n")[2].partition("\n\n")[0], re.M)
 
 
 @test("kadm", seconds=20)
 def bad_uses(trial):
-    """The help of each command, and bad uses of each option."""
-    try_program(trial, "kadm", COMMANDS)
+    """The help of each command, and bad uses of each option. The help lists the commands with a row, and no other."""
+    found = rows()
+    try_program(trial, "kadm", dict(found))
+    listed = [f"kadm {each}" for each in commands_in(trial.run("kadm --help").out) if each != "help"]
+    trial.same("the commands of the help, and those with a row", sorted(listed), sorted(row[0] for row in found))
