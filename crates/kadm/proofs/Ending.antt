@@ -6,7 +6,7 @@ use Rattle.program.specs.declared.faults.FileCause.{FileCause}
 use Rattle.program.specs.declared.faults.FileCause.TheVariants.{LongFile, ShortSeed, Failed}
 use Rattle.kadm.specs.Batches.{IsBatchDone}
 use Rattle.kadm_changes.specs.Stops.{IsFailed, IsFailure}
-use Rattle.kadm.specs.Ends.{IsEnd, IsFileCauseStatus, IsCommandEnd, IsCommandStopped, IsStatusOf, IsStopped, IsKindDone, IsWriteDone, IsWriteEnd, IsWriteStopped}
+use Rattle.kadm.specs.Ends.{IsEnd, IsFileCauseStatus, IsCommandEnd, IsCommandStopped, IsStatusOf, IsStopped, IsDone, IsKindDone, IsTried, IsWriteDone}
 use Rattle.kadm_changes.specs.Words.{Text}
 use Rattle.kadm.specs.Words.{Spells}
 use Rattle.kadm_changes.specs.declared.target.Target.{Target}
@@ -30,21 +30,14 @@ batch_write (Err e) before target keep after done = tt
 
 -- ---- commands
 
-pub write_end : {E : Type 0} (r : Result Status E) (before : Option World) (command : Command) (write : WriteCommand) (after : Option World)
-    → command.kind ≡ kinds.Write write → IfOk r (λ status. IsWriteEnd before command.target write status after) → IfOk r (λ status. IsCommandEnd before command status after)
-write_end (Ok statuses.Done) before command write after is done =
+pub wrote : (before : Option World) (command : Command) (write : WriteCommand) (after : Option World)
+    → command.kind ≡ kinds.Write write → IsWriteDone before command.target write true after → IsDone before command after
+wrote before command write after is done =
     subst (λ kind. IsKindDone before command.target.db.now command.target.etypes.items kind after) (sym is) done
-write_end (Ok statuses.Refused) before command write after is (keeps, tried) = (is ∙ ap kinds.Write keeps, tried)
-write_end (Ok statuses.Usage) before command write after is done = done
-write_end (Ok statuses.Failed) before command write after is done = done
-write_end (Err e) before command write after is done = tt
 
-pub write_stop : {A : Type 0} (r : Result A Stop) (before : Option World) (command : Command) (write : WriteCommand) (after : Option World)
-    → command.kind ≡ kinds.Write write → IfErr r (λ stop. IsWriteStopped before command.target write stop after) → IfErr r (λ stop. IsCommandStopped before command stop after)
-write_stop (Ok x) before command write after is stopped = tt
-write_stop (Err stop) before command write after is (inl same) = inl same
-write_stop (Err stop) before command write after is (inr (failed, done)) =
-    inr (failed, subst (λ kind. IsKindDone before command.target.db.now command.target.etypes.items kind after) (sym is) done)
+pub tried : (before : Option World) (command : Command) (write : WriteCommand) (after : Option World)
+    → command.kind ≡ kinds.Write write → IsWriteDone before command.target write false after → IsTried before command after
+tried before command write after is (keeps, tried) = (is ∙ ap kinds.Write keeps, tried)
 
 pub print_end : {E : Type 0} (r : Result Status E) (before : Option World) (command : Command) (print : PrintCommand) (after : Option World)
     → command.kind ≡ kinds.Print print → after ≡ before → IfOk r (λ status. status ≡ statuses.Done) → IfOk r (λ status. IsCommandEnd before command status after)

@@ -67,17 +67,6 @@ abbrev pub IsWriteDone : Option World → Target → WriteCommand → Bool → O
 IsWriteDone before target write true after = Did before target.db.now target.etypes.items write after
 IsWriteDone before target write false after = IsWriteTried before target.db.now write after
 
-abbrev pub IsWriteEnd : Option World → Target → WriteCommand → Status → Option World → Type 0
-IsWriteEnd before target write statuses.Done after = Did before target.db.now target.etypes.items write after
-IsWriteEnd before target write statuses.Refused after = IsWriteTried before target.db.now write after
-IsWriteEnd before target write statuses.Usage after = ⊥
-IsWriteEnd before target write statuses.Failed after = ⊥
-
--- a command that stops early leaves the files unchanged, unless it was done and then the output failed
-abbrev pub IsWriteStopped : Option World → Target → WriteCommand → Stop → Option World → Type 0
-IsWriteStopped before target write stop after =
-    (after ≡ before) ⊎ (IsFailed stop × Did before target.db.now target.etypes.items write after)
-
 -- the command is a batch that keeps going, and some of its lines were done
 abbrev pub IsTried : Option World → Command → Option World → Type 0
 IsTried before command after = (command.kind ≡ Write (writes.Batch true)) × Tried before command.target.db.now after

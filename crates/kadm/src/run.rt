@@ -1,16 +1,16 @@
 //! One command line: from its words to the files.
-ghost use Rattle.std.specs.Prelude.{◌≡◌, IfErr, IfOk, OnErr, map, string_bytes};
+ghost use Rattle.std.specs.Prelude.{◌≡◌, IfErr, IfOk, OnErr, map, string_bytes, true};
 ghost use Rattle.kadm_changes.specs.Words.{path_of, texts};
 ghost use Rattle.kadm.specs.Ends.{IsCommandEnd, IsCommandStopped, IsEnd, IsStopped};
-ghost use Rattle.kadm.specs.Words.{with_db};
+ghost use Rattle.kadm.specs.Words.{asks_help, with_db};
 ghost use Rattle.program.specs.declared.status.Status.TheVariants.{Failed};
 
 use crate::commands::{Command, CommandKind, read_args, read_command};
 use crate::printing::run_print;
 use crate::reports::report;
-use crate::usage::{asks, report_command_fault};
-use crate::words::{with_db, words_of};
-use crate::writing::run_write;
+use crate::usage::{report_command_fault, report_fault};
+use crate::words::{asks_help, with_db, words_of};
+use crate::writing::write_files;
 use kadm_changes::{Context, Progress, Stop, Subject};
 use program::{Status, Store};
 use std::alloc::{AllocError, Global};
@@ -80,7 +80,7 @@ fn run_and_report<'a, T: Store, W: Write, E: Write>(
     ensures ended { IfOk result (λ status. IsEnd (texts words.entry.now) (T.world store.old) status (T.world store.new)) }
     ensures failed { OnErr result (IsEnd (texts words.entry.now) (T.world store.old) Failed (T.world store.new)) }
 {
-    let status = match run_to_end(context, store, words) {
+    let status = match run_words(context, store, words) {
         Ok(status) => status,
         Err(stop) => {
             let subject = Subject { words, line: None };
@@ -93,22 +93,8 @@ fn run_and_report<'a, T: Store, W: Write, E: Write>(
     Ok(status)
 }
 
-/// Runs the command, and flushes what it prints.
-#[tactic(auto, using(crate::proofs::Ending::failed_after))]
-fn run_to_end<'a, T: Store, W: Write, E: Write>(
-    context: &mut Context<W, E>,
-    store: &mut T,
-    words: &'a [&'a str],
-) -> Result<Status, Stop<'a>>
-    ensures done { IfOk result (λ status. IsEnd (texts words.entry.now) (T.world store.old) status (T.world store.new)) }
-    ensures stopped { IfErr result (λ stop. IsStopped (texts words.entry.now) (T.world store.old) stop (T.world store.new)) }
-{
-    let status = run_words(context, store, words)?;
-    context.out.flush()?;
-    Ok(status)
-}
-
-/// Runs the command, or prints the help that it asks for.
+/// Runs the command, or prints the help that the words ask for, and flushes what is printed.
+#[tactic(auto, using(crate::proofs::Ending::spelled_end, crate::proofs::Ending::spelled_stop, crate::proofs::Ending::failed_after))]
 fn run_words<'a, T: Store, W: Write, E: Write>(
     context: &mut Context<W, E>,
     store: &mut T,
@@ -117,31 +103,39 @@ fn run_words<'a, T: Store, W: Write, E: Write>(
     ensures done { IfOk result (λ status. IsEnd (texts words.entry.now) (T.world store.old) status (T.world store.new)) }
     ensures stopped { IfErr result (λ stop. IsStopped (texts words.entry.now) (T.world store.old) stop (T.world store.new)) }
 {
-    let matches = read_args(context.alloc, words);
-    if asks(context, &matches, words)? {
+    if asks(context, words)? {
+        context.out.flush()?;
         return Ok(Status::Done);
     }
-    run_read(context, store, words)
+    let command = match read_command(context.alloc, words) {
+        Ok(command) => command,
+        Err(fault) => return Err(report_command_fault(&mut context.errors, fault)),
+    };
+    let status = run_command(context, store, &command)?;
+    context.out.flush()?;
+    Ok(status)
 }
 
-/// Runs the command that the parser has read.
-#[tactic(auto, using(crate::proofs::Ending::spelled_end, crate::proofs::Ending::spelled_stop))]
-fn run_read<'a, T: Store, W: Write, E: Write>(
+/// Prints the help, and returns whether the words ask for it. If something is wrong with them, reports that to standard
+/// error: an `Err`.
+fn asks<'a, W: Write, E: Write>(
     context: &mut Context<W, E>,
-    store: &mut T,
     words: &'a [&'a str],
-) -> Result<Status, Stop<'a>>
-    ensures done { IfOk result (λ status. IsEnd (texts words.entry.now) (T.world store.old) status (T.world store.new)) }
-    ensures stopped { IfErr result (λ stop. IsStopped (texts words.entry.now) (T.world store.old) stop (T.world store.new)) }
+) -> Result<bool, Stop<'static>>
+    ensures { IfOk result (λ asks. asks ≡ true → asks_help (texts words.now) ≡ true) }
 {
-    match read_command(context.alloc, words) {
-        Ok(command) => run_command(context, store, &command),
-        Err(fault) => Err(report_command_fault(&mut context.errors, fault)),
+    match read_args(context.alloc, words) {
+        Ok(_) => Ok(false),
+        Err(error) if error.exit_code() == 0 && asks_help(words) => {
+            write!(context.out, "{error}")?;
+            Ok(true)
+        }
+        Err(error) => Err(report_fault(&mut context.errors, &error)),
     }
 }
 
-/// Runs a command that was read.
-#[tactic(auto, using(crate::proofs::Ending::write_end, crate::proofs::Ending::write_stop, crate::proofs::Ending::print_end))]
+/// Runs a command that was read. One that writes prints `ok` if all was done.
+#[tactic(auto, using(crate::proofs::Ending::wrote, crate::proofs::Ending::tried, crate::proofs::Ending::print_end))]
 fn run_command<'a, T: Store, W: Write, E: Write>(
     context: &mut Context<W, E>,
     store: &mut T,
@@ -152,6 +146,12 @@ fn run_command<'a, T: Store, W: Write, E: Write>(
 {
     match command.kind {
         CommandKind::Print(print) => run_print(context, store, command.target.db, print),
-        CommandKind::Write(write) => run_write(context, store, &command.target, write),
+        CommandKind::Write(write) => {
+            if !write_files(context, store, &command.target, write)? {
+                return Ok(Status::Refused);
+            }
+            writeln!(context.out, "ok")?;
+            Ok(Status::Done)
+        }
     }
 }

@@ -1,13 +1,8 @@
 //! What is wrong with a command line, in words.
-ghost use Rattle.std.specs.Prelude.{◌≡◌, IfOk, true};
-ghost use Rattle.kadm_changes.specs.Words.{texts};
-ghost use Rattle.kadm.specs.Words.{asks_help};
 
 use crate::settings::{accepted_by, invalid_setting};
-use crate::words::asks_help;
-use clap::ArgMatches;
 use clap::error::{Error, ErrorKind};
-use kadm_changes::{Context, SettingWords, Stop};
+use kadm_changes::{SettingWords, Stop};
 use std::alloc::AllocError;
 use std::io::Write;
 
@@ -33,25 +28,6 @@ pub(crate) fn setting_fault<'a>(words: &[&'a str]) -> Option<CommandFault<'a>> {
         return Some(CommandFault::NoField(setting));
     }
     Some(CommandFault::NoSetting(setting))
-}
-
-/// Prints the help, and returns whether the words ask for it. If something is wrong with them, reports that to standard
-/// error: an `Err`.
-pub(crate) fn asks<'a, W: Write, E: Write>(
-    context: &mut Context<W, E>,
-    matches: &Result<ArgMatches<'a>, Error>,
-    words: &[&str],
-) -> Result<bool, Stop<'static>>
-    ensures { IfOk result (λ asks. asks ≡ true → asks_help (texts words.now) ≡ true) }
-{
-    match matches {
-        Ok(_) => Ok(false),
-        Err(error) if error.exit_code() == 0 && asks_help(words) => {
-            write!(context.out, "{error}")?;
-            Ok(true)
-        }
-        Err(error) => Err(report_fault(&mut context.errors, error)),
-    }
 }
 
 /// Reports what the parser says of a command line. Returns how it ends. Ignores a failed write.

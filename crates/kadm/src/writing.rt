@@ -1,7 +1,7 @@
 //! The commands that write a file: the row of each, its words and how it is run.
-ghost use Rattle.std.specs.Prelude.{◌≡◌, IfErr, IfOk, OnErr, Some, codes};
+ghost use Rattle.std.specs.Prelude.{◌≡◌, IfOk, OnErr, Some, codes};
 ghost use Rattle.kadm_changes.specs.Words.{texts};
-ghost use Rattle.kadm.specs.Ends.{IsWriteDone, IsWriteEnd, IsWriteStopped};
+ghost use Rattle.kadm.specs.Ends.{IsWriteDone};
 ghost use Rattle.kadm.specs.Words.{IsWriteSpelled, command_of};
 
 use crate::batch::run_batch;
@@ -292,26 +292,9 @@ fn init_args<'a>(words: &'a [&'a str]) -> Result<WriteCommand<'a>, CommandFault<
     }))
 }
 
-/// Runs a command that writes a file, and prints `ok` if it was done.
-pub(crate) fn run_write<'a, T: Store, W: Write, E: Write>(
-    context: &mut Context<W, E>,
-    store: &mut T,
-    target: &Target<'a>,
-    write: WriteCommand<'a>,
-) -> Result<Status, Stop<'a>>
-    ensures done { IfOk result (λ status. IsWriteEnd (T.world store.old) target.now write.entry status (T.world store.new)) }
-    ensures stopped { IfErr result (λ stop. IsWriteStopped (T.world store.old) target.now write.entry stop (T.world store.new)) }
-{
-    if !write_files(context, store, target, write)? {
-        return Ok(Status::Refused);
-    }
-    writeln!(context.out, "ok")?;
-    Ok(Status::Done)
-}
-
-/// Writes the files of a command. Returns whether all was done: a batch that keeps going may have been done in part.
+/// Runs a command that writes a file. Returns whether all was done: a batch that keeps going may have been done in part.
 #[tactic(auto, using(crate::proofs::Ending::batch_write))]
-fn write_files<'a, T: Store, W: Write, E: Write>(
+pub(crate) fn write_files<'a, T: Store, W: Write, E: Write>(
     context: &mut Context<W, E>,
     store: &mut T,
     target: &Target<'a>,
