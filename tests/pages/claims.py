@@ -24,6 +24,8 @@ REFUSALS = {
 }
 # Names there that the program never meets: those of a program over `client_files`.
 NEVER = {"kclient.1": {"NoLogin", "NotValid"}}
+# The manual page of each program, and the options that are plain words in its synopsis.
+MANUALS = {"kadm": ("kadm.8", set()), "kclient": ("kclient.1", {"--name"}), "kdcd": ("kdcd.8", set())}
 # Names in the tables of PROMISES.md that no source has.
 NO_NAMES = {"grep", "rn", "NAME", "crates"}
 # Pages whose names of items and files are those of this repository, and names there of other ones.
@@ -282,6 +284,43 @@ def refusals(trial):
         lacking = names - NEVER.get(page, set()) - set(re.findall(r"\w+", read(f"docs/man/{page}")))
         fault = ", ".join(sorted(lacking)) or "there is none" * (not names)
         trial.note(f"{page}: the names of refusals, {len(names)}", fault)
+
+
+def options_in(mdoc):
+    """The options that a manual page names: `Fl -db` is `--db`, and `Fl s` is `-s`."""
+    return {f"-{name}" for name in re.findall(r"\bFl (-?\w[\w-]*)", mdoc)}
+
+
+def synopsis(mdoc):
+    """The commands of a manual page's synopsis with the options of each, also if a command is there twice."""
+    found = {}
+    for usage in mdoc.partition(".Sh SYNOPSIS\n")[2].partition("\n.Sh ")[0].split(".Nm\n"):
+        for command in re.findall(r"\A\.Cm (\w+)$", usage, re.M):
+            found.setdefault(command, set()).update(options_in(usage))
+    return found
+
+
+def apart(found, wanted):
+    """What one of two sets has that the other lacks."""
+    lacking, unknown = (", ".join(sorted(each)) for each in (wanted - found, found - wanted))
+    return "; ".join([f"it lacks {lacking}"] * bool(lacking) + [f"there is no {unknown}"] * bool(unknown))
+
+
+@test()
+def manuals(trial):
+    """A program's manual page explains the options of its tables and no others, and its synopsis has the commands with
+    their options and no others."""
+    for program, (page, plain) in MANUALS.items():
+        commands, mdoc = commands_in(TABLES[program]), read(f"docs/man/{page}")
+        takes = {command: {option.word for option in row} - {"--help"} for command, (_, row) in commands.items()}
+        known, shown = set().union(*takes.values()), synopsis(mdoc)
+        explained = options_in("\n".join(re.findall(r"^\.It Fl .*$", mdoc, re.M)))
+        trial.note(f"{page}: the options that it explains", apart(explained, known))
+        trial.note(f"{page}: the options that it names", apart(options_in(mdoc) - GENERAL, known - GENERAL))
+        trial.note(f"{page}: the commands that it names", apart(set(re.findall(r"\bCm (\w+)", mdoc)), set(takes)))
+        trial.note(f"{page}: the commands of its synopsis", apart(set(shown), set(takes)))
+        for command in set(shown) & set(takes):
+            trial.note(f"{page}: {command} in its synopsis", apart(shown[command], takes[command] - plain))
 
 
 @test()

@@ -1,7 +1,6 @@
 """The English of the repository as far as a script can check it: phrases that a reader of Kerberos has to translate
 back, in pages, code and scripts; lines of pages that are too wide, pages that are too long, and links and paths that
-lead nowhere. Manual pages are compared with the options of the programs, and checked by `mandoc -Tlint`, if that is on
-the path.
+lead nowhere. Manual pages are checked by `mandoc -Tlint`, if that is on the path.
 
 PHRASES says how often each phrase still stands. A number may only fall: lower it when a line `lower` says so."""
 
@@ -9,8 +8,6 @@ import pathlib
 import re
 import shutil
 import subprocess
-
-from make_completion import TABLES
 
 from harness.programs import TOP
 from harness.tests import all_tests, test
@@ -68,11 +65,6 @@ KEPT = (
 )
 # How many wide lines a page still has. A number may only fall.
 WIDE = {}
-
-# The manual pages, and the programs that they describe.
-MANUALS = {"kdcd.8": "kdcd", "kadm.8": "kadm", "kclient.1": "kclient"}
-# Options that each program has from the library of command lines.
-GENERAL = {"help", "version"}
 
 
 def files(kind):
@@ -186,19 +178,6 @@ def names_of_tests(notes):
     is_known = lambda word: word == "WORD" or any(word in name for name in all_tests())
     lacking = [f"{page}: {word}" for page, word in sorted(named) if not is_known(word)]
     notes.note("words of `tests/run -k` in pages", ", ".join(lacking))
-
-
-@test()
-def options(notes):
-    """The commands and options of the manual pages."""
-    for name, program in MANUALS.items():
-        page = (TOP / "docs" / "man" / name).read_text()
-        code = "".join((TOP / "crates" / source).read_text() for source in TABLES[program])
-        described = set(re.findall(r"\b(?:Fl -?|Cm )([a-z-]+)", page))
-        known = set(re.findall(r'(?:name: |const [A-Z_]+: &str = )"([a-z-]+)"', code))
-        faults = [f"it lacks {word}" for word in sorted(known - described)]
-        faults += [f"{word} is not in a table of {program}" for word in sorted(described - known - GENERAL)]
-        notes.note(f"{name}: its commands and options", "; ".join(faults))
 
 
 @test()
