@@ -86,14 +86,14 @@ impl<'a, R: Net + Clock> Network for SocketNetwork<'a, R> {
     /// Sends a datagram three times, and waits for its reply for 1, 2 and 4 seconds; or holds a connection for 8
     /// seconds. All of it ends 30 seconds after the first message or look-up.
     fn exchange(&mut self, alloc: Global, route: Route, message: &[u8]) -> io::Result<Vec<u8>> {
-        let peer = Peer {
+        let to = Destination {
             system: self.system,
             address: route.to,
             end: self.end()?,
         };
         match route.by {
-            Transport::Udp => by_datagrams(alloc, &peer, message),
-            Transport::Tcp => by_connection(alloc, &peer, message),
+            Transport::Udp => by_datagrams(alloc, &to, message),
+            Transport::Tcp => by_connection(alloc, &to, message),
         }
     }
 
@@ -112,9 +112,9 @@ impl<'a, R: Net + Clock> AnyMessage for SocketNetwork<'a, R> {
     ghost takes_any = { λ message. tt };
 }
 
-/// A KDC that gets a message, over the sockets of a runtime.
+/// The KDC that a message goes to, over the sockets of a runtime.
 #[derive(Drop)]
-struct Peer<'a, R> {
+struct Destination<'a, R> {
     system: &'a R,
     address: SocketAddr,
     /// When waiting for it ends.
@@ -123,17 +123,17 @@ struct Peer<'a, R> {
 
 fn by_datagrams<R: Net + Clock>(
     alloc: Global,
-    peer: &Peer<'_, R>,
+    to: &Destination<'_, R>,
     message: &[u8],
 ) -> io::Result<Vec<u8>>
     ensures { IfOk result (λ reply. vec_len reply ≤ 65535) }
 {
-    let system = peer.system;
-    let socket = UdpSocket::bind(system, any_address(peer.address))?;
-    socket.connect(peer.address)?;
+    let system = to.system;
+    let socket = UdpSocket::bind(system, any_address(to.address))?;
+    socket.connect(to.address)?;
     let mut datagram = Vec::from_elem(alloc, 0, LONGEST_DATAGRAM)?;
     for seconds in UDP_WAITS {
-        let deadline = peer.end.sooner(system, seconds)?;
+        let deadline = to.end.sooner(system, seconds)?;
         socket.send(message)?;
         socket.set_read_timeout(Some(deadline.left(system)?))?;
         match socket.recv(&mut datagram) {
@@ -168,14 +168,14 @@ fn is_silence(kind: ErrorKind) -> bool {
 
 fn by_connection<R: Net + Clock>(
     alloc: Global,
-    peer: &Peer<'_, R>,
+    to: &Destination<'_, R>,
     message: &[u8],
 ) -> io::Result<Vec<u8>>
     ensures { IfOk result (λ reply. vec_len reply ≤ 1048576) }
 {
-    let system = peer.system;
-    let deadline = peer.end.sooner(system, TCP_WAIT)?;
-    let stream = TcpStream::connect_timeout(system, &peer.address, deadline.left(system)?)?;
+    let system = to.system;
+    let deadline = to.end.sooner(system, TCP_WAIT)?;
+    let stream = TcpStream::connect_timeout(system, &to.address, deadline.left(system)?)?;
     let mut stream = TimedStream::new(stream, system, deadline);
     send_framed(alloc, &mut stream, message)?;
     receive(alloc, &mut stream)

@@ -50,9 +50,9 @@ struct Next<'a> {
     most: u64,
 }
 
-/// An authenticator that is handed over, and when its request came.
+/// An authenticator, and when its request came.
 #[derive(Drop)]
-struct Handed<'a> {
+struct TimedSeen<'a> {
     at: Moment,
     seen: &'a Seen,
 }
@@ -181,8 +181,8 @@ impl<F: JournalFiles> JournalFile<F> {
         };
         let tail = turn_if_due(alloc, &mut self.files, &next, self.tail);
         let floor = raised(self.floor, seen.ctime);
-        let handed = Handed { at, seen };
-        let tail = append(alloc, &mut self.files, &mut self.is_said, &handed, tail);
+        let timed = TimedSeen { at, seen };
+        let tail = append(alloc, &mut self.files, &mut self.is_said, &timed, tail);
         self.floor = floor;
         self.tail = tail;
         self.mend(alloc, at)
@@ -366,12 +366,12 @@ fn append<F: JournalFiles>(
     alloc: Global,
     files: &mut F,
     is_said: &mut bool,
-    handed: &Handed<'_>,
+    timed: &TimedSeen<'_>,
     tail: Option<Tail>,
 ) -> Option<Tail>
-    ensures { MayKeep handed.now.at handed.now.seen.now tail (F.world files.old) result (F.world files.new) }
+    ensures { MayKeep timed.now.at timed.now.seen.now tail (F.world files.old) result (F.world files.new) }
 {
-    match append_seen(alloc, files, handed, tail?) {
+    match append_seen(alloc, files, timed, tail?) {
         Ok(next) => Some(next),
         Err(fault) => {
             say_lost(files, is_said, fault);
@@ -384,12 +384,12 @@ fn append<F: JournalFiles>(
 fn append_seen<F: JournalFiles>(
     alloc: Global,
     files: &mut F,
-    handed: &Handed<'_>,
+    timed: &TimedSeen<'_>,
     tail: Tail,
 ) -> Result<Tail, FilesFault<F::Fault>>
-    ensures { HasAppended handed.now.at handed.now.seen.now tail (F.world files.old) result (F.world files.new) }
+    ensures { HasAppended timed.now.at timed.now.seen.now tail (F.world files.old) result (F.world files.new) }
 {
-    let written = fit(write_seen(alloc, &tail.check, handed.at, handed.seen))?;
+    let written = fit(write_seen(alloc, &tail.check, timed.at, timed.seen))?;
     match files.append(&written.text) {
         Ok(()) => Ok(Tail {
             check: written.check,

@@ -35,7 +35,7 @@ pub use header::{Header, HeaderRef};
 pub use journal_file::{JournalFile, NotKept, found_of, read_part};
 pub use keeping::{above, floor_on, write_beginning, write_seen};
 pub use laws::{every_front, every_journal, every_journal_life, every_seal};
-pub use memory_files::{Failures, MemoryFiles};
+pub use memory_files::{MemoryFiles, WriteFailures};
 pub use reading::{Journal, read_journal};
 pub use sealing::{NotSealed, seal_journal};
 pub use writing::{Written, write_entry, write_header};

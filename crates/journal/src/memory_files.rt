@@ -13,7 +13,7 @@ pub struct MemoryFault;
 
 /// Which calls on files in memory fail, of those that change a file, and what these leave.
 #[derive(Clone, Copy, Debug, PartialEq, Eq)]
-pub struct Failures {
+pub struct WriteFailures {
     /// How many calls succeed before some fail.
     pub good: u32,
     /// How many fail then.
@@ -30,7 +30,7 @@ pub struct MemoryFiles {
     newer: Option<Vec<u8>>,
     older: Option<Vec<u8>>,
     seal: Option<[u8; 16]>,
-    failures: Failures,
+    failures: WriteFailures,
 }
 
 impl MemoryFiles {
@@ -42,7 +42,7 @@ impl MemoryFiles {
             newer: None,
             older: None,
             seal: None,
-            failures: Failures {
+            failures: WriteFailures {
                 good: 0,
                 bad: 0,
                 cut: 0,
@@ -52,7 +52,7 @@ impl MemoryFiles {
     }
 
     /// Makes calls fail.
-    pub fn fail(&mut self, failures: Failures)
+    pub fn fail(&mut self, failures: WriteFailures)
         ensures { memory_world self.new ≡ memory_world self.old }
     {
         self.failures = failures;

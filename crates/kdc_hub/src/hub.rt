@@ -20,8 +20,8 @@ ghost use Rattle.kdc_hub.specs.declared.event.Event.TheVariants.{Datagram, Opene
 
 use crate::connections::Connections;
 use crate::event::{Action, CloseReason, Event, HubFault, Peer};
-use crate::issuer::{Issuer, Request};
-use crate::stream::{Caller, answer_stream};
+use crate::issuer::{Issuer, TimedRequest};
+use crate::stream::{TimedConnection, answer_stream};
 use framing::Splitter;
 use kdc_core::{CacheSizes, Kdc, OtherRealm};
 use krb_fields::Moment;
@@ -136,11 +136,11 @@ impl<R: Rng> Hub<R> {
         match event {
             Event::Datagram { peer, request } => {
                 let octets = request.as_slice();
-                self.answer_datagram(alloc, peer, &Request { at, octets })
+                self.answer_datagram(alloc, peer, &TimedRequest { at, octets })
             }
             Event::Opened { conn } => self.open(alloc, at, conn),
             Event::Bytes { conn, piece } => {
-                self.take_piece(alloc, Caller { conn, at }, piece.as_slice())
+                self.take_piece(alloc, TimedConnection { conn, at }, piece.as_slice())
             }
             Event::Closed { conn } => {
                 self.connections.remove(conn);
@@ -153,7 +153,7 @@ impl<R: Rng> Hub<R> {
         &mut self,
         alloc: Global,
         peer: Peer,
-        request: &Request<'_>,
+        request: &TimedRequest<'_>,
     ) -> Result<Vec<Action>, HubFault>
         ensures step { Steps (standing R.stream self.old) request.now.at (Datagram peer request.now.octets.now) result
             (standing R.stream self.new) }
@@ -199,15 +199,15 @@ impl<R: Rng> Hub<R> {
     fn take_piece(
         &mut self,
         alloc: Global,
-        caller: Caller,
+        timed: TimedConnection,
         piece: &[u8],
     ) -> Result<Vec<Action>, HubFault>
-        ensures step { Steps (standing R.stream self.old) caller.at (Bytes caller.conn piece.now) result
+        ensures step { Steps (standing R.stream self.old) timed.at (Bytes timed.conn piece.now) result
             (standing R.stream self.new) }
         ensures draws { IfErr result AreDraws }
-        ensures accounts { AccountsHold (standing R.stream self.old) caller.at (Bytes caller.conn piece.now) result }
+        ensures accounts { AccountsHold (standing R.stream self.old) timed.at (Bytes timed.conn piece.now) result }
     {
-        let conn = caller.conn;
+        let conn = timed.conn;
         let place = Splitter::new(alloc, GREATEST_STREAM_REQUEST);
         let Some(mut stream) = self.connections.replace(conn, place) else {
             return Ok(Vec::new(alloc));
@@ -216,7 +216,7 @@ impl<R: Rng> Hub<R> {
             self.connections.remove(conn);
             return Err(nothing_done(alloc, Some(conn), 0));
         };
-        match answer_stream(alloc, &mut self.issuer, caller, &mut stream) {
+        match answer_stream(alloc, &mut self.issuer, timed, &mut stream) {
             Ok(served) => {
                 if served.stays {
                     let _ = self.connections.replace(conn, stream);

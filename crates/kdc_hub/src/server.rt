@@ -28,7 +28,7 @@ pub struct Served {
 
 /// An event, and when it arrived.
 #[derive(Drop)]
-struct Arrival {
+struct TimedEvent {
     at: Moment,
     event: Event,
 }
@@ -86,7 +86,7 @@ fn serve_round<W: Wire, R: Rng>(alloc: Global, wire: &mut W, hub: &mut Hub<R>) -
     ensures one_refused { result.refused ≤ 1 }
 {
     match wire.poll(alloc) {
-        Ok((at, Some(event))) => take_event(alloc, wire, hub, Arrival { at, event }),
+        Ok((at, Some(event))) => take_event(alloc, wire, hub, TimedEvent { at, event }),
         Ok((at, None)) => nothing_served(0, Some(at)),
         Err(_) => nothing_served(1, None),
     }
@@ -97,14 +97,14 @@ fn take_event<W: Wire, R: Rng>(
     alloc: Global,
     wire: &mut W,
     hub: &mut Hub<R>,
-    arrival: Arrival,
+    timed: TimedEvent,
 ) -> Served
-    ensures taken { IsTaken (W.recorded wire.old) (standing R.stream hub.old) arrival.at arrival.event result
+    ensures taken { IsTaken (W.recorded wire.old) (standing R.stream hub.old) timed.at timed.event result
         (W.recorded wire.new) (standing R.stream hub.new) }
     ensures counted { IsCounted (W.fault_count wire.old) result.faults (W.fault_count wire.new) }
     ensures counts { result.faults < 2 ^ 64 }
 {
-    let Arrival { at, event } = arrival;
+    let TimedEvent { at, event } = timed;
     match hub.step(alloc, at, event) {
         Ok(actions) => {
             let faults = act_all(alloc, wire, hub, &Actions { at, all: &actions });

@@ -12,7 +12,7 @@ ghost use Rattle.kdc_hub.specs.declared.event.Action.TheVariants.{Write, Close};
 ghost use Rattle.kdc_hub.specs.declared.event.CloseReason.TheVariants.{BadLength};
 
 use crate::event::{Action, CloseReason, HubFault};
-use crate::issuer::{Issuer, Request};
+use crate::issuer::{Issuer, TimedRequest};
 use framing::{FrameFault, Splitter};
 use krb_fields::Moment;
 use rand_core::Rng;
@@ -23,7 +23,7 @@ const ROOM: u32 = 131_072;
 
 /// A connection whose bytes came, and when.
 #[derive(Clone, Copy)]
-pub struct Caller {
+pub struct TimedConnection {
     pub conn: u64,
     pub at: Moment,
 }
@@ -47,41 +47,41 @@ struct RanOut {
 pub fn answer_stream<R: Rng>(
     alloc: Global,
     issuer: &mut Issuer<R>,
-    caller: Caller,
+    timed: TimedConnection,
     stream: &mut Splitter,
 ) -> Result<StreamStep, HubFault>
     ensures actions { IfOk result
         (λ s. s.actions.items
-        ≡ (stream_step (issuing R.stream issuer.old) caller.at caller.conn stream.old).actions) }
+        ≡ (stream_step (issuing R.stream issuer.old) timed.at timed.conn stream.old).actions) }
     ensures issuing { OnOk result
         (issuing R.stream issuer.new
-        ≡ (stream_step (issuing R.stream issuer.old) caller.at caller.conn stream.old).issuing) }
+        ≡ (stream_step (issuing R.stream issuer.old) timed.at timed.conn stream.old).issuing) }
     ensures stays { IfOk result
-        (λ s. s.stays ≡ (stream_step (issuing R.stream issuer.old) caller.at caller.conn stream.old).stays) }
+        (λ s. s.stays ≡ (stream_step (issuing R.stream issuer.old) timed.at timed.conn stream.old).stays) }
     ensures left { IfOk result (λ s. s.stays ≡ true → stream.new ≡ left stream.old) }
-    ensures conn { IfErr result (λ fault. fault.conn ≡ Some caller.conn) }
+    ensures conn { IfErr result (λ fault. fault.conn ≡ Some timed.conn) }
     ensures done { IfErr result
         (λ fault. fault.done.items
         ≡ take (length fault.done.items)
-        (stream_step (issuing R.stream issuer.old) caller.at caller.conn stream.old).actions) }
+        (stream_step (issuing R.stream issuer.old) timed.at timed.conn stream.old).actions) }
     ensures kdc { IfErr result
-        (λ fault. issuer.new.kdc ≡ (after_some (length fault.done.items) (issuing R.stream issuer.old) caller.at
+        (λ fault. issuer.new.kdc ≡ (after_some (length fault.done.items) (issuing R.stream issuer.old) timed.at
         (handed_out stream.old).messages).kdc) }
     ensures drawn { IfErr result (λ fault. R.stream issuer.new.rng ≡ drawn fault.draws (R.stream issuer.old.rng)) }
     ensures draws { IfErr result AreDraws }
     ensures keeps { issuer.new.keeps_accounts ≡ issuer.old.keeps_accounts }
     ensures accounts { IfOk result (λ s.
-        FirstHold (length s.actions.items) (issuing R.stream issuer.old) caller.at stream_room
+        FirstHold (length s.actions.items) (issuing R.stream issuer.old) timed.at stream_room
         (handed_out stream.old).messages) }
     ensures accounts_done { IfErr result (λ fault.
-        FirstHold (length fault.done.items) (issuing R.stream issuer.old) caller.at stream_room
+        FirstHold (length fault.done.items) (issuing R.stream issuer.old) timed.at stream_room
         (handed_out stream.old).messages) }
 {
     let mut actions = Vec::new(alloc);
     loop {
         match stream.next(alloc) {
             Ok(Some(request)) => {
-                match answer_request(alloc, issuer, caller, &request, &mut actions) {
+                match answer_request(alloc, issuer, timed, &request, &mut actions) {
                     Ok(true) => {}
                     Ok(false) => {
                         return Ok(StreamStep {
@@ -89,7 +89,7 @@ pub fn answer_stream<R: Rng>(
                             stays: false,
                         });
                     }
-                    Err(fault) => return Err(out_of_memory(actions, caller.conn, fault.drawn)),
+                    Err(fault) => return Err(out_of_memory(actions, timed.conn, fault.drawn)),
                 }
             }
             Ok(None) => {
@@ -100,8 +100,8 @@ pub fn answer_stream<R: Rng>(
             }
             Err(fault) => {
                 return match fault {
-                    FrameFault::Memory => Err(out_of_memory(actions, caller.conn, false)),
-                    _ => refuse_length(alloc, issuer, caller, actions),
+                    FrameFault::Memory => Err(out_of_memory(actions, timed.conn, false)),
+                    _ => refuse_length(alloc, issuer, timed, actions),
                 };
             }
         }
@@ -127,20 +127,20 @@ fn out_of_memory(done: Vec<Action>, conn: u64, drawn: bool) -> HubFault
 fn answer_request<R: Rng>(
     alloc: Global,
     issuer: &mut Issuer<R>,
-    caller: Caller,
+    timed: TimedConnection,
     request: &[u8],
     actions: &mut Vec<Action>,
 ) -> Result<bool, RanOut>
     ensures action { OnOk result
         (actions.new.items ≡ actions.old.items
-        ++ action_for caller.conn (reply_of (issuing R.stream issuer.old) caller.at stream_room request.now) ∷ []) }
+        ++ action_for timed.conn (reply_of (issuing R.stream issuer.old) timed.at stream_room request.now) ∷ []) }
     ensures after { OnOk result
-        (issuing R.stream issuer.new ≡ after (issuing R.stream issuer.old) caller.at stream_room request.now) }
+        (issuing R.stream issuer.new ≡ after (issuing R.stream issuer.old) timed.at stream_room request.now) }
     ensures stays { IfOk result
-        (λ stays. stays ≡ is_some (reply_of (issuing R.stream issuer.old) caller.at stream_room request.now)) }
+        (λ stays. stays ≡ is_some (reply_of (issuing R.stream issuer.old) timed.at stream_room request.now)) }
     ensures holds { OnOk result
-        (ReplyHolds (view issuer.old.kdc request.now) caller.at (fill_bytes 64 (R.stream issuer.old.rng)).0 request.now
-        (reply_of (issuing R.stream issuer.old) caller.at stream_room request.now)) }
+        (ReplyHolds (view issuer.old.kdc request.now) timed.at (fill_bytes 64 (R.stream issuer.old.rng)).0 request.now
+        (reply_of (issuing R.stream issuer.old) timed.at stream_room request.now)) }
     ensures err { OnErr result ((actions.new.items ≡ actions.old.items) × (issuer.new.kdc ≡ issuer.old.kdc)) }
     ensures accounts { issuer.new.keeps_accounts ≡ issuer.old.keeps_accounts }
     ensures drawn { IfErr result
@@ -149,8 +149,8 @@ fn answer_request<R: Rng>(
     if actions.reserve(1).is_err() {
         return Err(RanOut { drawn: false });
     }
-    let Caller { conn, at } = caller;
-    let request = Request {
+    let TimedConnection { conn, at } = timed;
+    let request = TimedRequest {
         at,
         octets: request,
     };
@@ -174,38 +174,38 @@ fn answer_request<R: Rng>(
 fn refuse_length<R: Rng>(
     alloc: Global,
     issuer: &Issuer<R>,
-    caller: Caller,
+    timed: TimedConnection,
     mut actions: Vec<Action>,
 ) -> Result<StreamStep, HubFault>
     ensures actions { IfOk result
         (λ s. s.actions.items ≡ actions.items
-        ++ Write caller.conn (too_long issuer.now.kdc caller.at) ∷ Close caller.conn BadLength ∷ []) }
+        ++ Write timed.conn (too_long issuer.now.kdc timed.at) ∷ Close timed.conn BadLength ∷ []) }
     ensures stays { IfOk result (λ s. s.stays ≡ false) }
-    ensures conn { IfErr result (λ fault. fault.conn ≡ Some caller.conn) }
+    ensures conn { IfErr result (λ fault. fault.conn ≡ Some timed.conn) }
     ensures done { IfErr result (λ fault. fault.done.items ≡ actions.items) }
     ensures draws { IfErr result (λ fault. fault.draws ≡ length actions.items + 0) }
 {
-    match push_refusal(alloc, issuer, caller, &mut actions) {
+    match push_refusal(alloc, issuer, timed, &mut actions) {
         Ok(()) => Ok(StreamStep {
             actions,
             stays: false,
         }),
-        Err(_) => Err(out_of_memory(actions, caller.conn, false)),
+        Err(_) => Err(out_of_memory(actions, timed.conn, false)),
     }
 }
 
 fn push_refusal<R: Rng>(
     alloc: Global,
     issuer: &Issuer<R>,
-    caller: Caller,
+    timed: TimedConnection,
     actions: &mut Vec<Action>,
 ) -> Result<(), AllocError>
     ensures ok { OnOk result
         (actions.new.items ≡ actions.old.items
-        ++ Write caller.conn (too_long issuer.now.kdc caller.at) ∷ Close caller.conn BadLength ∷ []) }
+        ++ Write timed.conn (too_long issuer.now.kdc timed.at) ∷ Close timed.conn BadLength ∷ []) }
     ensures err { OnErr result (actions.new.items ≡ actions.old.items) }
 {
-    let Caller { conn, at } = caller;
+    let TimedConnection { conn, at } = timed;
     actions.reserve(2)?;
     let reply = issuer.too_long(alloc, at)?;
     actions.push_reserved(Action::Write { conn, reply });

@@ -12,27 +12,19 @@ pub struct BindFault {
     pub error: io::Error,
 }
 
-/// The transport and the address of a socket.
+/// A socket of a server, by its transport (RFC 4120, section 7.2) and its address.
 #[derive(Clone, Copy, Debug)]
-pub struct Endpoint {
-    pub transport: Transport,
-    pub address: SocketAddr,
-}
-
-/// A transport of RFC 4120, section 7.2.
-#[derive(Clone, Copy, Debug, PartialEq, Eq)]
-pub enum Transport {
-    Udp,
-    Tcp,
+pub enum Endpoint {
+    Udp(SocketAddr),
+    Tcp(SocketAddr),
 }
 
 impl fmt::Display for Endpoint {
     fn fmt<W: fmt::Write>(&self, f: &mut fmt::Formatter<W>) -> fmt::Result {
-        let transport = match self.transport {
-            Transport::Udp => "udp",
-            Transport::Tcp => "tcp",
-        };
-        write!(f, "{transport} {}", self.address)
+        match self {
+            Endpoint::Udp(address) => write!(f, "udp {address}"),
+            Endpoint::Tcp(address) => write!(f, "tcp {address}"),
+        }
     }
 }
 

@@ -20,5 +20,5 @@ mod ready;
 mod sockets;
 mod wire;
 
-pub use bind_fault::{BindFault, Endpoint, Transport};
+pub use bind_fault::{BindFault, Endpoint};
 pub use wire::SocketWire;

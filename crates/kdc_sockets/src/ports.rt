@@ -1,5 +1,5 @@
 //! The sockets that stay open, and the poll that reports which are ready.
-use crate::bind_fault::{BindFault, Endpoint, Transport};
+use crate::bind_fault::{BindFault, Endpoint};
 use mio::event::Source;
 use mio::net::{TcpListener, UdpSocket};
 use mio::{Events, Interest, Poll, Token};
@@ -81,10 +81,7 @@ fn bind_datagrams(
 ) -> Result<Vec<UdpSocket>, BindFault> {
     let mut sockets = Vec::new(alloc);
     for (token, address) in addresses.iter().enumerate() {
-        let endpoint = Endpoint {
-            transport: Transport::Udp,
-            address: *address,
-        };
+        let endpoint = Endpoint::Udp(*address);
         let socket = registered(UdpSocket::bind(net, *address), poll, token, endpoint)?;
         sockets.push(socket)?;
     }
@@ -101,10 +98,7 @@ fn bind_newcomers(
 ) -> Result<Vec<TcpListener>, BindFault> {
     let mut sockets = Vec::new(alloc);
     for (token, address) in (first..).zip(addresses) {
-        let endpoint = Endpoint {
-            transport: Transport::Tcp,
-            address: *address,
-        };
+        let endpoint = Endpoint::Tcp(*address);
         let socket = registered(TcpListener::bind(net, *address), poll, token, endpoint)?;
         sockets.push(socket)?;
     }

@@ -9,7 +9,7 @@ use Rattle.kdcd.specs.declared.line.Line.{Line}
 use Rattle.kdcd.specs.declared.line.Line.TheVariants.{Open, Change, Request, Restart}
 use Rattle.kdcd.specs.declared.line.LineChange.{LineChange}
 use Rattle.kdcd.specs.declared.line.LineChange.TheVariants.{Add, NewKeys, DropKeys, Remove, Set}
-use Rattle.kdcd.specs.declared.line.Request as requests
+use Rattle.kdcd.specs.declared.line.LineRequest.{LineRequest}
 use Rattle.kdcd.specs.Field.{AreLimitsTexts, IsOctetsText, IsKeysText}
 use Rattle.kdcd.specs.Line.{change_word, word_of, AreOpenFields, AreRequestFields, AreLineFields}
 
@@ -45,7 +45,7 @@ open_line (Change name what) texts is = absurd (no_change _ refl what is.0)
 open_line (Request request) texts is = absurd (apart _ _ refl is.0)
 open_line (Restart at) texts is = absurd (apart _ _ refl is.0)
 
-request_line : (line : Line) (texts : List (List ℕ)) → AreLineFields line (codes "request" ∷ texts) → (request : requests.Request) × AreRequestFields request texts
+request_line : (line : Line) (texts : List (List ℕ)) → AreLineFields line (codes "request" ∷ texts) → (request : LineRequest) × AreRequestFields request texts
 request_line (Request request) texts is = (request, is.1)
 request_line (Open realm limits keys) texts is = absurd (apart _ _ refl is.0)
 request_line (Change name what) texts is = absurd (no_change _ refl what is.0)
@@ -79,7 +79,7 @@ pub request_octets : (fields : List (Bor (List ℕ))) (d : Bor (List ℕ)) (line
     → (octets : List ℕ) × IsOctetsText octets (get_or fields 4 d).now
 request_octets fields d line is = let o = request_line line (texts_of fields) is in at fields o.0 o.1
   where
-    at : (fields : List (Bor (List ℕ))) (request : requests.Request) → AreRequestFields request (texts_of fields) → (octets : List ℕ) × IsOctetsText octets (get_or fields 4 d).now
+    at : (fields : List (Bor (List ℕ))) (request : LineRequest) → AreRequestFields request (texts_of fields) → (octets : List ℕ) × IsOctetsText octets (get_or fields 4 d).now
     at (sec ∷ usec ∷ random ∷ room ∷ octets ∷ []) request is = (request.octets.items, is.3)
     at [] request is = absurd is
     at (a ∷ []) request is = absurd is

@@ -9,7 +9,7 @@ use Rattle.krb_fields.specs.NameText.{IsNameText, IsComponentText}
 use Rattle.enctypes.specs.declared.key.Key.{Key}
 use Rattle.principal_rows.specs.declared.limits.Limits.{Limits}
 use Rattle.kdcd.specs.declared.line.Line.{Line}
-use Rattle.kdcd.specs.declared.line.Request as requests
+use Rattle.kdcd.specs.declared.line.LineRequest.{LineRequest}
 use Rattle.kdcd.specs.declared.line.Line.TheVariants.{Open, Change, Request, Restart}
 use Rattle.kdcd.specs.declared.line.LineChange.{LineChange}
 use Rattle.kdcd.specs.declared.line.LineChange.TheVariants.{Add, NewKeys, DropKeys, Remove, Set}
@@ -71,7 +71,7 @@ AreChangeFields name (DropKeys version) texts = AreDropFields name version texts
 AreChangeFields name Remove texts = AreRemoveFields name texts
 AreChangeFields name (Set setting) texts = ArePolicyFields name setting texts
 
-abbrev pub AreRequestFields : requests.Request → List (List ℕ) → Type 0
+abbrev pub AreRequestFields : LineRequest → List (List ℕ) → Type 0
 AreRequestFields request (sec ∷ usec ∷ random ∷ room ∷ octets ∷ []) =
     IsMomentText request.at sec usec × (decode_sized random 64 ≡ Ok request.random) × IsU32Text request.room room
     × IsOctetsText request.octets.items octets

@@ -37,7 +37,7 @@ pub(crate) enum Line {
         name: Option<Name>,
         what: LineChange,
     },
-    Request(Request),
+    Request(LineRequest),
     /// Restarts the KDC at this moment, without its replay caches and failures.
     Restart {
         at: Moment,
@@ -61,7 +61,7 @@ pub(crate) enum LineChange {
 
 /// A request to the KDC.
 #[derive(Drop)]
-pub(crate) struct Request {
+pub(crate) struct LineRequest {
     /// When it comes in.
     pub(crate) at: Moment,
     /// The random bytes for its answer.
@@ -269,7 +269,7 @@ fn parse_request(alloc: Global, fields: &[&str]) -> Result<Line, LineFault>
     let Some(room) = number_u32(room) else {
         return Err(LineFault::Form);
     };
-    Ok(Line::Request(Request {
+    Ok(Line::Request(LineRequest {
         at,
         random,
         room,

@@ -21,7 +21,7 @@ ghost use Rattle.principals.specs.Database.{first_database};
 
 use crate::answer::Answer;
 use crate::input::Input;
-use crate::line::{Line, LineChange, LineFault, Request};
+use crate::line::{Line, LineChange, LineFault, LineRequest};
 use kdc_core::{Kdc, Opening};
 use krb_elements::KerberosString;
 use krb_fields::{Moment, Name, NameFault};
@@ -281,7 +281,7 @@ fn restart(kdc: &mut Option<Kdc>, at: Moment) -> Result<Answer, Stop>
     Ok(Answer::Done)
 }
 
-fn handle(alloc: Global, kdc: &mut Option<Kdc>, request: &Request) -> Result<Answer, Stop>
+fn handle(alloc: Global, kdc: &mut Option<Kdc>, request: &LineRequest) -> Result<Answer, Stop>
     ensures ok { IfOk result (λ answer. Runs kdc.old (lines.Request request.now) kdc.new answer) }
     ensures fault { result ≡ Err Fault → CannotRun kdc.old (lines.Request request.now) }
 {

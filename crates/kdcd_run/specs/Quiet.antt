@@ -35,9 +35,9 @@ sends_skew (Write conn reply) = is_skewed reply.account
 sends_skew (Close conn reason) = false
 
 -- such a reply is withheld before the second up to which the server is quiet, if it is
-abbrev pub is_quiet : Option ℤ → Moment → Action → Bool
-is_quiet (Some until) at action = int_lt at.sec until && sends_skew action
-is_quiet None at action = false
+abbrev pub quiet_withholds : Option ℤ → Moment → Action → Bool
+quiet_withholds (Some until) at action = int_lt at.sec until && sends_skew action
+quiet_withholds None at action = false
 
 -- the second before which a quiet start withholds refusals
 abbrev pub quiet_until : Option StartRefused → Bool → Option ℤ

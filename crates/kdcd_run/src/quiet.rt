@@ -1,6 +1,6 @@
 //! Which replies a quiet start withholds.
 ghost use Rattle.std.specs.Prelude.{◌≡◌, option_copied};
-ghost use Rattle.kdcd_run.specs.Quiet.{is_quiet, is_skew, is_skewed, quiet_until, sends_skew};
+ghost use Rattle.kdcd_run.specs.Quiet.{is_skew, is_skewed, quiet_until, quiet_withholds, sends_skew};
 
 use kdc_core::TgsOutcome;
 use kdc_hub::{Account, Action};
@@ -23,8 +23,8 @@ pub(crate) fn quiet_until(refused: Option<Refused>, is_quiet: bool) -> Option<i6
 
 /// Checks whether an action refuses a TGS-REQ with KRB_AP_ERR_SKEW before the second up to which a server is quiet, so
 /// that the client asks another KDC.
-pub(crate) fn is_quiet(until: &Option<i64>, at: Moment, action: &Action) -> bool
-    ensures { result ≡ is_quiet until.now at action.now }
+pub(crate) fn quiet_withholds(until: &Option<i64>, at: Moment, action: &Action) -> bool
+    ensures { result ≡ quiet_withholds until.now at action.now }
 {
     match until {
         Some(until) => at.sec < *until && sends_skew(action),

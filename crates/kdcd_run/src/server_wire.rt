@@ -9,10 +9,10 @@ ghost use Rattle.kdc_reports.specs.Log.{LogsAll, entries_of, moment_after};
 ghost use Rattle.kdc_reports.specs.Memory.{after_act, memory_after};
 ghost use Rattle.kdc_files.specs.Recorded.{IsNew};
 ghost use Rattle.kdcd_run.specs.Served.{Serves};
-ghost use Rattle.kdcd_run.specs.Quiet.{is_quiet};
+ghost use Rattle.kdcd_run.specs.Quiet.{quiet_withholds};
 ghost use Rattle.kdcd_run.specs.Withheld.{EndsOnly, may_send, withheld_after};
 
-use crate::quiet::is_quiet;
+use crate::quiet::quiet_withholds;
 use crate::sockets::Sockets;
 use crate::withheld::Withheld;
 use kdc_files::{JournalWriter, keep_for};
@@ -196,13 +196,13 @@ impl<S: Sockets, J: JournalWriter, L: LogWriter, E: Write, T: Tally> Wire
         ensures memory { self.new.memory ≡ after_act self.old.memory action.now }
         ensures withheld_count { self.new.withheld ≡ withheld_after self.old.withheld
             (is_kept J.is_whole self.new.journal action.now)
-            (is_quiet self.old.quiet_until self.old.came.at action.now) }
+            (quiet_withholds self.old.quiet_until self.old.came.at action.now) }
         ensures quiet { self.new.quiet_until ≡ self.old.quiet_until }
     {
         let is_kept = keep_for(alloc, &mut self.journal, self.came.at, action);
-        let is_quiet = is_quiet(&self.quiet_until, self.came.at, action);
-        let outcome = send(alloc, &mut self.sockets, is_kept && !is_quiet, action);
-        self.withheld.note(is_kept, is_quiet);
+        let is_withheld = quiet_withholds(&self.quiet_until, self.came.at, action);
+        let outcome = send(alloc, &mut self.sockets, is_kept && !is_withheld, action);
+        self.withheld.note(is_kept, is_withheld);
         self.tally.add_act(alloc, action, outcome);
         self.memory.note(action);
         let tried = Tried {

@@ -23,12 +23,12 @@ impl Withheld {
     }
 
     /// Counts an action by whether the journal has kept all, and whether the quiet start withholds it.
-    pub fn note(&mut self, is_kept: bool, is_quiet: bool)
-        ensures { self.new ≡ withheld_after self.old is_kept is_quiet }
+    pub fn note(&mut self, is_kept: bool, is_withheld: bool)
+        ensures { self.new ≡ withheld_after self.old is_kept is_withheld }
     {
         if !is_kept {
             self.by_journal = self.by_journal.saturating_add(1);
-        } else if is_quiet {
+        } else if is_withheld {
             self.by_quiet_start = self.by_quiet_start.saturating_add(1);
         }
     }

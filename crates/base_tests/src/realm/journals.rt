@@ -4,9 +4,9 @@ use crate::cryptography::fixtures::sized;
 use crate::expect::{are, bytes, holds, same};
 use crate::realm::fixtures::{T, at};
 use journal::{
-    Doubt, Failures, Found, JournalFault, JournalFile, JournalFiles, MemoryFiles, NotSealed, Part,
-    Place, Start, Written, read_journal, read_part, seal_journal, start_of, write_beginning,
-    write_seen,
+    Doubt, Found, JournalFault, JournalFile, JournalFiles, MemoryFiles, NotSealed, Part, Place,
+    Start, WriteFailures, Written, read_journal, read_part, seal_journal, start_of,
+    write_beginning, write_seen,
 };
 use krb_elements::Octets;
 use krb_fields::{Moment, Name};
@@ -354,7 +354,7 @@ fn files_hold_what_was_kept(rt: HostRuntime) {
 fn after(alloc: Global, failure: &Failure) -> Result<Kept, AllocError> {
     let (good, bad, cut, tears) = *failure;
     let mut files = MemoryFiles::new();
-    files.fail(Failures {
+    files.fail(WriteFailures {
         good,
         bad,
         cut,
