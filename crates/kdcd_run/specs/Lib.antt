@@ -1,4 +1,5 @@
 pub mod Starting
+pub mod Reporter
 pub mod Quiet
 pub mod Withheld
 pub mod Served

@@ -1,6 +1,7 @@
 //! Reporting the numbers of a server every ten seconds.
 ghost use Rattle.std.specs.Prelude.{◌≡◌, IfOk};
-ghost use Rattle.kdc_reports.specs.Numbers.{due, numbers_text, refused_until, second_of};
+ghost use Rattle.kdc_reports.specs.Numbers.{numbers_text};
+ghost use Rattle.kdcd_run.specs.Reporter.{due, refused_until, second_of};
 
 use crate::server_wire::ServerWire;
 use kdc_files::JournalWriter;
