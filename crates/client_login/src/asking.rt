@@ -196,7 +196,7 @@ fn further_at<X: Network>(
 }
 
 /// Returns the addresses of a place. A host's name is looked up now, unless that was done before.
-/// It is apart from `further_at` for the proof alone.
+/// It is a function apart from `further_at` only for the sake of the proof.
 #[tactic(auto, using(crate::proofs::Within::same_places, crate::proofs::Within::contained, crate::proofs::Within::none_found, crate::proofs::Within::at_place, crate::proofs::Within::looked_up_at))]
 fn addresses_at<X: Network>(
     alloc: Global,

@@ -19,14 +19,14 @@ pub struct LoginFault {
 }
 
 impl LoginFault {
-    /// Returns a fault that no reply shows.
+    /// Returns a fault that comes from no KDC's reply.
     pub(crate) fn new(why: LoginError) -> LoginFault
         ensures { result ≡ record { why = why; kdc = None } }
     {
         LoginFault { why, kdc: None }
     }
 
-    /// Returns a fault that a KDC's reply shows.
+    /// Returns a fault that a KDC's reply causes.
     pub(crate) fn of_reply(why: LoginError, kdc: SocketAddr) -> LoginFault
         ensures { result ≡ record { why = why; kdc = named_by why kdc } }
     {

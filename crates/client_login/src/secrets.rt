@@ -277,7 +277,7 @@ fn key_numbered<'k>(keytab: &'k Keytab, realm: &[u8], name: &Name, number: i32) 
     key_typed(keytab, realm, name, type_numbered(number))
 }
 
-/// The key of a type, of the greatest version.
+/// Returns the key of a type with the greatest version.
 fn key_typed<'k>(
     keytab: &'k Keytab,
     realm: &[u8],

@@ -33,7 +33,7 @@ pub struct Place<'a> {
     pub realm: &'a [u8],
     /// The system's name for its current boot.
     pub boot: &'a [u8],
-    /// The seal beside the journal. Without one there are no octets.
+    /// The seal beside the journal; empty if there is no seal.
     pub seal: &'a [u8],
     pub at: Moment,
 }
@@ -44,7 +44,7 @@ pub enum Doubt {
     /// There is no journal.
     Absent,
     /// It was cut within an entry, an entry was changed, or one was left out or added before others; or others may write
-    /// the journal. An older journal that was put back looks like the right one, as one does that lacks its last entries.
+    /// the journal. A journal that lacks its last entries is not noticed, nor an older one that was put back.
     Damaged,
     OtherRealm,
     /// The system was booted since then, and the journal was not sealed before, so its end may be lost.

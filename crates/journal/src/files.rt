@@ -9,7 +9,7 @@ use std::alloc::Global;
 /// One of the two files of a journal.
 #[derive(Clone, Copy, Debug, PartialEq, Eq)]
 pub enum Part {
-    /// The file that went before the newer one.
+    /// The file that came before the newer one.
     Older,
     /// The file that is appended to.
     Newer,
@@ -34,29 +34,29 @@ pub struct BeginFault<E> {
     pub is_torn: bool,
 }
 
-/// What is read of a file.
+/// The content of one of the files.
 #[derive(Drop)]
 pub enum FileText {
     /// There is no file.
     Nothing,
-    /// There is one that no journal may be read from, since it is too long, or since others may write it.
+    /// There is a file, but no journal is read from it: it is too long, or others may write it.
     Unusable,
     Octets(Vec<u8>),
 }
 
-/// What is said of a journal.
+/// News of a journal, for those who run the server.
 #[derive(Drop)]
 pub enum News<E> {
     /// The files could not take turns. The journal goes on in the same file.
     NotTurned(FilesFault<E>),
     /// An authenticator could not be kept.
     Lost(FilesFault<E>),
-    /// What could not be kept is made good.
+    /// All that could not be kept is kept now.
     Mended,
 }
 
-/// The two files of a journal, and its seal: the last check of a journal that no server holds and that is on the disk as a
-/// whole. They may keep a record of what the files hold, for contracts alone.
+/// The two files of a journal, and its seal: the last check of a journal that no server holds and that is wholly on the
+/// disk. They may keep a record of what the files hold, for contracts alone.
 pub trait JournalFiles {
     /// Why a call failed.
     type Fault: Drop;
@@ -82,7 +82,7 @@ pub trait JournalFiles {
         ensures world { world self.new ≡ world self.old }
         ensures read { IfOk result (λ text. IfSome (world self.old) (λ w. IsRead (file_in part w) text)) };
 
-    /// Reads the seal. Without one there are no octets.
+    /// Reads the seal. Returns no octets if there is no seal.
     fn read_seal(&mut self, alloc: Global) -> Result<Vec<u8>, Self::Fault>
         ensures world { world self.new ≡ world self.old }
         ensures read { IfOk result (λ seal. IfSome (world self.old) (λ w. seal.items ≡ w.seal)) };
@@ -95,7 +95,7 @@ pub trait JournalFiles {
     fn unseal(&mut self) -> Result<(), Self::Fault>
         ensures { Leaves (Unseals (is_ok result)) (world self.old) (world self.new) };
 
-    /// Says what became of the journal.
+    /// Reports news of the journal.
     fn say(&mut self, news: News<Self::Fault>)
         ensures { world self.new ≡ world self.old };
 }

@@ -20,8 +20,8 @@ use krb_fields::Moment;
 use replay::Seen;
 use std::alloc::{AllocError, Global};
 
-/// The journal goes on in another file more than this many seconds after the current one was begun. A server needs
-/// nothing any longer of what the first authenticators of that file were.
+/// The journal goes on in another file more than this many seconds after the current one was begun. By then the first
+/// authenticators in that file are too old to be accepted again.
 const TURN: i64 = 600;
 
 /// How many seconds after a failed turn the next one is tried.
@@ -63,7 +63,7 @@ pub struct JournalFile<F> {
     files: F,
     realm: Octets,
     boot: Octets,
-    /// How many octets are appended to a file at most before the next one is begun, but for the last entry.
+    /// The size in octets at which the next file is begun. The last entry may exceed it.
     most: u64,
     /// `None` while an authenticator could not be kept.
     tail: Option<Tail>,
@@ -75,8 +75,8 @@ pub struct JournalFile<F> {
 }
 
 impl<F: JournalFiles> JournalFile<F> {
-    /// The journal of a server of this realm, before its start. The boot is the system's name for it, and the floor that of
-    /// the start. Its files take turns once one has this many octets.
+    /// Returns the journal of a server of this realm, before its start. `boot` is the system's name for its current
+    /// boot, `floor` the floor of the start, and `most` the size in octets at which the files take turns.
     pub fn new(files: F, realm: Octets, boot: Octets, floor: i64, most: u64) -> JournalFile<F>
         ensures files { result.files ≡ files }
         ensures realm { result.realm ≡ realm }
@@ -95,16 +95,16 @@ impl<F: JournalFiles> JournalFile<F> {
         }
     }
 
-    /// Lets its files go.
+    /// Returns its files.
     pub fn into_files(self) -> F
         ensures { result ≡ self.files }
     {
         self.files
     }
 
-    /// Breaks the seal. Then it goes on behind the newer of the files that a start found, if the start resumes so: in
-    /// another file, if that one was begun in another boot. Otherwise it begins a file in place of both, with the floor of
-    /// the start. The newer file has this many octets.
+    /// Breaks the seal, and begins to append. If the start resumes with the newer file, which has `len` octets, the
+    /// journal goes on behind it, or in another file if that one was begun in another boot. Otherwise it begins a file
+    /// in place of both, with the floor of the start.
     pub fn start(
         &mut self,
         alloc: Global,
@@ -311,7 +311,7 @@ fn beginning(
     }
 }
 
-/// Goes on in another file if that is due, and in the same one if that fails.
+/// Goes on in another file if that is due, and in the same file if beginning one fails.
 fn turn_if_due<F: JournalFiles>(
     alloc: Global,
     files: &mut F,
@@ -421,7 +421,7 @@ fn begin_anew<F: JournalFiles>(
     }
 }
 
-/// Says that an authenticator could not be kept, unless that was said.
+/// Reports that an authenticator could not be kept, unless that was reported.
 fn say_lost<F: JournalFiles>(files: &mut F, is_said: &mut bool, fault: FilesFault<F::Fault>)
     ensures { F.world files.new ≡ F.world files.old }
 {
@@ -431,7 +431,7 @@ fn say_lost<F: JournalFiles>(files: &mut F, is_said: &mut bool, fault: FilesFaul
     }
 }
 
-/// Says that the journal can be written again, if it was said that it could not.
+/// Reports that all is kept again, if it was reported that something was not.
 fn say_mended<F: JournalFiles>(files: &mut F, is_said: &mut bool)
     ensures { F.world files.new ≡ F.world files.old }
 {

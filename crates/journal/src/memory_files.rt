@@ -1,4 +1,4 @@
-//! The files of a journal in memory.
+//! The files of a journal, in memory.
 ghost use Rattle.std.specs.Prelude.{◌≡◌, ◌++◌, ℕ, List, [], Some, None, IfOk, OnErr, OnOk, option_map, vec_items};
 ghost use Rattle.std.specs.Result.{is_ok};
 ghost use Rattle.journal.specs.World.{Appends, BeginsAs, IsRead, IsTorn, Leaves, file_in, with_file, with_more};
@@ -7,24 +7,25 @@ ghost use Rattle.journal.specs.MemoryWorld.{memory_world, seal_in};
 use crate::files::{BeginFault, Begun, FileText, JournalFiles, News, Part};
 use std::alloc::{AllocError, Global};
 
-/// A call on files in memory failed: it was made to, or there was no memory, or no file to append to.
+/// A call on files in memory failed: it was made to fail, memory ran out, or there was no file to append to.
 #[derive(Clone, Copy, Debug, PartialEq, Eq)]
 pub struct MemoryFault;
 
-/// Which calls on files in memory fail, of those that change a file, and what these leave.
+/// Which of the calls that change a file in memory fail, and what a failed one leaves.
 #[derive(Clone, Copy, Debug, PartialEq, Eq)]
 pub struct WriteFailures {
-    /// How many calls succeed before some fail.
+    /// How many calls succeed before the first failure.
     pub good: u32,
-    /// How many fail then.
+    /// How many calls then fail, one after another.
     pub bad: u32,
-    /// How many octets of a text a failed call appends.
+    /// How many octets of its text a failed `append` writes.
     pub cut: usize,
-    /// Whether a failed call leaves a file half begun. Otherwise it leaves another file undone.
+    /// Whether a failed `begin` has already moved or removed the files that were there ([`BeginFault::is_torn`]). If
+    /// not, it leaves them as they were.
     pub tears: bool,
 }
 
-/// The files of a journal in memory, for tests: what they hold is known to contracts. Calls can be made to fail.
+/// The files of a journal, in memory, for tests. Contracts know what they hold, and calls can be made to fail.
 #[derive(Drop)]
 pub struct MemoryFiles {
     newer: Option<Vec<u8>>,
@@ -34,7 +35,7 @@ pub struct MemoryFiles {
 }
 
 impl MemoryFiles {
-    /// Returns files that aren't there.
+    /// Returns the files before there is any.
     pub fn new() -> MemoryFiles
         ensures { memory_world result ≡ record { newer = None; older = None; seal = [] } }
     {
@@ -51,7 +52,7 @@ impl MemoryFiles {
         }
     }
 
-    /// Makes calls fail.
+    /// Makes later calls fail.
     pub fn fail(&mut self, failures: WriteFailures)
         ensures { memory_world self.new ≡ memory_world self.old }
     {
@@ -182,7 +183,7 @@ fn not_begun(is_torn: bool) -> BeginFault<MemoryFault>
     }
 }
 
-/// Leaves a file half begun.
+/// Moves or removes the files that were there, as a `begin` does before it writes.
 fn tear(newer: &mut Option<Vec<u8>>, older: &mut Option<Vec<u8>>, how: Begun)
     ensures { (seal : List ℕ) → IsTorn
         (record { newer = option_map vec_items newer.old; older = option_map vec_items older.old; seal = seal })

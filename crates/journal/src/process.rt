@@ -1,5 +1,5 @@
-//! A process with a journal, step by step, as the law of the journal's life speaks of it. No server calls these functions.
-//! They are here for their contracts: each shows that such a step is what a [`JournalFile`] promises, and no more.
+//! The steps of a process that has a journal, as the law of a journal's life describes them. No server calls these
+//! functions. They are here for their contracts, which show that each step follows from what [`JournalFile`] promises.
 ghost use Rattle.std.specs.Prelude.{◌≡◌, ◌⊎◌, ℤ, Bool, true, List, [], ◌∷◌, Some, IfSome};
 ghost use Rattle.replay.specs.Run.{with_any};
 ghost use Rattle.journal.specs.Holding.{IsStart, known_by};

@@ -22,7 +22,8 @@ use std::alloc::{AllocError, Global};
 /// Entries that are too old are dropped once there are this many, and twice as many as were left the last time.
 const FEW: usize = 1_024;
 
-/// A whole journal, without the entries that are too old to matter. What is said of all entries is so of those too.
+/// A whole journal, without the entries that are too old to matter. `latest` and `high` are those of all
+/// its entries, also of these.
 #[derive(Drop)]
 pub struct Journal {
     pub header: Header,
@@ -108,7 +109,7 @@ fn owned_header(alloc: Global, found: &HeaderRef<'_>) -> Result<Header, AllocErr
     })
 }
 
-/// Entries that may matter, and what is said of all.
+/// The entries that may matter, and what is known of all entries.
 #[derive(Drop)]
 struct Entries {
     entries: Vec<Entry>,

@@ -1,9 +1,9 @@
-//! Those who look at a server while it serves.
+//! Watching a server while it serves.
 use crate::hub::Hub;
 use crate::server::Served;
 use std::alloc::Global;
 
-/// What a server is after a period.
+/// A server after a period.
 #[derive(Drop)]
 pub struct ServerView<'a, W, S, R> {
     pub wire: &'a W,
@@ -14,13 +14,13 @@ pub struct ServerView<'a, W, S, R> {
     pub served: Served,
 }
 
-/// Looks at a server after each period. It changes nothing of it.
+/// Watches a server after each period, and can't change it.
 pub trait Onlooker<W, S, R> {
-    /// Learns what a server is after a period.
+    /// Looks at the server after a period.
     fn see(&mut self, alloc: Global, server: &ServerView<'_, W, S, R>);
 }
 
-/// Nobody looks.
+/// Watches nothing.
 impl<W, S, R> Onlooker<W, S, R> for () {
     fn see(&mut self, _alloc: Global, _server: &ServerView<'_, W, S, R>) {}
 }

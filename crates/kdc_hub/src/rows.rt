@@ -32,12 +32,12 @@ impl Look {
     }
 }
 
-/// What a source knows of the rows that are served.
+/// The state of the rows that are served, as their source knows it.
 #[derive(Clone, Copy, PartialEq, Eq)]
 pub struct RowsState {
     /// The second since 1970 when they were taken, if they are not those of the start.
     pub taken_at: Option<i64>,
-    /// Whether there were newer ones that can't be used.
+    /// Whether there are newer rows that can't be used.
     pub is_behind: bool,
 }
 
@@ -64,7 +64,7 @@ pub trait RowSource {
     fn report(&mut self, taken: Result<(), OtherRealm>)
         ensures records { recorded self.new ≡ recorded self.old };
 
-    /// Returns what it knows of the rows that are served.
+    /// Returns the state of the rows that are served.
     fn state(&self) -> RowsState;
 }
 

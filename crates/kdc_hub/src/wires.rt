@@ -1,4 +1,4 @@
-//! What a hub receives and sends through.
+//! The wire through which a hub receives and sends.
 ghost use Rattle.std.specs.Prelude.{◌≡◌, ◌∷◌, [], ℕ, List, Option};
 ghost use Rattle.kdc_hub.specs.declared.wires.WireCall.{WireCall};
 ghost use Rattle.kdc_hub.specs.Wire.{IsCounted, Records, acted, polled, faults_of};
@@ -54,7 +54,7 @@ pub trait Wire {
         ensures records { Records (recorded self.old) (acted action.now result ∷ []) (recorded self.new) }
         ensures counted { IsCounted (fault_count self.old) (faults_of result) (fault_count self.new) };
 
-    /// How often a poll or an act has failed. The count stops at the greatest `u64`.
+    /// Returns how often a poll or an act has failed. The count stops at the greatest `u64`.
     fn faults(&self) -> u64
         ensures { result ≡ fault_count self.now };
 }

@@ -1,5 +1,5 @@
-//! What a server reports to those who run it: the lines of its log, its numbers, how it started, and that its clock
-//! went back or its memory ran out.
+//! The reports of a server to its operators: a line for each request, its metrics, how it started, and warnings when
+//! the clock goes back or memory runs out.
 #![tactic(auto)]
 
 mod clock_watch;

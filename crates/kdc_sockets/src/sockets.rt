@@ -147,7 +147,7 @@ impl<C: Clock + Drop> Sockets<C> {
         self.next_known(alloc)
     }
 
-    /// The next event of the sockets that are known to be ready.
+    /// Returns the next event of the sockets that are known to be ready.
     fn next_known(&mut self, alloc: Global) -> io::Result<(Moment, Option<Event>)> {
         let at = now(&self.clock)?;
         self.at = Instant::now(&self.clock)?;

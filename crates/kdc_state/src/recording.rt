@@ -13,8 +13,7 @@ use replay::{Failures, Kept, Opening, ReplayCache, Seen};
 use std::alloc::{AllocError, Global};
 
 impl State {
-    /// Records an authenticator that is within the clock skew and no repeat. If memory runs out, nothing
-    /// changes.
+    /// Records an authenticator that is within the clock skew and no repeat. If memory runs out, nothing changes.
     pub fn record_seen(
         &mut self,
         alloc: Global,

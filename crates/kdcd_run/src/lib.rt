@@ -1,5 +1,5 @@
-//! Starting and running `kdcd serve`: its command line, its host, and its wire, which keeps a journal, logs, and
-//! watches the clock.
+//! `kdcd serve` as a library: its options, how a server starts, the host that it runs on, and its wire. The wire writes
+//! the journal and the log, and watches the clock and the memory.
 #![tactic(auto)]
 
 mod args;
