@@ -27,10 +27,10 @@ pub const NT_PRINCIPAL: i32 = 1;
 /// The room that a name's text gets at first. A longer one gets more.
 const USUAL_TEXT: usize = 32;
 
-/// Why a text is not a name.
+/// Why a text is not a name, a component of one, or a realm.
 #[derive(Clone, Copy, Debug, PartialEq, Eq)]
 pub enum NameFault {
-    /// The text is not a name, or the name exceeds the limits.
+    /// The text is not a name, a component or a realm, or it exceeds the limits.
     BadName,
     Memory,
 }
@@ -38,7 +38,7 @@ pub enum NameFault {
 impl fmt::Display for NameFault {
     fn fmt<W: fmt::Write>(&self, f: &mut fmt::Formatter<W>) -> fmt::Result {
         f.write_str(match self {
-            NameFault::BadName => "the text is not a name, or the name exceeds the limits",
+            NameFault::BadName => "the text is not a name or a realm, or it exceeds the limits",
             NameFault::Memory => "out of memory",
         })
     }
