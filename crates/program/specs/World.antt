@@ -1,5 +1,5 @@
 -- The content of a store. A store without a record of it has no world, and nothing is stated about it.
-use Rattle.std.specs.Prelude.{◌≡◌, ◌≤◌, ℕ, Bool, List, Option, Some, None, IfSome, is_some, if◌then◌else◌, bytes_eq}
+use Rattle.std.specs.Prelude.{◌≡◌, ◌≤◌, ◌<◌, ℕ, Bool, List, Option, Some, None, IfSome, is_some, if◌then◌else◌, bytes_eq}
 use Rattle.std.specs.Prelude.{length, slice_get, take}
 use Rattle.program.specs.Inputs.{first_line}
 
@@ -45,3 +45,7 @@ HasSeed world None seed = IsDrawn world seed
 -- the first line of a file
 abbrev pub HasFirstLine : Option World → List ℕ → List ℕ → Type 0
 HasFirstLine world path line = (octets : List ℕ) × IsRead world path octets × (line ≡ first_line octets)
+
+-- whether the first line of a file has more bytes than this
+abbrev pub HasLongFirstLine : Option World → List ℕ → ℕ → Type 0
+HasLongFirstLine world path most = (octets : List ℕ) × IsRead world path octets × (most < length (first_line octets))

@@ -1,11 +1,12 @@
 //! The files that a command reads and writes, and the sources that it uses if no file is named. A fault names its
 //! source.
 ghost use Rattle.std.specs.Prelude.{◌≡◌, ◌≤◌, ◌<◌, IfErr, IfOk, IfNone, IfSome, length, take, vec_len};
-ghost use Rattle.std.specs.Prelude.{◌==◌, Option, OnOk, OnErr, Some, option_map};
+ghost use Rattle.std.specs.Prelude.{◌==◌, Option, OnOk, OnErr, Some, codes, option_map};
 ghost use Rattle.std.specs.List.{position};
 ghost use Rattle.program.specs.Counting.{IsShown};
 ghost use Rattle.program.specs.Inputs.{first_line};
-ghost use Rattle.program.specs.World.{World, with_file, HasFirstLine, HasSeed, IsDrawn, IsFirst, IsNow, IsRead, IsThere};
+ghost use Rattle.program.specs.World.{World, with_file, HasFirstLine, HasLongFirstLine, HasSeed, IsDrawn, IsFirst, IsNow};
+ghost use Rattle.program.specs.World.{IsRead, IsThere};
 
 use crate::faults::{FileCause, FileFault};
 use crate::store::{FileRights, LONGEST_FILE, Store};
@@ -314,6 +315,7 @@ pub fn read_password<'p, S: Store>(
 ) -> Result<Option<Vec<u8>>, FileFault<'p>>
     ensures within { IfOk result (λ found. IfSome found (λ pass. vec_len pass ≤ 1024)) }
     ensures line { IfOk result (λ found. IfSome found (λ pass. HasFirstLine (S.world store.old) path.now pass.items)) }
+    ensures long { IfOk result (λ found. IfNone found (HasLongFirstLine (S.world store.old) path.now 1024)) }
     ensures unchanged { S.world store.new ≡ S.world store.old }
     ensures named { IfErr result (λ fault. fault.path.now ≡ path.now) }
     ensures shown { IsShown (S.fault_count store.old) result (S.fault_count store.new) }
@@ -337,6 +339,7 @@ pub fn ask_password<S: Store>(
 ) -> Result<Option<Vec<u8>>, FileFault<'static>>
     ensures within { IfOk result (λ found. IfSome found (λ pass. vec_len pass ≤ 1024)) }
     ensures unchanged { S.world store.new ≡ S.world store.old }
+    ensures named { IfErr result (λ fault. fault.path.now ≡ codes "standard input") }
     ensures shown { IsShown (S.fault_count store.old) result (S.fault_count store.new) }
 {
     match ask_line(alloc, store, name, realm) {
