@@ -2,8 +2,7 @@
 use clap::error::Error;
 use clap::{Arg, ArgAction, ArgMatches, Command};
 use program::{
-    FlagRow, OptionRow, SubcommandRow, Times, subcommand, with_flags, with_options,
-    with_subcommands,
+    FlagRow, OptionRow, SubcommandRow, Times, VERSION, subcommand, with_flags, with_options,
 };
 use std::alloc::{AllocError, Global};
 use std::convert::AsStr;
@@ -194,21 +193,56 @@ const KVNO: SubcommandRow = SubcommandRow {
     ],
 };
 
-const OTHERS: &[SubcommandRow] = &[
-    SubcommandRow {
-        name: "klist",
-        about: "Prints what a credential cache or a keytab holds, but no key",
-        options: &[CACHE, LISTED_KEYTAB],
-        flags: &[FlagRow {
-            name: "s",
-            help: "Prints nothing. The status is 0 if the cache has a ticket-granting ticket that has not ended",
-        }],
+const KLIST: SubcommandRow = SubcommandRow {
+    name: "klist",
+    about: "Prints what a credential cache or a keytab holds, but no key",
+    options: &[CACHE, LISTED_KEYTAB],
+    flags: &[FlagRow {
+        name: "s",
+        help: "Prints nothing. The status is 0 if the cache has a ticket-granting ticket that has not ended",
+    }],
+};
+
+const KDESTROY: SubcommandRow = SubcommandRow {
+    name: "kdestroy",
+    about: "Removes a credential cache",
+    options: &[CACHE],
+    flags: &[],
+};
+
+/// A command of a command line.
+#[derive(Clone, Copy)]
+pub(crate) enum CommandKind {
+    Kinit,
+    Kvno,
+    Klist,
+    Kdestroy,
+}
+
+/// The words of a command, and which one it is.
+#[derive(Clone, Copy)]
+struct CommandRow {
+    words: SubcommandRow,
+    kind: CommandKind,
+}
+
+/// The commands, in the order of the help.
+const COMMANDS: &[CommandRow] = &[
+    CommandRow {
+        words: KINIT,
+        kind: CommandKind::Kinit,
     },
-    SubcommandRow {
-        name: "kdestroy",
-        about: "Removes a credential cache",
-        options: &[CACHE],
-        flags: &[],
+    CommandRow {
+        words: KVNO,
+        kind: CommandKind::Kvno,
+    },
+    CommandRow {
+        words: KLIST,
+        kind: CommandKind::Klist,
+    },
+    CommandRow {
+        words: KDESTROY,
+        kind: CommandKind::Kdestroy,
     },
 ];
 
@@ -217,29 +251,53 @@ pub(crate) fn read_args<'a, S: AsStr>(
     alloc: Global,
     args: &'a [S],
 ) -> Result<ArgMatches<'a>, Error> {
-    let kclient = Command::new(alloc, "kclient")
+    let mut kclient = Command::new(alloc, "kclient")
+        .version(VERSION)
         .about(ABOUT)
         .after_help(AFTER_HELP)
-        .subcommand(kinit(alloc)?)?
-        .subcommand(kvno(alloc)?)?;
-    with_subcommands(alloc, kclient, OTHERS)?.try_get_matches_from(args)
+        .subcommand_required(true);
+    for row in COMMANDS {
+        kclient = kclient.subcommand(command(alloc, row)?)?;
+    }
+    kclient.try_get_matches_from(args)
 }
 
-fn kinit<'a>(alloc: Global) -> Result<Command<'a>, AllocError> {
+/// Returns the command with this name.
+pub(crate) fn kind_of(name: &str) -> Option<CommandKind> {
+    for row in COMMANDS {
+        if row.words.name == name {
+            return Some(row.kind);
+        }
+    }
+    None
+}
+
+/// Returns the command of a row, with its options, flags and plain words.
+fn command<'a>(alloc: Global, row: &CommandRow) -> Result<Command<'a>, AllocError> {
+    let command = subcommand(alloc, &row.words)?;
+    match row.kind {
+        CommandKind::Kinit => kinit(alloc, command),
+        CommandKind::Kvno => command.arg(services(alloc)),
+        CommandKind::Klist | CommandKind::Kdestroy => Ok(command),
+    }
+}
+
+/// Returns `kinit` with what it takes besides a first ticket's description.
+fn kinit<'a>(alloc: Global, kinit: Command<'a>) -> Result<Command<'a>, AllocError> {
     let client = Arg::new(alloc, "client").value_name("CLIENT").help(
         "The client's name, also with its realm, such as alice@EXAMPLE.COM; without it, the cache's client, or else LOGNAME",
     );
-    let kinit = with_options(alloc, subcommand(alloc, &KINIT)?, KINIT_OPTIONS)?;
+    let kinit = with_options(alloc, kinit, KINIT_OPTIONS)?;
     with_flags(alloc, kinit, KINIT_FLAGS)?.arg(client)
 }
 
-fn kvno<'a>(alloc: Global) -> Result<Command<'a>, AllocError> {
-    let services = Arg::new(alloc, "service")
+/// Returns the plain words of `kvno`.
+fn services<'a>(alloc: Global) -> Arg<'a> {
+    Arg::new(alloc, "service")
         .value_name("SERVICE")
         .action(ArgAction::Append)
         .num_args(0..)
-        .help("The names of services, such as host/www.example.com, also with the cache's realm");
-    subcommand(alloc, &KVNO)?.arg(services)
+        .help("The names of services, such as host/www.example.com, also with the cache's realm")
 }
 
 /// Checks whether there is an option of `kinit` that describes a first ticket.

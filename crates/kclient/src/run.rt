@@ -6,9 +6,10 @@ use crate::context::Context;
 use crate::kinit::get_first;
 use crate::klist::{destroy, list};
 use crate::kvno::get_tickets;
-use crate::options::read_args;
+use crate::options::{CommandKind, kind_of, read_args};
 use crate::renewing::renew_ticket;
 use crate::words::renewal;
+use clap::ArgMatches;
 use clap::error::{Error, ErrorKind};
 use client_files::{Cause, ClientStore, Defaults, Fault};
 use client_login::{AnyMessage, LoginError};
@@ -114,16 +115,22 @@ fn run_command<S: AsStr, T: ClientStore, X: AnyMessage>(
         Ok(matches) => matches,
         Err(error) => return words_ended(context.alloc, &error),
     };
-    let Some((command, options)) = matches.subcommand() else {
+    let Some((kind, options)) = chosen(&matches) else {
         return Err(Fault::usage("a command is missing"));
     };
-    match (command, renewal(options)?) {
-        ("kinit", Some(renewal)) => renew_ticket(context, options, defaults, renewal),
-        ("kinit", None) => get_first(context, options, defaults),
-        ("kvno", _) => get_tickets(context, options, defaults),
-        ("kdestroy", _) => destroy(context, options, defaults),
-        _ => list(context, options, defaults),
+    match (kind, renewal(options)?) {
+        (CommandKind::Kinit, Some(renewal)) => renew_ticket(context, options, defaults, renewal),
+        (CommandKind::Kinit, None) => get_first(context, options, defaults),
+        (CommandKind::Kvno, _) => get_tickets(context, options, defaults),
+        (CommandKind::Klist, _) => list(context, options, defaults),
+        (CommandKind::Kdestroy, _) => destroy(context, options, defaults),
     }
+}
+
+/// Returns the command that the words give, and its options.
+fn chosen<'m, 'a>(matches: &'m ArgMatches<'a>) -> Option<(CommandKind, &'m ArgMatches<'a>)> {
+    let (name, options) = matches.subcommand()?;
+    Some((kind_of(name)?, options))
 }
 
 /// Returns what is wrong with the words, or the help that they request.
