@@ -5,7 +5,7 @@ use Rattle.std.specs.Prelude.{◌≡◌, ℕ, ℤ, ◌+◌, ◌&&◌, nat_lt, Bo
 use Rattle.std.specs.Prelude.{None, Result}
 use Rattle.krb_der.specs.declared.fault.DerFault.{DerFault}
 use Rattle.krb_der.specs.Spelling.{tlv}
-use Rattle.krb_der.specs.Reading.{time_at}
+use Rattle.krb_der.specs.Reading.{time_at, tlv_at}
 use Rattle.krb_der.specs.Int.{int_octets}
 use Rattle.krb_der.specs.Civil.{IsCivilSecond}
 use Rattle.krb_der.specs.Time.{Time, time_octets}
@@ -48,8 +48,7 @@ use Rattle.krb_elements.specs.CodecLaws.{
   microseconds_laws,
   fixed_laws,
   time_laws,
-  octets_laws,
-  string_laws,
+  byte_string_laws,
   flags_laws,
   list_laws,
   end_laws,
@@ -333,31 +332,24 @@ time = record {
   bounded = time_bounded;
 }
 
-abbrev pub octets : Codec (List ℕ)
-octets = record {
-  Spells = simple.Octets;
-  at = simple.octets_at;
-  tag = 4;
+abbrev pub byte_string : ℕ → Codec (List ℕ)
+byte_string tag = record {
+  Spells = simple.ByteString tag;
+  at = tlv_at tag;
+  tag = tag;
   text = simple.as_they_are;
   Fits = Any;
   has_one = true;
-  laws = octets_laws;
+  laws = byte_string_laws tag;
   most = length;
   bounded = as_long;
 }
 
+abbrev pub octets : Codec (List ℕ)
+octets = byte_string 4
+
 abbrev pub string : Codec (List ℕ)
-string = record {
-  Spells = simple.KerberosString;
-  at = simple.string_at;
-  tag = 27;
-  text = simple.as_they_are;
-  Fits = Any;
-  has_one = true;
-  laws = string_laws;
-  most = length;
-  bounded = as_long;
-}
+string = byte_string 27
 
 abbrev pub flags : Codec ℕ
 flags = record {

@@ -10,7 +10,7 @@ use Rattle.krb_der.specs.declared.fault.DerFault.{DerFault}
 use Rattle.krb_der.specs.Spelling.{tlv, IsBytes}
 use Rattle.krb_der.specs.StepLaws.{IsBytes-back, IsBytes-front}
 use Rattle.krb_der.specs.declared.fault.DerFault.TheVariants.{Trailing}
-use Rattle.krb_der.specs.Reading.{◌>>=◌, time_at}
+use Rattle.krb_der.specs.Reading.{◌>>=◌, time_at, tlv_at}
 use Rattle.krb_der.specs.Int.{int_octets}
 use Rattle.krb_der.specs.IntLaws.{int_spelled}
 use Rattle.krb_der.specs.BitLaws.{bits_spelled}
@@ -39,10 +39,7 @@ use Rattle.krb_elements.specs.Simple.{
   Fixed,
   fixed_at,
   fixed_text,
-  Octets,
-  octets_at,
-  KerberosString,
-  string_at,
+  ByteString,
   as_they_are,
   KerberosFlags,
   flags_at,
@@ -50,7 +47,7 @@ use Rattle.krb_elements.specs.Simple.{
 }
 use Rattle.krb_elements.specs.Laws.{IsElement, IsWhole, AreFields, inside_ok, whole_ok, made_ok, seen_ok, sent_ok}
 use Rattle.krb_elements.specs.Laws.{field_of_ok, inside_starts, field_ok, optional_ok, end_ok, list_ok}
-use Rattle.krb_elements.specs.SimpleLaws.{int32_ok, uint32_ok, microseconds_ok, fixed_ok, octets_ok, string_ok}
+use Rattle.krb_elements.specs.SimpleLaws.{int32_ok, uint32_ok, microseconds_ok, fixed_ok, byte_string_ok}
 use Rattle.krb_elements.specs.SimpleLaws.{flags_ok, time_element, flags_fit}
 use Rattle.krb_elements.specs.WrittenLaws.{tlv_longer, inside_fits}
 use Rattle.krb_elements.specs.WritableLaws.{
@@ -61,8 +58,7 @@ use Rattle.krb_elements.specs.WritableLaws.{
   microseconds_writable,
   fixed_writable,
   time_writable,
-  octets_writable,
-  string_writable,
+  byte_string_writable,
   inside_writable,
   round_writable,
   field_writable,
@@ -70,7 +66,7 @@ use Rattle.krb_elements.specs.WritableLaws.{
   end_writable,
 }
 use Rattle.krb_elements.specs.OneSpellingLaws.{HasOneSpelling, HaveOneText, int32_one, uint32_one, microseconds_one}
-use Rattle.krb_elements.specs.OneSpellingLaws.{fixed_one, time_one, octets_one, string_one, inside_one, round_one}
+use Rattle.krb_elements.specs.OneSpellingLaws.{fixed_one, time_one, byte_string_one, inside_one, round_one}
 use Rattle.krb_elements.specs.OneSpellingLaws.{field_one, optional_one, end_one, list_one}
 use Rattle.krb_elements.specs.ShortTextLaws.{IsShort, AreShort, one_short, flags_short, inside_short, round_short}
 use Rattle.krb_elements.specs.ShortTextLaws.{field_short, optional_short, end_short, tlv_short, tlv_long}
@@ -162,22 +158,13 @@ time_laws = record {
   one = λ e. time_one;
 }
 
-pub octets_laws : Laws Octets octets_at 4 as_they_are Any true
-octets_laws = record {
-  element = octets_ok;
+pub byte_string_laws : (tag : ℕ) → Laws (ByteString tag) (tlv_at tag) tag as_they_are Any true
+byte_string_laws tag = record {
+  element = byte_string_ok tag;
   range = record { fits = λ x bytes fits s. tt };
-  writable = octets_writable;
-  short = one_short _ 4 _ octets_one;
-  one = λ e. octets_one;
-}
-
-pub string_laws : Laws KerberosString string_at 27 as_they_are Any true
-string_laws = record {
-  element = string_ok;
-  range = record { fits = λ x bytes fits s. tt };
-  writable = string_writable;
-  short = one_short _ 27 _ string_one;
-  one = λ e. string_one;
+  writable = byte_string_writable tag;
+  short = one_short _ tag _ (byte_string_one tag);
+  one = λ e. byte_string_one tag;
 }
 
 abbrev pub Is32Bits : ℕ → Type 0

@@ -11,7 +11,7 @@ use Rattle.krb_elements.specs.Spells.{Inside, End, Field, OptionalOf, Optional, 
 use Rattle.krb_elements.specs.Written.{field_text, maybe_text, field_then, optional_then, no_more, items_text}
 use Rattle.krb_elements.specs.WrittenLaws.{inside_fits}
 use Rattle.krb_elements.specs.Simple.{is_within, Int32, UInt32, Microseconds, microseconds_text, Fixed, fixed_text}
-use Rattle.krb_elements.specs.Simple.{Octets, KerberosString, as_they_are}
+use Rattle.krb_elements.specs.Simple.{ByteString, as_they_are}
 use Rattle.krb_elements.specs.SimpleLaws.{within_million}
 
 -- a value with its own tag
@@ -47,11 +47,8 @@ fixed_one n = record {
 pub time_one : HasOneSpelling Time 24 time_octets
 time_one = record { is = λ z bytes fits s. time_unique z bytes s }
 
-pub octets_one : HasOneSpelling Octets 4 as_they_are
-octets_one = record { is = λ x bytes fits s. s.1 }
-
-pub string_one : HasOneSpelling KerberosString 27 as_they_are
-string_one = record { is = λ x bytes fits s. s.1 }
+pub byte_string_one : (tag : ℕ) → HasOneSpelling (ByteString tag) tag as_they_are
+byte_string_one tag = record { is = λ x bytes fits s. s.1 }
 
 pub inside_one : {A B : Type 0} (tag : ℕ) (G : A → List ℕ → Type 0) (text : A → List ℕ) (from : B → A)
     → HaveOneText G text → HasOneSpelling (Inside tag (λ y. G (from y))) tag (λ y. text (from y))

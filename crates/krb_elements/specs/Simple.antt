@@ -7,7 +7,7 @@ use Rattle.krb_der.specs.declared.fault.DerFault.TheVariants.{BadInteger}
 use Rattle.krb_der.specs.Spelling.{tlv}
 use Rattle.krb_der.specs.Int.{Int, int_octets}
 use Rattle.krb_der.specs.Bits.{Bits}
-use Rattle.krb_der.specs.Reading.{tlv_at, int_at, bits_at}
+use Rattle.krb_der.specs.Reading.{int_at, bits_at}
 use Rattle.krb_elements.specs.Spells.{Such, SeenAs}
 use Rattle.krb_elements.specs.Format.{such, seen_as}
 
@@ -61,21 +61,12 @@ Fixed n = SeenAs (λ _. tt) (Such (is_within n n) Int)
 unfoldable pub fixed_at : ℤ → List ℕ → Result (Unit {0} × List ℕ) DerFault
 fixed_at n = seen_as (λ _. tt) (such (is_within n n) BadInteger int_at)
 
--- ---- OCTET STRING, and KerberosString (section 5.2.1): a GeneralString of any bytes
+-- ---- a string of any bytes with this tag (section 5.2.1): 4 is that of an OCTET STRING, 27 of a KerberosString
 
-abbrev pub Octets : List ℕ → List ℕ → Type 0
-Octets x bytes = (length x < 2 ^ 32) × (bytes ≡ tlv 4 x)
+abbrev pub ByteString : ℕ → List ℕ → List ℕ → Type 0
+ByteString tag x bytes = (length x < 2 ^ 32) × (bytes ≡ tlv tag x)
 
-abbrev pub octets_at : List ℕ → Result (List ℕ × List ℕ) DerFault
-octets_at = tlv_at 4
-
-abbrev pub KerberosString : List ℕ → List ℕ → Type 0
-KerberosString x bytes = (length x < 2 ^ 32) × (bytes ≡ tlv 27 x)
-
-abbrev pub string_at : List ℕ → Result (List ℕ × List ℕ) DerFault
-string_at = tlv_at 27
-
--- the contents of both
+-- its contents
 abbrev pub as_they_are : List ℕ → List ℕ
 as_they_are x = x
 

@@ -7,11 +7,11 @@ use Rattle.krb_der.specs.StepLaws.{IsBytes-rest}
 use Rattle.krb_der.specs.Spelling.{IsBytes}
 use Rattle.krb_der.specs.Int.{is_int, int_value, Int}
 use Rattle.krb_der.specs.Bits.{is_bits, bits_value, first_bits, Bits}
-use Rattle.krb_der.specs.Reading.{int_at, bits_at, time_at}
+use Rattle.krb_der.specs.Reading.{tlv_at, int_at, bits_at, time_at}
 use Rattle.krb_der.specs.Time.{is_time, time_value, Time}
 use Rattle.std.proofs.lemmas.Int.{ints}
 use Rattle.krb_elements.specs.Simple.{is_within, Int32, int32_at, UInt32, uint32_at, Microseconds, microseconds_at}
-use Rattle.krb_elements.specs.Simple.{Fixed, fixed_at, Octets, octets_at, KerberosString, string_at, first}
+use Rattle.krb_elements.specs.Simple.{Fixed, fixed_at, ByteString, first}
 use Rattle.krb_elements.specs.Simple.{KerberosFlags, flags_at}
 use Rattle.krb_elements.specs.Laws.{IsElement, leaf_element, tlv_element, such_ok, seen_ok}
 
@@ -39,11 +39,8 @@ pub fixed_ok : (n : ℤ) → IsElement (Fixed n) (fixed_at n)
 unfolding fixed_at
 fixed_ok n = seen_ok (λ _. tt) _ _ (such_ok _ BadInteger _ _ int_element)
 
-pub octets_ok : IsElement Octets octets_at
-octets_ok = tlv_element 4
-
-pub string_ok : IsElement KerberosString string_at
-string_ok = tlv_element 27
+pub byte_string_ok : (tag : ℕ) → IsElement (ByteString tag) (tlv_at tag)
+byte_string_ok tag = tlv_element tag
 
 pub flags_ok : IsElement KerberosFlags flags_at
 unfolding flags_at

@@ -14,7 +14,7 @@ use Rattle.krb_elements.specs.Spells.{Inside, End, Field, OptionalOf, Optional, 
 use Rattle.krb_elements.specs.Written.{field_text, maybe_text, field_then, optional_then, no_more, items_text}
 use Rattle.krb_elements.specs.WrittenLaws.{tlv_longer}
 use Rattle.krb_elements.specs.Simple.{is_within, IsInt32, Int32, IsMicrosecond, Microseconds, microseconds_text, Fixed}
-use Rattle.krb_elements.specs.Simple.{fixed_text, Octets, KerberosString, as_they_are}
+use Rattle.krb_elements.specs.Simple.{fixed_text, ByteString, as_they_are}
 
 -- a value with its own tag
 pub record IsWritable {A : Type 0} (Fits : A → Type 0) (S : A → List ℕ → Type 0) (tag : ℕ)
@@ -54,11 +54,8 @@ fixed_writable n one fits = record { spells = λ x any lt. (n, (one, int_spelled
 pub time_writable : IsWritable IsCivilSecond Time 24 time_octets
 time_writable = record { spells = λ z fits lt. time_spelled z fits }
 
-pub octets_writable : IsWritable Any Octets 4 as_they_are
-octets_writable = record { spells = λ x any lt. (lt, refl) }
-
-pub string_writable : IsWritable Any KerberosString 27 as_they_are
-string_writable = record { spells = λ x any lt. (lt, refl) }
+pub byte_string_writable : (tag : ℕ) → IsWritable Any (ByteString tag) tag as_they_are
+byte_string_writable tag = record { spells = λ x any lt. (lt, refl) }
 
 -- ---- values that contain others
 

@@ -7,13 +7,13 @@
 //! `krb_types` defines them.
 #![tactic(auto)]
 
+mod byte_string;
 mod codec;
 mod fault;
 mod lent;
 mod lists;
 mod messages;
 mod microseconds;
-mod octets;
 mod owned_lists;
 mod reading;
 mod seq;
@@ -23,19 +23,20 @@ mod taking;
 mod uint32;
 mod writing;
 
+pub use byte_string::{
+    ByteString, ByteStringRef, KerberosString, KerberosStringRef, Octets, OctetsRef,
+};
 pub use codec::{Application, Coded, Fielded, MakeOwned, Round, Untagged, application_tag};
 pub use fault::Fault;
 pub use lent::Lent;
 pub use lists::SeqRef;
 pub use messages::{decode, encode};
 pub use microseconds::Microseconds;
-pub use octets::{Octets, OctetsRef};
 pub use reading::{
     Decode, DecodeFields, ReadOwned, Sent, end_of, look_either, read, read_owned, take_field,
     take_fixed, take_optional, take_sent,
 };
 pub use seq::Seq;
-pub use string::{KerberosString, KerberosStringRef};
 pub use taking::{
     TakeFields, TakeOwned, take_owned, take_owned_optional, take_sequence, take_whole,
 };

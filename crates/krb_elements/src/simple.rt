@@ -3,11 +3,10 @@ ghost use Rattle.std.specs.Prelude.{◌≡◌, OnOk, IfOk};
 ghost use Rattle.krb_elements.specs.Format.{Looks};
 ghost use Rattle.krb_elements.specs.Codec as forms;
 
+use crate::byte_string::{ByteString, ByteStringRef};
 use crate::codec::{Coded, MakeOwned};
 use crate::microseconds::Microseconds;
-use crate::octets::{Octets, OctetsRef};
 use crate::reading::Decode;
-use crate::string::{KerberosString, KerberosStringRef};
 use crate::uint32::UInt32;
 use crate::writing::Encode;
 use krb_der::{DerFault, KTime, Reader, Writer};
@@ -81,71 +80,41 @@ impl Encode for Microseconds {
     }
 }
 
-impl<'a> Coded for OctetsRef<'a> {
-    ghost codec = { forms.octets };
+impl<'a, const TAG: u8> Coded for ByteStringRef<'a, TAG> {
+    ghost codec = { forms.byte_string TAG };
 }
 
-impl<'a> Decode<'a> for OctetsRef<'a> {
-    fn look(reader: &mut Reader<'a>) -> Result<OctetsRef<'a>, DerFault> {
-        let bytes = reader.read_tlv(0x04)?;
-        Ok(OctetsRef::new(bytes))
+impl<'a, const TAG: u8> Decode<'a> for ByteStringRef<'a, TAG> {
+    fn look(reader: &mut Reader<'a>) -> Result<ByteStringRef<'a, TAG>, DerFault> {
+        let bytes = reader.read_tlv(TAG)?;
+        Ok(ByteStringRef::new(bytes))
     }
 }
 
-impl<'a> MakeOwned for OctetsRef<'a> {
-    type Owned = Octets;
+impl<'a, const TAG: u8> Encode for ByteStringRef<'a, TAG> {
+    fn put(&self, out: &mut Writer) -> Result<(), AllocError> {
+        out.put_tlv(TAG, self.as_slice())
+    }
+}
+
+impl<'a, const TAG: u8> MakeOwned for ByteStringRef<'a, TAG> {
+    type Owned = ByteString<TAG>;
 
     ghost same = { λ x. x };
 
-    fn copy(&self, alloc: Global) -> Result<Octets, AllocError> {
-        Octets::from_slice(alloc, self.as_slice())
+    fn copy(&self, alloc: Global) -> Result<ByteString<TAG>, AllocError> {
+        ByteString::from_slice(alloc, self.as_slice())
     }
 }
 
-impl Coded for Octets {
-    ghost codec = { forms.octets };
+impl<const TAG: u8> Coded for ByteString<TAG> {
+    ghost codec = { forms.byte_string TAG };
 }
 
-impl Encode for Octets {
+impl<const TAG: u8> Encode for ByteString<TAG> {
     fn put(&self, out: &mut Writer) -> Result<(), AllocError> {
-        out.put_tlv(0x04, self.as_slice())
-    }
-}
-
-impl<'a> Coded for KerberosStringRef<'a> {
-    ghost codec = { forms.string };
-}
-
-impl<'a> Decode<'a> for KerberosStringRef<'a> {
-    fn look(reader: &mut Reader<'a>) -> Result<KerberosStringRef<'a>, DerFault> {
-        let bytes = reader.read_tlv(0x1b)?;
-        Ok(KerberosStringRef::new(bytes))
-    }
-}
-
-impl<'a> MakeOwned for KerberosStringRef<'a> {
-    type Owned = KerberosString;
-
-    ghost same = { λ x. x };
-
-    fn copy(&self, alloc: Global) -> Result<KerberosString, AllocError> {
-        KerberosString::from_slice(alloc, self.as_slice())
-    }
-}
-
-impl<'a> Encode for KerberosStringRef<'a> {
-    fn put(&self, out: &mut Writer) -> Result<(), AllocError> {
-        out.put_tlv(0x1b, self.as_slice())
-    }
-}
-
-impl Coded for KerberosString {
-    ghost codec = { forms.string };
-}
-
-impl Encode for KerberosString {
-    fn put(&self, out: &mut Writer) -> Result<(), AllocError> {
-        out.put_tlv(0x1b, self.as_slice())
+        let lent: ByteStringRef<'_, TAG> = ByteStringRef::new(self.as_slice());
+        lent.put(out)
     }
 }
 

@@ -4,11 +4,10 @@ ghost use Rattle.krb_elements.specs.Format.{Decodes, inside, maybe, whole};
 ghost use Rattle.krb_elements.specs.Taking.{Takes};
 ghost use Rattle.krb_elements.specs.Codec.{sequence, fields_at};
 
+use crate::byte_string::ByteString;
 use crate::codec::{Coded, Fielded};
 use crate::fault::Fault;
-use crate::octets::Octets;
 use crate::reading::end_of;
-use crate::string::KerberosString;
 use krb_der::Reader;
 use std::alloc::Global;
 
@@ -26,17 +25,10 @@ pub trait TakeFields: Fielded {
         ensures { Takes result fields.new (fields_at Self.form fields.old) };
 }
 
-impl TakeOwned for Octets {
-    fn take_parts(alloc: Global, reader: &mut Reader<'_>) -> Result<Octets, Fault> {
-        let bytes = reader.read_tlv(0x04)?;
-        Ok(Octets::from_slice(alloc, bytes)?)
-    }
-}
-
-impl TakeOwned for KerberosString {
-    fn take_parts(alloc: Global, reader: &mut Reader<'_>) -> Result<KerberosString, Fault> {
-        let bytes = reader.read_tlv(0x1b)?;
-        Ok(KerberosString::from_slice(alloc, bytes)?)
+impl<const TAG: u8> TakeOwned for ByteString<TAG> {
+    fn take_parts(alloc: Global, reader: &mut Reader<'_>) -> Result<ByteString<TAG>, Fault> {
+        let bytes = reader.read_tlv(TAG)?;
+        Ok(ByteString::from_slice(alloc, bytes)?)
     }
 }
 

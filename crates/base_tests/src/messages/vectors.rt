@@ -377,8 +377,8 @@ pub const METHOD_DATA_VALUE: &str = "\
 pub const ETYPE_INFO2_ENTRY: &str = "3015a003020112a1061b04412e4275a206040400001000";
 
 pub const ETYPE_INFO2_ENTRY_VALUE: &str = "\
-    Ok(EtypeInfo2Entry { etype: 18, salt: Some(KerberosStringRef { bytes: [65, 46, 66, 117] }), s2kparams: \
-    Some(OctetsRef { bytes: [0, 0, 16, 0] }) })";
+    Ok(EtypeInfo2Entry { etype: 18, salt: Some(ByteStringRef { bytes: [65, 46, 66, 117] }), s2kparams: \
+    Some(ByteStringRef { bytes: [0, 0, 16, 0] }) })";
 
 /// The value of the AS-REQ as a TGS-REQ.
 pub const AS_REQ_AS_TGS_REQ_VALUE: &str = "\

@@ -1,5 +1,0 @@
-use Rattle.krb_elements.specs.Continues.{appended_whole}
-use Rattle.krb_elements.proofs.simple.KerberosStringRefEncode.put.Goals as goal
-
-pub returns-clause-kept : goal.returns-clause-kept
-returns-clause-kept c = appended_whole c.put_tlv.result c.args.out.now _ _ c.put_tlv.ensures.ok c.put_tlv.ensures.err
