@@ -15,7 +15,7 @@ use Rattle.std.proofs.lemmas.List.Elements.{All-append, All-contains, All-contai
 use Rattle.krb_elements.specs.Codec.{written}
 use Rattle.krb_fields.specs.Name.{Components, name_cmp}
 use Rattle.krb_fields.specs.Skew.{skew}
-use Rattle.replay.proofs.Holding.{extended_holds, last_spent}
+use Rattle.replay.proofs.Holding.{by_first, either_of, extended_holds, last_spent}
 use Rattle.replay.proofs.Stamps.{stamp_exact, stamp_total}
 use Rattle.replay.specs.Kept.{nothing_kept}
 use Rattle.replay.specs.Opening.{opening_floor}
@@ -491,18 +491,10 @@ some_of : {A : Type 0} (b : Bool) (x : A) (o : Option A) → is_some (cond b (So
 some_of true x o e = inl refl
 some_of false x o e = inr e
 
-either_of : (a b : Bool) → (a || b) ≡ true → (a ≡ true) ⊎ (b ≡ true)
-either_of true b e = inl refl
-either_of false b e = inr e
-
-by_first : (a b : Bool) → a ≡ true → (a || b) ≡ true
-by_first true b e = refl
-by_first false b e = absurd cc
-
 lt_test : (a b c : ℤ) → a <ℤ b → b ≤ℤ c → int_lt a c ≡ true
 lt_test a b c x y = grind (arith, ints)
 
-test_le : (a b c : ℤ) → int_lt a b ≡ true → b ≤ℤ c → int_lt a c ≡ true
+pub test_le : (a b c : ℤ) → int_lt a b ≡ true → b ≤ℤ c → int_lt a c ≡ true
 test_le a b c x y = grind (arith, ints)
 
 module _ (c : Components) (s : Stamp) where

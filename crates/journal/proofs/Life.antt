@@ -14,7 +14,7 @@ use Rattle.std.proofs.lemmas.List.Elements.{All-head, All-tail}
 use Rattle.krb_fields.specs.Name.{Components, name_cmp, name_total}
 use Rattle.krb_fields.specs.Skew.{skew}
 use Rattle.krb_fields.specs.declared.moment.Moment.{Moment}
-use Rattle.replay.proofs.Holding.{extended_holds, last_spent}
+use Rattle.replay.proofs.Holding.{by_first, by_second, either_of, extended_holds, last_spent}
 use Rattle.replay.proofs.Stamps.{stamp_exact, stamp_total}
 use Rattle.replay.specs.Kept.{nothing_kept}
 use Rattle.replay.specs.Resumed.{Holds, is_spent, resumed_cache, stamp_seen, with_all_seen, with_seen}
@@ -25,6 +25,7 @@ use Rattle.replay.specs.declared.seen.Seen.{Seen}
 use Rattle.sha2.proofs.Facts256.{length-sha256}
 use Rattle.sha2.specs.Sha256.{sha256}
 use Rattle.krb_elements.specs.Codec.{written}
+use Rattle.journal.proofs.Held.{test_le}
 use Rattle.journal.specs.Appending.{kept_by}
 use Rattle.journal.specs.Decision.{Place, doubt_of, floor_behind, goes_on_behind, is_early, resumption_of, start_by, start_of}
 use Rattle.journal.specs.Forms.{Entry, entry, header}
@@ -71,21 +72,6 @@ above_max a b t h = grind (arith, ints, clamps)
 
 lt_test : (a b : ℤ) → a <ℤ b → int_lt a b ≡ true
 lt_test a b x = grind (arith, ints)
-
-test_le : (a b c : ℤ) → int_lt a b ≡ true → b ≤ℤ c → int_lt a c ≡ true
-test_le a b c x y = grind (arith, ints)
-
-either_of : (a b : Bool) → (a || b) ≡ true → (a ≡ true) ⊎ (b ≡ true)
-either_of true b e = inl refl
-either_of false b e = inr e
-
-by_first : (a b : Bool) → a ≡ true → (a || b) ≡ true
-by_first true b e = refl
-by_first false b e = absurd cc
-
-by_second : (a b : Bool) → b ≡ true → (a || b) ≡ true
-by_second true b e = refl
-by_second false b e = e
 
 -- ---- one resumption refuses all that another one refuses
 

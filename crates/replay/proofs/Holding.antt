@@ -22,15 +22,15 @@ use Rattle.replay.specs.declared.seen.Seen.{Seen}
 use Rattle.replay.proofs.Raising.{floor_within}
 use Rattle.replay.proofs.Stamps.{stamp_total, stamp_exact}
 
-either_of : (a b : Bool) → (a || b) ≡ true → (a ≡ true) ⊎ (b ≡ true)
+pub either_of : (a b : Bool) → (a || b) ≡ true → (a ≡ true) ⊎ (b ≡ true)
 either_of true b e = inl refl
 either_of false b e = inr e
 
-by_first : (a b : Bool) → a ≡ true → (a || b) ≡ true
+pub by_first : (a b : Bool) → a ≡ true → (a || b) ≡ true
 by_first true b e = refl
 by_first false b e = absurd cc
 
-by_second : (a b : Bool) → b ≡ true → (a || b) ≡ true
+pub by_second : (a b : Bool) → b ≡ true → (a || b) ≡ true
 by_second true b e = refl
 by_second false b e = e
 
