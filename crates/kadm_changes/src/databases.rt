@@ -12,7 +12,7 @@ use crate::target::Target;
 use krb_fields::Name;
 use principals::{Change, ChangeFault, Database, RowChange};
 use principals_text::{LONGEST_TEXT, ReadFault, fault_place};
-use program::{Store, lock_file, read_at_most, update_file, update_private_file};
+use program::{Store, lock_file, read_at_most, update_file};
 use std::alloc::Global;
 use std::io::Write;
 use std::marker::Model;
@@ -136,11 +136,7 @@ pub(crate) fn change_file<'p, T: Store>(
     ensures written { OnOk result (T.world store.new ≡ option_map (with_file path.now octets.now) (T.world store.old)) }
     ensures unchanged { OnErr result (T.world store.new ≡ T.world store.old) }
 {
-    if keep_mode {
-        update_file(alloc, store, path, octets)?;
-    } else {
-        update_private_file(alloc, store, path, octets)?;
-    }
+    update_file(alloc, store, path, octets, keep_mode)?;
     Ok(())
 }
 

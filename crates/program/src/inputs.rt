@@ -3,7 +3,7 @@
 ghost use Rattle.std.specs.Prelude.{◌≡◌, ◌≤◌, ◌<◌, IfErr, IfOk, IfNone, IfSome, length, take, vec_len};
 ghost use Rattle.std.specs.Prelude.{◌==◌, Option, OnOk, OnErr, Some, codes, option_map};
 ghost use Rattle.std.specs.List.{position};
-ghost use Rattle.program.specs.Counting.{IsShown};
+ghost use Rattle.program.specs.Counting.{IsCounted, IsShown};
 ghost use Rattle.program.specs.Inputs.{first_line};
 ghost use Rattle.program.specs.World.{World, with_file, HasFirstLine, HasLongFirstLine, HasSeed, IsDrawn, IsFirst, IsNow};
 ghost use Rattle.program.specs.World.{IsRead, IsThere};
@@ -168,19 +168,21 @@ pub fn write_file<'p, S: Store>(
     }
 }
 
-/// Writes a file, and keeps the owner, the group and the mode of the one there. After an `Err` the path is unchanged.
+/// Writes a file, and keeps the owner and the group of the one there, and its mode if `keep_mode` says so. Otherwise
+/// the mode is 600. After an `Err` the path is unchanged.
 pub fn update_file<'p, S: Store>(
     alloc: Global,
     store: &mut S,
     path: &'p str,
     octets: &[u8],
+    keep_mode: bool,
 ) -> Result<(), FileFault<'p>>
     ensures written { OnOk result (S.world store.new ≡ option_map (with_file path.now octets.now) (S.world store.old)) }
     ensures unchanged { OnErr result (S.world store.new ≡ S.world store.old) }
     ensures named { IfErr result (λ fault. fault.path.now ≡ path.now) }
     ensures shown { IsShown (S.fault_count store.old) result (S.fault_count store.new) }
 {
-    match store.update(alloc, path, octets) {
+    match update_with_mode(alloc, store, path, octets, keep_mode) {
         Ok(()) => Ok(()),
         Err(error) => Err(FileFault {
             path,
@@ -189,24 +191,21 @@ pub fn update_file<'p, S: Store>(
     }
 }
 
-/// Does what `update_file` does, but gives the file the mode 600. After an `Err` the path is unchanged.
-pub fn update_private_file<'p, S: Store>(
+fn update_with_mode<S: Store>(
     alloc: Global,
     store: &mut S,
-    path: &'p str,
+    path: &str,
     octets: &[u8],
-) -> Result<(), FileFault<'p>>
+    keep_mode: bool,
+) -> io::Result<()>
     ensures written { OnOk result (S.world store.new ≡ option_map (with_file path.now octets.now) (S.world store.old)) }
     ensures unchanged { OnErr result (S.world store.new ≡ S.world store.old) }
-    ensures named { IfErr result (λ fault. fault.path.now ≡ path.now) }
-    ensures shown { IsShown (S.fault_count store.old) result (S.fault_count store.new) }
+    ensures counted { IsCounted (S.fault_count store.old) result (S.fault_count store.new) }
 {
-    match store.update_private(alloc, path, octets) {
-        Ok(()) => Ok(()),
-        Err(error) => Err(FileFault {
-            path,
-            cause: FileCause::Failed(error),
-        }),
+    if keep_mode {
+        store.update(alloc, path, octets)
+    } else {
+        store.update_private(alloc, path, octets)
     }
 }
 

@@ -35,7 +35,7 @@ pub use crate::faults::{FileCause, FileFault};
 pub use crate::inputs::{
     STANDARD_INPUT, ask_password, draw_seed, file_rights, first_octet, has_file, lock_file,
     password_of, read_at_most, read_clock, read_file, read_or_draw_seed, read_password, read_seed,
-    read_stream, seed_of, update_file, update_private_file, write_file,
+    read_stream, seed_of, update_file, write_file,
 };
 pub use crate::memory_store::MemoryStore;
 pub use crate::moment::now;
