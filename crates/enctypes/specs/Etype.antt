@@ -3,6 +3,15 @@ use Rattle.std.specs.Prelude.{ℕ, ℤ, pos, Bool, true, false}
 use Rattle.enctypes.specs.declared.etype.Etype.{Etype}
 use Rattle.enctypes.specs.declared.etype.Etype.TheVariants.{Aes128CtsHmacSha1_96, Aes256CtsHmacSha1_96}
 use Rattle.enctypes.specs.declared.etype.Etype.TheVariants.{Aes128CtsHmacSha256_128, Aes256CtsHmacSha384_192}
+use Rattle.enctypes.specs.declared.hash.Hash.{Hash}
+use Rattle.enctypes.specs.declared.hash.Hash.TheVariants.{Sha1, Sha256, Sha384}
+
+-- the hash function of its HMACs and of PBKDF2
+abbrev pub hash : Etype → Hash
+hash Aes128CtsHmacSha1_96 = Sha1
+hash Aes256CtsHmacSha1_96 = Sha1
+hash Aes128CtsHmacSha256_128 = Sha256
+hash Aes256CtsHmacSha384_192 = Sha384
 
 -- the number that IANA assigned to the encryption type
 abbrev pub number : Etype → ℤ

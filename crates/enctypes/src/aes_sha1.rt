@@ -1,17 +1,14 @@
 //! Encryption types 17 and 18 (RFC 3962). They share the simplified profile, and differ in numbers and sizes.
-ghost use Rattle.std.specs.Prelude.{refl};
 ghost use Rattle.enctypes.specs.declared.etype.Etype.TheVariants as types;
-ghost use Rattle.enctypes.specs.Etype.{number, key_len, mac_key_len, mac_len, checksum_type, default_count};
+ghost use Rattle.enctypes.specs.Etype.{hash, number, key_len, mac_key_len, mac_len, checksum_type, default_count};
 ghost use Rattle.enctypes.specs.Sealing.{macs_cipher};
-ghost use Rattle.enctypes.specs.Sealed.{length-seal};
-ghost use Rattle.enctypes.specs.OpenedLaws.{opens_what_was_sealed};
+ghost use Rattle.enctypes.specs.Suite.{constants_of};
 
 use crate::Etype;
+use crate::hash::Hash;
 use crate::mac_key::{MacKey, SHA1_MAC_LEN};
-use crate::simplified::{derive_dr, derive_dr_both};
 use crate::suite::Suite;
-use prf_kdf::{HmacKey, pbkdf2_sha1};
-use std::alloc::{AllocError, Global};
+use prf_kdf::HmacKey;
 
 /// aes128-cts-hmac-sha1-96.
 pub struct Aes128CtsHmacSha1_96;
@@ -20,6 +17,10 @@ impl Suite for Aes128CtsHmacSha1_96 {
     ghost ETYPE = { types.Aes128CtsHmacSha1_96 };
 
     const ETYPE: Etype = Etype::Aes128CtsHmacSha1_96;
+
+    ghost HASH = { hash types.Aes128CtsHmacSha1_96 };
+
+    const HASH: Hash = Hash::Sha1;
 
     ghost NUMBER = { number types.Aes128CtsHmacSha1_96 };
 
@@ -49,51 +50,11 @@ impl Suite for Aes128CtsHmacSha1_96 {
 
     const DEFAULT_COUNT: u32 = 4_096;
 
-    #[tactic(auto, unfolding(crate::specs::Derivation::derived))]
-    fn derive(key: &[u8], constant: &[u8], out: &mut [u8]) {
-        derive_dr(key, constant, out)
-    }
-
-    #[tactic(auto, unfolding(crate::specs::Derivation::derived))]
-    fn derive_both(
-        key: &[u8],
-        constant: &[u8],
-        out: &mut [u8],
-        other_constant: &[u8],
-        other_out: &mut [u8],
-    ) {
-        derive_dr_both(key, constant, out, other_constant, other_out)
-    }
-
-    #[tactic(auto, unfolding(crate::specs::Derivation::stretched))]
-    fn stretch(
-        _alloc: Global,
-        pass: &[u8],
-        salt: &[u8],
-        count: u32,
-        out: &mut [u8],
-    ) -> Result<(), AllocError> {
-        pbkdf2_sha1(pass, salt, count, out);
-        Ok(())
-    }
-
     fn mac_key(key: &[u8]) -> MacKey {
         MacKey::Sha1(HmacKey::new(key))
     }
 
-    ghost constants = { record {
-      number_is = refl;
-      key_size_is = refl;
-      mac_key_size_is = refl;
-      mac_size_is = refl;
-      macs_cipher_is = refl;
-      checksum_type_is = refl;
-      default_count_is = refl;
-    } };
-
-    ghost longer = { length-seal types.Aes128CtsHmacSha1_96 };
-
-    ghost opens = { opens_what_was_sealed types.Aes128CtsHmacSha1_96 };
+    ghost constants = { constants_of types.Aes128CtsHmacSha1_96 };
 }
 
 /// aes256-cts-hmac-sha1-96.
@@ -103,6 +64,10 @@ impl Suite for Aes256CtsHmacSha1_96 {
     ghost ETYPE = { types.Aes256CtsHmacSha1_96 };
 
     const ETYPE: Etype = Etype::Aes256CtsHmacSha1_96;
+
+    ghost HASH = { hash types.Aes256CtsHmacSha1_96 };
+
+    const HASH: Hash = Hash::Sha1;
 
     ghost NUMBER = { number types.Aes256CtsHmacSha1_96 };
 
@@ -132,49 +97,9 @@ impl Suite for Aes256CtsHmacSha1_96 {
 
     const DEFAULT_COUNT: u32 = 4_096;
 
-    #[tactic(auto, unfolding(crate::specs::Derivation::derived))]
-    fn derive(key: &[u8], constant: &[u8], out: &mut [u8]) {
-        derive_dr(key, constant, out)
-    }
-
-    #[tactic(auto, unfolding(crate::specs::Derivation::derived))]
-    fn derive_both(
-        key: &[u8],
-        constant: &[u8],
-        out: &mut [u8],
-        other_constant: &[u8],
-        other_out: &mut [u8],
-    ) {
-        derive_dr_both(key, constant, out, other_constant, other_out)
-    }
-
-    #[tactic(auto, unfolding(crate::specs::Derivation::stretched))]
-    fn stretch(
-        _alloc: Global,
-        pass: &[u8],
-        salt: &[u8],
-        count: u32,
-        out: &mut [u8],
-    ) -> Result<(), AllocError> {
-        pbkdf2_sha1(pass, salt, count, out);
-        Ok(())
-    }
-
     fn mac_key(key: &[u8]) -> MacKey {
         MacKey::Sha1(HmacKey::new(key))
     }
 
-    ghost constants = { record {
-      number_is = refl;
-      key_size_is = refl;
-      mac_key_size_is = refl;
-      mac_size_is = refl;
-      macs_cipher_is = refl;
-      checksum_type_is = refl;
-      default_count_is = refl;
-    } };
-
-    ghost longer = { length-seal types.Aes256CtsHmacSha1_96 };
-
-    ghost opens = { opens_what_was_sealed types.Aes256CtsHmacSha1_96 };
+    ghost constants = { constants_of types.Aes256CtsHmacSha1_96 };
 }

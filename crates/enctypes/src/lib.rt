@@ -14,8 +14,8 @@
 //!
 //! `open` returns a text exactly if some confounder seals it to this cipher, and no cipher has two texts with one key.
 //! It opens what `seal` returned for the same key and usage. The calls depend on the key's encryption type: [`Suite`]
-//! has its numbers, its sizes and its functions, with one implementation for each of the four. Types 17 and 18 share
-//! the profile in `simplified`, and types 19 and 20 the one in `sha2_profile`.
+//! has its numbers, its sizes and its hash function, with one implementation for each of the four. How keys are derived
+//! follows from the [`Hash`]: SHA-1's profile is in `simplified`, that of the other two in `sha2_profile`.
 //!
 //! Nothing here draws random bytes: the caller supplies each confounder and the bytes of each
 //! random key. There is no DES, RC4 or Camellia. No contract says how long a call takes, or that
@@ -29,6 +29,7 @@ mod checksums;
 mod derivation;
 mod derived_key;
 mod etype;
+mod hash;
 mod key;
 mod key_usage;
 mod mac_key;
@@ -47,6 +48,7 @@ pub use aes_sha1::{Aes128CtsHmacSha1_96, Aes256CtsHmacSha1_96};
 pub use aes_sha2::{Aes128CtsHmacSha256_128, Aes256CtsHmacSha384_192};
 pub use checksums::{checksum, verify};
 pub use etype::Etype;
+pub use hash::Hash;
 pub use key::Key;
 pub use key_usage::KeyUsage;
 pub use passwords::string_to_key;
