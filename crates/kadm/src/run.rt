@@ -124,13 +124,14 @@ fn asks<'a, W: Write, E: Write>(
 ) -> Result<bool, Stop<'static>>
     ensures { IfOk result (λ asks. asks ≡ true → asks_help (texts words.now) ≡ true) }
 {
-    match read_args(context.alloc, words) {
+    let matches = read_args(context.alloc, words);
+    match &matches {
         Ok(_) => Ok(false),
         Err(error) if error.exit_code() == 0 && asks_help(words) => {
             write!(context.out, "{error}")?;
             Ok(true)
         }
-        Err(error) => Err(report_fault(&mut context.errors, &error)),
+        Err(error) => Err(report_fault(&mut context.errors, error)),
     }
 }
 

@@ -1,6 +1,5 @@
 //! The database and its file.
-ghost use Rattle.std.specs.Prelude.{◌≡◌, IfOk, OnOk, OnErr, option_map};
-ghost use Rattle.program.specs.World.{with_file};
+ghost use Rattle.std.specs.Prelude.{◌≡◌, IfOk, OnOk, OnErr};
 ghost use Rattle.kadm_changes.specs.Granting.{Makes};
 ghost use Rattle.kadm_changes.specs.Worlds.{HoldsDatabase, with_database};
 
@@ -122,21 +121,7 @@ pub fn write_database<'p, T: Store>(
     ensures unchanged { OnErr result (T.world store.new ≡ T.world store.old) }
 {
     let text = principals_text::write(alloc, database)?;
-    change_file(alloc, store, locked.path, text.as_bytes(), locked.keep_mode)
-}
-
-/// Writes a file in place of the one there, whose owner and group it keeps, and its mode if `keep_mode` says so.
-pub(crate) fn change_file<'p, T: Store>(
-    alloc: Global,
-    store: &mut T,
-    path: &'p str,
-    octets: &[u8],
-    keep_mode: bool,
-) -> Result<(), Stop<'p>>
-    ensures written { OnOk result (T.world store.new ≡ option_map (with_file path.now octets.now) (T.world store.old)) }
-    ensures unchanged { OnErr result (T.world store.new ≡ T.world store.old) }
-{
-    update_file(alloc, store, path, octets, keep_mode)?;
+    update_file(alloc, store, locked.path, text.as_bytes(), locked.keep_mode)?;
     Ok(())
 }
 

@@ -5,7 +5,7 @@ ghost use Rattle.kadm_changes.specs.Keytabs.{IsBehind, IsFreePath, IsKeytabFor, 
 ghost use Rattle.kadm_changes.specs.Worlds.{WroteKeytab};
 
 use crate::context::Context;
-use crate::databases::{change_file, lock_database, read_database};
+use crate::databases::{lock_database, read_database};
 use crate::joining::joined;
 use crate::reason::Reason;
 use crate::stop::Stop;
@@ -15,7 +15,9 @@ use krb_elements::KerberosString;
 use krb_fields::Name;
 use principal_rows::KeyVersion;
 use principals::{ChangeFault, Database};
-use program::{FileCause, FileFault, Store, first_octet, has_file, read_file, write_file};
+use program::{
+    FileCause, FileFault, Store, first_octet, has_file, read_file, update_file, write_file,
+};
 use std::alloc::{AllocError, Global};
 use std::io::Write;
 
@@ -125,7 +127,8 @@ fn put_octets<'p, T: Store>(
     ensures unchanged { OnErr result (T.world store.new ≡ T.world store.old) }
 {
     if to.append {
-        return change_file(alloc, store, to.out, octets, target.keep_mode);
+        update_file(alloc, store, to.out, octets, target.keep_mode)?;
+        return Ok(());
     }
     write_file(alloc, store, to.out, octets)?;
     Ok(())
