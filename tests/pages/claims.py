@@ -66,9 +66,11 @@ def rows(text):
 
 def codes():
     """The name and the number of each error code, by its name in the code."""
-    text = read("crates/krb_fields/src/code.rt")
+    text, numbers = read("crates/krb_fields/src/code.rt"), read("crates/krb_fields/src/numbers.rt")
     named = dict(re.findall(r'Code::(\w+) => "(\w+)"', text))
-    return {name: (named.get(name), int(number)) for name, number in re.findall(r"^    (\w+) = (\d+),$", text, re.M)}
+    number_of = dict(re.findall(r"^pub const (\w+): i32 = (\d+);$", numbers, re.M))
+    cited = re.findall(r"^    (\w+) = numbers::(\w+) as isize,$", text, re.M)
+    return {name: (named.get(name), int(number_of[number])) for name, number in cited}
 
 
 def in_words(name):

@@ -20,8 +20,9 @@ use kdc_replies::{
     Grant, Granted, Incoming, ReplyInputs, session_key, ticket_reply, version_number,
 };
 use krb_elements::{KerberosStringRef, Lent, Seq};
+use krb_fields::numbers::{AS_REP, ENC_AS_REP_PART};
 use krb_fields::{Flags, Moment, PaData};
-use krb_types::{AS_REP, ENC_AS_REP_PART, ReqBodyRef};
+use krb_types::ReqBodyRef;
 use preauth::etype_info2;
 use sealed_parts::PartKey;
 use std::alloc::{AllocError, Global};
@@ -39,10 +40,10 @@ pub fn as_rep(
     requires realm { length view.now.realm ≤ 255 }
     requires named { IsNamed view.now.client view.now.service admission.now.terms }
     ensures written { IfOk result (λ octets.
-        octets.items ≡ written (kdc_rep 11)
+        octets.items ≡ written (kdc_rep AS_REP)
         (as_rep view.now incoming.now.at incoming.now.random body.now admission.now)) }
     ensures spelled { IfOk result (λ octets.
-        (kdc_rep 11).Spells
+        (kdc_rep AS_REP).Spells
         (as_rep view.now incoming.now.at incoming.now.random body.now admission.now) octets.items) }
     // The keys that the reply names, the client's and the service's, decrypt it to the same contents.
     ensures same { IfOk result (λ octets.

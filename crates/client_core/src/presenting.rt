@@ -13,8 +13,9 @@ use crate::sessions::Session;
 use cred_files::Principal;
 use enctypes::{Key, KeyUsage};
 use krb_elements::UInt32;
+use krb_fields::numbers::{AP_REQ, PVNO};
 use krb_fields::{Flags, Moment, Typed};
-use krb_types::{AP_REQ, ApReq, Authenticator, PVNO, encode_ap_req};
+use krb_types::{ApReq, Authenticator, encode_ap_req};
 use sealed_parts::{PartKey, encrypted, key_part};
 use std::alloc::{AllocError, Global};
 

@@ -23,11 +23,9 @@ use cred_files::Credential;
 use enctypes::{Key, KeyUsage};
 use krb_der::KTime;
 use krb_elements::{Octets, OctetsRef, read};
+use krb_fields::numbers::{AS_REP, ENC_AS_REP_PART, ENC_TGS_REP_PART, PVNO, TGS_REP};
 use krb_fields::{EncryptedDataRef, KdcOption, Moment, SKEW};
-use krb_types::{
-    AS_REP, ENC_AS_REP_PART, ENC_TGS_REP_PART, EncKdcRepPart, KdcRepRef, KrbErrorRef, PVNO,
-    TGS_REP, TicketRef, Under, read_kdc_rep,
-};
+use krb_types::{EncKdcRepPart, KdcRepRef, KrbErrorRef, TicketRef, Under, read_kdc_rep};
 use lists::{Attempt, decide};
 use sealed_parts::open_part;
 use std::alloc::{AllocError, Global};
@@ -44,7 +42,8 @@ pub fn read_as_reply(
 ) -> Result<Credential, ClientFault>
     ensures value { Gives result (reads_as asked.now key.now at.sec bytes.now) }
     // So the bytes are the reply to this request.
-    ensures taken { IfOk result (λ credential. IsTaken 11 roles.Client asked.now key.now at.sec bytes.now credential) }
+    ensures taken { IfOk result (λ credential.
+        IsTaken AS_REP roles.Client asked.now key.now at.sec bytes.now credential) }
 {
     given(read_reply::<AS_REP>(alloc, KeyRole::Client, asked, key, at, bytes))
 }
@@ -63,7 +62,7 @@ pub fn read_tgs_reply(
     ensures value { Gives result (reads_tgs asked.now key.now subkey at.sec bytes.now) }
     // So the bytes are the reply to this request.
     ensures taken { IfOk result (λ credential.
-        IsTaken 13 (tgs_role subkey) asked.now key.now at.sec bytes.now credential) }
+        IsTaken TGS_REP (tgs_role subkey) asked.now key.now at.sec bytes.now credential) }
 {
     given(read_reply::<TGS_REP>(alloc, tgs_role(subkey), asked, key, at, bytes))
 }
@@ -74,10 +73,10 @@ pub fn judge_as_reply(
     asked: &Asked,
     key: &Key,
     at: Moment,
-    reply: &KdcRepRef<'_, 11>,
+    reply: &KdcRepRef<'_, AS_REP>,
 ) -> Result<Credential, ClientFault>
     requires { length (ticket.text reply.now.ticket) < 2 ^ 32 }
-    ensures { Gives result (judged 11 roles.Client asked.now key.now at.sec reply.now) }
+    ensures { Gives result (judged AS_REP roles.Client asked.now key.now at.sec reply.now) }
 {
     given(judged(alloc, KeyRole::Client, asked, key, at, reply))
 }
@@ -89,10 +88,10 @@ pub fn judge_tgs_reply(
     key: &Key,
     subkey: bool,
     at: Moment,
-    reply: &KdcRepRef<'_, 13>,
+    reply: &KdcRepRef<'_, TGS_REP>,
 ) -> Result<Credential, ClientFault>
     requires { length (ticket.text reply.now.ticket) < 2 ^ 32 }
-    ensures { Gives result (judged 13 (tgs_role subkey) asked.now key.now at.sec reply.now) }
+    ensures { Gives result (judged TGS_REP (tgs_role subkey) asked.now key.now at.sec reply.now) }
 {
     given(judged(alloc, tgs_role(subkey), asked, key, at, reply))
 }

@@ -18,8 +18,9 @@ ghost use Rattle.client_core.specs.ShortLaws.{AreShortData};
 use crate::asked::Asked;
 use enctypes::{Key, KeyUsage};
 use krb_elements::{Octets, Seq, write};
-use krb_fields::{Moment, PA_ENC_TIMESTAMP, PaData};
-use krb_types::{Exchange, KdcReq, PVNO, PaEncTsEnc, ReqBody, encode_kdc_req};
+use krb_fields::numbers::{PA_ENC_TIMESTAMP, PVNO};
+use krb_fields::{Moment, PaData};
+use krb_types::{Exchange, KdcReq, PaEncTsEnc, ReqBody, encode_kdc_req};
 use sealed_parts::{PartKey, encrypted};
 use std::alloc::{AllocError, Global};
 

@@ -21,7 +21,8 @@ use crate::sessions::{Session, session_of};
 use cred_files::{Credential, Principal};
 use enctypes::{Key, KeyUsage, checksum};
 use krb_elements::{Octets, write};
-use krb_fields::{Flags, Moment, PA_TGS_REQ, PaData, Typed};
+use krb_fields::numbers::PA_TGS_REQ;
+use krb_fields::{Flags, Moment, PaData, Typed};
 use krb_types::{Authenticator, Exchange, ReqBody};
 use std::alloc::{AllocError, Global};
 

@@ -27,6 +27,7 @@ use crate::ticket_requests::{Login, first_asked};
 use client_core::{Asked, ClientFault, Refusal, as_request, judge_as_reply, ticket_reply_in};
 use cred_files::Credential;
 use enctypes::Key;
+use krb_fields::numbers::AS_REP;
 use krb_fields::{Code, Moment};
 use krb_types::KdcRepRef;
 use rand_core::Rng;
@@ -240,14 +241,14 @@ fn take_stamped(
 fn take(
     alloc: Global,
     expected: &Expected<'_>,
-    ticket: &KdcRepRef<'_, 11>,
+    ticket: &KdcRepRef<'_, AS_REP>,
 ) -> Result<Credential, LoginError>
     requires { length (tickets.ticket.text ticket.now.ticket) < 2 ^ 32 }
     ensures ok { IfOk result (λ credential.
-        replies.judged 11 roles.Client expected.now.asked.now expected.now.key.now expected.now.at.sec ticket.now
+        replies.judged AS_REP roles.Client expected.now.asked.now expected.now.key.now expected.now.at.sec ticket.now
         ≡ Ok credential) }
     ensures err { IfErr result (λ why. IsRejection
-        (replies.judged 11 roles.Client expected.now.asked.now expected.now.key.now expected.now.at.sec ticket.now) why) }
+        (replies.judged AS_REP roles.Client expected.now.asked.now expected.now.key.now expected.now.at.sec ticket.now) why) }
 {
     match judge_as_reply(alloc, expected.asked, expected.key, expected.at, ticket) {
         Ok(credential) => Ok(credential),

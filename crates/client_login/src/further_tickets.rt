@@ -24,6 +24,7 @@ use client_core::{
     Asked, ClientFault, is_presentable, judge_tgs_reply, session_key, ticket_reply_in,
 };
 use cred_files::Credential;
+use krb_fields::numbers::TGS_REP;
 use krb_fields::{Flags, Name};
 use krb_types::KdcRepRef;
 use rand_core::Rng;
@@ -171,7 +172,7 @@ fn take_presented(
     reply: &Reply,
 ) -> Result<Credential, LoginError>
     requires { replies.refusal_in reply.now.octets.items ≡ said_of reply.now.refusal }
-    ensures ok { IfOk result (λ credential. IsTaken 13 roles.Session expected.now.asked.now expected.now.key.now
+    ensures ok { IfOk result (λ credential. IsTaken TGS_REP roles.Session expected.now.asked.now expected.now.key.now
         expected.now.at.sec reply.now.octets.items credential) }
     ensures err { IfErr result (λ why. SaysTgs expected.now.key.now expected.now.asked.now expected.now.at.sec why
         reply.now.octets.items) }
@@ -189,14 +190,14 @@ fn take_presented(
 fn take(
     alloc: Global,
     expected: &Expected<'_>,
-    ticket: &KdcRepRef<'_, 13>,
+    ticket: &KdcRepRef<'_, TGS_REP>,
 ) -> Result<Credential, LoginError>
     requires { length (tickets.ticket.text ticket.now.ticket) < 2 ^ 32 }
     ensures ok { IfOk result (λ credential.
-        replies.judged 13 roles.Session expected.now.asked.now expected.now.key.now expected.now.at.sec ticket.now
+        replies.judged TGS_REP roles.Session expected.now.asked.now expected.now.key.now expected.now.at.sec ticket.now
         ≡ Ok credential) }
     ensures err { IfErr result (λ why. IsTgsRejection
-        (replies.judged 13 roles.Session expected.now.asked.now expected.now.key.now expected.now.at.sec ticket.now) why) }
+        (replies.judged TGS_REP roles.Session expected.now.asked.now expected.now.key.now expected.now.at.sec ticket.now) why) }
 {
     match judge_tgs_reply(
         alloc,

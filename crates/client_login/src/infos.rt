@@ -6,7 +6,8 @@ ghost use Rattle.client_login.specs.Infos.{info_of_method_data};
 
 use client_core::EtypeInfo2;
 use krb_elements::{MakeOwned, Octets, OctetsRef, Seq, SeqRef, read};
-use krb_fields::{PA_ETYPE_INFO2, PaDataRef};
+use krb_fields::PaDataRef;
+use krb_fields::numbers::{AS_REP, PA_ETYPE_INFO2};
 use krb_types::{EtypeInfo2Entry, EtypeInfo2EntryRef, KdcRepRef};
 use std::alloc::{AllocError, Global};
 
@@ -14,7 +15,7 @@ use std::alloc::{AllocError, Global};
 /// default salt and parameters.
 pub(crate) fn info_in_reply(
     alloc: Global,
-    reply: &KdcRepRef<'_, 11>,
+    reply: &KdcRepRef<'_, AS_REP>,
 ) -> Result<EtypeInfo2, AllocError>
     ensures { IfOk result (λ info. info ≡ info_in_reply reply.now) }
 {

@@ -16,6 +16,7 @@ use cred_files::{Keytab, Principal};
 use enctypes::{Etype, Key};
 use krb_elements::{Octets, Seq};
 use krb_fields::Name;
+use krb_fields::numbers::AS_REP;
 use krb_types::{EtypeInfo2Entry, KdcRepRef};
 use sealed_parts::type_numbered;
 use std::alloc::{AllocError, Global};
@@ -100,7 +101,7 @@ pub(crate) fn key_of_reply(
     alloc: Global,
     secret: &Secret,
     asked: &Asked,
-    reply: &KdcRepRef<'_, 11>,
+    reply: &KdcRepRef<'_, AS_REP>,
 ) -> Result<Key, LoginError>
     ensures own { IfOk result (λ key. IsOwnKey secret.now asked.now.realm asked.now.client key) }
     ensures err { IfErr result (λ why.
@@ -120,7 +121,7 @@ pub(crate) fn key_of_next_reply(
     secret: &Secret,
     asked: &Asked,
     key: &Key,
-    reply: &KdcRepRef<'_, 11>,
+    reply: &KdcRepRef<'_, AS_REP>,
 ) -> Result<Key, LoginError>
     requires { IsOwnKey secret.now asked.now.realm asked.now.client key.now }
     // With a keytab it is that of the type that the reply is encrypted with.

@@ -10,6 +10,7 @@ use cred_files::Principal;
 use enctypes::Etype;
 use krb_der::KTime;
 use krb_elements::{KerberosString, Seq};
+use krb_fields::numbers::NT_SRV_INST;
 use krb_fields::{Flags, KdcOption, Moment, Name};
 use std::alloc::{AllocError, Global};
 
@@ -55,14 +56,11 @@ pub enum Renewal {
     Validate,
 }
 
-/// The name-type of a service with its instance, NT-SRV-INST (RFC 4120, section 6.2).
-const SERVICE_AND_INSTANCE: i32 = 2;
-
 /// Returns the name of the ticket-granting service of a realm, `krbtgt/REALM`.
 pub fn granting_service(alloc: Global, realm: &KerberosString) -> Result<Name, AllocError>
     ensures { IfOk result (λ name. name ≡ granting_service realm.now) }
 {
-    Name::new(alloc, SERVICE_AND_INSTANCE, &[b"krbtgt", realm.as_slice()])
+    Name::new(alloc, NT_SRV_INST, &[b"krbtgt", realm.as_slice()])
 }
 
 /// Returns the request for a first ticket.

@@ -1,5 +1,6 @@
 -- The assigned numbers and key lengths of the encryption types: RFC 3962, section 7; RFC 8009, section 5.
-use Rattle.std.specs.Prelude.{ℕ, ℤ, pos, Bool, true, false}
+use Rattle.std.specs.Prelude.{ℕ, ℤ, Bool, true, false}
+use Rattle.enctypes.specs.declared.numbers.TheConstants as numbers
 use Rattle.enctypes.specs.declared.etype.Etype.{Etype}
 use Rattle.enctypes.specs.declared.etype.Etype.TheVariants.{Aes128CtsHmacSha1_96, Aes256CtsHmacSha1_96}
 use Rattle.enctypes.specs.declared.etype.Etype.TheVariants.{Aes128CtsHmacSha256_128, Aes256CtsHmacSha384_192}
@@ -15,10 +16,10 @@ hash Aes256CtsHmacSha384_192 = Sha384
 
 -- the number that IANA assigned to the encryption type
 abbrev pub number : Etype → ℤ
-number Aes128CtsHmacSha1_96 = pos 17
-number Aes256CtsHmacSha1_96 = pos 18
-number Aes128CtsHmacSha256_128 = pos 19
-number Aes256CtsHmacSha384_192 = pos 20
+number Aes128CtsHmacSha1_96 = numbers.AES128_CTS_HMAC_SHA1_96
+number Aes256CtsHmacSha1_96 = numbers.AES256_CTS_HMAC_SHA1_96
+number Aes128CtsHmacSha256_128 = numbers.AES128_CTS_HMAC_SHA256_128
+number Aes256CtsHmacSha384_192 = numbers.AES256_CTS_HMAC_SHA384_192
 
 -- the length of a protocol key in bytes
 abbrev pub key_len : Etype → ℕ
@@ -52,10 +53,10 @@ mac_key_len Aes256CtsHmacSha384_192 = 24
 
 -- the number of the checksum type for the encryption type: RFC 3962, section 7; RFC 8009, section 6
 abbrev pub checksum_type : Etype → ℤ
-checksum_type Aes128CtsHmacSha1_96 = pos 15
-checksum_type Aes256CtsHmacSha1_96 = pos 16
-checksum_type Aes128CtsHmacSha256_128 = pos 19
-checksum_type Aes256CtsHmacSha384_192 = pos 20
+checksum_type Aes128CtsHmacSha1_96 = numbers.HMAC_SHA1_96_AES128
+checksum_type Aes256CtsHmacSha1_96 = numbers.HMAC_SHA1_96_AES256
+checksum_type Aes128CtsHmacSha256_128 = numbers.HMAC_SHA256_128_AES128
+checksum_type Aes256CtsHmacSha384_192 = numbers.HMAC_SHA384_192_AES256
 
 -- the default iteration count of string-to-key: RFC 3962, section 4; RFC 8009, section 4
 abbrev pub default_count : Etype → ℕ

@@ -1,5 +1,6 @@
 -- Key usage numbers: RFC 4120, section 7.5.1; 0 for the keys in the database of MIT's KDC.
 use Rattle.std.specs.Prelude.{ℕ}
+use Rattle.enctypes.specs.declared.numbers.TheConstants as numbers
 use Rattle.enctypes.specs.declared.key_usage.KeyUsage.{KeyUsage}
 use Rattle.enctypes.specs.declared.key_usage.KeyUsage.TheVariants.{PaEncTimestamp, Ticket}
 use Rattle.enctypes.specs.declared.key_usage.KeyUsage.TheVariants.{AsRepEncPart, TgsReqAuthenticatorChecksum}
@@ -8,14 +9,14 @@ use Rattle.enctypes.specs.declared.key_usage.KeyUsage.TheVariants.{TgsRepEncPart
 use Rattle.enctypes.specs.declared.key_usage.KeyUsage.TheVariants.{ApReqAuthenticator, ApRepEncPart, StoredKey}
 
 abbrev pub usage_number : KeyUsage → ℕ
-usage_number PaEncTimestamp = 1
-usage_number Ticket = 2
-usage_number AsRepEncPart = 3
-usage_number TgsReqAuthenticatorChecksum = 6
-usage_number TgsReqAuthenticator = 7
-usage_number TgsRepEncPartSessionKey = 8
-usage_number TgsRepEncPartSubkey = 9
-usage_number ApReqAuthenticatorChecksum = 10
-usage_number ApReqAuthenticator = 11
-usage_number ApRepEncPart = 12
+usage_number PaEncTimestamp = numbers.USAGE_PA_ENC_TIMESTAMP
+usage_number Ticket = numbers.USAGE_TICKET
+usage_number AsRepEncPart = numbers.USAGE_AS_REP_ENC_PART
+usage_number TgsReqAuthenticatorChecksum = numbers.USAGE_TGS_REQ_AUTHENTICATOR_CHECKSUM
+usage_number TgsReqAuthenticator = numbers.USAGE_TGS_REQ_AUTHENTICATOR
+usage_number TgsRepEncPartSessionKey = numbers.USAGE_TGS_REP_ENC_PART_SESSION_KEY
+usage_number TgsRepEncPartSubkey = numbers.USAGE_TGS_REP_ENC_PART_SUBKEY
+usage_number ApReqAuthenticatorChecksum = numbers.USAGE_AP_REQ_AUTHENTICATOR_CHECKSUM
+usage_number ApReqAuthenticator = numbers.USAGE_AP_REQ_AUTHENTICATOR
+usage_number ApRepEncPart = numbers.USAGE_AP_REP_ENC_PART
 usage_number StoredKey = 0

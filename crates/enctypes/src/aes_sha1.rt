@@ -4,10 +4,10 @@ ghost use Rattle.enctypes.specs.Etype.{hash, number, key_len, mac_key_len, mac_l
 ghost use Rattle.enctypes.specs.Sealing.{macs_cipher};
 ghost use Rattle.enctypes.specs.Suite.{constants_of};
 
-use crate::Etype;
 use crate::hash::Hash;
 use crate::mac_key::{MacKey, SHA1_MAC_LEN};
 use crate::suite::Suite;
+use crate::{Etype, numbers};
 use prf_kdf::HmacKey;
 
 /// aes128-cts-hmac-sha1-96.
@@ -24,7 +24,7 @@ impl Suite for Aes128CtsHmacSha1_96 {
 
     ghost NUMBER = { number types.Aes128CtsHmacSha1_96 };
 
-    const NUMBER: i32 = 17;
+    const NUMBER: i32 = numbers::AES128_CTS_HMAC_SHA1_96;
 
     ghost KEY_SIZE = { key_len types.Aes128CtsHmacSha1_96 };
 
@@ -44,7 +44,7 @@ impl Suite for Aes128CtsHmacSha1_96 {
 
     ghost CHECKSUM_TYPE = { checksum_type types.Aes128CtsHmacSha1_96 };
 
-    const CHECKSUM_TYPE: i32 = 15;
+    const CHECKSUM_TYPE: i32 = numbers::HMAC_SHA1_96_AES128;
 
     ghost DEFAULT_COUNT = { default_count types.Aes128CtsHmacSha1_96 };
 
@@ -71,7 +71,7 @@ impl Suite for Aes256CtsHmacSha1_96 {
 
     ghost NUMBER = { number types.Aes256CtsHmacSha1_96 };
 
-    const NUMBER: i32 = 18;
+    const NUMBER: i32 = numbers::AES256_CTS_HMAC_SHA1_96;
 
     ghost KEY_SIZE = { key_len types.Aes256CtsHmacSha1_96 };
 
@@ -91,7 +91,7 @@ impl Suite for Aes256CtsHmacSha1_96 {
 
     ghost CHECKSUM_TYPE = { checksum_type types.Aes256CtsHmacSha1_96 };
 
-    const CHECKSUM_TYPE: i32 = 16;
+    const CHECKSUM_TYPE: i32 = numbers::HMAC_SHA1_96_AES256;
 
     ghost DEFAULT_COUNT = { default_count types.Aes256CtsHmacSha1_96 };
 

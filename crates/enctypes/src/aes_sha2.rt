@@ -4,10 +4,10 @@ ghost use Rattle.enctypes.specs.Etype.{hash, number, key_len, mac_key_len, mac_l
 ghost use Rattle.enctypes.specs.Sealing.{macs_cipher};
 ghost use Rattle.enctypes.specs.Suite.{constants_of};
 
-use crate::Etype;
 use crate::hash::Hash;
 use crate::mac_key::{MacKey, SHA256_MAC_LEN, SHA384_MAC_LEN};
 use crate::suite::Suite;
+use crate::{Etype, numbers};
 use prf_kdf::HmacKey;
 
 /// aes128-cts-hmac-sha256-128.
@@ -24,7 +24,7 @@ impl Suite for Aes128CtsHmacSha256_128 {
 
     ghost NUMBER = { number types.Aes128CtsHmacSha256_128 };
 
-    const NUMBER: i32 = 19;
+    const NUMBER: i32 = numbers::AES128_CTS_HMAC_SHA256_128;
 
     ghost KEY_SIZE = { key_len types.Aes128CtsHmacSha256_128 };
 
@@ -44,7 +44,7 @@ impl Suite for Aes128CtsHmacSha256_128 {
 
     ghost CHECKSUM_TYPE = { checksum_type types.Aes128CtsHmacSha256_128 };
 
-    const CHECKSUM_TYPE: i32 = 19;
+    const CHECKSUM_TYPE: i32 = numbers::HMAC_SHA256_128_AES128;
 
     ghost DEFAULT_COUNT = { default_count types.Aes128CtsHmacSha256_128 };
 
@@ -71,7 +71,7 @@ impl Suite for Aes256CtsHmacSha384_192 {
 
     ghost NUMBER = { number types.Aes256CtsHmacSha384_192 };
 
-    const NUMBER: i32 = 20;
+    const NUMBER: i32 = numbers::AES256_CTS_HMAC_SHA384_192;
 
     ghost KEY_SIZE = { key_len types.Aes256CtsHmacSha384_192 };
 
@@ -91,7 +91,7 @@ impl Suite for Aes256CtsHmacSha384_192 {
 
     ghost CHECKSUM_TYPE = { checksum_type types.Aes256CtsHmacSha384_192 };
 
-    const CHECKSUM_TYPE: i32 = 20;
+    const CHECKSUM_TYPE: i32 = numbers::HMAC_SHA384_192_AES256;
 
     ghost DEFAULT_COUNT = { default_count types.Aes256CtsHmacSha384_192 };
 

@@ -2,6 +2,8 @@
 ghost use Rattle.std.specs.Prelude.{◌≡◌};
 ghost use Rattle.enctypes.specs.KeyUsage.{usage_number};
 
+use crate::numbers;
+
 /// A usage of keys by this KDC, its clients or its services. Each usage has derived keys of its own, which keeps the
 /// usages apart.
 #[derive(Debug, Clone, Copy, PartialEq, Eq)]
@@ -36,16 +38,16 @@ impl KeyUsage {
         ensures { result ≡ usage_number self }
     {
         match self {
-            KeyUsage::PaEncTimestamp => 1,
-            KeyUsage::Ticket => 2,
-            KeyUsage::AsRepEncPart => 3,
-            KeyUsage::TgsReqAuthenticatorChecksum => 6,
-            KeyUsage::TgsReqAuthenticator => 7,
-            KeyUsage::TgsRepEncPartSessionKey => 8,
-            KeyUsage::TgsRepEncPartSubkey => 9,
-            KeyUsage::ApReqAuthenticatorChecksum => 10,
-            KeyUsage::ApReqAuthenticator => 11,
-            KeyUsage::ApRepEncPart => 12,
+            KeyUsage::PaEncTimestamp => numbers::USAGE_PA_ENC_TIMESTAMP,
+            KeyUsage::Ticket => numbers::USAGE_TICKET,
+            KeyUsage::AsRepEncPart => numbers::USAGE_AS_REP_ENC_PART,
+            KeyUsage::TgsReqAuthenticatorChecksum => numbers::USAGE_TGS_REQ_AUTHENTICATOR_CHECKSUM,
+            KeyUsage::TgsReqAuthenticator => numbers::USAGE_TGS_REQ_AUTHENTICATOR,
+            KeyUsage::TgsRepEncPartSessionKey => numbers::USAGE_TGS_REP_ENC_PART_SESSION_KEY,
+            KeyUsage::TgsRepEncPartSubkey => numbers::USAGE_TGS_REP_ENC_PART_SUBKEY,
+            KeyUsage::ApReqAuthenticatorChecksum => numbers::USAGE_AP_REQ_AUTHENTICATOR_CHECKSUM,
+            KeyUsage::ApReqAuthenticator => numbers::USAGE_AP_REQ_AUTHENTICATOR,
+            KeyUsage::ApRepEncPart => numbers::USAGE_AP_REP_ENC_PART,
             KeyUsage::StoredKey => 0,
         }
     }

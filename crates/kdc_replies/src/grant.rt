@@ -7,6 +7,7 @@ ghost use Rattle.kdc_replies.specs.Grant.{IsShort, no_realms, ticket_part, reply
 use enctypes::Key;
 use krb_der::KTime;
 use krb_elements::{KerberosStringRef, Lent, Octets, Seq, UInt32};
+use krb_fields::numbers::DOMAIN_X500_COMPRESS;
 use krb_fields::{Flags, Name, Typed};
 use krb_types::{EncKdcRepPart, EncTicketPart, LastReq};
 use sealed_parts::key_part;
@@ -134,7 +135,7 @@ fn no_realms(alloc: Global) -> Typed
     ensures { result ≡ no_realms }
 {
     Typed {
-        number: 1,
+        number: DOMAIN_X500_COMPRESS,
         octets: Octets::new(Vec::new(alloc)),
     }
 }

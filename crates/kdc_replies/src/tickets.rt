@@ -11,7 +11,8 @@ use crate::grant::{Grant, LentName, LentRealm};
 use enctypes::{Key, KeyUsage};
 use krb_elements::{Lent, UInt32};
 use krb_fields::EncryptedData;
-use krb_types::{PVNO, Ticket};
+use krb_fields::numbers::PVNO;
+use krb_types::Ticket;
 use sealed_parts::{PartKey, ReadyKeys};
 use std::alloc::{AllocError, Global};
 

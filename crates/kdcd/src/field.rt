@@ -1,11 +1,12 @@
 //! The fields of a line.
-ghost use Rattle.std.specs.Prelude.{◌≡◌, ◌↔◌, ◌⊎◌, ◌^◌, ◌<◌, ℕ, pos, true, false, List, [], map, IsSome, IfSome, IfOk};
+ghost use Rattle.std.specs.Prelude.{◌≡◌, ◌↔◌, ◌⊎◌, ◌^◌, ◌<◌, ℕ, true, false, List, [], map, IsSome, IfSome, IfOk};
 ghost use Rattle.std.specs.Prelude.{IfErr, IfNone};
 ghost use Rattle.std.specs.Str.Parse.{IsNumeral, digits_value};
 ghost use Rattle.std.specs.Result.{result_ok};
 ghost use Rattle.hex.specs.Hex.{decode_sized};
 ghost use Rattle.krb_fields.specs.Name.{Components};
 ghost use Rattle.krb_fields.specs.NameText.{IsNameText, IsComponentText};
+ghost use Rattle.krb_fields.specs.declared.numbers.TheConstants.{NT_PRINCIPAL};
 ghost use Rattle.enctypes.specs.declared.key.Key as typed;
 ghost use Rattle.krb_fields.specs.declared.moment.Moment as moments;
 ghost use Rattle.principal_rows.specs.KeyList.{has_type_twice};
@@ -88,7 +89,8 @@ pub(crate) fn realm(alloc: Global, text: &str) -> Result<KerberosString, LineFau
 
 /// Reads the name of a principal. Returns `None` if the text is not a name.
 pub(crate) fn name(alloc: Global, text: &str) -> Result<Option<Name>, LineFault>
-    ensures name { IfOk result (λ name. IfSome name (λ n. IsNameText n.components text.now × (n.name_type ≡ pos 1))) }
+    ensures name { IfOk result (λ name. IfSome name (λ n.
+        IsNameText n.components text.now × (n.name_type ≡ NT_PRINCIPAL))) }
     ensures none { IfOk result (λ name. IfNone name ((n : Components) → ¬ IsNameText n text.now)) }
     ensures memory { IfErr result (λ fault. fault ≡ LineFault.Memory) }
 {

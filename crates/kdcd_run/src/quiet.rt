@@ -6,9 +6,7 @@ use kdc_core::TgsOutcome;
 use kdc_hub::{Account, Action};
 use kdc_reports::Refused;
 use krb_fields::Moment;
-
-/// The number of KRB_AP_ERR_SKEW (RFC 4120, section 7.5.9).
-const SKEW_ERROR: i32 = 37;
+use krb_fields::numbers::KRB_AP_ERR_SKEW;
 
 /// Returns the second before which refused requests get no reply, if the start is quiet.
 pub(crate) fn quiet_until(refused: Option<Refused>, is_quiet: bool) -> Option<i64>
@@ -57,7 +55,7 @@ fn is_skew(outcome: &TgsOutcome) -> bool
     ensures { result ≡ is_skew outcome.now }
 {
     match outcome {
-        TgsOutcome::Refused(refusal) => refusal.code().number() == SKEW_ERROR,
+        TgsOutcome::Refused(refusal) => refusal.code().number() == KRB_AP_ERR_SKEW,
         TgsOutcome::Issued(_) | TgsOutcome::Resent(_) | TgsOutcome::TooBig => false,
     }
 }

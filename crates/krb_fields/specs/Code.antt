@@ -1,5 +1,6 @@
 -- The numbers of the error codes (RFC 4120 section 7.5.9).
-use Rattle.std.specs.Prelude.{ℤ, pos}
+use Rattle.std.specs.Prelude.{ℤ}
+use Rattle.krb_fields.specs.declared.numbers.TheConstants as numbers
 use Rattle.krb_fields.specs.declared.code.Code.{Code}
 use Rattle.krb_fields.specs.declared.code.Code.TheVariants.{
   KdcErrNameExp,
@@ -43,41 +44,41 @@ use Rattle.krb_fields.specs.declared.code.Code.TheVariants.{
 }
 
 abbrev pub number_of : Code → ℤ
-number_of KdcErrNameExp = pos 1
-number_of KdcErrServiceExp = pos 2
-number_of KdcErrBadPvno = pos 3
-number_of KdcErrCPrincipalUnknown = pos 6
-number_of KdcErrSPrincipalUnknown = pos 7
-number_of KdcErrCannotPostdate = pos 10
-number_of KdcErrNeverValid = pos 11
-number_of KdcErrPolicy = pos 12
-number_of KdcErrBadoption = pos 13
-number_of KdcErrEtypeNosupp = pos 14
-number_of KdcErrSumtypeNosupp = pos 15
-number_of KdcErrPadataTypeNosupp = pos 16
-number_of KdcErrClientRevoked = pos 18
-number_of KdcErrServiceRevoked = pos 19
-number_of KdcErrTgtRevoked = pos 20
-number_of KdcErrKeyExpired = pos 23
-number_of KdcErrPreauthFailed = pos 24
-number_of KdcErrPreauthRequired = pos 25
-number_of KdcErrServerNomatch = pos 26
-number_of KdcErrSvcUnavailable = pos 29
-number_of KrbApErrBadIntegrity = pos 31
-number_of KrbApErrTktExpired = pos 32
-number_of KrbApErrTktNyv = pos 33
-number_of KrbApErrRepeat = pos 34
-number_of KrbApErrNotUs = pos 35
-number_of KrbApErrBadmatch = pos 36
-number_of KrbApErrSkew = pos 37
-number_of KrbApErrBadaddr = pos 38
-number_of KrbApErrBadversion = pos 39
-number_of KrbApErrMsgType = pos 40
-number_of KrbApErrModified = pos 41
-number_of KrbApErrBadkeyver = pos 44
-number_of KrbApErrNokey = pos 45
-number_of KrbApErrInappCksum = pos 50
-number_of KrbApPathNotAccepted = pos 51
-number_of KrbErrResponseTooBig = pos 52
-number_of KrbErrGeneric = pos 60
-number_of KrbErrFieldToolong = pos 61
+number_of KdcErrNameExp = numbers.KDC_ERR_NAME_EXP
+number_of KdcErrServiceExp = numbers.KDC_ERR_SERVICE_EXP
+number_of KdcErrBadPvno = numbers.KDC_ERR_BAD_PVNO
+number_of KdcErrCPrincipalUnknown = numbers.KDC_ERR_C_PRINCIPAL_UNKNOWN
+number_of KdcErrSPrincipalUnknown = numbers.KDC_ERR_S_PRINCIPAL_UNKNOWN
+number_of KdcErrCannotPostdate = numbers.KDC_ERR_CANNOT_POSTDATE
+number_of KdcErrNeverValid = numbers.KDC_ERR_NEVER_VALID
+number_of KdcErrPolicy = numbers.KDC_ERR_POLICY
+number_of KdcErrBadoption = numbers.KDC_ERR_BADOPTION
+number_of KdcErrEtypeNosupp = numbers.KDC_ERR_ETYPE_NOSUPP
+number_of KdcErrSumtypeNosupp = numbers.KDC_ERR_SUMTYPE_NOSUPP
+number_of KdcErrPadataTypeNosupp = numbers.KDC_ERR_PADATA_TYPE_NOSUPP
+number_of KdcErrClientRevoked = numbers.KDC_ERR_CLIENT_REVOKED
+number_of KdcErrServiceRevoked = numbers.KDC_ERR_SERVICE_REVOKED
+number_of KdcErrTgtRevoked = numbers.KDC_ERR_TGT_REVOKED
+number_of KdcErrKeyExpired = numbers.KDC_ERR_KEY_EXPIRED
+number_of KdcErrPreauthFailed = numbers.KDC_ERR_PREAUTH_FAILED
+number_of KdcErrPreauthRequired = numbers.KDC_ERR_PREAUTH_REQUIRED
+number_of KdcErrServerNomatch = numbers.KDC_ERR_SERVER_NOMATCH
+number_of KdcErrSvcUnavailable = numbers.KDC_ERR_SVC_UNAVAILABLE
+number_of KrbApErrBadIntegrity = numbers.KRB_AP_ERR_BAD_INTEGRITY
+number_of KrbApErrTktExpired = numbers.KRB_AP_ERR_TKT_EXPIRED
+number_of KrbApErrTktNyv = numbers.KRB_AP_ERR_TKT_NYV
+number_of KrbApErrRepeat = numbers.KRB_AP_ERR_REPEAT
+number_of KrbApErrNotUs = numbers.KRB_AP_ERR_NOT_US
+number_of KrbApErrBadmatch = numbers.KRB_AP_ERR_BADMATCH
+number_of KrbApErrSkew = numbers.KRB_AP_ERR_SKEW
+number_of KrbApErrBadaddr = numbers.KRB_AP_ERR_BADADDR
+number_of KrbApErrBadversion = numbers.KRB_AP_ERR_BADVERSION
+number_of KrbApErrMsgType = numbers.KRB_AP_ERR_MSG_TYPE
+number_of KrbApErrModified = numbers.KRB_AP_ERR_MODIFIED
+number_of KrbApErrBadkeyver = numbers.KRB_AP_ERR_BADKEYVER
+number_of KrbApErrNokey = numbers.KRB_AP_ERR_NOKEY
+number_of KrbApErrInappCksum = numbers.KRB_AP_ERR_INAPP_CKSUM
+number_of KrbApPathNotAccepted = numbers.KRB_AP_PATH_NOT_ACCEPTED
+number_of KrbErrResponseTooBig = numbers.KRB_ERR_RESPONSE_TOO_BIG
+number_of KrbErrGeneric = numbers.KRB_ERR_GENERIC
+number_of KrbErrFieldToolong = numbers.KRB_ERR_FIELD_TOOLONG

@@ -2,87 +2,88 @@
 ghost use Rattle.std.specs.Prelude.{◌≡◌};
 ghost use Rattle.krb_fields.specs.Code.{number_of};
 
+use crate::numbers;
 use std::fmt;
 
 /// An error code of RFC 4120 section 7.5.9 that this KDC or its services use.
 #[derive(Clone, Copy, Debug, PartialEq, Eq)]
 pub enum Code {
-    /// KDC_ERR_NAME_EXP, 1: the client's entry in the database has expired.
-    KdcErrNameExp = 1,
-    /// KDC_ERR_SERVICE_EXP, 2: the service's entry in the database has expired.
-    KdcErrServiceExp = 2,
-    /// KDC_ERR_BAD_PVNO, 3: the protocol version number is not supported.
-    KdcErrBadPvno = 3,
-    /// KDC_ERR_C_PRINCIPAL_UNKNOWN, 6: the client is not in the database.
-    KdcErrCPrincipalUnknown = 6,
-    /// KDC_ERR_S_PRINCIPAL_UNKNOWN, 7: the service is not in the database.
-    KdcErrSPrincipalUnknown = 7,
-    /// KDC_ERR_CANNOT_POSTDATE, 10: the ticket is not eligible for postdating.
-    KdcErrCannotPostdate = 10,
-    /// KDC_ERR_NEVER_VALID, 11: the requested start time is later than the end time.
-    KdcErrNeverValid = 11,
-    /// KDC_ERR_POLICY, 12: the KDC's policy rejects the request.
-    KdcErrPolicy = 12,
-    /// KDC_ERR_BADOPTION, 13: the KDC cannot accommodate a requested option.
-    KdcErrBadoption = 13,
-    /// KDC_ERR_ETYPE_NOSUPP, 14: the KDC has no support for the encryption types.
-    KdcErrEtypeNosupp = 14,
-    /// KDC_ERR_SUMTYPE_NOSUPP, 15: the KDC has no support for the checksum type.
-    KdcErrSumtypeNosupp = 15,
-    /// KDC_ERR_PADATA_TYPE_NOSUPP, 16: the KDC has no support for the type of padata.
-    KdcErrPadataTypeNosupp = 16,
-    /// KDC_ERR_CLIENT_REVOKED, 18: the client's credentials have been revoked.
-    KdcErrClientRevoked = 18,
-    /// KDC_ERR_SERVICE_REVOKED, 19: the service's credentials have been revoked.
-    KdcErrServiceRevoked = 19,
-    /// KDC_ERR_TGT_REVOKED, 20: the ticket-granting ticket has been revoked.
-    KdcErrTgtRevoked = 20,
-    /// KDC_ERR_KEY_EXPIRED, 23: the password has expired.
-    KdcErrKeyExpired = 23,
-    /// KDC_ERR_PREAUTH_FAILED, 24: the preauthentication information was invalid.
-    KdcErrPreauthFailed = 24,
-    /// KDC_ERR_PREAUTH_REQUIRED, 25: preauthentication is required.
-    KdcErrPreauthRequired = 25,
-    /// KDC_ERR_SERVER_NOMATCH, 26: the requested service and the ticket don't match.
-    KdcErrServerNomatch = 26,
-    /// KDC_ERR_SVC_UNAVAILABLE, 29: a service is not available.
-    KdcErrSvcUnavailable = 29,
-    /// KRB_AP_ERR_BAD_INTEGRITY, 31: the integrity check on a decrypted field failed.
-    KrbApErrBadIntegrity = 31,
-    /// KRB_AP_ERR_TKT_EXPIRED, 32: the ticket has expired.
-    KrbApErrTktExpired = 32,
-    /// KRB_AP_ERR_TKT_NYV, 33: the ticket is not yet valid.
-    KrbApErrTktNyv = 33,
-    /// KRB_AP_ERR_REPEAT, 34: the request is a replay.
-    KrbApErrRepeat = 34,
-    /// KRB_AP_ERR_NOT_US, 35: the ticket isn't for this service.
-    KrbApErrNotUs = 35,
-    /// KRB_AP_ERR_BADMATCH, 36: the ticket and the authenticator don't match.
-    KrbApErrBadmatch = 36,
-    /// KRB_AP_ERR_SKEW, 37: the clock skew is too great.
-    KrbApErrSkew = 37,
-    /// KRB_AP_ERR_BADADDR, 38: the network address is incorrect.
-    KrbApErrBadaddr = 38,
-    /// KRB_AP_ERR_BADVERSION, 39: the protocol versions differ.
-    KrbApErrBadversion = 39,
-    /// KRB_AP_ERR_MSG_TYPE, 40: the message type is invalid.
-    KrbApErrMsgType = 40,
-    /// KRB_AP_ERR_MODIFIED, 41: the message was modified.
-    KrbApErrModified = 41,
-    /// KRB_AP_ERR_BADKEYVER, 44: the specified key version is not available.
-    KrbApErrBadkeyver = 44,
-    /// KRB_AP_ERR_NOKEY, 45: the key of the service is not available.
-    KrbApErrNokey = 45,
-    /// KRB_AP_ERR_INAPP_CKSUM, 50: the type of checksum is inappropriate.
-    KrbApErrInappCksum = 50,
-    /// KRB_AP_PATH_NOT_ACCEPTED, 51: the policy rejects the transited path.
-    KrbApPathNotAccepted = 51,
-    /// KRB_ERR_RESPONSE_TOO_BIG, 52: the response is too big for UDP.
-    KrbErrResponseTooBig = 52,
-    /// KRB_ERR_GENERIC, 60: a generic error.
-    KrbErrGeneric = 60,
-    /// KRB_ERR_FIELD_TOOLONG, 61: a field is too long for this implementation.
-    KrbErrFieldToolong = 61,
+    /// KDC_ERR_NAME_EXP: the client's entry in the database has expired.
+    KdcErrNameExp = numbers::KDC_ERR_NAME_EXP as isize,
+    /// KDC_ERR_SERVICE_EXP: the service's entry in the database has expired.
+    KdcErrServiceExp = numbers::KDC_ERR_SERVICE_EXP as isize,
+    /// KDC_ERR_BAD_PVNO: the protocol version number is not supported.
+    KdcErrBadPvno = numbers::KDC_ERR_BAD_PVNO as isize,
+    /// KDC_ERR_C_PRINCIPAL_UNKNOWN: the client is not in the database.
+    KdcErrCPrincipalUnknown = numbers::KDC_ERR_C_PRINCIPAL_UNKNOWN as isize,
+    /// KDC_ERR_S_PRINCIPAL_UNKNOWN: the service is not in the database.
+    KdcErrSPrincipalUnknown = numbers::KDC_ERR_S_PRINCIPAL_UNKNOWN as isize,
+    /// KDC_ERR_CANNOT_POSTDATE: the ticket is not eligible for postdating.
+    KdcErrCannotPostdate = numbers::KDC_ERR_CANNOT_POSTDATE as isize,
+    /// KDC_ERR_NEVER_VALID: the requested start time is later than the end time.
+    KdcErrNeverValid = numbers::KDC_ERR_NEVER_VALID as isize,
+    /// KDC_ERR_POLICY: the KDC's policy rejects the request.
+    KdcErrPolicy = numbers::KDC_ERR_POLICY as isize,
+    /// KDC_ERR_BADOPTION: the KDC cannot accommodate a requested option.
+    KdcErrBadoption = numbers::KDC_ERR_BADOPTION as isize,
+    /// KDC_ERR_ETYPE_NOSUPP: the KDC has no support for the encryption types.
+    KdcErrEtypeNosupp = numbers::KDC_ERR_ETYPE_NOSUPP as isize,
+    /// KDC_ERR_SUMTYPE_NOSUPP: the KDC has no support for the checksum type.
+    KdcErrSumtypeNosupp = numbers::KDC_ERR_SUMTYPE_NOSUPP as isize,
+    /// KDC_ERR_PADATA_TYPE_NOSUPP: the KDC has no support for the type of padata.
+    KdcErrPadataTypeNosupp = numbers::KDC_ERR_PADATA_TYPE_NOSUPP as isize,
+    /// KDC_ERR_CLIENT_REVOKED: the client's credentials have been revoked.
+    KdcErrClientRevoked = numbers::KDC_ERR_CLIENT_REVOKED as isize,
+    /// KDC_ERR_SERVICE_REVOKED: the service's credentials have been revoked.
+    KdcErrServiceRevoked = numbers::KDC_ERR_SERVICE_REVOKED as isize,
+    /// KDC_ERR_TGT_REVOKED: the ticket-granting ticket has been revoked.
+    KdcErrTgtRevoked = numbers::KDC_ERR_TGT_REVOKED as isize,
+    /// KDC_ERR_KEY_EXPIRED: the password has expired.
+    KdcErrKeyExpired = numbers::KDC_ERR_KEY_EXPIRED as isize,
+    /// KDC_ERR_PREAUTH_FAILED: the preauthentication information was invalid.
+    KdcErrPreauthFailed = numbers::KDC_ERR_PREAUTH_FAILED as isize,
+    /// KDC_ERR_PREAUTH_REQUIRED: preauthentication is required.
+    KdcErrPreauthRequired = numbers::KDC_ERR_PREAUTH_REQUIRED as isize,
+    /// KDC_ERR_SERVER_NOMATCH: the requested service and the ticket don't match.
+    KdcErrServerNomatch = numbers::KDC_ERR_SERVER_NOMATCH as isize,
+    /// KDC_ERR_SVC_UNAVAILABLE: a service is not available.
+    KdcErrSvcUnavailable = numbers::KDC_ERR_SVC_UNAVAILABLE as isize,
+    /// KRB_AP_ERR_BAD_INTEGRITY: the integrity check on a decrypted field failed.
+    KrbApErrBadIntegrity = numbers::KRB_AP_ERR_BAD_INTEGRITY as isize,
+    /// KRB_AP_ERR_TKT_EXPIRED: the ticket has expired.
+    KrbApErrTktExpired = numbers::KRB_AP_ERR_TKT_EXPIRED as isize,
+    /// KRB_AP_ERR_TKT_NYV: the ticket is not yet valid.
+    KrbApErrTktNyv = numbers::KRB_AP_ERR_TKT_NYV as isize,
+    /// KRB_AP_ERR_REPEAT: the request is a replay.
+    KrbApErrRepeat = numbers::KRB_AP_ERR_REPEAT as isize,
+    /// KRB_AP_ERR_NOT_US: the ticket isn't for this service.
+    KrbApErrNotUs = numbers::KRB_AP_ERR_NOT_US as isize,
+    /// KRB_AP_ERR_BADMATCH: the ticket and the authenticator don't match.
+    KrbApErrBadmatch = numbers::KRB_AP_ERR_BADMATCH as isize,
+    /// KRB_AP_ERR_SKEW: the clock skew is too great.
+    KrbApErrSkew = numbers::KRB_AP_ERR_SKEW as isize,
+    /// KRB_AP_ERR_BADADDR: the network address is incorrect.
+    KrbApErrBadaddr = numbers::KRB_AP_ERR_BADADDR as isize,
+    /// KRB_AP_ERR_BADVERSION: the protocol versions differ.
+    KrbApErrBadversion = numbers::KRB_AP_ERR_BADVERSION as isize,
+    /// KRB_AP_ERR_MSG_TYPE: the message type is invalid.
+    KrbApErrMsgType = numbers::KRB_AP_ERR_MSG_TYPE as isize,
+    /// KRB_AP_ERR_MODIFIED: the message was modified.
+    KrbApErrModified = numbers::KRB_AP_ERR_MODIFIED as isize,
+    /// KRB_AP_ERR_BADKEYVER: the specified key version is not available.
+    KrbApErrBadkeyver = numbers::KRB_AP_ERR_BADKEYVER as isize,
+    /// KRB_AP_ERR_NOKEY: the key of the service is not available.
+    KrbApErrNokey = numbers::KRB_AP_ERR_NOKEY as isize,
+    /// KRB_AP_ERR_INAPP_CKSUM: the type of checksum is inappropriate.
+    KrbApErrInappCksum = numbers::KRB_AP_ERR_INAPP_CKSUM as isize,
+    /// KRB_AP_PATH_NOT_ACCEPTED: the policy rejects the transited path.
+    KrbApPathNotAccepted = numbers::KRB_AP_PATH_NOT_ACCEPTED as isize,
+    /// KRB_ERR_RESPONSE_TOO_BIG: the response is too big for UDP.
+    KrbErrResponseTooBig = numbers::KRB_ERR_RESPONSE_TOO_BIG as isize,
+    /// KRB_ERR_GENERIC: a generic error.
+    KrbErrGeneric = numbers::KRB_ERR_GENERIC as isize,
+    /// KRB_ERR_FIELD_TOOLONG: a field is too long for this implementation.
+    KrbErrFieldToolong = numbers::KRB_ERR_FIELD_TOOLONG as isize,
 }
 
 impl Code {

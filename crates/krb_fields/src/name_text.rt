@@ -7,7 +7,7 @@ ghost use Rattle.std.specs.Prelude.{◌≡◌, ◌≢◌, ◌<◌, ◌++◌, ◌
 ghost use Rattle.std.specs.Prelude.{MatchResult};
 ghost use Rattle.std.specs.List.{list_all};
 ghost use Rattle.std.specs.Str.{IsAscii};
-ghost use Rattle.std.specs.Prelude.{pos, string_bytes};
+ghost use Rattle.std.specs.Prelude.{string_bytes};
 ghost use Rattle.krb_fields.specs.Name.{Components};
 ghost use Rattle.krb_fields.specs.NameLimits.{IsWithinLimits};
 ghost use Rattle.krb_fields.specs.NameText.{is_plain, hex_digit, digits_of, octet_text, component_text, text_of};
@@ -16,13 +16,11 @@ ghost use Rattle.krb_fields.specs.declared.name_text.NameFault.TheVariants.{Memo
 
 use crate::Name;
 use crate::name_limits::{MAX_COMPONENTS, MAX_OCTETS};
+use crate::numbers::NT_PRINCIPAL;
 use krb_elements::{KerberosString, Seq};
 use std::alloc::{AllocError, AllocFailed, Global};
 use std::error::Error;
 use std::fmt;
-
-/// The name-type NT-PRINCIPAL (RFC 4120, section 6.2), which names read from text get.
-pub const NT_PRINCIPAL: i32 = 1;
 
 /// The room that a name's text gets at first. A longer one gets more.
 const USUAL_TEXT: usize = 32;
@@ -68,7 +66,7 @@ impl Name {
     /// Fails with `BadName` if the text is not that of such a name.
     pub fn from_text(alloc: Global, text: &str) -> Result<Name, NameFault>
         ensures ok { IfOk result (λ name. IsNameText name.components text.now) }
-        ensures name_type { IfOk result (λ name. name.name_type ≡ pos 1) }
+        ensures name_type { IfOk result (λ name. name.name_type ≡ NT_PRINCIPAL) }
         ensures read { (n : Components) → IsNameText n text.now
             → MatchResult result (λ name. name.components ≡ n) (λ fault. fault ≡ Memory) }
     {

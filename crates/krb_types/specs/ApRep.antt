@@ -2,6 +2,7 @@
 use Rattle.std.proofs.Common.{pos, refl}
 use Rattle.krb_elements.specs.Codec.{Codec, Record, field, end, sequence, application, fixed}
 use Rattle.krb_elements.specs.OneSpellingLaws.{HasOneSpelling}
+use Rattle.krb_fields.specs.declared.numbers.TheConstants.{PVNO, AP_REP}
 use Rattle.krb_fields.specs.EncryptedData.{EncryptedData, encrypted_data, encrypted_data_form}
 use Rattle.krb_types.specs.declared.ap_rep.ApRep as trees
 
@@ -12,8 +13,8 @@ ApRep = trees.ApRep EncryptedData
 unfoldable pub ap_rep_form : {E : Type 0} → Codec E → Record (trees.ApRep E)
 ap_rep_form e = record {
   fields =
-      field 0 (λ x. tt) (fixed (pos 5) refl refl)
-      (field 1 (λ x. tt) (fixed (pos 15) refl refl)
+      field 0 (λ x. tt) (fixed PVNO refl refl)
+      (field 1 (λ x. tt) (fixed (pos AP_REP) refl refl)
       (field 2 (λ x. x.enc_part) e
       end));
   to = λ (_, (_, (enc_part, _))). record { enc_part = enc_part };
@@ -23,7 +24,7 @@ ap_rep_form e = record {
 }
 
 abbrev pub ap_rep_of : {E : Type 0} → Codec E → Codec (trees.ApRep E)
-ap_rep_of e = application 15 (sequence (ap_rep_form e))
+ap_rep_of e = application AP_REP (sequence (ap_rep_form e))
 
 abbrev pub ap_rep : Codec ApRep
 ap_rep = ap_rep_of encrypted_data

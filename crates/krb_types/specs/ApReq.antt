@@ -1,6 +1,7 @@
 -- AP-REQ (RFC 4120, section 5.5.1).
 use Rattle.std.proofs.Common.{ℕ, ◌<◌, List, length, refl}
 use Rattle.krb_elements.specs.Codec.{Codec, Record, field, end, sequence, application, int32, flags}
+use Rattle.krb_fields.specs.declared.numbers.TheConstants.{AP_REQ}
 use Rattle.krb_fields.specs.EncryptedData.{EncryptedData, encrypted_data}
 use Rattle.krb_types.specs.Ticket.{Ticket, ticket}
 use Rattle.krb_types.specs.declared.ap_req.ApReq as trees
@@ -30,7 +31,7 @@ ap_req_form t e = record {
 }
 
 abbrev pub ap_req_of : {T E : Type 0} → Codec T → Codec E → Codec (trees.ApReq T E)
-ap_req_of t e = application 14 (sequence (ap_req_form t e))
+ap_req_of t e = application AP_REQ (sequence (ap_req_form t e))
 
 abbrev pub ap_req : Codec ApReq
 ap_req = ap_req_of ticket encrypted_data

@@ -1,7 +1,8 @@
 -- Authenticator (RFC 4120, section 5.5.1).
-use Rattle.std.proofs.Common.{pos, ℕ, List, refl}
+use Rattle.std.proofs.Common.{ℕ, List, refl}
 use Rattle.krb_elements.specs.Codec.{Codec, Record, field, optional, end, sequence, application, list_of, fixed}
 use Rattle.krb_elements.specs.Codec.{microseconds, time, uint32, string}
+use Rattle.krb_fields.specs.declared.numbers.TheConstants.{PVNO, AUTHENTICATOR}
 use Rattle.krb_fields.specs.PrincipalName.{Name, name}
 use Rattle.krb_fields.specs.Typed.{Typed, typed}
 use Rattle.krb_types.specs.declared.authenticator.Authenticator as trees
@@ -13,7 +14,7 @@ unfoldable pub authenticator_form : {S N T L : Type 0} → Codec S → Codec N �
     → Record (trees.Authenticator S N T L)
 authenticator_form s n t l = record {
   fields =
-      field 0 (λ x. tt) (fixed (pos 5) refl refl)
+      field 0 (λ x. tt) (fixed PVNO refl refl)
       (field 1 (λ x. x.crealm) s
       (field 2 (λ x. x.cname) n
       (optional 3 (λ x. x.cksum) t
@@ -40,7 +41,7 @@ authenticator_form s n t l = record {
 
 abbrev pub authenticator_of : {S N T L : Type 0} → Codec S → Codec N → Codec T → Codec L
     → Codec (trees.Authenticator S N T L)
-authenticator_of s n t l = application 2 (sequence (authenticator_form s n t l))
+authenticator_of s n t l = application AUTHENTICATOR (sequence (authenticator_form s n t l))
 
 abbrev pub authenticator : Codec Authenticator
 authenticator = authenticator_of string name typed (list_of typed)

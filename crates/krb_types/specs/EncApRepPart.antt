@@ -2,6 +2,7 @@
 use Rattle.std.proofs.Common.{refl}
 use Rattle.krb_elements.specs.Codec.{Codec, Record, field, optional, end, sequence, application, microseconds, time}
 use Rattle.krb_elements.specs.Codec.{uint32}
+use Rattle.krb_fields.specs.declared.numbers.TheConstants.{ENC_AP_REP_PART}
 use Rattle.krb_fields.specs.Typed.{Typed, typed}
 use Rattle.krb_types.specs.declared.enc_ap_rep_part.EncApRepPart as trees
 
@@ -24,7 +25,7 @@ enc_ap_rep_part_form t = record {
 }
 
 abbrev pub enc_ap_rep_part_of : {T : Type 0} → Codec T → Codec (trees.EncApRepPart T)
-enc_ap_rep_part_of t = application 27 (sequence (enc_ap_rep_part_form t))
+enc_ap_rep_part_of t = application ENC_AP_REP_PART (sequence (enc_ap_rep_part_form t))
 
 abbrev pub enc_ap_rep_part : Codec EncApRepPart
 enc_ap_rep_part = enc_ap_rep_part_of typed

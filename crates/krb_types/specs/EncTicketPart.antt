@@ -2,6 +2,7 @@
 use Rattle.std.proofs.Common.{ℕ, List, refl}
 use Rattle.krb_elements.specs.Codec.{Codec, Record, field, optional, end, sequence, application, list_of, flags, time}
 use Rattle.krb_elements.specs.Codec.{string}
+use Rattle.krb_fields.specs.declared.numbers.TheConstants.{ENC_TICKET_PART}
 use Rattle.krb_fields.specs.PrincipalName.{Name, name}
 use Rattle.krb_fields.specs.Typed.{Typed, typed}
 use Rattle.krb_types.specs.declared.enc_ticket_part.EncTicketPart as trees
@@ -45,7 +46,7 @@ enc_ticket_part_form t s n l = record {
 
 abbrev pub enc_ticket_part_of : {T S N L : Type 0} → Codec T → Codec S → Codec N → Codec L
     → Codec (trees.EncTicketPart T S N L)
-enc_ticket_part_of t s n l = application 3 (sequence (enc_ticket_part_form t s n l))
+enc_ticket_part_of t s n l = application ENC_TICKET_PART (sequence (enc_ticket_part_form t s n l))
 
 abbrev pub enc_ticket_part : Codec EncTicketPart
 enc_ticket_part = enc_ticket_part_of typed string name (list_of typed)

@@ -6,6 +6,7 @@ use Rattle.std.specs.Int.Bits.{mask_lt}
 use Rattle.std.proofs.lemmas.Int.{ints}
 use Rattle.krb_elements.specs.Codec.{Codec, Record, field, optional, end, sequence, list_of, fixed, string}
 use Rattle.krb_elements.specs.Simple.{IsInt32, is_within}
+use Rattle.krb_fields.specs.declared.numbers.TheConstants.{PVNO}
 use Rattle.krb_fields.specs.EncryptedData.{EncryptedData, encrypted_data}
 use Rattle.krb_fields.specs.PaData.{PaData, pa_data}
 use Rattle.krb_fields.specs.PrincipalName.{Name, name}
@@ -32,7 +33,7 @@ unfoldable pub kdc_rep_form : {P S N T E : Type 0} → (type : ℕ) → Codec P 
     → Record (trees.KdcRep type P S N T E)
 kdc_rep_form type p s n t e = record {
   fields =
-      field 0 (λ x. tt) (fixed (pos 5) refl refl)
+      field 0 (λ x. tt) (fixed PVNO refl refl)
       (field 1 (λ x. tt) (message_type type)
       (optional 2 (λ x. x.padata) p
       (field 3 (λ x. x.crealm) s

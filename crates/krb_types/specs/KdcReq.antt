@@ -11,6 +11,7 @@ use Rattle.krb_elements.specs.Laws.{IsElement}
 use Rattle.krb_elements.specs.Sent.{WithOctets}
 use Rattle.krb_elements.specs.Spells.{InTagOf, Field, Optional, OptionalOf, Sent, End}
 use Rattle.krb_elements.specs.WrittenLaws.{tlv_longer}
+use Rattle.krb_fields.specs.declared.numbers.TheConstants.{AS_REQ, TGS_REQ}
 use Rattle.krb_fields.specs.PaData.{PaData, pa_data}
 use Rattle.krb_types.specs.ReqBody.{ReqBody, req_body}
 use Rattle.krb_types.specs.declared.kdc_req.Exchange.{Exchange}
@@ -50,8 +51,8 @@ received_form = record {
 
 -- the message type, which is also the number of its APPLICATION tag
 abbrev pub request_type : Exchange → ℕ
-request_type As = 10
-request_type Tgs = 12
+request_type As = AS_REQ
+request_type Tgs = TGS_REQ
 
 abbrev pub message_tag : Exchange → ℕ
 message_tag exchange = 96 + request_type exchange

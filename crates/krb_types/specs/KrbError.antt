@@ -3,6 +3,7 @@ use Rattle.std.proofs.Common.{ℕ, pos, List, refl}
 use Rattle.krb_elements.specs.Codec.{Codec, Record, field, optional, end, sequence, application, int32, microseconds}
 use Rattle.krb_elements.specs.Codec.{fixed, time, octets, string}
 use Rattle.krb_elements.specs.OneSpellingLaws.{HasOneSpelling}
+use Rattle.krb_fields.specs.declared.numbers.TheConstants.{PVNO, KRB_ERROR}
 use Rattle.krb_fields.specs.PrincipalName.{Name, name, name_form}
 use Rattle.krb_types.specs.declared.krb_error.KrbError as trees
 
@@ -13,8 +14,8 @@ KrbError = trees.KrbError (List ℕ) Name (List ℕ)
 unfoldable pub krb_error_form : {S N O : Type 0} → Codec S → Codec N → Codec O → Record (trees.KrbError S N O)
 krb_error_form s n o = record {
   fields =
-      field 0 (λ x. tt) (fixed (pos 5) refl refl)
-      (field 1 (λ x. tt) (fixed (pos 30) refl refl)
+      field 0 (λ x. tt) (fixed PVNO refl refl)
+      (field 1 (λ x. tt) (fixed (pos KRB_ERROR) refl refl)
       (optional 2 (λ x. x.ctime) time
       (optional 3 (λ x. x.cusec) microseconds
       (field 4 (λ x. x.stime) time
@@ -46,7 +47,7 @@ krb_error_form s n o = record {
 }
 
 abbrev pub krb_error_of : {S N O : Type 0} → Codec S → Codec N → Codec O → Codec (trees.KrbError S N O)
-krb_error_of s n o = application 30 (sequence (krb_error_form s n o))
+krb_error_of s n o = application KRB_ERROR (sequence (krb_error_form s n o))
 
 abbrev pub krb_error : Codec KrbError
 krb_error = krb_error_of string name octets

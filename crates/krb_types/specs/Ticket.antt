@@ -1,6 +1,7 @@
 -- Ticket (RFC 4120, section 5.3).
 use Rattle.std.proofs.Common.{ℕ, List, refl}
 use Rattle.krb_elements.specs.Codec.{Codec, Record, field, end, sequence, application, int32, string}
+use Rattle.krb_fields.specs.declared.numbers.TheConstants.{TICKET}
 use Rattle.krb_fields.specs.PrincipalName.{Name, name}
 use Rattle.krb_fields.specs.EncryptedData.{EncryptedData, encrypted_data}
 use Rattle.krb_types.specs.declared.ticket.Ticket as trees
@@ -24,7 +25,7 @@ ticket_form s n e = record {
 }
 
 abbrev pub ticket_of : {S N E : Type 0} → Codec S → Codec N → Codec E → Codec (trees.Ticket S N E)
-ticket_of s n e = application 1 (sequence (ticket_form s n e))
+ticket_of s n e = application TICKET (sequence (ticket_form s n e))
 
 abbrev pub ticket : Codec Ticket
 ticket = ticket_of string name encrypted_data

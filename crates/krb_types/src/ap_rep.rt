@@ -5,12 +5,12 @@ ghost use Rattle.krb_elements.specs.Format.{Decodes, IsReadUnlessMemory, whole};
 ghost use Rattle.krb_types.specs.ApRep.{ap_rep, ap_rep_of, ap_rep_form};
 ghost use Rattle.krb_types.specs.ApRep as trees;
 
-use crate::numbers::{AP_REP, PVNO};
 use krb_der::{DerFault, Reader, Writer};
 use krb_elements::{
     Application, Coded, Decode, DecodeFields, Encode, EncodeFields, Fault, Fielded, MakeOwned,
     ReadOwned, read, read_owned, take_field, take_fixed, write, write_field,
 };
+use krb_fields::numbers::{AP_REP, PVNO};
 use krb_fields::{EncryptedData, EncryptedDataRef};
 use std::alloc::{AllocError, Global};
 

@@ -5,13 +5,13 @@ ghost use Rattle.krb_elements.specs.Format.{Decodes, IsReadUnlessMemory, Sees, w
 ghost use Rattle.krb_types.specs.ApReq.{ap_req, ap_req_of, ap_req_form, HasShorterParts};
 ghost use Rattle.krb_types.specs.ApReq as trees;
 
-use crate::numbers::AP_REQ;
 use crate::ticket::{Ticket, TicketRef};
 use krb_der::{DerFault, Reader, Writer};
 use krb_elements::{
     Application, Coded, Decode, DecodeFields, Encode, EncodeFields, Fault, Fielded, MakeOwned,
     ReadOwned, read, read_owned, take_field, write, write_field,
 };
+use krb_fields::numbers::AP_REQ;
 use krb_fields::{EncryptedData, EncryptedDataRef, Flags};
 use std::alloc::{AllocError, Global};
 

@@ -11,6 +11,7 @@ use krb_elements::{
     KerberosStringRef, MakeOwned, Microseconds, ReadOwned, Seq, SeqRef, UInt32, read, read_owned,
     take_field, take_fixed, take_optional, write, write_field, write_optional,
 };
+use krb_fields::numbers::{AUTHENTICATOR, PVNO};
 use krb_fields::{Name, NameRef, Typed, TypedRef};
 use std::alloc::{AllocError, Global};
 
@@ -42,7 +43,7 @@ impl<S: Coded, N: Coded, T: Coded, L: Coded> Coded for Authenticator<S, N, T, L>
 }
 
 impl<S: Coded, N: Coded, T: Coded, L: Coded> Fielded for Authenticator<S, N, T, L> {
-    type In = Application<2>;
+    type In = Application<AUTHENTICATOR>;
 
     ghost form = { authenticator_form S.codec N.codec T.codec L.codec };
 
@@ -53,7 +54,7 @@ impl<'a, S: Decode<'a>, N: Decode<'a>, T: Decode<'a>, L: Decode<'a>> DecodeField
     for Authenticator<S, N, T, L> {
     #[tactic(auto, unfolding(crate::specs::Authenticator::authenticator_form))]
     fn look_fields(fields: &mut Reader<'a>) -> Result<Authenticator<S, N, T, L>, DerFault> {
-        take_fixed(fields, 0, 5)?;
+        take_fixed(fields, 0, PVNO)?;
         Ok(Authenticator {
             crealm: take_field(fields, 1)?,
             cname: take_field(fields, 2)?,
@@ -70,7 +71,7 @@ impl<'a, S: Decode<'a>, N: Decode<'a>, T: Decode<'a>, L: Decode<'a>> DecodeField
 impl<S: Encode, N: Encode, T: Encode, L: Encode> EncodeFields for Authenticator<S, N, T, L> {
     #[tactic(auto, unfolding(crate::specs::Authenticator::authenticator_form))]
     fn put_fields(&self, out: &mut Writer) -> Result<(), AllocError> {
-        write_field(out, 0, &5i32)?;
+        write_field(out, 0, &PVNO)?;
         write_field(out, 1, &self.crealm)?;
         write_field(out, 2, &self.cname)?;
         write_optional(out, 3, &self.cksum)?;

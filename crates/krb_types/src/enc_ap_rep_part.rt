@@ -11,6 +11,7 @@ use krb_elements::{
     Microseconds, ReadOwned, UInt32, read, read_owned, take_field, take_optional, write,
     write_field, write_optional,
 };
+use krb_fields::numbers::ENC_AP_REP_PART;
 use krb_fields::{Typed, TypedRef};
 use std::alloc::{AllocError, Global};
 
@@ -31,7 +32,7 @@ impl<T: Coded> Coded for EncApRepPart<T> {
 }
 
 impl<T: Coded> Fielded for EncApRepPart<T> {
-    type In = Application<27>;
+    type In = Application<ENC_AP_REP_PART>;
 
     ghost form = { enc_ap_rep_part_form T.codec };
 

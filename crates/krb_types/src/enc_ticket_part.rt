@@ -11,6 +11,7 @@ use krb_elements::{
     KerberosStringRef, MakeOwned, ReadOwned, Seq, SeqRef, read, read_owned, take_field,
     take_optional, write, write_field, write_optional,
 };
+use krb_fields::numbers::ENC_TICKET_PART;
 use krb_fields::{Flags, Name, NameRef, Typed, TypedRef};
 use std::alloc::{AllocError, Global};
 
@@ -50,7 +51,7 @@ impl<T: Coded, S: Coded, N: Coded, L: Coded> Coded for EncTicketPart<T, S, N, L>
 }
 
 impl<T: Coded, S: Coded, N: Coded, L: Coded> Fielded for EncTicketPart<T, S, N, L> {
-    type In = Application<3>;
+    type In = Application<ENC_TICKET_PART>;
 
     ghost form = { enc_ticket_part_form T.codec S.codec N.codec L.codec };
 

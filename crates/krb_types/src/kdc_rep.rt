@@ -8,7 +8,6 @@ ghost use Rattle.krb_elements.specs.Codec.{itself};
 ghost use Rattle.krb_types.specs.KdcRep.{kdc_rep, kdc_rep_of, kdc_rep_form, message_type};
 ghost use Rattle.krb_types.specs.KdcRep as trees;
 
-use crate::numbers::{AS_REP, PVNO, TGS_REP};
 use crate::ticket::{Ticket, TicketRef};
 use krb_der::{DerFault, Reader, Writer};
 use krb_elements::{
@@ -16,6 +15,7 @@ use krb_elements::{
     KerberosStringRef, MakeOwned, ReadOwned, Seq, SeqRef, read, take_field, take_fixed,
     take_optional, write_field, write_optional,
 };
+use krb_fields::numbers::{AS_REP, PVNO, TGS_REP};
 use krb_fields::{EncryptedData, EncryptedDataRef, Name, NameRef, PaData, PaDataRef};
 use std::alloc::{AllocError, Global};
 

@@ -7,7 +7,6 @@ ghost use Rattle.krb_types.specs.KdcReq.{SpellsKdcReq, SpellsReceived, received_
 ghost use Rattle.krb_types.specs.ShortNameLaws.{IsShorter};
 ghost use Rattle.krb_types.specs.declared.kdc_req.Exchange as exchanges;
 
-use crate::numbers::{AS_REQ, TGS_REQ};
 use crate::req_body::{ReqBody, ReqBodyRef};
 use krb_der::{DerFault, Reader, Writer};
 use krb_elements::{
@@ -15,6 +14,7 @@ use krb_elements::{
     end_of, look_either, take_field, take_optional, take_sent, write_field, write_inside,
     write_optional,
 };
+use krb_fields::numbers::{AS_REQ, TGS_REQ};
 use krb_fields::{PaData, PaDataRef};
 use std::alloc::{AllocError, Global};
 

@@ -5,13 +5,13 @@ ghost use Rattle.krb_elements.specs.Format.{Decodes, IsReadUnlessMemory, whole};
 ghost use Rattle.krb_types.specs.KrbError.{krb_error, krb_error_of, krb_error_form};
 ghost use Rattle.krb_types.specs.KrbError as trees;
 
-use crate::numbers::{KRB_ERROR, PVNO};
 use krb_der::{DerFault, KTime, Reader, Writer};
 use krb_elements::{
     Application, Coded, Decode, DecodeFields, Encode, EncodeFields, Fault, Fielded, KerberosString,
     KerberosStringRef, MakeOwned, Microseconds, Octets, OctetsRef, ReadOwned, read, read_owned,
     take_field, take_fixed, take_optional, write, write_field, write_optional,
 };
+use krb_fields::numbers::{KRB_ERROR, PVNO};
 use krb_fields::{Name, NameRef};
 use std::alloc::{AllocError, Global};
 

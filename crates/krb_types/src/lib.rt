@@ -29,7 +29,6 @@ mod kdc_req;
 mod kdc_req_owned;
 mod krb_error;
 mod last_req;
-mod numbers;
 mod pa_enc_ts_enc;
 mod req_body;
 mod requests;
@@ -54,10 +53,6 @@ pub use kdc_rep::{AsRep, KdcRep, KdcRepRef, TgsRep, read_kdc_rep};
 pub use kdc_req::{Exchange, KdcReq, KdcReqRef, encode_kdc_req, read_kdc_req};
 pub use krb_error::{KrbError, KrbErrorRef, decode_krb_error, encode_krb_error};
 pub use last_req::LastReq;
-pub use numbers::{
-    AP_REP, AP_REQ, AS_REP, AS_REQ, ENC_AS_REP_PART, ENC_TGS_REP_PART, KRB_ERROR, PVNO, TGS_REP,
-    TGS_REQ,
-};
 pub use pa_enc_ts_enc::{PaEncTsEnc, decode_pa_enc_ts_enc, encode_pa_enc_ts_enc};
 pub use req_body::{ReqBody, ReqBodyRef};
 pub use requests::{AsReq, TgsReq};

@@ -8,6 +8,7 @@ use krb_elements::{
     Application, Coded, Decode, DecodeFields, Encode, EncodeFields, Fielded, KerberosString,
     KerberosStringRef, MakeOwned, take_field, write_field,
 };
+use krb_fields::numbers::TICKET;
 use krb_fields::{EncryptedData, EncryptedDataRef, Name, NameRef};
 use std::alloc::{AllocError, Global};
 
@@ -28,7 +29,7 @@ impl<S: Coded, N: Coded, E: Coded> Coded for Ticket<S, N, E> {
 }
 
 impl<S: Coded, N: Coded, E: Coded> Fielded for Ticket<S, N, E> {
-    type In = Application<1>;
+    type In = Application<TICKET>;
 
     ghost form = { ticket_form S.codec N.codec E.codec };
 

@@ -3,9 +3,9 @@ ghost use Rattle.std.specs.Prelude.{◌≡◌, IfOk, OnOk};
 ghost use Rattle.krb_types.specs.Under.{under};
 
 use crate::enc_kdc_rep_part::EncKdcRepPart;
-use crate::numbers::{ENC_AS_REP_PART, ENC_TGS_REP_PART};
 use krb_der::{DerFault, Reader, Writer};
 use krb_elements::{Coded, Decode, Encode, Fault, ReadOwned, end_of};
+use krb_fields::numbers::{ENC_AS_REP_PART, ENC_TGS_REP_PART};
 use std::alloc::{AllocError, Global};
 use std::marker::Model;
 

@@ -9,13 +9,11 @@ use crate::principal::DumpedPrincipal;
 use cred_files::{Keytab, KeytabEntry};
 use enctypes::Key;
 use krb_fields::Name;
+use krb_fields::numbers::NT_PRINCIPAL;
 use std::alloc::{AllocError, Global};
 
 /// The number of the tagged data with the version of the master key: `KRB5_TL_MKVNO`.
 const MASTER_VERSION: u32 = 8;
-
-/// The name-type NT-PRINCIPAL (RFC 4120, section 6.2).
-const NT_PRINCIPAL: i32 = 1;
 
 /// Returns the master key that encrypts a principal's keys: that with the version in its tagged data, or else the one
 /// with the lowest.

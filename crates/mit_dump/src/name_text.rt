@@ -7,10 +7,8 @@ ghost use Rattle.mit_dump.specs.NameText.{component_part, component_text, compon
 use crate::LineFault;
 use krb_elements::{KerberosString, Seq};
 use krb_fields::Name;
+use krb_fields::numbers::NT_PRINCIPAL;
 use std::alloc::{AllocError, Global};
-
-/// The name-type NT-PRINCIPAL (RFC 4120, section 6.2).
-const NT_PRINCIPAL: i32 = 1;
 
 /// A name with its realm.
 #[derive(Drop)]

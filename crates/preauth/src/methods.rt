@@ -3,7 +3,8 @@ ghost use Rattle.std.specs.Prelude.{◌≡◌, ◌≤◌, length, IfOk, map};
 ghost use Rattle.preauth.specs.MethodData.{info_entry, etype_info2, timestamp_wanted, method_data};
 
 use krb_elements::{KerberosString, Octets, Seq, write};
-use krb_fields::{PA_ENC_TIMESTAMP, PA_ETYPE_INFO2, PaData};
+use krb_fields::PaData;
+use krb_fields::numbers::{PA_ENC_TIMESTAMP, PA_ETYPE_INFO2};
 use krb_types::EtypeInfo2Entry;
 use std::alloc::{AllocError, Global};
 

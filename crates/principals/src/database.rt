@@ -15,14 +15,12 @@ use crate::granting::TgsOf;
 use crate::split_name::row_of;
 use crate::{Change, ChangeFault, RowChange};
 use krb_elements::KerberosString;
+use krb_fields::numbers::NT_SRV_INST;
 use krb_fields::{Name, NameFault, NameRef, is_component};
 use lists::first_holding;
 use principal_rows::{Entry, KeyList, NameMap, Policy, Row};
 use std::alloc::{AllocError, Global};
 use std::marker::Model;
-
-/// The name-type of a service with an instance: NT-SRV-INST of RFC 4120 section 6.2.
-const NT_SRV_INST: i32 = 2;
 
 /// The principals of one realm. The ticket-granting service `krbtgt/REALM` is always among them.
 #[derive(Drop)]

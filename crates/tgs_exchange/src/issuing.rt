@@ -17,8 +17,9 @@ use ap_opening::ticket_terms;
 use enctypes::KeyUsage;
 use kdc_replies::{Grant, Granted, Incoming, ReplyInputs, session_key, ticket_reply};
 use krb_elements::{KerberosStringRef, Lent, Seq};
+use krb_fields::numbers::{ENC_TGS_REP_PART, TGS_REP};
 use krb_fields::{Flags, Typed};
-use krb_types::{ENC_TGS_REP_PART, ReqBodyRef, TGS_REP};
+use krb_types::ReqBodyRef;
 use sealed_parts::PartKey;
 use std::alloc::{AllocError, Global};
 use tgs_opening::Presented;
@@ -37,10 +38,10 @@ pub fn tgs_rep(
     requires known { IsKnown view.now body.now presented.now }
     requires named { IsNamed presented.now view.now.service admission.now.terms }
     ensures written { IfOk result (λ octets.
-        octets.items ≡ written (kdc_rep 13)
+        octets.items ≡ written (kdc_rep TGS_REP)
         (tgs_rep view.now incoming.now.at incoming.now.random body.now presented.now admission.now)) }
     ensures spelled { IfOk result (λ octets.
-        (kdc_rep 13).Spells (tgs_rep view.now incoming.now.at incoming.now.random body.now presented.now
+        (kdc_rep TGS_REP).Spells (tgs_rep view.now incoming.now.at incoming.now.random body.now presented.now
         admission.now) octets.items) }
     // The client and the service find the same inside; the service uses the key that the ticket names.
     ensures same { IfOk result (λ octets.

@@ -14,10 +14,9 @@ use crate::view::TicketView;
 use ap_opening::{ApRefusal, HeldKey};
 use enctypes::Key;
 use krb_elements::OctetsRef;
-use krb_fields::{EncryptedDataRef, Name, NameRef, PA_TGS_REQ};
-use krb_types::{
-    ApReqRef, EncTicketPart, KdcReqRef, PVNO, ReqBodyRef, TGS_REQ, TicketRef, read_ap_req,
-};
+use krb_fields::numbers::{PA_TGS_REQ, PVNO, TGS_REQ};
+use krb_fields::{EncryptedDataRef, Name, NameRef};
+use krb_types::{ApReqRef, EncTicketPart, KdcReqRef, ReqBodyRef, TicketRef, read_ap_req};
 use lists::{Attempt, decide};
 use preauth::{first_of, key_by, key_numbered};
 use principal_rows::{Row, Versions};
