@@ -15,6 +15,7 @@ use Rattle.ap_opening.specs.declared.refusal.ApRefusal.TheVariants.{Skewed, Repe
 use Rattle.cred_files.specs.Keytab.{entry_for, newest, passes}
 use Rattle.cred_files.specs.declared.keytab_entry.KeytabEntry.{KeytabEntry}
 use Rattle.krb_types.specs.ApReq.{ApReq}
+use Rattle.krb_fields.specs.declared.numbers.TheConstants.{PVNO, AP_REQ}
 use Rattle.krb_fields.specs.ApOption.{ap_option_number}
 use Rattle.krb_fields.specs.Flags.{has_bit}
 use Rattle.krb_fields.specs.Name.{name_cmp}
@@ -35,10 +36,10 @@ use Rattle.ap_accept.specs.Contents.{Contents, service_of, subkey_of}
 -- ---- the conditions: of the request and the keytab
 
 abbrev pub is_other_version : ApReq → Bool
-is_other_version ap = not (int_eq ap.pvno (pos 5)) || not (int_eq ap.ticket.tkt_vno (pos 5))
+is_other_version ap = not (int_eq ap.pvno PVNO) || not (int_eq ap.ticket.tkt_vno PVNO)
 
 abbrev pub is_other_message : ApReq → Bool
-is_other_message ap = not (int_eq ap.msg_type (pos 14))
+is_other_message ap = not (int_eq ap.msg_type (pos AP_REQ))
 
 abbrev pub asks_session_key : ApReq → Bool
 asks_session_key ap = has_bit ap.ap_options (ap_option_number UseSessionKey)

@@ -3,6 +3,7 @@ use Rattle.std.specs.Prelude.{ℕ, pos, Bool, not, ◌||◌, List, [], ◌∷◌
 use Rattle.std.specs.Ordering.{int_eq}
 use Rattle.lists.specs.Refusals.{Rule, decided}
 use Rattle.krb_elements.specs.Codec.{Codec}
+use Rattle.krb_fields.specs.declared.numbers.TheConstants.{PVNO, AP_REQ}
 use Rattle.krb_fields.specs.ApOption.{ap_option_number}
 use Rattle.krb_fields.specs.EncryptedData.{EncryptedData}
 use Rattle.krb_fields.specs.Flags.{has_bit}
@@ -19,12 +20,12 @@ use Rattle.ap_opening.specs.declared.refusal.ApRefusal.TheVariants.{BadVersion, 
 use Rattle.ap_opening.specs.declared.refusal.ApRefusal.TheVariants.{NotForUs, NoKey, BadKeyVersion, TicketNotOpened}
 
 abbrev pub is_other_version : ApReq → Bool
-is_other_version ap = not (int_eq ap.pvno (pos 5)) || not (int_eq ap.ticket.tkt_vno (pos 5))
+is_other_version ap = not (int_eq ap.pvno PVNO) || not (int_eq ap.ticket.tkt_vno PVNO)
 
 abbrev pub ticket_rules : HeldKey → ApReq → List (Rule ApRefusal)
 ticket_rules held ap =
     (is_other_version ap, BadVersion)  -- 5.5.1, 5.3
-    ∷ (not (int_eq ap.msg_type (pos 14)), BadMessageType)  -- 3.2.3
+    ∷ (not (int_eq ap.msg_type (pos AP_REQ)), BadMessageType)  -- 3.2.3
     ∷ (has_bit ap.ap_options (ap_option_number UseSessionKey), SessionKeyAsked)  -- 3.2.3
     ∷ (not held.is_for_us, NotForUs)  -- 3.2.3, 3.3.2
     ∷ (lacks_key held ap.ticket.enc_part, NoKey)  -- 3.2.3

@@ -3,6 +3,7 @@ use Rattle.std.specs.Prelude.{ℕ, ⊤, ◌⊎◌, nat_lt, if◌then◌else◌, 
 use Rattle.enctypes.specs.KeyUsage.{usage_number}
 use Rattle.enctypes.specs.declared.key_usage.KeyUsage.TheVariants.{AsRepEncPart}
 use Rattle.krb_elements.specs.Codec.{written}
+use Rattle.krb_fields.specs.declared.numbers.TheConstants.{AS_REP, ENC_AS_REP_PART}
 use Rattle.krb_fields.specs.PrincipalName.{Name}
 use Rattle.krb_fields.specs.Salt.{default_salt}
 use Rattle.krb_fields.specs.declared.moment.Moment.{Moment}
@@ -123,7 +124,7 @@ refused v at body refusal timestamp = record {
 abbrev pub answer_by : AsView → Incoming → ReqBody → Decision → AsAnswer
 answer_by v incoming body (Refuses refusal timestamp) = refused v incoming.at body refusal timestamp
 answer_by v incoming body (Issues admission) =
-    within_room v incoming body (written (kdc_rep 11) (as_rep v incoming.at incoming.random body admission))
+    within_room v incoming body (written (kdc_rep AS_REP) (as_rep v incoming.at incoming.random body admission))
     (after_timestamp (current_failures v) admission.timestamp)
 
 abbrev pub as_answer : AsView → Incoming → Received → AsAnswer
@@ -135,7 +136,8 @@ as_answer v incoming message = answer_by v incoming message.body.value (decision
 abbrev pub SpelledBy : AsView → Moment → List ℕ → ReqBody → Decision → List ℕ → Type 0
 SpelledBy v at random body (Refuses refusal timestamp) octets = krb_error.Spells (as_error v at body refusal) octets
 SpelledBy v at random body (Issues admission) octets =
-    (kdc_rep 11).Spells (as_rep v at random body admission) octets ⊎ krb_error.Spells (too_big v.realm at body) octets
+    (kdc_rep AS_REP).Spells (as_rep v at random body admission) octets
+    ⊎ krb_error.Spells (too_big v.realm at body) octets
 
 abbrev pub Spelled : AsView → Moment → List ℕ → Received → List ℕ → Type 0
 Spelled v at random message octets = SpelledBy v at random message.body.value (decision v at.sec message) octets
@@ -144,9 +146,10 @@ Spelled v at random message octets = SpelledBy v at random message.body.value (d
 
 -- The client's key decrypts the AS-REP to the same values as the service's key decrypts the ticket. Both are the keys
 -- that the encrypted parts name in the rows of the client and of the service.
-abbrev pub OpensTo : AsView → Admission → KdcRep 11 → EncKdcRepPart → EncTicketPart → Type 0
+abbrev pub OpensTo : AsView → Admission → KdcRep AS_REP → EncKdcRepPart → EncTicketPart → Type 0
 OpensTo v admission reply part ticket =
-    OpensAlike 11 25 admission.terms.reply_key (usage_number AsRepEncPart) admission.terms.service.key.key
+    OpensAlike AS_REP ENC_AS_REP_PART admission.terms.reply_key (usage_number AsRepEncPart)
+    admission.terms.service.key.key
     reply part ticket
     × NamesKey v.client reply.enc_part admission.terms.reply_key
     × NamesKey v.service reply.ticket.enc_part admission.terms.service.key.key
@@ -169,7 +172,7 @@ Opens v at random message = OpensBy v at random message.body.value (decision v a
 abbrev pub SentBy : AsView → Moment → List ℕ → ReqBody → Decision → List ℕ → Type 0
 SentBy v at random body (Refuses refusal timestamp) octets = ⊤
 SentBy v at random body (Issues admission) octets =
-    ((kdc_rep 11).Spells (as_rep v at random body admission) octets × OpensFor v at random body admission)
+    ((kdc_rep AS_REP).Spells (as_rep v at random body admission) octets × OpensFor v at random body admission)
     ⊎ krb_error.Spells (too_big v.realm at body) octets
 
 abbrev pub Sent : AsView → Moment → List ℕ → Received → List ℕ → Type 0

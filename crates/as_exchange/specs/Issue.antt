@@ -6,6 +6,7 @@ use Rattle.kdc_replies.specs.Grant.{session_key}
 use Rattle.kdc_replies.specs.Reply.{reply_of}
 use Rattle.kdc_replies.specs.declared.grant.Grant.{Grant}
 use Rattle.sealed_parts.specs.declared.encrypting.PartKey.{PartKey}
+use Rattle.krb_fields.specs.declared.numbers.TheConstants.{AS_REP, ENC_AS_REP_PART}
 use Rattle.krb_fields.specs.PaData.{PaData}
 use Rattle.krb_fields.specs.Salt.{default_salt}
 use Rattle.krb_fields.specs.declared.moment.Moment.{Moment}
@@ -39,8 +40,8 @@ reply_key_of terms = record { key = terms.reply_key; usage = AsRepEncPart; kvno 
 abbrev pub reply_info : AsView → Terms → PaData
 reply_info v terms = etype_info2 (default_salt v.realm terms.client_name.components) (number terms.reply_key.etype ∷ [])
 
-abbrev pub as_rep : AsView → Moment → List ℕ → ReqBody → Admission → KdcRep 11
+abbrev pub as_rep : AsView → Moment → List ℕ → ReqBody → Admission → KdcRep AS_REP
 as_rep v at random body admission =
-    reply_of 11 25 (grant_by v at random body admission) admission.terms.service.key
+    reply_of AS_REP ENC_AS_REP_PART (grant_by v at random body admission) admission.terms.service.key
     (reply_key_of admission.terms) (Some (reply_info v admission.terms ∷ []))
     body.nonce at.sec random

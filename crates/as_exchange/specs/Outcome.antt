@@ -1,6 +1,7 @@
 -- The outcome of an AS-REQ, and what it says about the reply.
 use Rattle.std.specs.Prelude.{◌≡◌, ℕ, nat_lt, if◌then◌else◌, List, length, Option}
 use Rattle.krb_elements.specs.Codec.{written}
+use Rattle.krb_fields.specs.declared.numbers.TheConstants.{AS_REP}
 use Rattle.krb_fields.specs.PrincipalName.{Name}
 use Rattle.krb_fields.specs.declared.code.Code.TheVariants.{KrbErrResponseTooBig}
 use Rattle.krb_fields.specs.declared.moment.Moment.{Moment}
@@ -44,7 +45,7 @@ granted_by at body admission = record {
 -- a ticket if its reply fits
 abbrev pub outcome_within : AsView → Incoming → ReqBody → Admission → AsOutcome
 outcome_within v incoming body admission =
-    if nat_lt incoming.room (length (written (kdc_rep 11) (as_rep v incoming.at incoming.random body admission)))
+    if nat_lt incoming.room (length (written (kdc_rep AS_REP) (as_rep v incoming.at incoming.random body admission)))
     then TooBig
     else Issued (granted_by incoming.at body admission)
 
@@ -62,7 +63,7 @@ OutcomeSpelledBy v at random body (Refused refusal) decided octets = krb_error.S
 OutcomeSpelledBy v at random body TooBig decided octets = krb_error.Spells (too_big v.realm at body) octets
 OutcomeSpelledBy v at random body (Issued granted) (Refuses refusal timestamp) octets = ⊥
 OutcomeSpelledBy v at random body (Issued granted) (Issues admission) octets =
-    (granted ≡ granted_by at body admission) × (kdc_rep 11).Spells (as_rep v at random body admission) octets
+    (granted ≡ granted_by at body admission) × (kdc_rep AS_REP).Spells (as_rep v at random body admission) octets
 
 abbrev pub OutcomeSpelled : AsView → Moment → List ℕ → Received → AsOutcome → List ℕ → Type 0
 OutcomeSpelled v at random message outcome octets =

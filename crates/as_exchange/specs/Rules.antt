@@ -7,6 +7,7 @@ use Rattle.std.specs.Cmp.Lexicographic.{pointwise}
 use Rattle.lists.specs.Optional.{holds_of}
 use Rattle.lists.specs.Refusals.{Rule, decided}
 use Rattle.kdc_replies.specs.Standing.{denies_tickets, has_come, is_disabled, is_expired}
+use Rattle.krb_fields.specs.declared.numbers.TheConstants.{PVNO, AS_REQ}
 use Rattle.krb_fields.specs.declared.kdc_option.KdcOption.TheVariants.{Forwarded, Proxy, AllowPostdate, Postdated}
 use Rattle.krb_fields.specs.declared.kdc_option.KdcOption.TheVariants.{EncTktInSkey, Renew, Validate}
 use Rattle.krb_types.specs.KdcReq.{Received}
@@ -33,10 +34,10 @@ use Rattle.as_exchange.specs.declared.terms.Admission.{Admission}
 use Rattle.as_exchange.specs.declared.terms.Terms.{Terms}
 
 abbrev pub is_bad_version : Received → Bool
-is_bad_version message = not (int_eq message.pvno (pos 5))
+is_bad_version message = not (int_eq message.pvno PVNO)
 
 abbrev pub is_bad_message_type : Received → Bool
-is_bad_message_type message = not (int_eq message.msg_type (pos 10))
+is_bad_message_type message = not (int_eq message.msg_type (pos AS_REQ))
 
 -- the realm is another one, no client is named, or the client has no row
 abbrev pub is_client_unknown : AsView → ReqBody → Bool

@@ -3,6 +3,7 @@ use Rattle.std.specs.Prelude.{ℕ, ℤ, pos, ◌≤◌, IfSome, List, length, Op
 use Rattle.cred_files.specs.declared.principal.Principal.{Principal}
 use Rattle.enctypes.specs.declared.key.Key.{Key}
 use Rattle.krb_types.specs.ApReq.{ApReq}
+use Rattle.krb_fields.specs.declared.numbers.TheConstants.{PVNO, AP_REQ}
 use Rattle.krb_fields.specs.Typed.{Typed}
 use Rattle.krb_fields.specs.declared.moment.Moment.{Moment}
 use Rattle.krb_types.specs.Authenticator.{Authenticator, authenticator}
@@ -40,8 +41,8 @@ authenticator_of client at cksum subkey seq_number = record {
 -- usage
 abbrev pub presents : Session → ℕ → ℕ → List ℕ → Authenticator → ApReq
 presents session options usage confounder auth = record {
-  pvno = pos 5;
-  msg_type = pos 14;
+  pvno = PVNO;
+  msg_type = pos AP_REQ;
   ap_options = options;
   ticket = session.ticket;
   authenticator = encrypted authenticator session.key usage None confounder auth;

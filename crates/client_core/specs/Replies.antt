@@ -12,6 +12,7 @@ use Rattle.enctypes.specs.declared.key.Key.{Key}
 use Rattle.enctypes.specs.declared.key_usage.KeyUsage.TheVariants.{AsRepEncPart, TgsRepEncPartSessionKey}
 use Rattle.enctypes.specs.declared.key_usage.KeyUsage.TheVariants.{TgsRepEncPartSubkey}
 use Rattle.krb_elements.specs.Format.{whole}
+use Rattle.krb_fields.specs.declared.numbers.TheConstants.{PVNO, AS_REP, TGS_REP, ENC_AS_REP_PART, ENC_TGS_REP_PART}
 use Rattle.krb_fields.specs.EncryptedData.{EncryptedData}
 use Rattle.krb_fields.specs.Flags.{has_bit}
 use Rattle.krb_fields.specs.KdcOption.{kdc_option_number}
@@ -55,7 +56,7 @@ refusal_in bytes = refusal_of (ok_of (whole krb_error.at bytes))
 
 -- the ticket has the version of the protocol, like the reply
 abbrev pub of_version : (type : ℕ) → Option (KdcRep type) → Option (KdcRep type)
-of_version type (Some reply) = if int_eq reply.ticket.tkt_vno (pos 5) then Some reply else None
+of_version type (Some reply) = if int_eq reply.ticket.tkt_vno PVNO then Some reply else None
 of_version type None = None
 
 -- the AS-REP (type 11) or TGS-REP (type 13) that the bytes encode
@@ -80,13 +81,14 @@ or_else None other = other
 -- (section 5.4.2).
 abbrev pub as_part : Key → EncryptedData → Option EncKdcRepPart
 as_part key sealed =
-    or_else (opened_in 25 key (usage_number AsRepEncPart) sealed) (opened_in 26 key (usage_number AsRepEncPart) sealed)
+    or_else (opened_in ENC_AS_REP_PART key (usage_number AsRepEncPart) sealed)
+    (opened_in ENC_TGS_REP_PART key (usage_number AsRepEncPart) sealed)
 
 -- For a TGS-REP: under the subkey of the request's authenticator, else under the session key.
 abbrev pub opened_as : KeyRole → Key → EncryptedData → Option EncKdcRepPart
 opened_as Client key sealed = as_part key sealed
-opened_as Subkey key sealed = opened_in 26 key (usage_number TgsRepEncPartSubkey) sealed
-opened_as Session key sealed = opened_in 26 key (usage_number TgsRepEncPartSessionKey) sealed
+opened_as Subkey key sealed = opened_in ENC_TGS_REP_PART key (usage_number TgsRepEncPartSubkey) sealed
+opened_as Session key sealed = opened_in ENC_TGS_REP_PART key (usage_number TgsRepEncPartSessionKey) sealed
 
 -- names are compared by their components: the name-type is a hint (section 6.2)
 abbrev pub is_principal : List ℕ → Name → List ℕ → Name → Bool
@@ -165,10 +167,10 @@ abbrev pub reads : (type : ℕ) → KeyRole → Asked → Key → ℤ → List �
 reads type role asked key now bytes = if_reply type role asked key now (reply_in type bytes)
 
 abbrev pub reads_as : Asked → Key → ℤ → List ℕ → Result Credential ClientFault
-reads_as asked key now bytes = reads 11 Client asked key now bytes
+reads_as asked key now bytes = reads AS_REP Client asked key now bytes
 
 abbrev pub tgs_role : Bool → KeyRole
 tgs_role subkey = if subkey then Subkey else Session
 
 abbrev pub reads_tgs : Asked → Key → Bool → ℤ → List ℕ → Result Credential ClientFault
-reads_tgs asked key subkey now bytes = reads 13 (tgs_role subkey) asked key now bytes
+reads_tgs asked key subkey now bytes = reads TGS_REP (tgs_role subkey) asked key now bytes

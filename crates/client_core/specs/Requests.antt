@@ -9,6 +9,7 @@ use Rattle.enctypes.specs.KeyUsage.{usage_number}
 use Rattle.enctypes.specs.Sealing.{mac}
 use Rattle.krb_types.specs.ApReq.{ApReq, ap_req}
 use Rattle.krb_elements.specs.Codec.{written}
+use Rattle.krb_fields.specs.declared.numbers.TheConstants.{PVNO, PA_TGS_REQ, PA_ENC_TIMESTAMP}
 use Rattle.krb_fields.specs.EncryptedData.{EncryptedData, encrypted_data}
 use Rattle.krb_fields.specs.PaData.{PaData}
 use Rattle.krb_fields.specs.PrincipalName.{Name}
@@ -46,7 +47,7 @@ body_of cname asked = record {
 
 abbrev pub request_of : Exchange → Option (List PaData) → ReqBody → KdcReq
 request_of exchange padata body =
-    record { pvno = pos 5; msg_type = pos (request_type exchange); padata = padata; body = body }
+    record { pvno = PVNO; msg_type = pos (request_type exchange); padata = padata; body = body }
 
 -- ---- AS-REQ: it names the client
 
@@ -63,7 +64,10 @@ sealed_timestamp key at confounder =
 
 abbrev pub timestamp_data : Key → Moment → List ℕ → PaData
 timestamp_data key at confounder =
-    record { padata_type = pos 2; padata_value = written encrypted_data (sealed_timestamp key at confounder) }
+    record {
+      padata_type = PA_ENC_TIMESTAMP;
+      padata_value = written encrypted_data (sealed_timestamp key at confounder);
+    }
 
 abbrev pub asks_with_timestamp : Asked → Key → Moment → List ℕ → KdcReq
 asks_with_timestamp asked key at confounder = asks_as (Some (timestamp_data key at confounder ∷ [])) asked
@@ -89,7 +93,7 @@ tgs_presents client session at subkey confounder body =
 -- PA-TGS-REQ (section 5.2.7.1)
 abbrev pub tgs_data : Principal → Session → Moment → Option Key → List ℕ → ReqBody → PaData
 tgs_data client session at subkey confounder body = record {
-  padata_type = pos 1;
+  padata_type = PA_TGS_REQ;
   padata_value = written ap_req (tgs_presents client session at subkey confounder body);
 }
 

@@ -10,6 +10,7 @@ use Rattle.cred_files.specs.declared.credential.Credential.{Credential}
 use Rattle.enctypes.specs.declared.key.Key.{Key}
 use Rattle.krb_der.specs.declared.fault.DerFault.{DerFault}
 use Rattle.krb_elements.specs.Format.{whole}
+use Rattle.krb_fields.specs.declared.numbers.TheConstants.{PVNO}
 use Rattle.krb_fields.specs.Name.{name_cmp, same_name}
 use Rattle.krb_fields.specs.PrincipalName.{Name}
 use Rattle.krb_types.specs.EncKdcRepPart.{EncKdcRepPart}
@@ -126,7 +127,7 @@ module _ (type : ℕ) (role : KeyRole) (asked : Asked) (key : Key) (now : ℤ) (
   by_reply : (r : Result (KdcRep type) DerFault) → whole (kdc_rep type).at bytes ≡ r
       → if_reply type role asked key now (unless_found (of_version type (ok_of r)) (refusal_in bytes)) ≡ Ok credential
       → IsTaken type role asked key now bytes credential
-  by_reply (Ok reply) read e = by_version reply read (int_eq reply.ticket.tkt_vno (pos 5)) e
+  by_reply (Ok reply) read e = by_version reply read (int_eq reply.ticket.tkt_vno PVNO) e
   by_reply (Err fault) read e = absurd cc
 
   pub taken_is : reads type role asked key now bytes ≡ Ok credential → IsTaken type role asked key now bytes credential

@@ -1,5 +1,6 @@
 -- The clock in a KDC's error (RFC 4120, section 7.5.9: KRB_AP_ERR_SKEW).
-use Rattle.std.specs.Prelude.{◌≡◌, ℤ, pos, unsigned_abs, nat_le, Bool, true, is_some}
+use Rattle.std.specs.Prelude.{◌≡◌, ℤ, unsigned_abs, nat_le, Bool, true, is_some}
+use Rattle.krb_fields.specs.declared.numbers.TheConstants.{KRB_AP_ERR_SKEW}
 use Rattle.krb_fields.specs.Skew.{skew}
 use Rattle.krb_fields.specs.declared.moment.Moment.{Moment}
 use Rattle.client_login.specs.declared.faults.LoginError.{LoginError}
@@ -12,7 +13,7 @@ is_within_skew ahead = nat_le (unsigned_abs ahead) skew
 
 -- the moment is in the second on the clock of a KDC that refuses because the clocks differ
 abbrev pub IsByError : LoginError → Moment → Type 0
-IsByError (says.Refused error) at = (error.code ≡ pos 37) × (at.sec ≡ error.stime)
+IsByError (says.Refused error) at = (error.code ≡ KRB_AP_ERR_SKEW) × (at.sec ≡ error.stime)
 IsByError why at = ⊥
 
 -- and the fault names that KDC

@@ -12,6 +12,7 @@ use Rattle.client_core.specs.declared.fault.Refusal.{Refusal}
 use Rattle.cred_files.specs.declared.credential.Credential.{Credential}
 use Rattle.cred_files.specs.declared.keytab_entry.KeytabEntry.{KeytabEntry}
 use Rattle.enctypes.specs.declared.key.Key.{Key}
+use Rattle.krb_fields.specs.declared.numbers.TheConstants.{AS_REP, TGS_REP}
 use Rattle.krb_fields.specs.Name.{Components}
 use Rattle.krb_fields.specs.PrincipalName.{Name}
 use Rattle.krb_types.specs.EtypeInfo2Entry.{EtypeInfo2Entry}
@@ -45,12 +46,12 @@ IsNoKey (secrets.Password password) realm name info why = IsNoPasswordKey passwo
 IsNoKey (secrets.Keytab keytab) realm name info why = IsNoKeytabKey keytab (realm ∷ name.components) info why
 
 -- an AS-REP's information about the key that decrypts it; for a keytab only its type
-abbrev pub info_for : Secret → KdcRep 11 → List EtypeInfo2Entry
+abbrev pub info_for : Secret → KdcRep AS_REP → List EtypeInfo2Entry
 info_for (secrets.Password password) reply = info_in_reply reply
 info_for (secrets.Keytab keytab) reply = default_info reply.enc_part.etype
 
 -- the information in these bytes; a KRB-ERROR has it in its e-data
-abbrev pub info_said : Secret → ClientFault → Option (KdcRep 11) → List EtypeInfo2Entry
+abbrev pub info_said : Secret → ClientFault → Option (KdcRep AS_REP) → List EtypeInfo2Entry
 info_said secret (found.Refused refusal) reply = info_of_refusal refusal.e_data
 info_said secret fault (Some reply) = info_for secret reply
 info_said secret fault None = []
@@ -58,7 +59,7 @@ info_said secret fault None = []
 -- the client has no key for these bytes
 abbrev pub SaysNoKey : Secret → Asked → LoginError → List ℕ → Type 0
 SaysNoKey secret asked why octets =
-    IsNoKey secret asked.realm asked.client (info_said secret (refusal_in octets) (ticket_reply_in 11 octets)) why
+    IsNoKey secret asked.realm asked.client (info_said secret (refusal_in octets) (ticket_reply_in AS_REP octets)) why
 
 -- ---- a rejected reply
 
@@ -73,7 +74,7 @@ pub record IsRejected (secret : Secret) (asked : Asked) (now : ℤ) (fault : Cli
 -- the fault that bytes from a KDC report; nothing is known if memory ran out
 abbrev pub SaysFirst : Secret → Asked → ℤ → LoginError → List ℕ → Type 0
 SaysFirst secret asked now (says.Refused error) octets = IsError error (refusal_in octets)
-SaysFirst secret asked now says.NotAReply octets = reply_in 11 octets ≡ Err found.NotAReply
+SaysFirst secret asked now says.NotAReply octets = reply_in AS_REP octets ≡ Err found.NotAReply
 SaysFirst secret asked now (says.Mismatch what) octets = IsRejected secret asked now (found.Mismatch what) octets
 SaysFirst secret asked now says.CannotOpen octets = IsRejected secret asked now found.CannotOpen octets
 SaysFirst secret asked now says.NoKey octets = SaysNoKey secret asked says.NoKey octets
@@ -100,7 +101,7 @@ IsFirstFault answers secret asked now why kdc = IsNamed answers (SaysFirst secre
 -- the fault that bytes from a KDC report under a session key; nothing is known if memory ran out
 abbrev pub SaysTgs : Key → Asked → ℤ → LoginError → List ℕ → Type 0
 SaysTgs key asked now (says.Refused error) octets = IsError error (refusal_in octets)
-SaysTgs key asked now says.NotAReply octets = reply_in 13 octets ≡ Err found.NotAReply
+SaysTgs key asked now says.NotAReply octets = reply_in TGS_REP octets ≡ Err found.NotAReply
 SaysTgs key asked now (says.Mismatch what) octets = reads_tgs asked key false now octets ≡ Err (found.Mismatch what)
 SaysTgs key asked now says.SessionCannotOpen octets = reads_tgs asked key false now octets ≡ Err found.CannotOpen
 SaysTgs key asked now says.Memory octets = Unit {0}

@@ -10,6 +10,7 @@ use Rattle.client_core.specs.declared.sessions.Session as sessions
 use Rattle.cred_files.specs.declared.credential.Credential.{Credential}
 use Rattle.enctypes.specs.declared.key.Key.{Key}
 use Rattle.krb_elements.specs.Codec.{written}
+use Rattle.krb_fields.specs.declared.numbers.TheConstants.{AS_REP, TGS_REP}
 use Rattle.krb_fields.specs.declared.moment.Moment.{Moment}
 use Rattle.krb_types.specs.KdcReq.{message}
 use Rattle.krb_types.specs.declared.kdc_req.Exchange.TheVariants.{As, Tgs}
@@ -50,7 +51,7 @@ pub record CarriesFirst (carries : List ℕ → Type 0) (secret : Secret) (asked
 pub record TakesFirst (secret : Secret) (asked : Asked) (now : ℤ) (credential : Credential) (octets : List ℕ) : Type 0 where
   pub key : Key
   pub own : IsOwnKey secret asked.realm asked.client key
-  pub taken : IsTaken 11 Client asked key now octets credential
+  pub taken : IsTaken AS_REP Client asked key now octets credential
 
 -- the credential was read from a KDC's reply to the request, under a key of the client
 pub record IsFirst (answers : SocketAddr → List ℕ → List ℕ → Type 0) (secret : Secret) (asked : Asked) (now : ℤ)
@@ -78,7 +79,7 @@ pub record TakesFurther (granting : Credential) (asked : Asked) (now : ℤ) (cre
     : Type 0 where
   pub key : Key
   pub shared : session_key granting ≡ Some key
-  pub taken : IsTaken 13 Session asked key now octets credential
+  pub taken : IsTaken TGS_REP Session asked key now octets credential
 
 -- the credential was read from a KDC's reply to the request, under that key
 pub record IsFurther (answers : SocketAddr → List ℕ → List ℕ → Type 0) (granting : Credential) (asked : Asked) (now : ℤ)

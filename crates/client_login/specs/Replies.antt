@@ -1,7 +1,8 @@
 -- The replies of KDCs, as a login reads them.
-use Rattle.std.specs.Prelude.{◌≡◌, ℕ, ℤ, pos, Bool, false, ◌||◌, if◌then◌else◌, List, Option, Some, None, is_some}
+use Rattle.std.specs.Prelude.{◌≡◌, ℕ, ℤ, Bool, false, ◌||◌, if◌then◌else◌, List, Option, Some, None, is_some}
 use Rattle.std.specs.Ordering.{int_eq}
 use Rattle.std.specs.declared.net.socket_addr.SocketAddr.{SocketAddr}
+use Rattle.krb_fields.specs.declared.numbers.TheConstants.{KDC_ERR_SVC_UNAVAILABLE, KRB_AP_ERR_SKEW}
 use Rattle.client_core.specs.Replies.{refusal_in}
 use Rattle.client_core.specs.declared.fault.ClientFault.{ClientFault}
 use Rattle.client_core.specs.declared.fault.ClientFault.TheVariants as found
@@ -49,7 +50,7 @@ is_error code None = false
 
 -- another KDC may do better than one that refuses with this code: it is not available (29), or the clocks differ (37)
 abbrev pub is_passed_over : ℤ → Bool
-is_passed_over code = int_eq code (pos 29) || int_eq code (pos 37)
+is_passed_over code = int_eq code KDC_ERR_SVC_UNAVAILABLE || int_eq code KRB_AP_ERR_SKEW
 
 -- a KDC sent these bytes as its answer, and they were read
 pub record IsReply (answers : SocketAddr → List ℕ → List ℕ → Type 0) (reply : Reply) : Type 0 where

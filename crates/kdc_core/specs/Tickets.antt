@@ -1,6 +1,7 @@
 -- The tickets that are issued in a run, each with the time of its authenticator.
 use Rattle.std.specs.Prelude.{ℕ, ◌+◌, ℤ, ◌≤ℤ◌, Bool, nat_eq, get_or, if◌then◌else◌, ⊤, List, [], ◌∷◌, Option}
 use Rattle.std.specs.Prelude.{Some, None}
+use Rattle.krb_fields.specs.declared.numbers.TheConstants.{TGS_REP}
 use Rattle.krb_fields.specs.Name.{Components}
 use Rattle.replay.specs.Run.{collected, OneForEach}
 use Rattle.replay.specs.Stamp.{Stamp}
@@ -59,9 +60,9 @@ ResumesFollow state (event ∷ events) = ResumesWithAll state event × ResumesFo
 abbrev pub presented_by : State → Option Read → Option Presented
 presented_by state request = presented_in (contents (view_of state (named_by state request)) request)
 
--- whether a reply bears a ticket: its bytes begin with the tag of a TGS-REP, [APPLICATION 13]
+-- whether a reply bears a ticket: its bytes begin with the tag of a TGS-REP
 abbrev pub bears_ticket : List ℕ → Bool
-bears_ticket octets = nat_eq (get_or octets 0 0) (96 + 13)
+bears_ticket octets = nat_eq (get_or octets 0 0) (96 + TGS_REP)
 
 -- a reply that bears a ticket, with the time of the authenticator
 abbrev pub ticket_by : Option Presented → Option (List ℕ) → Option (Stamp × List ℕ)

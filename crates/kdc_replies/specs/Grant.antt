@@ -5,6 +5,7 @@ use Rattle.enctypes.specs.declared.key.Key.{Key}
 use Rattle.enctypes.specs.Etype.{key_len}
 use Rattle.enctypes.specs.declared.etype.Etype.{Etype}
 use Rattle.krb_elements.specs.Codec.{list_of}
+use Rattle.krb_fields.specs.declared.numbers.TheConstants.{DOMAIN_X500_COMPRESS}
 use Rattle.krb_fields.specs.NameLimits.{IsWithinLimits}
 use Rattle.krb_fields.specs.Typed.{Typed, typed}
 use Rattle.krb_types.specs.EncKdcRepPart.{EncKdcRepPart}
@@ -25,7 +26,7 @@ session_key etype random = record { etype = etype; bytes = take (key_len etype) 
 
 -- the realms between the client's and the service's: none, in the form DOMAIN-X500-COMPRESS (section 3.3.3.2)
 abbrev pub no_realms : Typed
-no_realms = record { number = pos 1; octets = [] }
+no_realms = record { number = DOMAIN_X500_COMPRESS; octets = [] }
 
 abbrev pub ticket_part : Grant → EncTicketPart
 ticket_part grant = record {

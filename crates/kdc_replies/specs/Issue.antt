@@ -4,6 +4,7 @@ use Rattle.std.specs.Prelude.{◌≡◌, ◌⊎◌, ℕ, ℤ, List, length, Opti
 use Rattle.enctypes.specs.Etype.{key_len}
 use Rattle.enctypes.specs.KeyUsage.{usage_number}
 use Rattle.enctypes.specs.declared.key_usage.KeyUsage.TheVariants.{Ticket as TicketUsage}
+use Rattle.krb_fields.specs.declared.numbers.TheConstants.{AS_REP, TGS_REP, ENC_AS_REP_PART, ENC_TGS_REP_PART}
 use Rattle.krb_fields.specs.PaData.{PaData}
 use Rattle.krb_types.specs.EncKdcRepPart.{EncKdcRepPart, enc_kdc_rep_part}
 use Rattle.krb_types.specs.EncTicketPart.{EncTicketPart, enc_ticket_part}
@@ -22,12 +23,12 @@ use Rattle.kdc_replies.specs.Reply.{reply_of, granted_ticket}
 
 -- the message type of an exchange's replies, and the tag of their encrypted part
 abbrev pub reply_type : Exchange → ℕ
-reply_type As = 11
-reply_type Tgs = 13
+reply_type As = AS_REP
+reply_type Tgs = TGS_REP
 
 abbrev pub part_tag : Exchange → ℕ
-part_tag As = 25
-part_tag Tgs = 26
+part_tag As = ENC_AS_REP_PART
+part_tag Tgs = ENC_TGS_REP_PART
 
 -- All that a reply with a ticket is made from: its exchange, the grant, the service's key and the reply key, what it
 -- copies from the request, the second of the answer, and the random bytes.

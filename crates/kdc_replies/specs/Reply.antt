@@ -3,6 +3,7 @@ use Rattle.std.specs.Prelude.{◌≡◌, ℕ, ℤ, pos, List, take, drop, Option
 use Rattle.enctypes.specs.declared.key.Key.{Key}
 use Rattle.enctypes.specs.KeyUsage.{usage_number}
 use Rattle.enctypes.specs.declared.key_usage.KeyUsage.TheVariants.{Ticket as TicketUsage}
+use Rattle.krb_fields.specs.declared.numbers.TheConstants.{PVNO}
 use Rattle.krb_fields.specs.EncryptedData.{EncryptedData}
 use Rattle.krb_fields.specs.PaData.{PaData}
 use Rattle.krb_types.specs.EncKdcRepPart.{EncKdcRepPart, enc_kdc_rep_part}
@@ -27,7 +28,7 @@ reply_confounder random = take 16 (drop 48 random)
 -- Ticket (section 5.3), encrypted with the service's key
 abbrev pub granted_ticket : Grant → ServiceKey → List ℕ → Ticket
 granted_ticket grant service random = record {
-  tkt_vno = pos 5;
+  tkt_vno = PVNO;
   realm = grant.realm;
   sname = grant.service;
   enc_part =

@@ -1,7 +1,8 @@
 -- The lines of a script, and the texts that spell them.
-use Rattle.std.specs.Prelude.{◌≡◌, ◌==◌, ℕ, pos, ◌<◌, All, List, [], ◌∷◌, Option, Some, None, Ok, codes}
+use Rattle.std.specs.Prelude.{◌≡◌, ◌==◌, ℕ, ◌<◌, All, List, [], ◌∷◌, Option, Some, None, Ok, codes}
 use Rattle.std.specs.List.{slice_split}
 use Rattle.hex.specs.Hex.{decode_sized}
+use Rattle.krb_fields.specs.declared.numbers.TheConstants.{NT_PRINCIPAL}
 use Rattle.krb_fields.specs.PrincipalName.{Name}
 use Rattle.krb_fields.specs.Name.{Components}
 use Rattle.krb_fields.specs.declared.moment.Moment.{Moment}
@@ -20,7 +21,7 @@ use Rattle.kdcd.specs.Field.{IsMomentText, AreLimitsTexts, IsOctetsText, IsKeysT
 
 -- a name with name-type 1 (NT-PRINCIPAL), or none if the text is not a name
 abbrev pub IsNameTextOrNone : Option Name → List ℕ → Type 0
-IsNameTextOrNone (Some name) text = IsNameText name.components text × (name.name_type ≡ pos 1)
+IsNameTextOrNone (Some name) text = IsNameText name.components text × (name.name_type ≡ NT_PRINCIPAL)
 IsNameTextOrNone None text = (name : Components) → ¬ IsNameText name text
 
 abbrev pub change_word : LineChange → List ℕ

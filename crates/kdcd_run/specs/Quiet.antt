@@ -1,6 +1,7 @@
 -- Which replies a server withholds while it refuses all service tickets.
-use Rattle.std.specs.Prelude.{ℤ, pos, Bool, true, false, ◌&&◌, int_lt, Option, Some, None}
+use Rattle.std.specs.Prelude.{ℤ, Bool, true, false, ◌&&◌, int_lt, Option, Some, None}
 use Rattle.std.specs.Ordering.{int_eq}
+use Rattle.krb_fields.specs.declared.numbers.TheConstants.{KRB_AP_ERR_SKEW}
 use Rattle.krb_fields.specs.Code.{number_of}
 use Rattle.krb_fields.specs.declared.moment.Moment.{Moment}
 use Rattle.kdc_core.specs.Account.{Account}
@@ -13,9 +14,9 @@ use Rattle.tgs_opening.specs.Refusal.{code_of}
 use Rattle.kdc_reports.specs.declared.clock_watch.Refused.{Refused as StartRefused}
 use Rattle.kdc_reports.specs.declared.clock_watch.Refused.TheVariants.{All, ServedLater}
 
--- a refusal with KRB_AP_ERR_SKEW (37)
+-- a refusal with KRB_AP_ERR_SKEW
 abbrev pub is_skew : TgsOutcome → Bool
-is_skew (Refused refusal) = int_eq (number_of (code_of refusal)) (pos 37)
+is_skew (Refused refusal) = int_eq (number_of (code_of refusal)) KRB_AP_ERR_SKEW
 is_skew (Issued granted) = false
 is_skew (Resent bears) = false
 is_skew TooBig = false

@@ -1,8 +1,9 @@
 -- What a request's PA-ENC-TIMESTAMP shows (RFC 4120, section 5.2.7.2).
-use Rattle.std.specs.Prelude.{ℕ, ℤ, pos, ◌-ℤ◌, Bool, nat_lt, unsigned_abs, if◌then◌else◌, List, Option, Some, None}
+use Rattle.std.specs.Prelude.{ℕ, ℤ, ◌-ℤ◌, Bool, nat_lt, unsigned_abs, if◌then◌else◌, List, Option, Some, None}
 use Rattle.std.specs.Prelude.{option_map, find}
 use Rattle.std.specs.Ordering.{int_eq}
 use Rattle.krb_elements.specs.Format.{whole}
+use Rattle.krb_fields.specs.declared.numbers.TheConstants.{PA_ENC_TIMESTAMP}
 use Rattle.krb_fields.specs.PaData.{PaData}
 use Rattle.krb_fields.specs.Skew.{skew}
 use Rattle.krb_fields.specs.EncryptedData.{EncryptedData, encrypted_data}
@@ -55,4 +56,4 @@ outcome_of keys now (Some value) = judged now (time_of (opened_of keys (encrypte
 
 -- the first PA-ENC-TIMESTAMP and the client's current keys count
 abbrev pub outcome : Row → ℤ → Option (List PaData) → Outcome
-outcome client now padata = outcome_of (current client.versions).keys now (first_of (pos 2) padata)
+outcome client now padata = outcome_of (current client.versions).keys now (first_of PA_ENC_TIMESTAMP padata)

@@ -4,6 +4,7 @@ use Rattle.std.specs.Prelude.{List, length, Option, Some, None}
 use Rattle.std.specs.Cmp.Lexicographic.{pointwise}
 use Rattle.enctypes.specs.KeyUsage.{usage_number}
 use Rattle.krb_elements.specs.Codec.{written}
+use Rattle.krb_fields.specs.declared.numbers.TheConstants.{TGS_REP, ENC_TGS_REP_PART}
 use Rattle.krb_fields.specs.declared.moment.Moment.{Moment}
 use Rattle.krb_types.specs.KdcRep.{KdcRep, kdc_rep}
 use Rattle.krb_types.specs.EncKdcRepPart.{EncKdcRepPart}
@@ -91,7 +92,7 @@ answer_by v incoming body p (Records refusal) =
     recording v incoming.octets Error (written krb_error (tgs_error v.realm incoming.at body refusal))
 answer_by v incoming body p (Repeats kept) = repeated v incoming body kept
 answer_by v incoming body p (Issues admission) =
-    within_room v incoming body (written (kdc_rep 13) (tgs_rep v incoming.at incoming.random body p admission))
+    within_room v incoming body (written (kdc_rep TGS_REP) (tgs_rep v incoming.at incoming.random body p admission))
 
 abbrev pub tgs_answer : TgsView → Incoming → ReqBody → Presented → TgsAnswer
 tgs_answer v incoming body p = answer_by v incoming body p (decision v incoming.at.sec body p)
@@ -110,7 +111,7 @@ SpelledBy v at random body p (Refuses refusal) octets = krb_error.Spells (tgs_er
 SpelledBy v at random body p (Records refusal) octets = krb_error.Spells (tgs_error v.realm at body refusal) octets
 SpelledBy v at random body p (Repeats kept) octets = RepeatSpelled v at body kept octets
 SpelledBy v at random body p (Issues admission) octets =
-    (kdc_rep 13).Spells (tgs_rep v at random body p admission) octets
+    (kdc_rep TGS_REP).Spells (tgs_rep v at random body p admission) octets
     ⊎ krb_error.Spells (too_big v.realm at body) octets
 
 abbrev pub Spelled : TgsView → Moment → List ℕ → ReqBody → Presented → List ℕ → Type 0
@@ -120,9 +121,10 @@ Spelled v at random body p octets = SpelledBy v at random body p (decision v at.
 
 -- The reply key decrypts the TGS-REP to what the service's key finds in the ticket. That key is the one in the
 -- service's row that the ticket names.
-abbrev pub OpensTo : TgsView → Presented → Admission → KdcRep 13 → EncKdcRepPart → EncTicketPart → Type 0
+abbrev pub OpensTo : TgsView → Presented → Admission → KdcRep TGS_REP → EncKdcRepPart → EncTicketPart → Type 0
 OpensTo v p admission reply part ticket =
-    OpensAlike 13 26 (reply_key_of p).key (usage_number (reply_key_of p).usage) admission.terms.service.key.key
+    OpensAlike TGS_REP ENC_TGS_REP_PART (reply_key_of p).key (usage_number (reply_key_of p).usage)
+    admission.terms.service.key.key
     reply part ticket
     × NamesKey v.service reply.ticket.enc_part admission.terms.service.key.key
 
@@ -148,7 +150,7 @@ SentBy v at random body p (Refuses refusal) octets = ⊤
 SentBy v at random body p (Records refusal) octets = ⊤
 SentBy v at random body p (Repeats kept) octets = ⊤
 SentBy v at random body p (Issues admission) octets =
-    ((kdc_rep 13).Spells (tgs_rep v at random body p admission) octets × OpensFor v at random body p admission)
+    ((kdc_rep TGS_REP).Spells (tgs_rep v at random body p admission) octets × OpensFor v at random body p admission)
     ⊎ krb_error.Spells (too_big v.realm at body) octets
 
 abbrev pub Sent : TgsView → Moment → List ℕ → ReqBody → Presented → List ℕ → Type 0

@@ -6,6 +6,7 @@ use Rattle.kdc_replies.specs.Grant.{session_key}
 use Rattle.kdc_replies.specs.Reply.{reply_of}
 use Rattle.kdc_replies.specs.declared.grant.Grant.{Grant}
 use Rattle.sealed_parts.specs.declared.encrypting.PartKey.{PartKey}
+use Rattle.krb_fields.specs.declared.numbers.TheConstants.{TGS_REP, ENC_TGS_REP_PART}
 use Rattle.krb_fields.specs.declared.moment.Moment.{Moment}
 use Rattle.krb_types.specs.KdcRep.{KdcRep}
 use Rattle.krb_types.specs.ReqBody.{ReqBody}
@@ -36,7 +37,7 @@ reply_key_by session None = record { key = session; usage = TgsRepEncPartSession
 abbrev pub reply_key_of : Presented → PartKey
 reply_key_of p = reply_key_by p.session_key p.subkey
 
-abbrev pub tgs_rep : TgsView → Moment → List ℕ → ReqBody → Presented → Admission → KdcRep 13
+abbrev pub tgs_rep : TgsView → Moment → List ℕ → ReqBody → Presented → Admission → KdcRep TGS_REP
 tgs_rep v at random body p admission =
-    reply_of 13 26 (grant_by v random body p admission) admission.terms.service.key
+    reply_of TGS_REP ENC_TGS_REP_PART (grant_by v random body p admission) admission.terms.service.key
     (reply_key_of p) None body.nonce at.sec random

@@ -2,6 +2,7 @@
 use Rattle.std.specs.Prelude.{◌≡◌, ℕ, ◌&&◌, nat_eq, nat_lt, if◌then◌else◌, List, length, Option, Some, None}
 use Rattle.std.specs.Cmp.Lexicographic.{pointwise}
 use Rattle.krb_elements.specs.Codec.{written}
+use Rattle.krb_fields.specs.declared.numbers.TheConstants.{TGS_REP}
 use Rattle.krb_fields.specs.PrincipalName.{Name}
 use Rattle.krb_fields.specs.declared.code.Code.TheVariants.{KrbErrResponseTooBig}
 use Rattle.krb_fields.specs.declared.moment.Moment.{Moment}
@@ -57,7 +58,8 @@ repeated_outcome incoming kept =
 -- a ticket, if its reply fits the room
 abbrev pub issued_within : TgsView → Incoming → ReqBody → Presented → Admission → TgsOutcome
 issued_within v incoming body p admission =
-    if nat_lt incoming.room (length (written (kdc_rep 13) (tgs_rep v incoming.at incoming.random body p admission)))
+    if nat_lt incoming.room
+    (length (written (kdc_rep TGS_REP) (tgs_rep v incoming.at incoming.random body p admission)))
     then TooBig
     else Issued (granted_by body p admission)
 
@@ -79,7 +81,7 @@ OutcomeSpelledBy v at random body p (Issued granted) (Refuses refusal) octets = 
 OutcomeSpelledBy v at random body p (Issued granted) (Records refusal) octets = ⊥
 OutcomeSpelledBy v at random body p (Issued granted) (Repeats kept) octets = ⊥
 OutcomeSpelledBy v at random body p (Issued granted) (Issues admission) octets =
-    (granted ≡ granted_by body p admission) × (kdc_rep 13).Spells (tgs_rep v at random body p admission) octets
+    (granted ≡ granted_by body p admission) × (kdc_rep TGS_REP).Spells (tgs_rep v at random body p admission) octets
 OutcomeSpelledBy v at random body p (Resent bears) (Refuses refusal) octets = ⊥
 OutcomeSpelledBy v at random body p (Resent bears) (Records refusal) octets = ⊥
 OutcomeSpelledBy v at random body p (Resent bears) (Repeats kept) octets = (bears ≡ kept.bears) × (octets ≡ kept.reply)

@@ -15,6 +15,7 @@ use Rattle.enctypes.specs.declared.key.Key.{Key}
 use Rattle.enctypes.specs.declared.key_usage.KeyUsage.TheVariants.{TgsReqAuthenticator}
 use Rattle.kdc_replies.specs.Standing.{is_disabled, is_expired}
 use Rattle.krb_types.specs.ApReq.{ApReq}
+use Rattle.krb_fields.specs.declared.numbers.TheConstants.{PVNO, TGS_REQ, AP_REQ}
 use Rattle.krb_fields.specs.ApOption.{ap_option_number}
 use Rattle.krb_fields.specs.Flags.{has_bit}
 use Rattle.krb_fields.specs.declared.ap_option.ApOption.TheVariants.{UseSessionKey}
@@ -115,12 +116,12 @@ is_full NoPlace = true
 abbrev pub refusals : TgsView → TgsFacts → List (Rule (Decision Kept))
 refusals v k =
     let body = k.message.body.value in
-    (not (int_eq k.message.pvno (pos 5)), Refuses tgs.BadVersion)  -- 5.4.1
-    ∷ (not (int_eq k.message.msg_type (pos 12)), Refuses tgs.BadMessageType)  -- 5.4.1
+    (not (int_eq k.message.pvno PVNO), Refuses tgs.BadVersion)  -- 5.4.1
+    ∷ (not (int_eq k.message.msg_type (pos TGS_REQ)), Refuses tgs.BadMessageType)  -- 5.4.1
     ∷ (is_none (tgs_data k.message), Refuses tgs.NoApReq)  -- 3.3.2
     ∷ (is_none k.shown, Refuses tgs.MalformedApReq)  -- 5.2.7.1
     ∷ (holds_of (λ s. is_other_version s.ap) k.shown, Refuses (tgs.Ap ap_refusals.BadVersion))  -- 5.5.1, 5.3
-    ∷ (holds_of (λ s. not (int_eq s.ap.msg_type (pos 14))) k.shown, Refuses (tgs.Ap ap_refusals.BadMessageType))  -- 3.2.3
+    ∷ (holds_of (λ s. not (int_eq s.ap.msg_type (pos AP_REQ))) k.shown, Refuses (tgs.Ap ap_refusals.BadMessageType))  -- 3.2.3
     ∷ (holds_of asks_session_key k.shown, Refuses (tgs.Ap ap_refusals.SessionKeyAsked))  -- 3.2.3
     ∷ (holds_of (λ s. not s.held.is_for_us) k.shown, Refuses (tgs.Ap ap_refusals.NotForUs))  -- 3.2.3, 3.3.2
     ∷ (holds_of has_no_key k.shown, Refuses (tgs.Ap ap_refusals.NoKey))  -- 3.2.3

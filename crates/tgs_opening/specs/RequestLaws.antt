@@ -1,5 +1,5 @@
 -- The value of a request's PA-TGS-REQ is no longer than the request.
-use Rattle.std.proofs.Common.{◌≡◌, ℕ, ℤ, pos, ◌<◌, ◌≤◌, Bool, true, false, cond, List, [], ◌∷◌, ◌++◌, length, Option}
+use Rattle.std.proofs.Common.{◌≡◌, ℕ, ℤ, ◌<◌, ◌≤◌, Bool, true, false, cond, List, [], ◌∷◌, ◌++◌, length, Option}
 use Rattle.std.proofs.Common.{Some, None, refl, subst, ap, arith}
 use Rattle.std.specs.Prelude.{IfSome, option_map, find}
 use Rattle.std.specs.Ordering.{int_eq}
@@ -9,6 +9,7 @@ use Rattle.krb_der.specs.StepLaws.{IsBytes-back, IsBytes-front}
 use Rattle.krb_elements.specs.Codec.{sequence, list_of, octets}
 use Rattle.krb_elements.specs.Spells.{Items}
 use Rattle.krb_elements.specs.WrittenLaws.{tlv_longer}
+use Rattle.krb_fields.specs.declared.numbers.TheConstants.{PA_TGS_REQ}
 use Rattle.krb_fields.specs.PaData.{PaData, pa_data, pa_data_form}
 use Rattle.krb_types.specs.KdcReq.{Received, SpellsReceived, received_form, message_tag}
 use Rattle.krb_types.specs.declared.kdc_req.Exchange.{Exchange}
@@ -80,6 +81,6 @@ short number None bytes le h = tt
 pub value_short : (exchange : Exchange) (r : Received) (bytes : List ℕ) → IsBytes bytes → length bytes ≤ 2147483647
     → SpellsReceived (exchange, r) bytes → IfSome (tgs_data r) (λ value. length value < 2147483648)
 value_short exchange r bytes fits le s =
-    short (pos 1) r.padata bytes le
+    short PA_TGS_REQ r.padata bytes le
     ((in_contents length (message_tag exchange) (sequence received_form).Spells
-    (λ r. part_of (first_value (pos 1)) r.padata) (λ (r : Received). r) (in_fields (pos 1))).is r bytes fits s)
+    (λ r. part_of (first_value PA_TGS_REQ) r.padata) (λ (r : Received). r) (in_fields PA_TGS_REQ)).is r bytes fits s)

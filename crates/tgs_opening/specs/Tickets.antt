@@ -8,6 +8,7 @@ use Rattle.std.specs.Cmp.Lexicographic.{pointwise}
 use Rattle.lists.specs.Optional.{holds_of}
 use Rattle.lists.specs.Refusals.{Rule, decided}
 use Rattle.krb_elements.specs.Format.{whole}
+use Rattle.krb_fields.specs.declared.numbers.TheConstants.{PVNO, TGS_REQ, PA_TGS_REQ}
 use Rattle.krb_fields.specs.EncryptedData.{EncryptedData}
 use Rattle.krb_fields.specs.Name.{name_cmp}
 use Rattle.krb_fields.specs.PrincipalName.{Name}
@@ -39,7 +40,7 @@ use Rattle.tgs_opening.specs.declared.tickets.Addressee.TheVariants.{Tgs, AskedF
 
 -- the value of the first PA-TGS-REQ
 abbrev pub tgs_data : Received → Option (List ℕ)
-tgs_data message = first_of (pos 1) message.padata
+tgs_data message = first_of PA_TGS_REQ message.padata
 
 abbrev pub ap_req_in : Option (List ℕ) → Option ApReq
 ap_req_in (Some value) = ok_of (whole ap_req.at value)
@@ -47,8 +48,8 @@ ap_req_in None = None
 
 abbrev pub request_rules : Received → List (Rule TgsRefusal)
 request_rules message =
-    (not (int_eq message.pvno (pos 5)), BadVersion)  -- 5.4.1
-    ∷ (not (int_eq message.msg_type (pos 12)), BadMessageType)  -- 5.4.1
+    (not (int_eq message.pvno PVNO), BadVersion)  -- 5.4.1
+    ∷ (not (int_eq message.msg_type (pos TGS_REQ)), BadMessageType)  -- 5.4.1
     ∷ (is_none (tgs_data message), NoApReq)  -- 3.3.2
     ∷ []
 
