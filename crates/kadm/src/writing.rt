@@ -271,9 +271,7 @@ pub(crate) fn write_of<'a>(
         "drop" => changes_of(words, drop_args(words)?),
         "policy" => changes_of(words, policy_args(words)?),
         "remove" => changes_of(words, ChangeArgs::Remove),
-        "batch" => Ok(WriteCommand::Batch {
-            keep_going: has_flag(words, "--keep-going"),
-        }),
+        "batch" => batch_args(words),
         "migrate" => Ok(WriteCommand::Update(Update::Migrate {
             users_are_no_services: has_flag(words, "--users-are-no-services"),
         })),
@@ -290,6 +288,15 @@ fn init_args<'a>(words: &'a [&'a str]) -> Result<WriteCommand<'a>, CommandFault<
         realm: required(words, "--realm", NO_COMMAND)?,
         seed: value_of(words, "--seed"),
     }))
+}
+
+/// Returns whether a batch keeps going.
+fn batch_args<'a>(words: &'a [&'a str]) -> Result<WriteCommand<'a>, CommandFault<'a>>
+    ensures { command_of (texts words.now) ≡ Some (codes "batch") → IfOk result (λ write. IsWriteSpelled (texts words.now) write) }
+{
+    Ok(WriteCommand::Batch {
+        keep_going: has_flag(words, "--keep-going"),
+    })
 }
 
 /// Runs a command that writes a file. Returns whether all was done: a batch that keeps going may have been done in part.
