@@ -18,6 +18,8 @@ use std::alloc::Global;
 /// The AP_VERSION of the header. It rises with each function, part or status that the header gets.
 const VERSION: u32 = 1;
 
+// C hands over an array as a pointer and a length, so two of these calls have seven parameters.
+
 /// Opens a closed acceptor with the bytes of a keytab.
 #[unsafe(no_mangle)]
 pub extern "C" fn ap_accept_c_open(

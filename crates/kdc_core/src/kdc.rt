@@ -198,6 +198,7 @@ impl Kdc {
     /// Answers as [`Kdc::handle`] does, with an account of the request, if it is wanted, and with the authenticator that
     /// is recorded for it. The names of an account are copied before anything changes. A call that runs out of memory
     /// changes nothing.
+    // It takes what `handle` takes, and whether an account is wanted, so it has seven parameters.
     pub fn answer<'q>(
         &mut self,
         alloc: Global,
