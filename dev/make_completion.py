@@ -125,7 +125,10 @@ def option_of(row):
 def rows_in(reader):
     """The rows of all commands."""
     if "COMMANDS" in reader.places:
-        return [row for table in reader.constant("COMMANDS") for row in table]
+        found = reader.constant("COMMANDS")
+        # A list of tables, or rows that hold the words of a command.
+        rows = [row for each in found for row in (each if isinstance(each, list) else [each])]
+        return [row.fields.get("words", row) for row in rows]
     return [reader.value(place.start())[0] for place in re.finditer(r"\bSubcommandRow \{", reader.text)]
 
 
