@@ -30,14 +30,14 @@ batch_write (Err e) before target keep after done = tt
 
 -- ---- commands
 
-pub wrote : (before : Option World) (command : Command) (write : WriteCommand) (after : Option World)
+pub write_done : (before : Option World) (command : Command) (write : WriteCommand) (after : Option World)
     → command.kind ≡ kinds.Write write → IsWriteDone before command.target write true after → IsDone before command after
-wrote before command write after is done =
+write_done before command write after is done =
     subst (λ kind. IsKindDone before command.target.db.now command.target.etypes.items kind after) (sym is) done
 
-pub tried : (before : Option World) (command : Command) (write : WriteCommand) (after : Option World)
+pub write_tried : (before : Option World) (command : Command) (write : WriteCommand) (after : Option World)
     → command.kind ≡ kinds.Write write → IsWriteDone before command.target write false after → IsTried before command after
-tried before command write after is (keeps, tried) = (is ∙ ap kinds.Write keeps, tried)
+write_tried before command write after is (keeps, tried) = (is ∙ ap kinds.Write keeps, tried)
 
 pub print_end : {E : Type 0} (r : Result Status E) (before : Option World) (command : Command) (print : PrintCommand) (after : Option World)
     → command.kind ≡ kinds.Print print → after ≡ before → IfOk r (λ status. status ≡ statuses.Done) → IfOk r (λ status. IsCommandEnd before command status after)

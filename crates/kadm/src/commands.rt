@@ -55,13 +55,18 @@ pub(crate) enum CommandKind<'a> {
 /// Parses the command line, whose first word is the program's name. Its values are then where `value_of` finds them: the
 /// parser takes no word that begins with `--` as a value, and no option twice.
 pub(crate) fn read_args<'a>(alloc: Global, words: &'a [&'a str]) -> Result<ArgMatches<'a>, Error> {
+    parser(alloc)?.try_get_matches_from(words)
+}
+
+/// Returns the parser, with all commands.
+fn parser<'a>(alloc: Global) -> Result<Parser<'a>, AllocError> {
     let mut kadm = Parser::new(alloc, "kadm")
         .about("Makes, changes and lists the database of a Kerberos realm")
         .after_help(EXAMPLE);
     for table in COMMANDS {
         kadm = with_subcommands(alloc, kadm, *table)?;
     }
-    kadm.try_get_matches_from(words)
+    Ok(kadm)
 }
 
 /// Returns the command that the words give.

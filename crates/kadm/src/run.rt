@@ -136,7 +136,7 @@ fn asks<'a, W: Write, E: Write>(
 }
 
 /// Runs a command that was read. One that writes prints `ok` if all was done.
-#[tactic(auto, using(crate::proofs::Ending::wrote, crate::proofs::Ending::tried, crate::proofs::Ending::print_end))]
+#[tactic(auto, using(crate::proofs::Ending::write_done, crate::proofs::Ending::write_tried, crate::proofs::Ending::print_end))]
 fn run_command<'a, T: Store, W: Write, E: Write>(
     context: &mut Context<W, E>,
     store: &mut T,

@@ -251,6 +251,11 @@ pub(crate) fn read_args<'a, S: AsStr>(
     alloc: Global,
     args: &'a [S],
 ) -> Result<ArgMatches<'a>, Error> {
+    parser(alloc)?.try_get_matches_from(args)
+}
+
+/// Returns the parser, with all commands.
+fn parser<'a>(alloc: Global) -> Result<Command<'a>, AllocError> {
     let mut kclient = Command::new(alloc, "kclient")
         .version(VERSION)
         .about(ABOUT)
@@ -259,7 +264,7 @@ pub(crate) fn read_args<'a, S: AsStr>(
     for row in COMMANDS {
         kclient = kclient.subcommand(command(alloc, row)?)?;
     }
-    kclient.try_get_matches_from(args)
+    Ok(kclient)
 }
 
 /// Returns the command with this name.
