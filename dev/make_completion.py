@@ -15,11 +15,13 @@ import typing
 
 TOP = pathlib.Path(__file__).resolve().parent.parent
 MADE = TOP / "docs" / "completion"
-# Where each program has its tables. A constant COMMANDS has them in their order, if they are in several files.
+# Where each program has its tables.
 TABLES = {
     "kadm": [f"kadm/src/{name}.rt" for name in ("commands", "writing", "printing", "options")],
     "kclient": ["kclient/src/options.rt"], "kdcd": ["kdcd_run/src/args.rt"],
 }
+# The tables of a program whose commands are in several files, in the order of its help.
+PARTS = ("CHANGES", "PRINTS", "LATER_CHANGES")
 # What a command takes besides its own table: the names of the constants, or of the function of an option whose value
 # may be left away.
 ADDED = {"kinit": ("KINIT_OPTIONS", "KINIT_FLAGS"), "serve": ("journal_option",)}
@@ -124,11 +126,10 @@ def option_of(row):
 
 def rows_in(reader):
     """The rows of all commands."""
+    if all(name in reader.places for name in PARTS):
+        return [row for name in PARTS for row in reader.constant(name)]
     if "COMMANDS" in reader.places:
-        found = reader.constant("COMMANDS")
-        # A list of tables, or rows that hold the words of a command.
-        rows = [row for each in found for row in (each if isinstance(each, list) else [each])]
-        return [row.fields.get("words", row) for row in rows]
+        return [row.fields["words"] for row in reader.constant("COMMANDS")]
     return [reader.value(place.start())[0] for place in re.finditer(r"\bSubcommandRow \{", reader.text)]
 
 

@@ -3,15 +3,14 @@ ghost use Rattle.std.specs.Prelude.{◌≡◌, IfOk, Some};
 ghost use Rattle.kadm_changes.specs.Words.{texts};
 ghost use Rattle.kadm.specs.Words.{IsKindSpelled, Spells, command_of};
 
-use crate::printing::{PRINTS, PrintCommand, print_of};
+use crate::printing::{PrintCommand, print_of, with_prints};
 use crate::usage::{CommandFault, NO_COMMAND};
 use crate::words::{command_of, has_flag};
-use crate::writing::{CHANGES, LATER_CHANGES, WriteCommand, write_of};
+use crate::writing::{WriteCommand, with_changes, with_later_changes, write_of};
 use clap::error::Error;
 use clap::{ArgMatches, Command as Parser};
 use enctypes::Etype;
 use kadm_changes::{DB, Target, value_of};
-use program::{SubcommandRow, with_subcommands};
 use std::alloc::{AllocError, Global};
 use text_fields::{offered, read_etypes};
 
@@ -35,9 +34,6 @@ and two lower case hexadecimal digits.";
 const NO_TYPES: &str = "\
 --types takes the numbers 18, 17, 20 and 19, each at most once, separated by commas";
 
-/// The tables of the commands, in the order of the help.
-const COMMANDS: &[&[SubcommandRow]] = &[CHANGES, PRINTS, LATER_CHANGES];
-
 /// What one command line asks for.
 #[derive(Drop)]
 pub(crate) struct Command<'a> {
@@ -58,15 +54,14 @@ pub(crate) fn read_args<'a>(alloc: Global, words: &'a [&'a str]) -> Result<ArgMa
     parser(alloc)?.try_get_matches_from(words)
 }
 
-/// Returns the parser, with all commands.
+/// Returns the parser, with all commands in the order of the help.
 fn parser<'a>(alloc: Global) -> Result<Parser<'a>, AllocError> {
-    let mut kadm = Parser::new(alloc, "kadm")
+    let kadm = Parser::new(alloc, "kadm")
         .about("Makes, changes and lists the database of a Kerberos realm")
         .after_help(EXAMPLE);
-    for table in COMMANDS {
-        kadm = with_subcommands(alloc, kadm, *table)?;
-    }
-    Ok(kadm)
+    let kadm = with_changes(alloc, kadm)?;
+    let kadm = with_prints(alloc, kadm)?;
+    with_later_changes(alloc, kadm)
 }
 
 /// Returns the command that the words give.

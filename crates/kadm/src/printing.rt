@@ -8,13 +8,15 @@ use crate::linting::print_lint;
 use crate::listing::{ListArgs, print_list, print_row};
 use crate::options::{DATABASE, NAME};
 use crate::words::has_flag;
+use clap::Command as Parser;
 use kadm_changes::{Context, Stop, value_of};
-use program::{FlagRow, OptionRow, Status, Store, SubcommandRow, Times};
+use program::{FlagRow, OptionRow, Status, Store, SubcommandRow, Times, with_subcommands};
+use std::alloc::{AllocError, Global};
 use std::convert::AsStr;
 use std::io::Write;
 
 /// The rows of the commands that only print.
-pub(crate) const PRINTS: &[SubcommandRow] = &[
+const PRINTS: &[SubcommandRow] = &[
     SubcommandRow {
         name: "list",
         about: "Prints a line for each principal: its name, its current key version, and the types of its keys",
@@ -51,6 +53,11 @@ const JSONS: FlagRow = FlagRow {
     name: "json",
     help: "Prints each line as a JSON object, with the columns by their names",
 };
+
+/// Adds the commands that only print.
+pub(crate) fn with_prints<'a>(alloc: Global, kadm: Parser<'a>) -> Result<Parser<'a>, AllocError> {
+    with_subcommands(alloc, kadm, PRINTS)
+}
 
 /// A command that prints what a database has.
 #[derive(Clone, Copy)]

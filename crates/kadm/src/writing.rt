@@ -12,17 +12,19 @@ use crate::command_words::{
 use crate::options::{ANY_PASSWORDS, DATABASE, KEEPS_MODE, NAME, NAMES, PASSWORD, REPLACES, TYPES};
 use crate::usage::{CommandFault, NO_COMMAND};
 use crate::words::has_flag;
+use clap::Command as Parser;
 use kadm_changes::{
     ChangeArgs, Context, DumpArgs, InitArgs, KeytabArgs, Stop, Target, Update, import_dump,
     make_realm, make_update, value_of, write_keytab,
 };
-use program::{FlagRow, OptionRow, Status, Store, SubcommandRow, Times};
+use program::{FlagRow, OptionRow, Status, Store, SubcommandRow, Times, with_subcommands};
+use std::alloc::{AllocError, Global};
 use std::convert::AsStr;
 use std::io::Write;
 use text_fields::{FIELD_NAMES, MIGRATION};
 
 /// The rows of the commands that write, but for those in `LATER_CHANGES`.
-pub(crate) const CHANGES: &[SubcommandRow] = &[
+const CHANGES: &[SubcommandRow] = &[
     SubcommandRow {
         name: "init",
         about: "Makes the database of a new realm; refuses a file that exists",
@@ -80,7 +82,7 @@ pub(crate) const CHANGES: &[SubcommandRow] = &[
 ];
 
 /// The rows of those that the help lists behind the commands that print.
-pub(crate) const LATER_CHANGES: &[SubcommandRow] = &[
+const LATER_CHANGES: &[SubcommandRow] = &[
     SubcommandRow {
         name: "migrate",
         about: MIGRATION,
@@ -238,6 +240,19 @@ const APPENDS: FlagRow = FlagRow {
     name: "append",
     help: "Adds the keys to the keytab, which keeps its entries, owner and group",
 };
+
+/// Adds the commands that write and come before those that print.
+pub(crate) fn with_changes<'a>(alloc: Global, kadm: Parser<'a>) -> Result<Parser<'a>, AllocError> {
+    with_subcommands(alloc, kadm, CHANGES)
+}
+
+/// Adds the other commands that write.
+pub(crate) fn with_later_changes<'a>(
+    alloc: Global,
+    kadm: Parser<'a>,
+) -> Result<Parser<'a>, AllocError> {
+    with_subcommands(alloc, kadm, LATER_CHANGES)
+}
 
 /// A command that writes a file.
 #[derive(Clone, Copy)]
