@@ -4,6 +4,7 @@ ghost use Rattle.krb_elements.specs.Codec.{list_of};
 ghost use Rattle.krb_fields.specs.Typed.{typed};
 ghost use Rattle.tgs_opening.specs.Opening.{presented};
 ghost use Rattle.tgs_opening.specs.Tickets.{tgs_data};
+ghost use Rattle.krb_der.specs.Spelling.{IsBytes};
 ghost use Rattle.kdc_core.specs.Contents.{IsShortName};
 ghost use Rattle.kdc_core.specs.Request.{request_of, requested};
 ghost use Rattle.kdc_core.specs.View.{components_of, row_of, ticket_view};
@@ -25,6 +26,8 @@ pub fn read_request(request: &[u8]) -> Option<(Exchange, KdcReqRef<'_>)>
     ensures value { option_map requested result ≡ request_of request.now }
     ensures sname { IfSome result (λ found. IsShortName found.1) }
     ensures data { IfSome result (λ found. IfSome (tgs_data found.1) (λ value. length value < 2147483648)) }
+    // a caller's proof has no such fact about a slice that a struct holds
+    ensures bytes { IsBytes request.now }
 {
     if request.len() > GREATEST_REQUEST {
         return None;

@@ -31,6 +31,7 @@ use crate::account::{Account, Answer, account_if, reply_alone};
 use crate::answering::reply_to;
 use crate::contents::read_request;
 use crate::mark::keep_mark;
+use crate::timed_request::TimedRequest;
 use kdc_replies::{Incoming, error_reply};
 use kdc_state::{CacheSizes, Opening, State};
 use krb_elements::Octets;
@@ -192,27 +193,30 @@ impl Kdc {
             → IsSeenAlike (cache_of self.old name) (cache_of self.new name) }
         ensures err { OnErr result (self.new ≡ self.old) }
     {
-        reply_alone(self.answer(alloc, at, random, room, request, false))
+        let timed = TimedRequest {
+            at,
+            octets: request,
+        };
+        reply_alone(self.answer(alloc, random, room, &timed, false))
     }
 
     /// Answers as [`Kdc::handle`] does, with an account of the request, if it is wanted, and with the authenticator that
     /// is recorded for it. The names of an account are copied before anything changes. A call that runs out of memory
     /// changes nothing.
-    // It takes what `handle` takes, and whether an account is wanted, so it has seven parameters.
     pub fn answer<'q>(
         &mut self,
         alloc: Global,
-        at: Moment,
         random: &'q [u8; 64],
         room: u32,
-        request: &'q [u8],
+        request: &TimedRequest<'q>,
         wants_account: bool,
     ) -> Result<Answer, AllocError>
-        ensures answered { IfOk result (λ given.
-            IsAnswered self.old (asked at random.now room request.now) wants_account given self.new) }
+        ensures answered { IfOk result (λ given. IsAnswered self.old
+            (asked request.now.at random.now room request.now.octets.now) wants_account given self.new) }
         ensures err { OnErr result (self.new ≡ self.old) }
     {
-        let Some((exchange, message)) = read_request(request) else {
+        let TimedRequest { at, octets } = *request;
+        let Some((exchange, message)) = read_request(octets) else {
             return Ok(Answer {
                 reply: None,
                 account: wants_account.then_some(Account::NoRequest),
@@ -223,7 +227,7 @@ impl Kdc {
             at,
             random,
             room,
-            octets: request,
+            octets,
             ready: &self.ready,
         };
         let answered = reply_to(&self.state, alloc, &incoming, exchange, &message)?;

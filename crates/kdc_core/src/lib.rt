@@ -22,6 +22,7 @@ mod laws;
 mod mark;
 mod run;
 mod tgs_replies;
+mod timed_request;
 
 pub use account::{Account, Answer};
 pub use ap_opening::ApRefusal;
@@ -34,3 +35,4 @@ pub use replay::{Bears, Resumption, Seen};
 pub use run::{Event, RunFault};
 pub use tgs_exchange::TgsOutcome;
 pub use tgs_opening::TgsRefusal;
+pub use timed_request::TimedRequest;

@@ -20,10 +20,10 @@ ghost use Rattle.kdc_hub.specs.declared.event.Event.TheVariants.{Datagram, Opene
 
 use crate::connections::Connections;
 use crate::event::{Action, CloseReason, Event, HubFault, Peer};
-use crate::issuer::{Issuer, TimedRequest};
+use crate::issuer::Issuer;
 use crate::stream::{TimedConnection, answer_stream};
 use framing::Splitter;
-use kdc_core::{CacheSizes, Kdc, OtherRealm};
+use kdc_core::{CacheSizes, Kdc, OtherRealm, TimedRequest};
 use krb_fields::Moment;
 use principals::Database;
 use rand_core::Rng;

@@ -12,8 +12,9 @@ ghost use Rattle.kdc_hub.specs.declared.event.Action.TheVariants.{Write, Close};
 ghost use Rattle.kdc_hub.specs.declared.event.CloseReason.TheVariants.{BadLength};
 
 use crate::event::{Action, CloseReason, HubFault};
-use crate::issuer::{Issuer, TimedRequest};
+use crate::issuer::Issuer;
 use framing::{FrameFault, Splitter};
+use kdc_core::TimedRequest;
 use krb_fields::Moment;
 use rand_core::Rng;
 use std::alloc::{AllocError, Global};

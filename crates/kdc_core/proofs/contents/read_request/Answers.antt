@@ -6,3 +6,6 @@ pub returns-clause-data : goal.returns-clause-data
 returns-clause-data c =
     let few : length c.args.request.now ≤ 2147483647 = omega (arith, c.if-request-gt-GREATEST_REQUEST.false) in
     value_short c.in-Ok.found.0 c.in-Ok.found.1 c.args.request.now (λ i. omega (arith, c.type_inv.request i)) few c.in-Ok.ensures.found
+
+pub returns-clause-bytes : goal.returns-clause-bytes
+returns-clause-bytes c = λ i. omega (arith, c.type_inv.request i)

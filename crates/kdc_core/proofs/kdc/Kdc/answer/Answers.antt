@@ -11,23 +11,23 @@ use Rattle.kdc_core.proofs.kdc.Kdc.answer.Goals as goal
 pub returns-in_default-clause-answered : goal.returns-in_default-clause-answered
 returns-in_default-clause-answered c =
     let state = c.args.self.now in
-    let q : Incoming = asked c.args.at c.args.random.now c.args.room c.args.request.now in
+    let q : Incoming = asked c.args.request.now.at c.args.random.now c.args.room c.args.request.now.octets.now in
     let long : 32 ≤ length c.args.random.now = search rules in
-    let none : None ≡ request_of c.args.request.now = ap (option_map requested) (sym c.in_default.is) ∙ c.read_request.ensures.value in
-    unread_answered state q state c.args.wants_account _ refl long (λ i. omega (arith, c.type_inv.request i)) none refl c.then_some.ensures refl
+    let none : None ≡ request_of c.args.request.now.octets.now = ap (option_map requested) (sym c.in_default.is) ∙ c.read_request.ensures.value in
+    unread_answered state q state c.args.wants_account _ refl long c.read_request.ensures.bytes none refl c.then_some.ensures refl
 
 pub returns-clause-answered : goal.returns-clause-answered
 returns-clause-answered c =
     let state = c.self.inside.state in
-    let q : Incoming = asked c.args.at c.args.random.now c.args.room c.args.request.now in
+    let q : Incoming = asked c.args.request.now.at c.args.random.now c.args.room c.args.request.now.octets.now in
     let is : state ≡ c.args.self.now = search rules in
     let long : 32 ≤ length c.args.random.now = search rules in
     let exchange = c.in-Some.exchange in
     let message = c.in-Some.message in
     let answered = c.in_ok-answered.answered in
     answered_from state q (contents_in (view_in state exchange message) exchange message) (Some answered.octets.items) (Some answered.mark) answered.account
-    c.args.self.now c.args.wants_account _ c.keep_mark.new.state is long (λ i. omega (arith, c.type_inv.request i))
-    (contents_read state c.args.request.now exchange message c.in-Some.ensures.value) c.in_ok-answered.ensures.replied
+    c.args.self.now c.args.wants_account _ c.keep_mark.new.state is long c.read_request.ensures.bytes
+    (contents_read state c.args.request.now.octets.now exchange message c.in-Some.ensures.value) c.in_ok-answered.ensures.replied
     (record {
       sent = ap Some c.new.ensures;
       account_is = c.in_ok-account.ensures;
