@@ -103,12 +103,23 @@ enum ap_part {
 	AP_AP_REP = 6       /* the AP-REP: the service sends it to the client that asks for one (has_ap_rep) */
 };
 
+/* What the functions of the library take together: seconds since 1970 and microseconds; what ap_open says beside a keytab. */
+struct ap_time {
+	int64_t sec;
+	uint32_t usec;
+};
+
+struct ap_start {
+	uint32_t remembered;
+	bool is_first;
+	struct ap_time time;
+};
+
 /* The functions of the library, which those below call. */
-int32_t ap_accept_c_open(struct ap_acceptor *acceptor, const uint8_t *keytab, size_t keytab_length, uint32_t remembered,
-			 bool is_first, int64_t sec, uint32_t usec);
+int32_t ap_accept_c_open(struct ap_acceptor *acceptor, const uint8_t *keytab, size_t keytab_length, const struct ap_start *start);
 int32_t ap_accept_c_replace_keytab(struct ap_acceptor *acceptor, const uint8_t *keytab, size_t keytab_length);
-int32_t ap_accept_c_accept(struct ap_acceptor *acceptor, int64_t sec, uint32_t usec, const uint8_t *random,
-			   const uint8_t *ap_req, size_t ap_req_length, struct ap_accepted *accepted);
+int32_t ap_accept_c_accept(struct ap_acceptor *acceptor, const struct ap_time *time, const uint8_t *random, const uint8_t *ap_req,
+			   size_t ap_req_length, struct ap_accepted *accepted);
 int32_t ap_accept_c_octets(struct ap_acceptor *acceptor, uint32_t part, uint8_t *to, size_t capacity, size_t *length);
 int32_t ap_accept_c_close(struct ap_acceptor *acceptor);
 size_t ap_accept_c_text(int32_t status, uint8_t *to, size_t capacity);
@@ -127,9 +138,11 @@ uint32_t ap_accept_c_version(void);
 static inline int32_t ap_open(struct ap_acceptor *acceptor, const void *keytab, size_t keytab_length, uint32_t remembered,
 			      bool is_first, int64_t sec, uint32_t usec)
 {
+	const struct ap_start start = {remembered, is_first, {sec, usec}};
+
 	if (acceptor == NULL || keytab == NULL || keytab_length > PTRDIFF_MAX)
 		return AP_BAD_ARGUMENT;
-	return ap_accept_c_open(acceptor, (const uint8_t *)keytab, keytab_length, remembered, is_first, sec, usec);
+	return ap_accept_c_open(acceptor, (const uint8_t *)keytab, keytab_length, &start);
 }
 
 /*
@@ -158,9 +171,11 @@ static inline int32_t ap_replace_keytab(struct ap_acceptor *acceptor, const void
 static inline int32_t ap_accept(struct ap_acceptor *acceptor, int64_t sec, uint32_t usec, const uint8_t random[16],
 				const void *ap_req, size_t ap_req_length, struct ap_accepted *accepted)
 {
+	const struct ap_time time = {sec, usec};
+
 	if (acceptor == NULL || random == NULL || ap_req == NULL || ap_req_length > PTRDIFF_MAX || accepted == NULL)
 		return AP_BAD_ARGUMENT;
-	return ap_accept_c_accept(acceptor, sec, usec, random, (const uint8_t *)ap_req, ap_req_length, accepted);
+	return ap_accept_c_accept(acceptor, &time, random, (const uint8_t *)ap_req, ap_req_length, accepted);
 }
 
 /*

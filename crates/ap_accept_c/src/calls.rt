@@ -16,14 +16,16 @@ use ap_accept::Opening;
 use krb_fields::Moment;
 use std::alloc::Global;
 
-/// A time of C: two numbers, which name a moment or none.
+/// The `struct ap_time` of the header: two numbers, which name a moment or none.
+#[repr(C)]
 #[derive(Clone, Copy)]
 pub struct Time {
     pub sec: i64,
     pub usec: u32,
 }
 
-/// What C says of an acceptor that opens, besides its keys.
+/// The `struct ap_start` of the header: what C says of an acceptor that opens, besides its keys.
+#[repr(C)]
 #[derive(Clone, Copy)]
 pub struct Start {
     /// How many authenticators of each client it remembers.

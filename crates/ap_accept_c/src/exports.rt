@@ -18,30 +18,20 @@ use std::alloc::Global;
 /// The AP_VERSION of the header. It rises with each function, part or status that the header gets.
 const VERSION: u32 = 1;
 
-// C hands over an array as a pointer and a length, so two of these calls have seven parameters.
-
 /// Opens a closed acceptor with the bytes of a keytab.
 #[unsafe(no_mangle)]
 pub extern "C" fn ap_accept_c_open(
     alloc: Global,
     holder: &mut Holder,
     keytab: &[u8],
-    remembered: u32,
-    is_first: bool,
-    sec: i64,
-    usec: u32,
+    start: &Start,
 ) -> i32
     requires { IsHolder holder.old }
     ensures holder { IsHolder holder.new }
     ensures opened { IsOpenCall result holder.old.held.value holder.new.held.value
-        keytab.now remembered is_first sec usec }
+        keytab.now start.now.remembered start.now.is_first start.now.time.sec start.now.time.usec }
 {
-    let start = Start {
-        remembered,
-        is_first,
-        time: Time { sec, usec },
-    };
-    calls::open_at(holder, alloc, keytab, &start).number()
+    calls::open_at(holder, alloc, keytab, start).number()
 }
 
 /// Replaces the keys of an open acceptor with those in the bytes of a keytab.
@@ -63,8 +53,7 @@ pub extern "C" fn ap_accept_c_replace_keytab(
 pub extern "C" fn ap_accept_c_accept(
     alloc: Global,
     holder: &mut Holder,
-    sec: i64,
-    usec: u32,
+    time: &Time,
     confounder: &[u8; 16],
     ap_req: &[u8],
     numbers: &mut Numbers,
@@ -72,9 +61,9 @@ pub extern "C" fn ap_accept_c_accept(
     requires { IsHolder holder.old }
     ensures holder { IsHolder holder.new }
     ensures accepted { IsAcceptCall result holder.old.held.value holder.new.held.value
-        sec usec confounder.now ap_req.now numbers.new }
+        time.now.sec time.now.usec confounder.now ap_req.now numbers.new }
 {
-    let outcome = calls::accept_at(holder, alloc, Time { sec, usec }, confounder, ap_req);
+    let outcome = calls::accept_at(holder, alloc, *time, confounder, ap_req);
     *numbers = outcome.numbers;
     outcome.status.number()
 }
