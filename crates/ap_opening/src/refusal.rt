@@ -120,25 +120,6 @@ impl ApRefusal {
         ensures value { result ≡ place_of self }
         ensures range { result < refusal_count }
     {
-        match self {
-            ApRefusal::BadVersion => 0,
-            ApRefusal::BadMessageType => 1,
-            ApRefusal::SessionKeyAsked => 2,
-            ApRefusal::NotForUs => 3,
-            ApRefusal::NoKey => 4,
-            ApRefusal::BadKeyVersion => 5,
-            ApRefusal::TicketNotOpened => 6,
-            ApRefusal::ForeignClient => 7,
-            ApRefusal::BoundAddress => 8,
-            ApRefusal::BadSessionKey => 9,
-            ApRefusal::AuthenticatorNotOpened => 10,
-            ApRefusal::BadMatch => 11,
-            ApRefusal::BadSubkey => 12,
-            ApRefusal::Skewed => 13,
-            ApRefusal::Repeated => 14,
-            ApRefusal::Full => 15,
-            ApRefusal::NotYetValid => 16,
-            ApRefusal::TicketExpired => 17,
-        }
+        self as usize
     }
 }

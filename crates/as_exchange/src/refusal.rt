@@ -140,26 +140,6 @@ impl AsRefusal {
         ensures value { result ≡ place_of self }
         ensures range { result < refusal_count }
     {
-        match self {
-            AsRefusal::BadVersion => 0,
-            AsRefusal::BadMessageType => 1,
-            AsRefusal::ClientUnknown => 2,
-            AsRefusal::ServiceUnknown => 3,
-            AsRefusal::ServiceDenied => 4,
-            AsRefusal::ClientDisabled => 5,
-            AsRefusal::ClientLocked => 6,
-            AsRefusal::ClientExpired => 7,
-            AsRefusal::PasswordExpired => 8,
-            AsRefusal::ServiceRevoked => 9,
-            AsRefusal::ServiceExpired => 10,
-            AsRefusal::BadOption => 11,
-            AsRefusal::NoCommonType => 12,
-            AsRefusal::PreauthFailed => 13,
-            AsRefusal::TimestampSkewed => 14,
-            AsRefusal::PreauthRequired => 15,
-            AsRefusal::PostdatingRefused => 16,
-            AsRefusal::StartsTooLate => 17,
-            AsRefusal::NeverValid => 18,
-        }
+        self as usize
     }
 }
