@@ -128,9 +128,7 @@ def rows_in(reader):
     """The rows of all commands."""
     if all(name in reader.places for name in PARTS):
         return [row for name in PARTS for row in reader.constant(name)]
-    if "COMMANDS" in reader.places:
-        return [row.fields["words"] for row in reader.constant("COMMANDS")]
-    return [reader.value(place.start())[0] for place in re.finditer(r"\bSubcommandRow \{", reader.text)]
+    return [reader.value(place.start(1))[0] for place in re.finditer(r"= (SubcommandRow \{)", reader.text)]
 
 
 def commands_in(sources):

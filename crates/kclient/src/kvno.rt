@@ -62,7 +62,7 @@ pub(crate) fn get_tickets<T: ClientStore, X: AnyMessage>(
     let path = cache_path(context.alloc, &mut context.store, options, defaults)?;
     use_given_kdcs(context.alloc, &mut context.client.kdcs, options)?;
     let services = read_services(context, &names)?;
-    let mut session = read_wallet(context, options, path, keytab)?;
+    let mut session = read_session(context, options, path, keytab)?;
     check_realms(context, &services, &session.cache)?;
     Ok(Printed::done(fill(context, defaults, &mut session, &services)?))
 }
@@ -113,7 +113,7 @@ fn get_each<T: ClientStore, X: AnyMessage>(
     Ok(lines)
 }
 
-fn read_wallet<T: ClientStore, X>(
+fn read_session<T: ClientStore, X>(
     context: &mut Context<T, X>,
     options: &ArgMatches<'_>,
     path: String,

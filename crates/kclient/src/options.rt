@@ -219,32 +219,35 @@ pub(crate) enum CommandKind {
     Kdestroy,
 }
 
-/// The words of a command, and which one it is.
-#[derive(Clone, Copy)]
-struct CommandRow {
-    words: SubcommandRow,
-    kind: CommandKind,
-}
+impl CommandKind {
+    /// The commands, in the order of the help.
+    const ALL: [CommandKind; 4] = [
+        CommandKind::Kinit,
+        CommandKind::Kvno,
+        CommandKind::Klist,
+        CommandKind::Kdestroy,
+    ];
 
-/// The commands, in the order of the help.
-const COMMANDS: &[CommandRow] = &[
-    CommandRow {
-        words: KINIT,
-        kind: CommandKind::Kinit,
-    },
-    CommandRow {
-        words: KVNO,
-        kind: CommandKind::Kvno,
-    },
-    CommandRow {
-        words: KLIST,
-        kind: CommandKind::Klist,
-    },
-    CommandRow {
-        words: KDESTROY,
-        kind: CommandKind::Kdestroy,
-    },
-];
+    /// Returns the command with this name.
+    pub(crate) fn named(name: &str) -> Option<CommandKind> {
+        for kind in CommandKind::ALL {
+            if kind.words().name == name {
+                return Some(kind);
+            }
+        }
+        None
+    }
+
+    /// Returns its name, its help, its options and its flags.
+    fn words(self) -> &'static SubcommandRow {
+        match self {
+            CommandKind::Kinit => &KINIT,
+            CommandKind::Kvno => &KVNO,
+            CommandKind::Klist => &KLIST,
+            CommandKind::Kdestroy => &KDESTROY,
+        }
+    }
+}
 
 /// Reads the words; the first is the program's name.
 pub(crate) fn read_args<'a, S: AsStr>(
@@ -261,26 +264,16 @@ fn parser<'a>(alloc: Global) -> Result<Command<'a>, AllocError> {
         .about(ABOUT)
         .after_help(AFTER_HELP)
         .subcommand_required(true);
-    for row in COMMANDS {
-        kclient = kclient.subcommand(command(alloc, row)?)?;
+    for kind in CommandKind::ALL {
+        kclient = kclient.subcommand(command(alloc, kind)?)?;
     }
     Ok(kclient)
 }
 
-/// Returns the command with this name.
-pub(crate) fn kind_of(name: &str) -> Option<CommandKind> {
-    for row in COMMANDS {
-        if row.words.name == name {
-            return Some(row.kind);
-        }
-    }
-    None
-}
-
-/// Returns the command of a row, with its options, flags and plain words.
-fn command<'a>(alloc: Global, row: &CommandRow) -> Result<Command<'a>, AllocError> {
-    let command = subcommand(alloc, &row.words)?;
-    match row.kind {
+/// Returns a command with its options, flags and plain words.
+fn command<'a>(alloc: Global, kind: CommandKind) -> Result<Command<'a>, AllocError> {
+    let command = subcommand(alloc, kind.words())?;
+    match kind {
         CommandKind::Kinit => kinit(alloc, command),
         CommandKind::Kvno => command.arg(services(alloc)),
         CommandKind::Klist | CommandKind::Kdestroy => Ok(command),

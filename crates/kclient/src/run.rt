@@ -6,7 +6,7 @@ use crate::context::Context;
 use crate::kinit::get_first;
 use crate::klist::{destroy, list};
 use crate::kvno::get_tickets;
-use crate::options::{CommandKind, kind_of, read_args};
+use crate::options::{CommandKind, read_args};
 use crate::renewing::renew_ticket;
 use crate::words::renewal;
 use clap::ArgMatches;
@@ -130,7 +130,7 @@ fn run_command<S: AsStr, T: ClientStore, X: AnyMessage>(
 /// Returns the command that the words give, and its options.
 fn chosen<'m, 'a>(matches: &'m ArgMatches<'a>) -> Option<(CommandKind, &'m ArgMatches<'a>)> {
     let (name, options) = matches.subcommand()?;
-    Some((kind_of(name)?, options))
+    Some((CommandKind::named(name)?, options))
 }
 
 /// Returns what is wrong with the words, or the help that they request.
