@@ -31,18 +31,28 @@ pub(crate) fn print_lint<'p, T: Store, W: Write, E: Write>(
 ) -> Result<(), Stop<'p>>
     ensures unchanged { T.world store.new ≡ T.world store.old }
 {
-    let alloc = context.alloc;
     let database = read_database(context, store, db)?;
     let rights = file_rights(store, db)?;
     let now = read_clock(store)?;
-    let db = shell_word(alloc, db)?;
-    print_lines(&file_findings(alloc, &db, rights)?, &mut context.out)?;
+    let word = shell_word(context.alloc, db)?;
     let place = Place {
-        alloc,
-        db: &db,
+        alloc: context.alloc,
+        db: &word,
         now,
     };
-    Ok(print_lines(&findings(&place, &database)?, &mut context.out)?)
+    print_findings(context, &place, rights, &database)
+}
+
+fn print_findings<'p, W: Write, E: Write>(
+    context: &mut Context<W, E>,
+    place: &Place<'_>,
+    rights: FileRights,
+    database: &Database,
+) -> Result<(), Stop<'p>> {
+    let of_file = file_findings(place.alloc, place.db, rights)?;
+    print_lines(&of_file, &mut context.out)?;
+    let of_principals = findings(place, database)?;
+    Ok(print_lines(&of_principals, &mut context.out)?)
 }
 
 fn print_lines<W: Write>(lines: &[String], out: &mut W) -> io::Result<()> {
