@@ -29,9 +29,11 @@ pub enum StartFault<'a, S> {
     File(&'a str, FileFault),
     /// A call of the system failed.
     System(SystemPart, io::Error),
+    /// A socket was not opened.
     Sockets(S),
     /// The start is to be the first, and there is a journal at this path.
     NotFirst(&'a str),
+    /// Memory ran out.
     Memory,
 }
 

@@ -402,7 +402,7 @@ fn repeated(second: i64, usec: u32, at: Moment) -> Outcome {
 }
 
 /// Returns the outcome of these bytes as the AP-REP.
-fn hear(alloc: Global, first: u8, at: Moment, reply: &[u8]) -> Outcome {
+fn ap_reply_outcome(alloc: Global, first: u8, at: Moment, reply: &[u8]) -> Outcome {
     match read_ap_reply(alloc, &key(first), at, reply) {
         Ok(part) => repeated(part.ctime.seconds(), part.cusec.get(), at),
         Err(fault) => outcome_by(&fault),
@@ -410,13 +410,18 @@ fn hear(alloc: Global, first: u8, at: Moment, reply: &[u8]) -> Outcome {
 }
 
 /// Returns the same, by a second call if memory ran out in the first one.
-fn hear_at_last(alloc: Global, first: u8, at: Moment, digits: &str) -> Result<Outcome, Fail> {
+fn ap_reply_outcome_at_last(
+    alloc: Global,
+    first: u8,
+    at: Moment,
+    digits: &str,
+) -> Result<Outcome, Fail> {
     let reply = octets(alloc, digits)?;
     mark(alloc, BEGIN);
-    let mut found = hear(alloc, first, at, &reply);
+    let mut found = ap_reply_outcome(alloc, first, at, &reply);
     mark(alloc, END);
     if found == Memory {
-        found = hear(alloc, first, at, &reply);
+        found = ap_reply_outcome(alloc, first, at, &reply);
     }
     Ok(found)
 }
@@ -424,7 +429,7 @@ fn hear_at_last(alloc: Global, first: u8, at: Moment, digits: &str) -> Result<Ou
 #[test]
 fn an_ap_reply_repeats_the_moment(rt: HostRuntime) -> Result<(), Fail> {
     for (first, after, usec, digits, due) in AP_REPLIES {
-        let found = hear_at_last(rt.alloc(), *first, moment(*after, *usec), digits)?;
+        let found = ap_reply_outcome_at_last(rt.alloc(), *first, moment(*after, *usec), digits)?;
         assert!(rt; found == *due);
         mark(rt.alloc(), JUDGED);
     }
