@@ -5,8 +5,9 @@ nothing wrote the files that it keeps. It needs Linux and Python 3.
     rm -rf crates/CRATE/out/incremental; (cd crates/CRATE; rt check --jobs 1)
     python3 dev/check_costs.py CRATE [--most N]
 
-Seconds are of the clock: of a processor, if nothing else runs. `Lts` is what the borrow checker leaves to prove, `Tie`
-what the contracts come to, `Proof` what is searched."""
+Seconds are of the clock: of a processor, if nothing else runs. What the check does between two functions counts for the
+second, so look at a large number twice. `Lts` is what the borrow checker leaves to prove, `Tie` what the contracts come
+to, `Proof` what is searched."""
 
 import argparse
 import collections
@@ -16,7 +17,7 @@ import re
 TOP = pathlib.Path(__file__).resolve().parent.parent
 PARTS = ("Lts", "Tie", "Proof")
 FILE = re.compile(r"Rattle-\w+-(?:specs|proofs)\.(.+?)\.(\w+)\.oantt$")
-# Between two batches of functions no file is written; such a pause is no function's.
+# A pause as long as this, in seconds, is no function's: the check waited.
 LONGEST = 200
 
 

@@ -34,8 +34,8 @@
 extern "C" {
 #endif
 
-/* The version of this header. It rises with each function, part or status that is added. */
-#define AP_VERSION 1
+/* The version of this header. It rises with each change of what it declares. */
+#define AP_VERSION 2
 
 /* How a call ended, if no code of RFC 4120 says it. */
 enum ap_status {
@@ -103,7 +103,7 @@ enum ap_part {
 	AP_AP_REP = 6       /* the AP-REP: the service sends it to the client that asks for one (has_ap_rep) */
 };
 
-/* What the functions of the library take together: seconds since 1970 and microseconds; what ap_open says beside a keytab. */
+/* What ap_open and ap_accept hand to the library: a time, in seconds since 1970 and microseconds, and how an acceptor opens. */
 struct ap_time {
 	int64_t sec;
 	uint32_t usec;

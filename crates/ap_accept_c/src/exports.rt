@@ -15,8 +15,8 @@ use crate::numbers::Numbers;
 use crate::texts::text_of;
 use std::alloc::Global;
 
-/// The AP_VERSION of the header. It rises with each function, part or status that the header gets.
-const VERSION: u32 = 1;
+/// The AP_VERSION of the header. It rises with each change of what the header declares.
+const VERSION: u32 = 2;
 
 /// Opens a closed acceptor with the bytes of a keytab.
 #[unsafe(no_mangle)]
@@ -99,7 +99,7 @@ pub extern "C" fn ap_accept_c_close(alloc: Global, holder: &mut Holder) -> i32
 /// Returns the version of the library.
 #[unsafe(no_mangle)]
 pub extern "C" fn ap_accept_c_version() -> u32
-    ensures { result ≡ 1 }
+    ensures { result ≡ 2 }
 {
     VERSION
 }
