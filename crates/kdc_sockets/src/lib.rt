@@ -10,15 +10,25 @@
 //! - No socket stands twice among those that wait to be read.
 //!
 //! The rest is tested, on the loopback interface.
+//!
+//! A [`ReadyWriter`] is a stream of lines that never blocks the program. The reader of a pipe, a socket or a terminal
+//! may stop reading; a write then blocks, and with it the whole program. So the writer first asks the system whether the
+//! stream is ready, and returns `WouldBlock` instead of waiting. No contract can say what a system does with the bytes.
+//! It is proved that each call is safe and returns; the rest is tested, over a pipe.
 #![tactic(auto)]
 
 mod bind_fault;
 mod connection;
 mod connections;
 mod ports;
+mod readiness;
 mod ready;
+mod ready_writer;
+mod shared_writer;
 mod sockets;
 mod wire;
 
 pub use bind_fault::{BindFault, Endpoint};
+pub use ready_writer::ReadyWriter;
+pub use shared_writer::SharedWriter;
 pub use wire::SocketWire;

@@ -7,12 +7,12 @@ use kdc_files::{
     refuse_journal, say_rights,
 };
 use kdc_reports::{JournalNews, MetricsFile, MetricsPaths, Started};
-use kdc_sockets::{BindFault, SocketWire};
+use kdc_sockets::{BindFault, SharedWriter, SocketWire};
 use kdcd_run::{Host, ServeOptions, StartNews, journal_beside};
 use krb_fields::Moment;
 use principal_rows::Limits;
 use principals::Database;
-use program::{LONGEST_FILE, SharedWriter, now, random_octets};
+use program::{LONGEST_FILE, now, random_octets};
 use std::alloc::{AllocError, Global};
 use std::io;
 use std::io::{Error, ErrorKind, Stderr, Write};

@@ -1,9 +1,9 @@
 //! Serving a realm: `kdcd serve`.
 use crate::host::{Errors, SystemHost};
 use kdc_reports::{CountedLog, FaultCount, RequestLines};
-use kdc_sockets::BindFault;
+use kdc_sockets::{BindFault, ReadyWriter, SharedWriter};
 use kdcd_run::{Host, Outlets, Ran, ServeOptions, SystemPart, run_server};
-use program::{ReadyWriter, SharedWriter, Status};
+use program::Status;
 use std::alloc::AllocError;
 use std::io;
 use std::io::Write;
@@ -53,7 +53,7 @@ fn say_served(rt: &HostRuntime, errors: &mut Errors, ran: &SystemRan<'_>) -> io:
         .as_ref()
         .map_or(0, |log| log.unreported());
     if lost > 0 {
-        // If that fails, there is nobody to be told.
+        // If that fails, nothing is left to report it.
         let _ = writeln!(errors, "kdcd: log: {lost} lines are lost");
     }
     Ok(Status::Done)

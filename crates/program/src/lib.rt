@@ -4,11 +4,6 @@
 //! Subcommands and their options are tables ([`SubcommandRow`]). A program uses a [`Store`] for its files, and for what
 //! it takes if no file is named: random bytes, and a password from standard input. So its tests run with files in
 //! memory. A fault says which file it concerns.
-//!
-//! A [`ReadyWriter`] is a stream of lines that never blocks the program. The reader of a pipe, a socket or a terminal
-//! may stop reading; a write then blocks, and with it the whole program. So the writer first asks the system whether the
-//! stream is ready, and returns `WouldBlock` instead of waiting. No contract can say what a system does with the bytes.
-//! It is proved that each call is safe and returns; the rest is tested, over a pipe.
 #![tactic(auto)]
 
 mod command_options;
@@ -17,10 +12,7 @@ mod faults;
 mod inputs;
 mod memory_store;
 mod moment;
-mod readiness;
 mod reading;
-mod ready_writer;
-mod shared_writer;
 mod shell;
 mod status;
 mod store;
@@ -40,8 +32,6 @@ pub use crate::inputs::{
 pub use crate::memory_store::MemoryStore;
 pub use crate::moment::now;
 pub use crate::reading::read_within;
-pub use crate::ready_writer::ReadyWriter;
-pub use crate::shared_writer::SharedWriter;
 pub use crate::shell::{NOT_UTF8, read_words, report_end, report_failure, report_usage};
 pub use crate::status::Status;
 pub use crate::store::{FileRights, LONGEST_FILE, Store};
