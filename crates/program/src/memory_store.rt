@@ -21,23 +21,15 @@ struct StoredFile {
     octets: Option<Vec<u8>>,
 }
 
-/// Files in memory, for tests. One call can be made to fail.
+/// Files in memory, for tests. Nobody else has the lock of a file.
 #[derive(Drop)]
 pub struct MemoryStore {
     /// What was written or removed last comes first.
     files: Vec<StoredFile>,
-    /// For how many pauses another program has the lock of each file.
-    kept: u32,
-    /// How many pauses there were.
-    pauses: u32,
     seconds: u64,
     random: [u8; 32],
     input: Vec<u8>,
     terminal: bool,
-    /// The questions at the terminal.
-    asked: String,
-    calls: u32,
-    failing: u32,
     faults: u64,
 }
 
@@ -46,23 +38,12 @@ impl MemoryStore {
     pub fn new(alloc: Global) -> MemoryStore {
         MemoryStore {
             files: Vec::new(alloc),
-            kept: 0,
-            pauses: 0,
             seconds: 0,
             random: [0; 32],
             input: Vec::new(alloc),
             terminal: false,
-            asked: String::new(alloc),
-            calls: 0,
-            failing: 0,
             faults: 0,
         }
-    }
-
-    /// Makes the call with this number fail, where the next call has the number 1. With 0 none fails.
-    pub fn fail_at(&mut self, call: u32) {
-        self.calls = 0;
-        self.failing = call;
     }
 
     /// Returns the content of a file.
@@ -105,21 +86,6 @@ impl MemoryStore {
         Ok(())
     }
 
-    /// Gives another program the lock of each file for this many pauses.
-    pub fn keep_for(&mut self, pauses: u32) {
-        self.kept = pauses;
-    }
-
-    /// Gives another program the lock of each file for good, or takes it away.
-    pub fn keep(&mut self, kept: bool) {
-        self.keep_for(if kept { u32::MAX } else { 0 });
-    }
-
-    /// Returns how many pauses there were.
-    pub fn pauses(&self) -> u32 {
-        self.pauses
-    }
-
     /// Sets the clock.
     pub fn set_seconds(&mut self, seconds: u64) {
         self.seconds = seconds;
@@ -142,40 +108,11 @@ impl MemoryStore {
         Ok(())
     }
 
-    /// Returns all questions at the terminal, one after another.
-    pub fn asked(&self) -> &str {
-        self.asked.as_str()
-    }
-
-    /// Counts a call, which fails if it is the chosen one.
-    fn call(&mut self) -> io::Result<()>
-        ensures world { world_of self.new ≡ world_of self.old }
-        ensures faults { self.new.faults ≡ self.old.faults }
-    {
-        self.calls = self.calls.wrapping_add(1);
-        if self.calls == self.failing {
-            return Err(Error::from(ErrorKind::PermissionDenied));
-        }
-        Ok(())
-    }
-
-    fn find(&mut self, path: &str) -> io::Result<bool>
-        ensures there { IfOk result (λ found. found ≡ is_some ((world_of self.old).files path.now)) }
-        ensures world { world_of self.new ≡ world_of self.old }
-        ensures faults { self.new.faults ≡ self.old.faults }
-    {
-        self.call()?;
-        Ok(self.get(path).is_some())
-    }
-
-    fn copy(&mut self, alloc: Global, path: &str, most: usize) -> io::Result<Option<Vec<u8>>>
+    fn copy(&self, alloc: Global, path: &str, most: usize) -> io::Result<Option<Vec<u8>>>
         ensures within { IfOk result (λ found. IfSome found (λ octets. vec_len octets ≤ most)) }
         ensures read { IfOk result (λ found. IfSome found (λ octets.
-            (world_of self.old).files path.now ≡ Some octets.items)) }
-        ensures world { world_of self.new ≡ world_of self.old }
-        ensures faults { self.new.faults ≡ self.old.faults }
+            (world_of self.now).files path.now ≡ Some octets.items)) }
     {
-        self.call()?;
         match self.get(path) {
             Some(octets) if octets.len() > most => Ok(None),
             Some(octets) => Ok(Some(Vec::from_slice(alloc, octets)?)),
@@ -183,23 +120,7 @@ impl MemoryStore {
         }
     }
 
-    fn read_first(&mut self, path: &str) -> io::Result<Option<u8>>
-        ensures first { IfOk result (λ octet. octet ≡ first_octet ((world_of self.old).files path.now)) }
-        ensures world { world_of self.new ≡ world_of self.old }
-        ensures faults { self.new.faults ≡ self.old.faults }
-    {
-        self.call()?;
-        match self.get(path) {
-            Some(octets) => Ok(octets.first().copied()),
-            None => Ok(None),
-        }
-    }
-
-    fn read_rights(&mut self, path: &str) -> io::Result<FileRights>
-        ensures world { world_of self.new ≡ world_of self.old }
-        ensures faults { self.new.faults ≡ self.old.faults }
-    {
-        self.call()?;
+    fn rights_of(&self, path: &str) -> io::Result<FileRights> {
         match self.get(path) {
             Some(_) => Ok(FileRights {
                 mode: OWNER_ONLY,
@@ -208,59 +129,6 @@ impl MemoryStore {
             }),
             None => Err(Error::from(ErrorKind::NotFound)),
         }
-    }
-
-    fn find_lock(&mut self) -> io::Result<bool>
-        ensures world { world_of self.new ≡ world_of self.old }
-        ensures faults { self.new.faults ≡ self.old.faults }
-    {
-        self.call()?;
-        Ok(self.kept == 0)
-    }
-
-    fn read_clock(&mut self) -> io::Result<u64>
-        ensures now { IfOk result (λ seconds. seconds ≡ (world_of self.old).now) }
-        ensures world { world_of self.new ≡ world_of self.old }
-        ensures faults { self.new.faults ≡ self.old.faults }
-    {
-        self.call()?;
-        Ok(self.seconds)
-    }
-
-    fn draw(&mut self) -> io::Result<[u8; 32]>
-        ensures drawn { IfOk result (λ seed. seed ≡ (world_of self.old).random) }
-        ensures world { world_of self.new ≡ world_of self.old }
-        ensures faults { self.new.faults ≡ self.old.faults }
-    {
-        self.call()?;
-        Ok(self.random)
-    }
-
-    fn ask_line(
-        &mut self,
-        alloc: Global,
-        question: &str,
-        most: usize,
-    ) -> io::Result<Option<Vec<u8>>>
-        ensures within { IfOk result (λ found. IfSome found (λ octets. vec_len octets ≤ most)) }
-        ensures world { world_of self.new ≡ world_of self.old }
-        ensures faults { self.new.faults ≡ self.old.faults }
-    {
-        self.call()?;
-        if self.terminal {
-            self.asked.push_str(question)?;
-        }
-        take_line(alloc, &mut self.input, most)
-    }
-
-    fn replace(&mut self, alloc: Global, path: &str, octets: &[u8]) -> io::Result<()>
-        ensures written { OnOk result (world_of self.new ≡ with_file path.now octets.now (world_of self.old)) }
-        ensures unchanged { OnErr result (world_of self.new ≡ world_of self.old) }
-        ensures faults { self.new.faults ≡ self.old.faults }
-    {
-        self.call()?;
-        self.set(alloc, path, octets)?;
-        Ok(())
     }
 }
 
@@ -295,9 +163,7 @@ impl Store for MemoryStore {
     ghost world = { λ s. Some (world_of s) };
 
     fn exists(&mut self, path: &str) -> io::Result<bool> {
-        let found = self.find(path);
-        self.faults = counted(self.faults, &found);
-        found
+        Ok(self.get(path).is_some())
     }
 
     fn read(&mut self, alloc: Global, path: &str, most: usize) -> io::Result<Option<Vec<u8>>> {
@@ -316,13 +182,14 @@ impl Store for MemoryStore {
     }
 
     fn first_octet(&mut self, _alloc: Global, path: &str) -> io::Result<Option<u8>> {
-        let read = self.read_first(path);
-        self.faults = counted(self.faults, &read);
-        read
+        match self.get(path) {
+            Some(octets) => Ok(octets.first().copied()),
+            None => Ok(None),
+        }
     }
 
     fn write(&mut self, alloc: Global, path: &str, octets: &[u8]) -> io::Result<()> {
-        let written = self.replace(alloc, path, octets);
+        let written = self.set(alloc, path, octets).map_err(Error::from);
         self.faults = counted(self.faults, &written);
         written
     }
@@ -336,40 +203,31 @@ impl Store for MemoryStore {
     }
 
     fn rights(&mut self, path: &str) -> io::Result<FileRights> {
-        let read = self.read_rights(path);
+        let read = self.rights_of(path);
         self.faults = counted(self.faults, &read);
         read
     }
 
     fn lock(&mut self, _alloc: Global, _path: &str) -> io::Result<bool> {
-        let locked = self.find_lock();
-        self.faults = counted(self.faults, &locked);
-        locked
+        Ok(true)
     }
 
-    fn pause(&mut self) {
-        self.pauses = self.pauses.saturating_add(1);
-        self.kept = self.kept.saturating_sub(1);
-    }
+    fn pause(&mut self) {}
 
     fn seconds(&mut self) -> io::Result<u64> {
-        let read = self.read_clock();
-        self.faults = counted(self.faults, &read);
-        read
+        Ok(self.seconds)
     }
 
     fn random(&mut self) -> io::Result<[u8; 32]> {
-        let drawn = self.draw();
-        self.faults = counted(self.faults, &drawn);
-        drawn
+        Ok(self.random)
     }
 
     fn is_terminal(&self) -> bool {
         self.terminal
     }
 
-    fn ask(&mut self, alloc: Global, question: &str, most: usize) -> io::Result<Option<Vec<u8>>> {
-        let line = self.ask_line(alloc, question, most);
+    fn ask(&mut self, alloc: Global, _question: &str, most: usize) -> io::Result<Option<Vec<u8>>> {
+        let line = take_line(alloc, &mut self.input, most);
         self.faults = counted(self.faults, &line);
         line
     }
