@@ -5,7 +5,6 @@ ghost use Rattle.kadm.specs.Batches.{IsBatchDone, line_text, line_texts};
 ghost use Rattle.kadm.specs.Lines.{AreDone, IsLineDone, IsCommandMade, IsRun, IsSpelledMade, IsTurn};
 
 use crate::commands::{Command, CommandKind, read_args, read_command};
-use crate::line_words::{LineFault, line_words};
 use crate::reports::report;
 use crate::usage::{CommandFault, report_command_fault, report_fault};
 use crate::words::{has_flag, in_batch};
@@ -19,12 +18,16 @@ use kadm_changes::{
 use program::{FileCause, FileFault, Status, Store};
 use std::alloc::{AllocError, Global};
 use std::io::{ErrorKind, Write};
+use text_fields::{LineFault, line_words};
 
 /// The greatest length of a line, in bytes.
 const LONGEST_LINE: usize = 65_536;
 
 /// How many lines a batch may have.
 const MOST_LINES: usize = 1_000_000;
+
+/// What is said of more lines.
+const TOO_MANY: &str = "a batch has at most 1,000,000 lines";
 
 /// What a line must not have.
 const NO_MODE: &str = "--keep-mode is an option of batch itself, and not of its lines";
@@ -93,10 +96,10 @@ fn read_lines<T: Store, E: Write>(
             return Ok(lines);
         };
         if let Err(fault) = push_line(alloc, &mut lines, number, &octets) {
-            return Err(report_line_fault(errors, number, fault));
+            return Err(report_line_fault(errors, number, fault.text()));
         }
     }
-    Err(report_line_fault(errors, MOST_LINES, LineFault::TooMany))
+    Err(report_line_fault(errors, MOST_LINES, Some(TOO_MANY)))
 }
 
 /// Reads the next line. `None` if the input has ended.
@@ -131,9 +134,14 @@ fn push_line(
     Ok(())
 }
 
-/// Reports that a line is no command. Returns how the batch ends. Ignores a failed write.
-fn report_line_fault<E: Write>(errors: &mut E, number: usize, fault: LineFault) -> Stop<'static> {
-    match fault.text() {
+/// Reports why a line is no command, or that memory ran out if there is no text. Returns how the batch ends. Ignores a
+/// failed write.
+fn report_line_fault<E: Write>(
+    errors: &mut E,
+    number: usize,
+    text: Option<&'static str>,
+) -> Stop<'static> {
+    match text {
         Some(text) => {
             let _ = writeln!(errors, "kadm: line {number}: {text}");
             Stop::Usage

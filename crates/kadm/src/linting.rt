@@ -1,9 +1,8 @@
 //! The command that prints what an administrator should check.
 ghost use Rattle.std.specs.Prelude.{◌≡◌};
 
-use crate::quoting::shell_word;
 use enctypes::Etype;
-use kadm_changes::{Context, Stop, is_past, read_database};
+use kadm_changes::{Context, Stop, read_database};
 use krb_fields::Name;
 use principal_rows::Row;
 use principals::Database;
@@ -11,7 +10,7 @@ use program::{FileRights, Store, file_rights, read_clock};
 use std::alloc::{AllocError, Global};
 use std::io;
 use std::io::Write;
-use text_fields::UtcDate;
+use text_fields::{UtcDate, is_past, shell_word};
 
 /// The bits of a mode that give rights to the group and to others.
 const OTHERS: u32 = 0o077;

@@ -4,8 +4,8 @@ ghost use Rattle.kadm_changes.specs.Words.{texts};
 ghost use Rattle.kadm.specs.Words.{sets_some};
 
 use crate::words::is_given;
-use kadm_changes::{SettingWords, setting_at, setting_from, setting_of};
-use text_fields::Setting;
+use kadm_changes::{SettingWords, setting_at};
+use text_fields::{Setting, setting_from, setting_of};
 
 const FLAGS: &str = "true or false";
 

@@ -11,8 +11,8 @@ use Rattle.principals.specs.Change.{row_changed, row_refusal}
 use Rattle.principals.specs.Database.{Principals, tgs_principal}
 use Rattle.principals.specs.declared.change.RowChange.{RowChange}
 use Rattle.principals.specs.declared.change.RowChange.TheVariants as row_changes
-use Rattle.text_fields.specs.Settings.{IsDateOf, IsSettingOf, life_of, time_of, with_setting}
-use Rattle.text_fields.specs.Spans.{IsSpanText}
+use Rattle.text_fields.specs.Settings.{with_setting}
+use Rattle.text_fields.specs.Values.{IsFixedValue, IsTimeFrom}
 use Rattle.text_fields.specs.declared.settings.FlagField.TheVariants as flags
 use Rattle.text_fields.specs.declared.settings.Setting.{Setting}
 use Rattle.text_fields.specs.declared.settings.Setting.TheVariants as settings
@@ -92,25 +92,6 @@ IsCleared world who p new =
     (IsLasting world (password_expiry (get p.rows who)) × (new ≡ p))
     ⊎ ((row : Row) × (get p.rows who ≡ Some row) × IsPast world row.policy.password_expires
     × Makes p who (row_changes.SetPolicy (record row.policy { password_expires = None })) new)
-
--- a field that is a lifetime, with the time span that is its value
-abbrev pub IsLifeOf : Setting → List ℕ → List ℕ → Type 0
-IsLifeOf (settings.Life field life) name value = (life_of name ≡ Some field) × IsSpanText life value
-IsLifeOf (settings.Flag field on) name value = ⊥
-IsLifeOf (settings.Time field time) name value = ⊥
-
--- a field that is a time, whose value is a time span from a second on
-abbrev pub IsTimeFrom : ℕ → Setting → List ℕ → List ℕ → Type 0
-IsTimeFrom now (settings.Time field (Some second)) name value =
-    (time_of name ≡ Some field) × (span : ℕ) × IsSpanText span value × (second ≡ pos (now + span))
-IsTimeFrom now (settings.Time field None) name value = ⊥
-IsTimeFrom now (settings.Flag field on) name value = ⊥
-IsTimeFrom now (settings.Life field life) name value = ⊥
-
--- a field with its value, in an administrator's words, which doesn't depend on the clock
-abbrev pub IsFixedValue : Setting → List ℕ → List ℕ → Type 0
-IsFixedValue setting name value =
-    IsSettingOf setting name value ⊎ IsDateOf setting name value ⊎ IsLifeOf setting name value
 
 -- a field with its value; if a time is given as a time span, it counts from the clock's moment
 abbrev pub IsValueOf : Option World → Setting → List ℕ → List ℕ → Type 0

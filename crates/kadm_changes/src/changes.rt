@@ -17,7 +17,6 @@ use crate::granting::drop_older;
 use crate::reason::Reason;
 use crate::stop::{Stop, of_realm};
 use crate::target::Target;
-use crate::values::{setting_from, setting_of};
 use crate::words::value_at;
 use krb_elements::KerberosString;
 use krb_fields::{Name, component_from_text};
@@ -25,7 +24,7 @@ use principals::{ChangeFault, Database, RowChange, tgs_name};
 use program::{Store, has_file, read_clock, read_or_draw_seed};
 use std::alloc::{AllocError, Global};
 use std::io::Write;
-use text_fields::{FlagField, Setting, random_keys};
+use text_fields::{FlagField, Setting, random_keys, setting_from, setting_of};
 
 /// The option that names a principal.
 const NAME: &str = "--name";
@@ -47,11 +46,13 @@ pub struct Changes<'a> {
 /// How a principal is changed.
 #[derive(Clone, Copy)]
 pub enum ChangeArgs {
+    /// Drops the keys of a version.
     Drop { version: u32 },
     /// Drops all versions but the current one.
     DropOlder,
     /// Makes the settings of the command line.
     Policy,
+    /// Removes it.
     Remove,
 }
 

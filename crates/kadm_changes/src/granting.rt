@@ -13,14 +13,13 @@ use crate::databases::apply;
 use crate::denying::deny_service;
 use crate::draft::Draft;
 use crate::stop::Stop;
-use crate::values::is_past;
 use enctypes::Etype;
 use krb_fields::{Name, Second};
 use principal_rows::{KeyList, KeyVersion, Policy};
 use principals::{ChangeFault, Database, RowChange};
 use program::{Store, read_clock, read_or_draw_seed};
 use std::alloc::{AllocError, Global};
-use text_fields::{password_keys, random_keys};
+use text_fields::{is_past, password_keys, random_keys};
 
 /// The principal that gets keys.
 #[derive(Clone, Copy, PartialEq, Eq)]

@@ -22,7 +22,6 @@ mod stop;
 mod subject;
 mod target;
 mod updates;
-mod values;
 mod words;
 
 pub use assigning::{SettingForm, SettingWords, setting_at};
@@ -39,5 +38,4 @@ pub use stop::Stop;
 pub use subject::{Subject, begin_line};
 pub use target::Target;
 pub use updates::{RowArgs, RowUpdate, Update, make_update, update_in_batch};
-pub use values::{is_past, setting_from, setting_of};
 pub use words::{DB, value_at, value_of};

@@ -6,3 +6,4 @@ pub mod Etypes
 pub mod Keys
 -- laws that proofs cite; readers of a contract don't need them
 pub mod SettingLaws
+pub mod Values

@@ -1,20 +1,26 @@
 //! Reads and writes decimal numbers, time spans, dates, policy settings and encryption types, as words of a line or a
-//! command; makes a principal's new keys, from a password or random.
+//! command; splits a line into words; makes a principal's new keys, from a password or random.
 #![tactic(auto)]
 
 mod dates;
 mod etypes;
 mod keys;
+mod lines;
 mod numbers;
 mod settings;
+mod shell;
 mod spans;
+mod values;
 
 pub use dates::UtcDate;
 pub use etypes::{offered, read_etypes};
 pub use keys::{password_keys, random_keys};
+pub use lines::{LineFault, line_words};
 pub use numbers::{number, number_u32};
 pub use settings::{
     BEFORE_KEYS, FIELD_NAMES, FlagField, LifeField, MIGRATION, NEWEST_VERSION, NEWEST_VERSION_TEXT,
     SETTINGS, Setting, TimeField,
 };
+pub use shell::shell_word;
 pub use spans::{lifetime, span};
+pub use values::{is_past, setting_from, setting_of};

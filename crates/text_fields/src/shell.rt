@@ -3,7 +3,7 @@
 use std::alloc::{AllocError, Global};
 
 /// Returns a text as one word of a shell, in single quotes unless the shell takes it as it is.
-pub(crate) fn shell_word(alloc: Global, text: &str) -> Result<String, AllocError> {
+pub fn shell_word(alloc: Global, text: &str) -> Result<String, AllocError> {
     let mut word = String::new(alloc);
     if !text.is_empty() && text.bytes().all(is_plain) {
         word.push_str(text)?;

@@ -1,9 +1,10 @@
 //! The values of a policy's fields, as an administrator writes them.
 ghost use Rattle.std.specs.Prelude.{◌≡◌, ◌≤ℤ◌, ◌<ℤ◌, IfSome, IsFalse, IsTrue, pos};
-ghost use Rattle.kadm_changes.specs.Granting.{IsFixedValue, IsLifeOf, IsTimeFrom};
+ghost use Rattle.text_fields.specs.Values.{IsFixedValue, IsLifeOf, IsTimeFrom};
 
+use crate::settings::Setting;
+use crate::spans::span;
 use krb_fields::Second;
-use text_fields::{Setting, span};
 
 /// Reads a field with its value, which is not a time from now.
 pub fn setting_of(field: &str, value: &str) -> Option<Setting>

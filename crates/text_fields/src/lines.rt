@@ -1,26 +1,25 @@
-//! Splits the lines of a batch into words, as a shell does.
+//! Splits a line into words, as a shell does.
 
 use std::alloc::{AllocError, AllocFailed, Global};
 
 /// Why a line can't be split into words.
 #[derive(Clone, Copy)]
-pub(crate) enum LineFault {
+pub enum LineFault {
+    /// It is not UTF-8.
     NotUtf8,
-    /// There are more than a million lines.
-    TooMany,
     /// A quotation mark is not followed by its other one.
     OpenQuote,
     /// The line ends in a backslash.
     OpenEscape,
+    /// Memory ran out.
     Memory,
 }
 
 impl LineFault {
-    /// Returns the explanation for standard error, if memory did not run out.
-    pub(crate) fn text(self) -> Option<&'static str> {
+    /// Returns what is wrong with the line, in words. `None` if memory ran out.
+    pub fn text(self) -> Option<&'static str> {
         match self {
             LineFault::NotUtf8 => Some("it is not UTF-8"),
-            LineFault::TooMany => Some("a batch has at most 1,000,000 lines"),
             LineFault::OpenQuote => Some("a quotation mark is not closed"),
             LineFault::OpenEscape => Some("nothing follows the backslash at its end"),
             LineFault::Memory => None,
@@ -58,7 +57,7 @@ enum State {
 
 /// Returns the words of a line: none if it is empty or a comment. Spaces and tabs separate words; `'` and `"` enclose
 /// characters of a word, and `\` stands before one; `#` at the start of a word begins a comment.
-pub(crate) fn line_words(alloc: Global, line: &[u8]) -> Result<Vec<String>, LineFault> {
+pub fn line_words(alloc: Global, line: &[u8]) -> Result<Vec<String>, LineFault> {
     let Ok(text) = std::str::from_utf8(line) else {
         return Err(LineFault::NotUtf8);
     };
