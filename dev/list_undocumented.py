@@ -1,6 +1,6 @@
 #!/usr/bin/env python3
 """Lists the public items of the crates without a doc comment: functions, methods, types, traits, constants and modules
-that are `pub`, and with --all also public fields and the variants of public enums.
+that are `pub`, the variants of public enums, and with --all also public fields.
 
     python3 dev/list_undocumented.py [--all] [CRATE ..]
 
@@ -59,7 +59,7 @@ def items_in(file, takes_all):
         if takes_all and (field := FIELD.match(line)) and not item:
             found.append(Item(place, "field", field[1], has_doc(lines, at)))
         enum = bool(item and item[1] == "enum") or bool(enum and line != "}")
-        if takes_all and enum and not item and (variant := VARIANT.match(line)):
+        if enum and not item and (variant := VARIANT.match(line)):
             found.append(Item(place, "variant", variant[1], has_doc(lines, at)))
     return found
 

@@ -14,6 +14,7 @@ pub enum ApFault {
     NotAnApReq,
     /// This rule refuses the request.
     Refused(ApRefusal),
+    /// Memory ran out.
     Memory,
 }
 

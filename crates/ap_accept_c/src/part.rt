@@ -8,12 +8,17 @@ use std::alloc::{AllocError, Global};
 /// A part of an accepted AP-REQ that is bytes.
 #[derive(Clone, Copy)]
 pub enum Part {
+    /// The client's realm.
     ClientRealm,
     /// The client's name as text, without its realm.
     ClientName,
+    /// The octets of the session key.
     SessionKey,
+    /// The octets of the subkey.
     Subkey,
+    /// The octets of the authenticator's checksum.
     Checksum,
+    /// The AP-REP.
     ApRep,
 }
 

@@ -10,9 +10,11 @@ use std::alloc::AllocError;
 /// The result of a call from C. A status with a code of RFC 4120 has its number; the others are 0 and below.
 #[derive(Clone, Copy)]
 pub enum Status {
+    /// The call did what it is for.
     Done,
     /// The bytes do not encode an AP-REQ.
     NotAnApReq,
+    /// Memory ran out.
     NoMemory,
     /// A pointer is null, a number is out of its range, or the acceptor is open already.
     BadArgument,

@@ -8,25 +8,43 @@ use krb_fields::Code;
 #[derive(Debug, Clone, Copy, PartialEq, Eq)]
 pub enum ApRefusal {
     // what the request presents
+    /// The AP-REQ's pvno or the ticket's tkt-vno is not 5.
     BadVersion,
+    /// The msg-type is not 14.
     BadMessageType,
+    /// The option USE-SESSION-KEY is set.
     SessionKeyAsked,
+    /// The ticket is for another service.
     NotForUs,
+    /// No key of the ticket's encryption type may decrypt tickets of its service.
     NoKey,
+    /// The ticket names a version of the key that is not there.
     BadKeyVersion,
+    /// The key does not decrypt the ticket to an EncTicketPart.
     TicketNotOpened,
+    /// The ticket's crealm is not its realm.
     ForeignClient,
+    /// The ticket has a caddr, even an empty list.
     BoundAddress,
+    /// The session key is no key of the four types.
     BadSessionKey,
+    /// The authenticator has another type than the session key, or that key does not decrypt it to an Authenticator.
     AuthenticatorNotOpened,
+    /// The authenticator's crealm or cname is not the ticket's.
     BadMatch,
+    /// The authenticator has a subkey that is no key of the four types.
     BadSubkey,
     // whether the authenticator is timely and new
+    /// The authenticator's time differs from now by more than the skew, or is too old to be compared.
     Skewed,
+    /// The replay cache has the authenticator.
     Repeated,
+    /// The replay cache is full.
     Full,
     // whether the ticket is valid; by now the authenticator is recorded
+    /// The ticket starts later than now by more than the skew, or is INVALID and not to be validated.
     NotYetValid,
+    /// The ticket ended longer ago than the skew.
     TicketExpired,
 }
 

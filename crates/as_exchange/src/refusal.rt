@@ -8,30 +8,51 @@ use krb_fields::Code;
 /// The reasons to refuse an AS-REQ, in the order in which they are checked.
 #[derive(Clone, Copy, Debug, PartialEq, Eq)]
 pub enum AsRefusal {
+    /// The pvno is not 5.
     BadVersion,
+    /// The msg-type is not 10.
     BadMessageType,
+    /// The realm is another one, there is no cname, or it has no row.
     ClientUnknown,
+    /// There is no sname, or it has no row.
     ServiceUnknown,
+    /// No tickets are for the service, and it is not the ticket-granting service.
     ServiceDenied,
+    /// The client is disabled.
     ClientDisabled,
+    /// The client is locked now, after failures.
     ClientLocked,
+    /// The client's row has expired.
     ClientExpired,
+    /// The client's password has expired.
     PasswordExpired,
+    /// The service is disabled.
     ServiceRevoked,
+    /// The service's row has expired.
     ServiceExpired,
+    /// FORWARDED, PROXY, ENC-TKT-IN-SKEY, RENEW or VALIDATE is requested.
     BadOption,
+    /// The client, or the service, has no current key of a requested type.
     NoCommonType,
+    /// The first PA-ENC-TIMESTAMP is malformed, has a type for which the client has no current key, or can't be
+    /// decrypted.
     PreauthFailed,
+    /// The timestamp differs from now by more than the skew.
     TimestampSkewed,
+    /// There is no timestamp, and the client's row requires one.
     PreauthRequired,
+    /// POSTDATED or ALLOW-POSTDATE is requested, and one of the rows forbids postdating.
     PostdatingRefused,
+    /// Without POSTDATED, `from` is later than now by more than the skew.
     StartsTooLate,
+    /// The ticket would not end after it starts.
     NeverValid,
 }
 
 /// What a refusal causes beside its error code.
 #[derive(Clone, Copy, PartialEq, Eq)]
 pub enum Effect {
+    /// The error code is all.
     Nothing,
     /// Counts a failure of the client.
     CountsFailure,

@@ -24,6 +24,7 @@ pub enum ClientFault {
     CannotOpen,
     /// The parameters of string-to-key are not four bytes, or their count is 0 or above [`crate::MAX_COUNT`].
     CountTooLarge,
+    /// Memory ran out.
     Memory,
 }
 
@@ -48,6 +49,7 @@ pub struct ServerError {
 pub enum Mismatch {
     /// The client's realm or name.
     Client,
+    /// The nonce.
     Nonce,
     /// The service's realm or name, in the encrypted part or in the ticket.
     Service,
@@ -59,7 +61,9 @@ pub enum Mismatch {
 /// Why a KDC's or a service's reply is rejected.
 #[derive(Clone, Copy, Debug, PartialEq, Eq)]
 pub enum Rejection {
+    /// The reply answers another request.
     Mismatched(Mismatch),
+    /// The key does not decrypt the reply.
     Unopened,
 }
 

@@ -28,6 +28,7 @@ pub enum Variable<'a> {
     Absent,
     /// It is not UTF-8.
     NotUtf8,
+    /// Its value.
     Text(&'a str),
 }
 

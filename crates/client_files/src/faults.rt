@@ -22,6 +22,7 @@ pub struct Fault {
 pub enum Cause {
     /// A word of the command line, or a variable of the environment, has a form that is not accepted. The text says so.
     Usage(&'static str),
+    /// A text is not the name of a principal.
     BadName,
     /// What is wrong with a file, or with what takes its place.
     File(FileCause),
@@ -31,6 +32,7 @@ pub enum Cause {
     Cache(FileFault),
     /// What is wrong with the contents of a keytab.
     Keytab(FileFault),
+    /// There is no cache.
     NoCache,
     /// The cache belongs to another user, or others may write it.
     NotOurs,
@@ -38,6 +40,7 @@ pub enum Cause {
     OtherRealm,
     /// The cache's ticket-granting ticket ended at this second since 1970.
     Ended(i64),
+    /// The ticket-granting ticket is not renewable.
     NotRenewable,
     /// The client has not logged in.
     NoLogin,
@@ -57,6 +60,7 @@ pub enum Cause {
     Login(LoginError),
     /// No KDC replied: the error of the last one, and how many messages got no reply.
     Silent(io::Error, u64),
+    /// Memory ran out.
     Memory,
 }
 

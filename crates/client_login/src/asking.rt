@@ -22,6 +22,7 @@ use std::net::SocketAddr;
 pub enum Transports {
     /// UDP first; then TCP if no reply comes, or if the reply is too big for a datagram.
     UdpFirst,
+    /// TCP alone.
     TcpOnly,
 }
 

@@ -85,6 +85,7 @@ pub enum LoginError {
     WeakCount,
     /// The service's ticket doesn't show that its KDC knows the service's key.
     Unverified(Doubt),
+    /// Memory ran out.
     Memory,
 }
 

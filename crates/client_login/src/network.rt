@@ -10,7 +10,9 @@ use std::net::SocketAddr;
 /// How a message goes to a KDC (RFC 4120, section 7.2).
 #[derive(Clone, Copy, PartialEq, Eq)]
 pub enum Transport {
+    /// By a datagram.
     Udp,
+    /// By a connection, in which four bytes with its length come first.
     Tcp,
 }
 

@@ -24,7 +24,9 @@ use std::alloc::{AllocError, Global};
 /// A client's secret, which proves who it is.
 #[derive(Drop)]
 pub enum Secret {
+    /// A password.
     Password(Password),
+    /// A keytab with the client's keys.
     Keytab(Keytab),
 }
 

@@ -52,7 +52,9 @@ impl TicketRequest {
 /// What to do with a ticket that the client has.
 #[derive(Clone, Copy)]
 pub enum Renewal {
+    /// It gets a later end.
     Renew,
+    /// It becomes valid, once it has started.
     Validate,
 }
 

@@ -22,6 +22,7 @@ pub enum FileFault {
     TooLate,
     /// There is no such credential.
     Absent,
+    /// Memory ran out.
     Memory,
 }
 
@@ -45,6 +46,7 @@ impl Error for FileFault {}
 pub enum Cut {
     /// The bytes end before the value does.
     End,
+    /// Memory ran out.
     Memory,
 }
 

@@ -24,6 +24,7 @@ pub enum Found {
     Nothing,
     /// A file that is no whole journal.
     Broken,
+    /// A whole journal.
     Whole(Journal),
 }
 
@@ -46,6 +47,7 @@ pub enum Doubt {
     /// It was cut within an entry, an entry was changed, or one was left out or added before others; or others may write
     /// the journal. A journal that lacks its last entries is not noticed, nor an older one that was put back.
     Damaged,
+    /// The journal is of another realm.
     OtherRealm,
     /// The system was booted since then, and the journal was not sealed before, so its end may be lost.
     OtherBoot,

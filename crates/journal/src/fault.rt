@@ -12,6 +12,7 @@ use std::fmt;
 pub enum JournalFault {
     /// The octets are no journal, or an entry was cut, changed, left out or added.
     Broken,
+    /// Memory ran out.
     Memory,
 }
 
@@ -55,6 +56,7 @@ impl<T: Drop> From<AllocFailed<T>> for JournalFault {
 pub enum FilesFault<E> {
     /// A name or a number is too large.
     Unfit,
+    /// Memory ran out.
     Memory,
     /// A call on the files failed.
     Files(E),

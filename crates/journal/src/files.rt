@@ -41,6 +41,7 @@ pub enum FileText {
     Nothing,
     /// There is a file, but no journal is read from it: it is too long, or others may write it.
     Unusable,
+    /// These bytes.
     Octets(Vec<u8>),
 }
 

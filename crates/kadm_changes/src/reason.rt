@@ -13,9 +13,13 @@ pub enum Reason {
     Locked,
     /// The file of a new realm already exists.
     FileExists,
+    /// A database is not a JSON object.
     NotJson,
+    /// A database has no version that can be read.
     BadVersion,
+    /// The realm of a database, or a row, is wrong.
     BadRow,
+    /// A database has no row of the ticket-granting service.
     NoTicketGranter,
     /// The second answer for a password differs from the first.
     Mismatch,
@@ -27,7 +31,9 @@ pub enum Reason {
     NoPassword,
     /// A time from now is after the year 9999.
     BadTime,
+    /// The principal already exists.
     Exists,
+    /// The ticket-granting service can't be removed.
     Protected,
     /// There would be no tickets for the ticket-granting service.
     ServesAll,
@@ -35,14 +41,19 @@ pub enum Reason {
     Absent,
     /// The principal has no such version.
     NoVersion,
+    /// The version of the current keys is the greatest.
     LastVersion,
+    /// The version is that of the current keys.
     CurrentKeys,
     /// A keytab would replace a database.
     IsDatabase,
     /// A keytab would replace a lock.
     IsLock,
+    /// A file does not start as a keytab does.
     BadMagic,
+    /// A keytab ends within a field, an entry or a hole.
     Truncated,
+    /// An entry of a keytab is wrong, or too long for one.
     BadEntry,
     /// A keytab has no key of the principal, or one with version 0.
     NoKeys,

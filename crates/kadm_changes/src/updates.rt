@@ -30,6 +30,7 @@ pub enum Update<'a> {
     Row(RowArgs<'a>),
     /// Changes each principal that the words of the command line name, without new keys.
     Changes(Changes<'a>),
+    /// Makes rows of an earlier version those of this one.
     Migrate { users_are_no_services: bool },
 }
 

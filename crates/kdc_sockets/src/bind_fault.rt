@@ -15,7 +15,9 @@ pub struct BindFault {
 /// A socket of a server, by its transport (RFC 4120, section 7.2) and its address.
 #[derive(Clone, Copy, Debug)]
 pub enum Endpoint {
+    /// A UDP socket.
     Udp(SocketAddr),
+    /// A TCP listener.
     Tcp(SocketAddr),
 }
 

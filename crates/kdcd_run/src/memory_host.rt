@@ -24,22 +24,30 @@ use std::net::SocketAddr;
 /// A call of a host in memory that succeeded.
 #[derive(Drop)]
 pub enum HostCall {
+    /// It read these rows.
     ReadRows(Database),
+    /// It read a seed.
     ReadSeed {
         path: Octets,
         octets: Octets,
     },
+    /// It drew a seed.
     Drew([u8; 32]),
+    /// It opened the sockets.
     Held {
         udp: Vec<SocketAddr>,
         tcp: Vec<SocketAddr>,
     },
+    /// It read the journals at a path.
     ReadJournals {
         path: Octets,
         journals: Journals,
     },
+    /// It was told that there is no journal.
     HasNoJournal,
+    /// Its clock showed this moment.
     Showed(Moment),
+    /// It began a journal at a path.
     BeganJournal {
         path: Octets,
         beginning: JournalBeginning,

@@ -40,8 +40,11 @@ pub enum StartFault<'a, S> {
 /// What of the system a start needs, besides files and sockets.
 #[derive(Clone, Copy, Debug, PartialEq, Eq)]
 pub enum SystemPart {
+    /// The clock.
     Clock,
+    /// The source of random bytes.
     RandomOctets,
+    /// Standard error.
     StandardError,
 }
 

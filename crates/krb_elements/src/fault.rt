@@ -10,7 +10,9 @@ use std::fmt;
 /// The bytes don't encode such a message, or memory ran out.
 #[derive(Clone, Copy, Debug, PartialEq, Eq)]
 pub enum Fault {
+    /// The bytes are not the DER encoding of the value.
     Der(DerFault),
+    /// Memory ran out.
     Memory,
 }
 

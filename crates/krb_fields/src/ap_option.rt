@@ -6,7 +6,9 @@ use crate::flags::NamedBit;
 /// An option of an AP-REQ.
 #[derive(Clone, Copy, Debug, PartialEq, Eq)]
 pub enum ApOption {
+    /// The ticket is encrypted under the session key of the service's own ticket.
     UseSessionKey = 1,
+    /// The client wants an AP-REP.
     MutualRequired = 2,
 }
 

@@ -6,17 +6,29 @@ use crate::flags::NamedBit;
 /// An option of a request to a KDC.
 #[derive(Clone, Copy, Debug, PartialEq, Eq)]
 pub enum KdcOption {
+    /// The ticket is to be forwardable.
     Forwardable = 1,
+    /// The ticket is to be used from other addresses.
     Forwarded = 2,
+    /// The ticket is to be proxiable.
     Proxiable = 3,
+    /// The ticket is to be a proxy's.
     Proxy = 4,
+    /// The ticket is to be one with which postdated tickets can be requested.
     AllowPostdate = 5,
+    /// The ticket is to start later.
     Postdated = 6,
+    /// The ticket is to be renewable.
     Renewable = 8,
+    /// The KDC need not check the realms between client and service.
     DisableTransitedCheck = 26,
+    /// A renewable ticket will do, if one that is valid for so long is refused.
     RenewableOk = 27,
+    /// The ticket is to be encrypted under the session key of an additional ticket.
     EncTktInSkey = 28,
+    /// The presented ticket is to be renewed.
     Renew = 30,
+    /// The presented ticket is to be validated.
     Validate = 31,
 }
 

@@ -30,6 +30,7 @@ const USUAL_TEXT: usize = 32;
 pub enum NameFault {
     /// The text is not a name, a component or a realm, or it exceeds the limits.
     BadName,
+    /// Memory ran out.
     Memory,
 }
 

@@ -17,6 +17,7 @@ pub enum KeyFault {
     NoMaster,
     /// A key is not encrypted with the master key, or has not the length of its type.
     NotOpened,
+    /// Memory ran out.
     Memory,
 }
 

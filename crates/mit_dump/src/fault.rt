@@ -20,6 +20,7 @@ pub enum LineFault {
     Octets,
     /// The text ends inside the line.
     Cut,
+    /// Memory ran out.
     Memory,
 }
 

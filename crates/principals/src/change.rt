@@ -46,6 +46,7 @@ pub enum ChangeFault {
     LastVersion,
     /// The version is the current one.
     CurrentKeys,
+    /// Memory ran out.
     Memory,
 }
 

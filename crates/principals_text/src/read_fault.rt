@@ -18,6 +18,7 @@ pub enum ReadFault {
     BadRow,
     /// The ticket-granting service has no row.
     NoTicketGranter,
+    /// Memory ran out.
     Memory,
 }
 

@@ -14,9 +14,13 @@ pub const VERSION: &str = "0.9.0";
 /// How often an option may appear on a command line.
 #[derive(Clone, Copy, Debug, PartialEq, Eq)]
 pub enum Times {
+    /// Not at all, or once.
     AtMostOnce,
+    /// Once.
     Once,
+    /// Once or more often.
     AtLeastOnce,
+    /// Any number of times.
     Any,
 }
 

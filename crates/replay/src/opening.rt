@@ -10,6 +10,7 @@ use std::alloc::Global;
 /// Whether a server starts for the first time, or again after it had answered requests.
 #[derive(Clone, Copy, PartialEq, Eq)]
 pub enum Opening {
+    /// For the first time.
     First,
     /// At this moment.
     Restart(Moment),

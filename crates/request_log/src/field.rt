@@ -17,7 +17,9 @@ pub enum FieldName {
     Transport,
     /// `as` or `tgs`.
     Exchange,
+    /// The client's name.
     Client,
+    /// The service's name.
     Service,
     /// `ticket`, `refused`, `none` for bytes that are not a request, or `unanswered` if memory ran out.
     Outcome,

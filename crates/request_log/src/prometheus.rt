@@ -10,6 +10,7 @@ use std::alloc::AllocError;
 pub enum NumberType {
     /// It rises until the process ends.
     Counter,
+    /// It rises and falls.
     Gauge,
 }
 

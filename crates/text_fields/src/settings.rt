@@ -22,27 +22,39 @@ use std::fmt;
 /// A boolean field.
 #[derive(Clone, Copy, PartialEq, Eq)]
 pub enum FlagField {
+    /// The principal gets no tickets, and none are for it.
     Disabled,
+    /// A first ticket takes a timestamp.
     Preauth,
+    /// Tickets may be forwardable.
     Forwardable,
+    /// Tickets may be proxiable.
     Proxiable,
+    /// Tickets may be postdated.
     Postdate,
+    /// Tickets for the service say OK-AS-DELEGATE.
     OkAsDelegate,
+    /// Tickets may be for the principal.
     Service,
 }
 
 /// A field that is a number of seconds.
 #[derive(Clone, Copy, PartialEq, Eq)]
 pub enum LifeField {
+    /// The greatest lifetime of a ticket.
     GreatestLife,
+    /// How long a ticket can be renewed at most.
     GreatestRenewable,
 }
 
 /// A field that is a moment, or none.
 #[derive(Clone, Copy, PartialEq, Eq)]
 pub enum TimeField {
+    /// When the principal expires.
     Expires,
+    /// When its password expires.
     PasswordExpires,
+    /// Tickets whose client authenticated before are revoked.
     RevokedBefore,
 }
 
@@ -69,8 +81,11 @@ password_expires, revoked_before) or a lifetime (greatest_life, greatest_renewab
 /// A field of a policy with its value.
 #[derive(Clone, Copy, PartialEq, Eq)]
 pub enum Setting {
+    /// A boolean field.
     Flag(FlagField, bool),
+    /// A number of seconds.
     Life(LifeField, u32),
+    /// A moment, or none.
     Time(TimeField, Option<Second>),
 }
 

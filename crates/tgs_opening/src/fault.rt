@@ -12,6 +12,7 @@ use std::alloc::AllocError;
 pub enum TgsFault {
     /// This rule refuses the request.
     Refused(TgsRefusal),
+    /// Memory ran out.
     Memory,
 }
 

@@ -10,34 +10,58 @@ use krb_fields::Code;
 #[derive(Debug, Clone, Copy, PartialEq, Eq)]
 pub enum TgsRefusal {
     // the request (sections 5.4.1 and 3.3.2)
+    /// The pvno is not 5.
     BadVersion,
+    /// The msg-type is not 12.
     BadMessageType,
+    /// There is no PA-TGS-REQ.
     NoApReq,
+    /// The first PA-TGS-REQ encodes no AP-REQ.
     MalformedApReq,
     /// A rule for every AP-REQ: for the ticket and the authenticator, the replay cache, and the ticket's times.
     Ap(ApRefusal),
     // the authenticator's checksum, between `BadMatch` and `BadSubkey` (section 3.3.2)
+    /// The authenticator has no cksum.
     NoChecksum,
+    /// The cksum's type is not that of the session key.
     BadChecksumType,
+    /// The cksum is not that of the request's body, under the session key.
     Modified,
     // who presents the ticket, before `Skewed` (section 3.3.3.1)
+    /// The ticket's client has no row.
     ClientUnknown,
+    /// The client is disabled.
     ClientDisabled,
+    /// The client's row has expired.
     ClientExpired,
+    /// The ticket's authtime is before the client's `revoked_before`.
     TicketRevoked,
     // what it is presented for, after `TicketExpired` (another service, section 3.3.2; else 3.3.3)
+    /// The requested realm is another one, there is no sname, or it has no row.
     ServiceUnknown,
+    /// No tickets are for the service, and it is not the ticket-granting service.
     ServiceDenied,
+    /// The service is disabled.
     ServiceRevoked,
+    /// The service's row has expired.
     ServiceExpired,
+    /// RENEW or VALIDATE is requested with another sname than the ticket's.
     OtherService,
+    /// There is an enc-authorization-data.
     AuthorizationData,
+    /// ENC-TKT-IN-SKEY is requested, or RENEW with VALIDATE, or an option whose flag the ticket lacks.
     BadOption,
+    /// VALIDATE is requested, and the ticket is not INVALID.
     NothingToValidate,
+    /// VALIDATE is requested before the ticket starts.
     ValidatedTooEarly,
+    /// RENEW is requested after the ticket's renew-till.
     RenewedTooLate,
+    /// The service has no current key of a requested type.
     NoCommonType,
+    /// Without POSTDATED, RENEW and VALIDATE, `from` is later than now by more than the skew.
     StartsTooLate,
+    /// The ticket would not end after it starts.
     NeverValid,
 }
 

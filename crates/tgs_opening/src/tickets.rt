@@ -32,6 +32,7 @@ pub enum Addressee {
     Tgs,
     /// The requested service, if the ticket is to be renewed or validated.
     AskedFor,
+    /// Another service.
     Other,
 }
 
