@@ -22,7 +22,7 @@ pub enum KdcOption {
     Renewable = 8,
     /// The KDC need not check the realms between client and service.
     DisableTransitedCheck = 26,
-    /// A renewable ticket will do, if one that is valid for so long is refused.
+    /// A renewable ticket will do, if a ticket with the requested life can't be given.
     RenewableOk = 27,
     /// The ticket is to be encrypted under the session key of an additional ticket.
     EncTktInSkey = 28,

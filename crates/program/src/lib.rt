@@ -2,8 +2,8 @@
 //! its standard error, and its status.
 //!
 //! Subcommands and their options are tables ([`SubcommandRow`]). A program uses a [`Store`] for its files, and for what
-//! it takes if no file is named: random bytes, and a password from standard input. So its tests run with files in
-//! memory. A fault says which file it concerns.
+//! it takes if no file is named: random bytes, and a password from standard input. [`FileStore`] is the file system;
+//! [`MemoryStore`] keeps its files in memory, for a test. A fault says which file it concerns.
 #![tactic(auto)]
 
 mod command_options;
