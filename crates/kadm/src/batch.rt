@@ -18,7 +18,7 @@ use kadm_changes::{
 use program::{FileCause, FileFault, Status, Store};
 use std::alloc::{AllocError, Global};
 use std::io::{ErrorKind, Write};
-use text_fields::{LineFault, line_words};
+use text_fields::{WordsFault, line_words};
 
 /// The greatest length of a line, in bytes.
 const LONGEST_LINE: usize = 65_536;
@@ -126,7 +126,7 @@ fn push_line(
     lines: &mut Vec<BatchLine>,
     number: usize,
     octets: &[u8],
-) -> Result<(), LineFault> {
+) -> Result<(), WordsFault> {
     let words = line_words(alloc, octets)?;
     if !words.is_empty() {
         lines.push(BatchLine { number, words })?;

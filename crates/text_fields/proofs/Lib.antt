@@ -1,1 +1,2 @@
 pub mod DateTexts
+mod SpanTexts

@@ -15,7 +15,7 @@ mod values;
 pub use dates::UtcDate;
 pub use etypes::{offered, read_etypes};
 pub use keys::{password_keys, random_keys};
-pub use lines::{LineFault, line_words};
+pub use lines::{WordsFault, line_words};
 pub use numbers::{number, number_u32};
 pub use settings::{
     BEFORE_KEYS, FIELD_NAMES, FlagField, LifeField, MIGRATION, NEWEST_VERSION, NEWEST_VERSION_TEXT,

@@ -4,7 +4,7 @@ use std::alloc::{AllocError, AllocFailed, Global};
 
 /// Why a line can't be split into words.
 #[derive(Clone, Copy)]
-pub enum LineFault {
+pub enum WordsFault {
     /// It is not UTF-8.
     NotUtf8,
     /// A quotation mark is not followed by its other one.
@@ -15,27 +15,27 @@ pub enum LineFault {
     Memory,
 }
 
-impl LineFault {
+impl WordsFault {
     /// Returns what is wrong with the line, in words. `None` if memory ran out.
     pub fn text(self) -> Option<&'static str> {
         match self {
-            LineFault::NotUtf8 => Some("it is not UTF-8"),
-            LineFault::OpenQuote => Some("a quotation mark is not closed"),
-            LineFault::OpenEscape => Some("nothing follows the backslash at its end"),
-            LineFault::Memory => None,
+            WordsFault::NotUtf8 => Some("it is not UTF-8"),
+            WordsFault::OpenQuote => Some("a quotation mark is not closed"),
+            WordsFault::OpenEscape => Some("nothing follows the backslash at its end"),
+            WordsFault::Memory => None,
         }
     }
 }
 
-impl From<AllocError> for LineFault {
-    fn from(_: AllocError) -> LineFault {
-        LineFault::Memory
+impl From<AllocError> for WordsFault {
+    fn from(_: AllocError) -> WordsFault {
+        WordsFault::Memory
     }
 }
 
-impl<T: Drop> From<AllocFailed<T>> for LineFault {
-    fn from(_: AllocFailed<T>) -> LineFault {
-        LineFault::Memory
+impl<T: Drop> From<AllocFailed<T>> for WordsFault {
+    fn from(_: AllocFailed<T>) -> WordsFault {
+        WordsFault::Memory
     }
 }
 
@@ -57,9 +57,9 @@ enum State {
 
 /// Returns the words of a line: none if it is empty or a comment. Spaces and tabs separate words; `'` and `"` enclose
 /// characters of a word, and `\` stands before one; `#` at the start of a word begins a comment.
-pub fn line_words(alloc: Global, line: &[u8]) -> Result<Vec<String>, LineFault> {
+pub fn line_words(alloc: Global, line: &[u8]) -> Result<Vec<String>, WordsFault> {
     let Ok(text) = std::str::from_utf8(line) else {
-        return Err(LineFault::NotUtf8);
+        return Err(WordsFault::NotUtf8);
     };
     let mut words = Vec::new(alloc);
     let mut state = State::Between;
@@ -68,8 +68,8 @@ pub fn line_words(alloc: Global, line: &[u8]) -> Result<Vec<String>, LineFault> 
     }
     match state {
         State::Between | State::InWord | State::InComment => Ok(words),
-        State::InSingle | State::InDouble => Err(LineFault::OpenQuote),
-        State::Escaped | State::EscapedInDouble => Err(LineFault::OpenEscape),
+        State::InSingle | State::InDouble => Err(WordsFault::OpenQuote),
+        State::Escaped | State::EscapedInDouble => Err(WordsFault::OpenEscape),
     }
 }
 

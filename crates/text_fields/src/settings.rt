@@ -295,7 +295,8 @@ fn flag_field(name: &str) -> Option<FlagField>
     }
 }
 
-fn life_field(name: &str) -> Option<LifeField>
+/// Returns the lifetime with this name.
+pub(crate) fn life_field(name: &str) -> Option<LifeField>
     ensures { result ≡ life_of name.now }
 {
     if name == "greatest_life" {
@@ -307,7 +308,8 @@ fn life_field(name: &str) -> Option<LifeField>
     }
 }
 
-fn time_field(name: &str) -> Option<TimeField>
+/// Returns the time with this name.
+pub(crate) fn time_field(name: &str) -> Option<TimeField>
     ensures { result ≡ time_of name.now }
 {
     if name == "expires" {

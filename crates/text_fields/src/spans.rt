@@ -1,7 +1,8 @@
 //! Time spans in seconds: a decimal number followed by its unit, as `10h` and `7d`.
-ghost use Rattle.std.specs.Prelude.{◌≡◌, ◌⊎◌, ◌++◌, IfSome};
+ghost use Rattle.std.specs.Prelude.{◌≡◌, ◌⊎◌, ◌++◌, ℕ, List, IfNone, IfSome};
 ghost use Rattle.text_fields.specs.Numbers.{IsU32Text};
 ghost use Rattle.text_fields.specs.Spans.{IsSpanText, unit_mark, unit_seconds};
+ghost use Rattle.text_fields.specs.declared.spans.Unit as units;
 
 use crate::numbers::number_u32;
 
@@ -29,7 +30,8 @@ impl Unit {
 
 /// Reads a time span, in seconds: a decimal number followed by its unit, which is `s`, `m`, `h` or `d`.
 pub fn span(text: &str) -> Option<u32>
-    ensures { IfSome result (λ seconds. IsSpanText seconds text.now) }
+    ensures read { IfSome result (λ seconds. IsSpanText seconds text.now) }
+    ensures none { IfNone result ((seconds : ℕ) → ¬ IsSpanText seconds text.now) }
 {
     let (digits, unit) = split_unit(text)?;
     number_u32(digits)?.checked_mul(unit.seconds())
@@ -37,7 +39,8 @@ pub fn span(text: &str) -> Option<u32>
 
 /// Reads a lifetime: a number of seconds, or a time span.
 pub fn lifetime(text: &str) -> Option<u32>
-    ensures { IfSome result (λ seconds. IsU32Text seconds text.now ⊎ IsSpanText seconds text.now) }
+    ensures read { IfSome result (λ seconds. IsU32Text seconds text.now ⊎ IsSpanText seconds text.now) }
+    ensures none { IfNone result ((seconds : ℕ) → ¬ (IsU32Text seconds text.now ⊎ IsSpanText seconds text.now)) }
 {
     match number_u32(text) {
         Some(seconds) => Some(seconds),
@@ -47,7 +50,8 @@ pub fn lifetime(text: &str) -> Option<u32>
 
 /// Splits the unit off.
 fn split_unit(text: &str) -> Option<(&str, Unit)>
-    ensures { IfSome result (λ found. text.now ≡ found.0.now ++ unit_mark found.1) }
+    ensures split { IfSome result (λ found. text.now ≡ found.0.now ++ unit_mark found.1) }
+    ensures none { IfNone result ((digits : List ℕ) (unit : units.Unit) → ¬ (text.now ≡ digits ++ unit_mark unit)) }
 {
     if let Some(digits) = text.strip_suffix("s") {
         Some((digits, Unit::Second))

@@ -1,14 +1,18 @@
 //! The values of a policy's fields, as an administrator writes them.
-ghost use Rattle.std.specs.Prelude.{◌≡◌, ◌≤ℤ◌, ◌<ℤ◌, IfSome, IsFalse, IsTrue, pos};
+ghost use Rattle.std.specs.Prelude.{◌≡◌, ◌≤ℤ◌, ◌<ℤ◌, IfNone, IfSome, IsFalse, IsTrue, pos};
+ghost use Rattle.krb_fields.specs.Moment.{IsSecond};
 ghost use Rattle.text_fields.specs.Values.{IsFixedValue, IsLifeOf, IsTimeFrom};
+ghost use Rattle.text_fields.specs.declared.settings.Setting as settings;
 
-use crate::settings::Setting;
+use crate::settings::{Setting, life_field, time_field};
 use crate::spans::span;
 use krb_fields::Second;
 
-/// Reads a field with its value, which is not a time from now.
+/// Reads a field with its value, which is not a time from now. Returns `None` if there is no such field or the value
+/// isn't valid for it.
 pub fn setting_of(field: &str, value: &str) -> Option<Setting>
-    ensures { IfSome result (λ setting. IsFixedValue setting field.now value.now) }
+    ensures read { IfSome result (λ setting. IsFixedValue setting field.now value.now) }
+    ensures none { IfNone result ((setting : settings.Setting) → ¬ IsFixedValue setting field.now value.now) }
 {
     if let Some(setting) = Setting::of(field, value) {
         return Some(setting);
@@ -21,30 +25,26 @@ pub fn setting_of(field: &str, value: &str) -> Option<Setting>
 
 /// Reads a field with a lifetime, which is a number and a unit.
 fn life_setting(field: &str, value: &str) -> Option<Setting>
-    ensures { IfSome result (λ setting. IsLifeOf setting field.now value.now) }
+    ensures read { IfSome result (λ setting. IsLifeOf setting field.now value.now) }
+    ensures none { IfNone result ((setting : settings.Setting) → ¬ IsLifeOf setting field.now value.now) }
 {
-    match Setting::of(field, "0")? {
-        Setting::Life(life, _) => Some(Setting::Life(life, span(value)?)),
-        _ => None,
-    }
+    Some(Setting::Life(life_field(field)?, span(value)?))
 }
 
-/// Reads a field whose value is a time from now.
+/// Reads a field whose value is a time from now. Returns `None` if it is none, or the time is after the year 9999.
 pub fn setting_from(field: &str, value: &str, now: u64) -> Option<Setting>
-    ensures { IfSome result (λ setting. IsTimeFrom now setting field.now value.now) }
+    ensures read { IfSome result (λ setting. IsTimeFrom now setting field.now value.now) }
+    ensures none { IfNone result ((setting : settings.Setting) → ¬ IsTimeFrom now setting field.now value.now) }
 {
-    match Setting::of(field, "never")? {
-        Setting::Time(time, _) => {
-            let second = now.checked_add(u64::from(span(value)?))?;
-            Some(Setting::Time(time, Some(second_of(second)?)))
-        }
-        _ => None,
-    }
+    let field = time_field(field)?;
+    let second = now.checked_add(u64::from(span(value)?))?;
+    Some(Setting::Time(field, Some(second_of(second)?)))
 }
 
 /// Returns the moment this many seconds after the start of 1970.
 fn second_of(seconds: u64) -> Option<Second>
-    ensures { IfSome result (λ second. second ≡ pos seconds) }
+    ensures read { IfSome result (λ second. second ≡ pos seconds) }
+    ensures none { IfNone result (¬ IsSecond (pos seconds)) }
 {
     Second::new(i64::try_from(seconds).ok()?)
 }
