@@ -1,5 +1,4 @@
 mod Doing
-mod Imports
 mod Making
 mod Moved
 mod Older

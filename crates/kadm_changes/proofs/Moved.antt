@@ -7,7 +7,7 @@ use Rattle.cred_files.specs.declared.keytab_entry.KeytabEntry.{KeytabEntry}
 use Rattle.program.specs.World.{IsThere, World}
 use Rattle.krb_fields.specs.Name.{Components, name_cmp}
 use Rattle.krb_fields.specs.NameLimits.{IsWithinLimits, is_within_limits}
-use Rattle.mit_dump.specs.Place.{has_place}
+use Rattle.mit_dump.specs.Place.{IsRealmOf, has_place}
 use Rattle.mit_dump.specs.declared.principal.DumpedPrincipal.{DumpedPrincipal}
 use Rattle.principal_rows.specs.NameMap.{pairs}
 use Rattle.principal_rows.specs.Row.{IsRow}
@@ -15,10 +15,10 @@ use Rattle.principal_rows.specs.declared.name_map.Entry.{Entry}
 use Rattle.principal_rows.specs.declared.row.Row.{Row}
 use Rattle.principals.specs.Database.{Principals}
 use Rattle.principals.specs.NamesLaws.{AllNamesFit, names_fit-insert}
-use Rattle.kadm_changes.specs.Dumps.{AreRowsOf, HasRealm, IsDatabaseOf, IsKept, IsPushedRow, IsRealmOf}
+use Rattle.kadm_changes.specs.Dumps.{AreRowsOf, HasRealm, IsDatabaseOf, IsKept, IsPushedRow}
 use Rattle.kadm_changes.specs.Worlds.{MadeFromDump, with_database}
 use Rattle.kadm_changes.specs.declared.dump_import.DumpArgs.{DumpArgs}
-use Rattle.kadm_changes.proofs.Imports.{here_is}
+use Rattle.text_fields.proofs.KeytabVersions.{here_is}
 
 abbrev HasRow : Entry Row → Type 0
 HasRow e = IsRow e.value

@@ -1,5 +1,5 @@
 -- The database of a realm, from a dump of MIT's database.
-use Rattle.std.specs.Prelude.{◌≡◌, ◌⊎◌, ◌++◌, ℕ, Bool, true, false, List, [], ◌∷◌, All, Option, Some, find}
+use Rattle.std.specs.Prelude.{◌≡◌, ◌⊎◌, ◌++◌, ℕ, Bool, true, false, List, [], ◌∷◌, All, Option}
 use Rattle.std.specs.FinMap.{from_entries}
 use Rattle.cred_files.specs.Keytab.{IsKeytab}
 use Rattle.cred_files.specs.declared.keytab_entry.KeytabEntry.{KeytabEntry}
@@ -7,14 +7,14 @@ use Rattle.program.specs.World.{World, IsRead}
 use Rattle.mit_dump.specs.Dump.{IsDump}
 use Rattle.mit_dump.specs.Entries.{AreEntries, preference}
 use Rattle.mit_dump.specs.Losses.{losses}
-use Rattle.mit_dump.specs.Place.{grants_tickets, has_place, is_own}
+use Rattle.mit_dump.specs.Place.{IsRealmOf, has_place, is_own}
 use Rattle.mit_dump.specs.Policy.{policy_of}
 use Rattle.mit_dump.specs.declared.principal.DumpedPrincipal.{DumpedPrincipal}
 use Rattle.principal_rows.specs.NameMap.{pairs}
 use Rattle.principal_rows.specs.declared.name_map.Entry.{Entry}
 use Rattle.principal_rows.specs.declared.row.Row.{Row}
 use Rattle.principals.specs.Database.{Principals}
-use Rattle.kadm_changes.specs.Importing.{AreVersionsOf}
+use Rattle.text_fields.specs.Keytabs.{AreVersionsOf}
 use Rattle.kadm_changes.specs.declared.dump_import.DumpArgs.{DumpArgs}
 
 -- ---- rows
@@ -43,11 +43,6 @@ AreRowsOf realm stash (p ∷ ps) rows =
 -- nothing of the principals is lost, but for MIT's own ones
 abbrev pub IsKept : List ℕ → DumpedPrincipal → Type 0
 IsKept realm p = (is_own p.name.components ≡ true) ⊎ (losses realm p ≡ [])
-
--- the realm is that of krbtgt/REALM@REALM
-abbrev pub IsRealmOf : List DumpedPrincipal → List ℕ → Type 0
-IsRealmOf found realm =
-    (p : DumpedPrincipal) × (find (λ q. grants_tickets q.name.components q.realm) found ≡ Some p) × (realm ≡ p.realm)
 
 -- the database of the principals of a dump
 pub record IsDatabaseOf (found : List DumpedPrincipal) (stash : List KeytabEntry) (skip : Bool) (new : Principals) : Type 0 where

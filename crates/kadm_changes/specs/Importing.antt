@@ -1,74 +1,16 @@
--- The keys of a principal in a keytab, in all their versions.
-use Rattle.std.specs.Prelude.{◌≡◌, ◌==◌, ◌&&◌, ◌⊎◌, ℕ, max, Bool, true, nat_lt, [], ◌∷◌, ◌++◌, List, All, IsTrue, filter_map}
-use Rattle.std.specs.Prelude.{if◌then◌else◌}
-use Rattle.std.specs.Prelude.{Option, Some, None, option_map}
-use Rattle.std.specs.List.{list_any}
+-- A new principal with the keys that a keytab has of it, in all their versions.
+use Rattle.std.specs.Prelude.{◌≡◌, ℕ, List, Option, None}
 use Rattle.enctypes.specs.declared.etype.Etype.{Etype}
-use Rattle.enctypes.specs.Key.{ProtocolKey}
-use Rattle.cred_files.specs.Keytab.{IsKeytab, is_of, newest, passes}
+use Rattle.cred_files.specs.Keytab.{IsKeytab}
 use Rattle.cred_files.specs.declared.keytab_entry.KeytabEntry.{KeytabEntry}
 use Rattle.program.specs.World.{World, IsRead}
 use Rattle.krb_fields.specs.Name.{Components}
-use Rattle.principal_rows.specs.Versions.{IsVersions}
 use Rattle.principal_rows.specs.declared.row.KeyVersion.{KeyVersion}
 use Rattle.principals.specs.Database.{Principals}
 use Rattle.principals.specs.Importing.{import_refusal, imported}
+use Rattle.text_fields.specs.Keytabs.{AreVersionsOf}
 
--- the key with a version and a type: of several the last one in the file
-abbrev pub key_at : List KeytabEntry → Components → ℕ → Etype → Option ProtocolKey
-key_at entries service number etype = option_map (λ e. e.key) (newest (passes service (Some etype) (Some number)) entries)
-
--- the keys with a version and these types, in the order of the types
-abbrev pub keys_at : List KeytabEntry → Components → List Etype → ℕ → List ProtocolKey
-keys_at entries service etypes number = filter_map (key_at entries service number) etypes
-
-abbrev pub has_number : ℕ → List KeyVersion → Bool
-has_number number versions = list_any (λ v. v.number == number) versions
-
--- a principal's version is there, if the keytab has a key of it with one of these types
-abbrev pub IsThereIfHeld : List KeytabEntry → Components → List Etype → List KeyVersion → ℕ → Type 0
-IsThereIfHeld entries service etypes versions number =
-    (keys_at entries service etypes number ≡ []) ⊎ IsTrue (has_number number versions)
-
-abbrev pub IsComplete : List KeytabEntry → Components → List Etype → List KeyVersion → Type 0
-IsComplete entries service etypes versions =
-    All (λ e. IsTrue (is_of service e) → IsThereIfHeld entries service etypes versions e.version) entries
-
--- ---- one version after another, the greatest number first
-
-abbrev pub is_below : Option ℕ → ℕ → Bool
-is_below None number = true
-is_below (Some bound) number = nat_lt number bound
-
-abbrev pub greater : ℕ → Option ℕ → ℕ
-greater number None = number
-greater number (Some other) = max number other
-
--- the greatest number below a bound among a principal's versions, if there is one
-abbrev pub next_number : Components → Option ℕ → List KeytabEntry → Option ℕ
-next_number service bound [] = None
-next_number service bound (e ∷ es) =
-    if is_of service e && is_below bound e.version then Some (greater e.version (next_number service bound es))
-    else next_number service bound es
-
--- with one more version, if it has a key
-abbrev pub with_version : ℕ → List ProtocolKey → List KeyVersion → List KeyVersion
-with_version number [] versions = versions
-with_version number (key ∷ keys) versions = versions ++ record { number = number; keys = key ∷ keys } ∷ []
-
--- ---- all of them
-
--- each version with its keys in the keytab
-abbrev pub AreTaken : List KeytabEntry → Components → List Etype → List KeyVersion → Type 0
-AreTaken entries service etypes versions =
-    All (λ v. v.keys ≡ keys_at entries service etypes v.number) versions × IsComplete entries service etypes versions
-
--- each version of a principal with its keys in the keytab, the greatest number first
-pub record AreVersionsOf (entries : List KeytabEntry) (service : Components) (etypes : List Etype) (versions : List KeyVersion) : Type 0 where
-  pub fit : IsVersions versions
-  pub taken : AreTaken entries service etypes versions
-
--- the same for the keytab at a path
+-- the versions of a principal's keys in the keytab at a path
 abbrev pub HasVersions : Option World → List ℕ → Components → List Etype → List KeyVersion → Type 0
 HasVersions world path service etypes versions =
     (octets : List ℕ) × IsRead world path octets × (entries : List KeytabEntry) × IsKeytab entries octets

@@ -1,14 +1,14 @@
 //! The command that makes the database of a realm from a dump of MIT's database.
-ghost use Rattle.std.specs.Prelude.{◌≡◌, ◌∷◌, All, IfOk, IfSome, OnErr, OnOk, find, option_copied, true};
+ghost use Rattle.std.specs.Prelude.{◌≡◌, ◌∷◌, All, IfOk, IfSome, OnErr, OnOk};
 ghost use Rattle.std.specs.FinMap.{from_entries};
 ghost use Rattle.krb_fields.specs.NameLimits.{IsComponent, IsWithinLimits};
 ghost use Rattle.mit_dump.specs.Entries.{preference};
-ghost use Rattle.mit_dump.specs.Place.{grants_tickets, has_place};
+ghost use Rattle.mit_dump.specs.Place.{has_place};
 ghost use Rattle.mit_dump.specs.Policy.{policy_of};
 ghost use Rattle.principal_rows.specs.NameMap.{pairs};
 ghost use Rattle.principal_rows.specs.Row.{IsRow};
-ghost use Rattle.kadm_changes.specs.Dumps.{AreRowsOf, HasRealm, IsDatabaseOf, IsPushedRow, IsRealmOf, IsRowOf, IsStash};
-ghost use Rattle.kadm_changes.specs.Importing.{AreVersionsOf};
+ghost use Rattle.text_fields.specs.Keytabs.{AreVersionsOf};
+ghost use Rattle.kadm_changes.specs.Dumps.{AreRowsOf, HasRealm, IsDatabaseOf, IsPushedRow, IsRowOf, IsStash};
 ghost use Rattle.kadm_changes.specs.Worlds.{MadeFromDump};
 
 use crate::context::Context;
@@ -16,20 +16,19 @@ use crate::databases::{lock_database, write_database};
 use crate::dump_reports::{
     report_fault, report_key_fault, report_losses, report_no_database, report_taken,
 };
-use crate::importing::{KeytabKeys, versions_of};
 use crate::reason::Reason;
 use crate::stop::Stop;
 use crate::target::Target;
 use cred_files::{Keytab, KeytabEntry};
 use krb_elements::KerberosString;
-use krb_fields::is_component;
-use mit_dump::{DumpedPrincipal, read_dump};
+use mit_dump::{DumpedPrincipal, dump_realm, read_dump};
 use principal_rows::{Entry, NameMap, Row};
 use principals::Database;
 use principals_text::LONGEST_TEXT;
 use program::{Store, has_file, read_at_most, read_file};
 use std::alloc::{AllocError, Global};
 use std::io::Write;
+use text_fields::{KeytabKeys, keytab_versions};
 
 /// The dump of MIT's database, its stash file, and whether what has no place is left out.
 #[derive(Clone, Copy)]
@@ -97,7 +96,7 @@ fn database_of<W, E: Write>(
 ) -> Result<Database, Stop<'static>>
     ensures { IfOk result (λ database. IsDatabaseOf found.now stash.now skip database) }
 {
-    let Some(realm) = realm_of(found) else {
+    let Some(realm) = dump_realm(found) else {
         return Err(report_no_database(&mut context.errors));
     };
     let is_whole = report_losses(context.alloc, &mut context.errors, found, realm)?;
@@ -132,26 +131,6 @@ fn with_rows(
         return Ok(None);
     }
     Ok(Database::from_rows(realm, rows))
-}
-
-/// Returns the realm of a dump: that of the principal `krbtgt/REALM@REALM`, if it has 1 to 255 bytes.
-fn realm_of(found: &[DumpedPrincipal]) -> Option<&[u8]>
-    ensures realm { IfSome result (λ realm. IsRealmOf found.now realm.now) }
-    ensures fits { IfSome result (λ realm. IsComponent realm.now) }
-{
-    let realm = granter(found)?.realm.as_slice();
-    if is_component(realm) {
-        Some(realm)
-    } else {
-        None
-    }
-}
-
-/// Returns the first principal that is `krbtgt/REALM@REALM`.
-fn granter(found: &[DumpedPrincipal]) -> Option<&DumpedPrincipal>
-    ensures { option_copied result ≡ find (λ q. grants_tickets q.name.components q.realm) found.now }
-{
-    found.iter().find(|principal| principal.grants_tickets())
 }
 
 /// Returns the rows of the principals that have a place, the last one first.
@@ -222,7 +201,7 @@ fn row_of(
         realm: principal.realm.as_slice(),
         who: &principal.name,
     };
-    let versions = versions_of(alloc, &keys, &etypes)?;
+    let versions = keytab_versions(alloc, &keys, &etypes)?;
     Ok(Row {
         versions,
         policy: principal.policy(),

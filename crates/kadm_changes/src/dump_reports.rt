@@ -5,18 +5,9 @@ ghost use Rattle.kadm_changes.specs.Dumps.{IsKept};
 use crate::reason::Reason;
 use crate::stop::Stop;
 use krb_fields::component_to_text;
-use mit_dump::{DumpFault, DumpedPrincipal, KeyFault, LineFault, Loss};
+use mit_dump::{DumpFault, DumpedPrincipal, KeyFault, LineFault};
 use std::alloc::{AllocError, Global};
 use std::io::Write;
-
-/// The attributes without a place, with the words of `kadmin`.
-const ATTRIBUTES: &[(u32, &str)] = &[
-    (0x4, "-allow_tgs_req"),
-    (0x20, "-allow_dup_skey"),
-    (0x100, "+requires_hwauth"),
-    (0x2000, "+password_changing_service"),
-    (0x20_0000, "+ok_to_auth_as_delegate"),
-];
 
 /// Reports where a text is no dump. Returns how the command ends.
 pub(crate) fn report_fault<E: Write>(
@@ -47,17 +38,13 @@ pub(crate) fn report_key_fault<E: Write>(
     principal: &DumpedPrincipal,
     fault: KeyFault,
 ) -> Stop<'static> {
-    let text = match fault {
-        KeyFault::NoMaster => {
-            "the stash file lacks the master key that encrypts its keys; `kdb5_util stash` writes all"
-        }
-        KeyFault::NotOpened => "the master key in the stash file does not decrypt its keys",
-        KeyFault::Memory => return Stop::from(AllocError),
-    };
+    if fault == KeyFault::Memory {
+        return Stop::from(AllocError);
+    }
     if let Err(error) = begin_principal(alloc, errors, principal) {
         return Stop::from(error);
     }
-    let _ = writeln!(errors, "{text}");
+    let _ = writeln!(errors, "{fault}");
     Stop::Refused(Reason::BadStash)
 }
 
@@ -93,7 +80,7 @@ fn report_lost<E: Write>(
     let losses = principal.losses(alloc, realm)?;
     for loss in &losses {
         begin_principal(alloc, errors, principal)?;
-        report_loss(errors, *loss);
+        let _ = writeln!(errors, "{loss}");
     }
     Ok(losses.is_empty())
 }
@@ -108,48 +95,6 @@ fn begin_principal<E: Write>(
     let realm = component_to_text(alloc, principal.realm.as_slice())?;
     let _ = write!(errors, "kadm: {name}@{realm}: ");
     Ok(())
-}
-
-fn report_loss<E: Write>(errors: &mut E, loss: Loss) {
-    let _ = match loss {
-        Loss::Realm => writeln!(errors, "it is of another realm"),
-        Loss::Name => writeln!(
-            errors,
-            "its name has more than 16 components, or one that has not 1 to 255 bytes"
-        ),
-        Loss::NoKeys => writeln!(errors, "it has no key of type 17, 18, 19 or 20"),
-        Loss::Policy => writeln!(errors, "its policy, with the lock after failed logins"),
-        Loss::Strings => writeln!(errors, "its string attributes"),
-        Loss::Attributes(bits) => return report_attributes(errors, bits),
-        Loss::KeyType { etype, version } => {
-            writeln!(errors, "its key of type {etype}, version {version}")
-        }
-        Loss::NoVersion { etype } => writeln!(errors, "its key of type {etype}, version 0"),
-        Loss::Twin { etype, version } => {
-            writeln!(errors, "its second key of type {etype}, version {version}")
-        }
-        Loss::Salt { etype, version } => writeln!(
-            errors,
-            "the salt of its key of type {etype}, version {version}: the password does not give this key here"
-        ),
-    };
-}
-
-/// Reports attributes by the words of `kadmin`, and bits without a word as a number.
-fn report_attributes<E: Write>(errors: &mut E, bits: u32) {
-    let _ = write!(errors, "its attributes");
-    let mut left = bits;
-    for (bit, word) in ATTRIBUTES {
-        if left & *bit != 0 {
-            let _ = write!(errors, " {word}");
-            left &= !*bit;
-        }
-    }
-    let _ = if left == 0 {
-        writeln!(errors)
-    } else {
-        writeln!(errors, " {left:#x}")
-    };
 }
 
 /// Reports how many principals are taken, and which of MIT's own are left out.

@@ -1,5 +1,6 @@
--- Which principals of a dump have a place in the database of a realm.
-use Rattle.std.specs.Prelude.{◌&&◌, ◌||◌, not, ℕ, Bool, false, List, [], ◌∷◌, bytes_eq, codes, is_some}
+-- The realm of a dump, and which principals have a place in its database.
+use Rattle.std.specs.Prelude.{◌≡◌, ◌&&◌, ◌||◌, not, ℕ, Bool, false, List, [], ◌∷◌, bytes_eq, codes, is_some}
+use Rattle.std.specs.Prelude.{Some, find}
 use Rattle.std.specs.List.{list_any}
 use Rattle.krb_fields.specs.Name.{Components}
 use Rattle.krb_fields.specs.NameLimits.{is_within_limits}
@@ -23,6 +24,11 @@ is_own _ = false
 abbrev pub grants_tickets : Components → List ℕ → Bool
 grants_tickets (service ∷ instance ∷ []) realm = bytes_eq service (codes "krbtgt") && bytes_eq instance realm
 grants_tickets _ realm = false
+
+-- the realm is that of krbtgt/REALM@REALM
+abbrev pub IsRealmOf : List DumpedPrincipal → List ℕ → Type 0
+IsRealmOf found realm =
+    (p : DumpedPrincipal) × (find (λ q. grants_tickets q.name.components q.realm) found ≡ Some p) × (realm ≡ p.realm)
 
 abbrev pub has_key : List StoredKey → Bool
 has_key keys = list_any (λ key. is_some (place_of key)) keys

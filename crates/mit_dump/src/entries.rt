@@ -9,6 +9,7 @@ use crate::stored_key::StoredKey;
 use cred_files::{Keytab, KeytabEntry};
 use enctypes::{Etype, Key, KeyUsage, open};
 use std::alloc::{AllocError, AllocFailed, Global};
+use std::fmt;
 
 /// Why the keys of a principal can't be decrypted.
 #[derive(Clone, Copy, Debug, PartialEq, Eq)]
@@ -19,6 +20,18 @@ pub enum KeyFault {
     NotOpened,
     /// Memory ran out.
     Memory,
+}
+
+impl fmt::Display for KeyFault {
+    fn fmt<W: fmt::Write>(&self, f: &mut fmt::Formatter<W>) -> fmt::Result {
+        f.write_str(match self {
+            KeyFault::NoMaster => {
+                "the stash file lacks the master key that encrypts its keys; `kdb5_util stash` writes all"
+            }
+            KeyFault::NotOpened => "the master key in the stash file does not decrypt its keys",
+            KeyFault::Memory => "out of memory",
+        })
+    }
 }
 
 impl From<AllocError> for KeyFault {

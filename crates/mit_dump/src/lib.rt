@@ -2,6 +2,7 @@
 //!
 //! [`read_dump`] reads the text, `DumpedPrincipal` is what it says of one principal, and `entries`, `policy` and
 //! `losses` say what of it has a place in a row: its keys, decrypted with a master key, its policy, and what is lost.
+//! [`dump_realm`] says whose database it is.
 #![tactic(auto)]
 
 mod attribute;
@@ -25,5 +26,6 @@ pub use entries::KeyFault;
 pub use fault::{DumpFault, LineFault};
 pub use losses::Loss;
 pub use part::Part;
+pub use place::dump_realm;
 pub use principal::{DumpedPrincipal, Numbers};
 pub use stored_key::StoredKey;

@@ -10,6 +10,7 @@ use crate::principal::DumpedPrincipal;
 use crate::stored_key::StoredKey;
 use krb_fields::Name;
 use std::alloc::{AllocError, Global};
+use std::fmt;
 
 /// What has no place.
 #[derive(Clone, Copy, Debug, PartialEq, Eq)]
@@ -34,6 +35,57 @@ pub enum Loss {
     Twin { etype: u32, version: u32 },
     /// The salt of a key: it is not that of the principal's name, so the password doesn't give the key.
     Salt { etype: u32, version: u32 },
+}
+
+/// The attributes without a place that MIT gives a name, with the words of `kadmin`.
+const ATTRIBUTES: &[(u32, &str)] = &[
+    (0x4, "-allow_tgs_req"),
+    (0x20, "-allow_dup_skey"),
+    (0x100, "+requires_hwauth"),
+    (0x2000, "+password_changing_service"),
+    (0x20_0000, "+ok_to_auth_as_delegate"),
+];
+
+impl fmt::Display for Loss {
+    fn fmt<W: fmt::Write>(&self, f: &mut fmt::Formatter<W>) -> fmt::Result {
+        match self {
+            Loss::Realm => f.write_str("it is of another realm"),
+            Loss::Name => f.write_str(
+                "its name has more than 16 components, or one that has not 1 to 255 bytes",
+            ),
+            Loss::NoKeys => f.write_str("it has no key of type 17, 18, 19 or 20"),
+            Loss::Policy => f.write_str("its policy, with the lock after failed logins"),
+            Loss::Strings => f.write_str("its string attributes"),
+            Loss::Attributes(bits) => write_attributes(f, *bits),
+            Loss::KeyType { etype, version } => {
+                write!(f, "its key of type {etype}, version {version}")
+            }
+            Loss::NoVersion { etype } => write!(f, "its key of type {etype}, version 0"),
+            Loss::Twin { etype, version } => {
+                write!(f, "its second key of type {etype}, version {version}")
+            }
+            Loss::Salt { etype, version } => write!(
+                f,
+                "the salt of its key of type {etype}, version {version}: the password does not give this key here"
+            ),
+        }
+    }
+}
+
+/// Writes attributes in the words of `kadmin`, and bits without a word as a number.
+fn write_attributes<W: fmt::Write>(f: &mut fmt::Formatter<W>, bits: u32) -> fmt::Result {
+    f.write_str("its attributes")?;
+    let mut left = bits;
+    for (bit, word) in ATTRIBUTES {
+        if left & *bit != 0 {
+            write!(f, " {word}")?;
+            left &= !*bit;
+        }
+    }
+    if left == 0 {
+        return Ok(());
+    }
+    write!(f, " {left:#x}")
 }
 
 /// The number of the tagged data with the policy: `KRB5_TL_KADM_DATA`.

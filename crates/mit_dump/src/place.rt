@@ -1,10 +1,32 @@
-//! Which principals of a dump have a place in the database of a realm.
-ghost use Rattle.std.specs.Prelude.{◌≡◌};
-ghost use Rattle.mit_dump.specs.Place.{grants_tickets, has_key, has_place, is_master, is_own, is_server};
+//! The realm of a dump, and which principals have a place in its database.
+ghost use Rattle.std.specs.Prelude.{◌≡◌, IfSome, find, option_copied};
+ghost use Rattle.krb_fields.specs.NameLimits.{IsComponent};
+ghost use Rattle.mit_dump.specs.Place.{IsRealmOf, grants_tickets, has_key, has_place, is_master, is_own, is_server};
 
 use crate::principal::DumpedPrincipal;
 use crate::stored_key::StoredKey;
 use krb_elements::KerberosString;
+use krb_fields::is_component;
+
+/// Returns the realm of a dump: that of the principal `krbtgt/REALM@REALM`, if it has 1 to 255 bytes.
+pub fn dump_realm(found: &[DumpedPrincipal]) -> Option<&[u8]>
+    ensures realm { IfSome result (λ realm. IsRealmOf found.now realm.now) }
+    ensures fits { IfSome result (λ realm. IsComponent realm.now) }
+{
+    let realm = granter(found)?.realm.as_slice();
+    if is_component(realm) {
+        Some(realm)
+    } else {
+        None
+    }
+}
+
+/// Returns the first principal that is `krbtgt/REALM@REALM`.
+fn granter(found: &[DumpedPrincipal]) -> Option<&DumpedPrincipal>
+    ensures { option_copied result ≡ find (λ q. grants_tickets q.name.components q.realm) found.now }
+{
+    found.iter().find(|principal| principal.grants_tickets())
+}
 
 impl DumpedPrincipal {
     /// Checks whether it is one of MIT's own: `K/M`, `kadmin/..` and `kiprop/..`.

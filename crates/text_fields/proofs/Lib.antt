@@ -1,2 +1,3 @@
 pub mod DateTexts
+pub mod KeytabVersions
 mod SpanTexts

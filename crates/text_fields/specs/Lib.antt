@@ -4,6 +4,7 @@ pub mod Settings
 pub mod Spans
 pub mod Etypes
 pub mod Keys
+pub mod Keytabs
 pub mod Values
 -- laws that proofs cite; readers of a contract don't need them
 pub mod SettingLaws

@@ -1,10 +1,12 @@
 //! Reads and writes decimal numbers, time spans, dates, policy settings and encryption types, as words of a line or a
-//! command; splits a line into words; makes a principal's new keys, from a password or random.
+//! command; splits a line into words; makes a principal's new keys, from a password or random, and finds those that it
+//! has in a keytab.
 #![tactic(auto)]
 
 mod dates;
 mod etypes;
 mod keys;
+mod keytabs;
 mod lines;
 mod numbers;
 mod settings;
@@ -15,6 +17,7 @@ mod values;
 pub use dates::UtcDate;
 pub use etypes::{offered, read_etypes};
 pub use keys::{password_keys, random_keys};
+pub use keytabs::{KeytabKeys, keytab_versions};
 pub use lines::{WordsFault, line_words};
 pub use numbers::{number, number_u32};
 pub use settings::{

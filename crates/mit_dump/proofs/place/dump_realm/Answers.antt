@@ -1,7 +1,7 @@
 use Rattle.std.proofs.Common.{rules, ◌≡◌, Some}
 use Rattle.std.specs.Prelude.{find}
 use Rattle.mit_dump.specs.Place.{grants_tickets}
-use Rattle.kadm_changes.proofs.dump_import.realm_of.Goals as goal
+use Rattle.mit_dump.proofs.place.dump_realm.Goals as goal
 
 pub returns-then-is_component-clause-realm : goal.returns-then-is_component-clause-realm
 returns-then-is_component-clause-realm c =

@@ -1,7 +1,7 @@
 use Rattle.std.proofs.Common.{rules, ◌≡◌, ◌∙◌, ◌∷◌, ◌<◌, ◌^◌, None, ap, sym}
-use Rattle.kadm_changes.specs.Importing.{next_number, with_version}
-use Rattle.kadm_changes.proofs.Imports.{all_taken, less_room, taken_to}
-use Rattle.kadm_changes.proofs.importing.taken_versions.Goals as goal
+use Rattle.text_fields.specs.Keytabs.{next_number, with_version}
+use Rattle.text_fields.proofs.KeytabVersions.{all_taken, less_room, taken_to}
+use Rattle.text_fields.proofs.keytabs.taken_versions.Goals as goal
 
 pub loop-number-smaller : goal.loop-number-smaller
 loop-number-smaller c =

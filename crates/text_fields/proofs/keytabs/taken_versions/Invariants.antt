@@ -1,6 +1,6 @@
 use Rattle.std.proofs.Common.{◌∷◌}
-use Rattle.kadm_changes.proofs.Imports.{IsTakenTo, room}
-use Rattle.kadm_changes.proofs.importing.taken_versions.Given as goal
+use Rattle.text_fields.proofs.KeytabVersions.{IsTakenTo, room}
+use Rattle.text_fields.proofs.keytabs.taken_versions.Given as goal
 
 abbrev pub invariant-loop-number : goal.invariant-loop-number
 invariant-loop-number l = IsTakenTo l.of.keytab.now (l.of.realm.now ∷ l.of.who.now.components) l.etypes l.bound l.versions.items

@@ -1,6 +1,6 @@
 use Rattle.std.proofs.Common.{rules, ℕ, ◌∙◌, ◌∷◌, ◌-◌, ◌<◌, length, Some, Option, ap, sym, arith}
-use Rattle.kadm_changes.proofs.Imports.{found_here, none_yet, not_here}
-use Rattle.kadm_changes.proofs.importing.number_below.Goals as goal
+use Rattle.text_fields.proofs.KeytabVersions.{found_here, none_yet, not_here}
+use Rattle.text_fields.proofs.keytabs.number_below.Goals as goal
 
 pub loop-i-init : goal.loop-i-init
 loop-i-init c = none_yet (c.args.realm.now ∷ c.args.who.now.components) c.args.bound c.args.entries.now (length c.args.entries.now) (omega arith)

@@ -1,7 +1,7 @@
 use Rattle.std.proofs.Common.{rules, ◌≡◌}
 use Rattle.std.specs.Prelude.{IsTrue, ◌↔◌}
 use Rattle.cred_files.proofs.Names.{then_test, else_test}
-use Rattle.kadm_changes.proofs.importing.is_entry_of.Goals as goal
+use Rattle.text_fields.proofs.keytabs.is_entry_of.Goals as goal
 
 pub returns-then-eq : goal.returns-then-eq
 returns-then-eq c =

@@ -12,8 +12,8 @@ use Rattle.cred_files.specs.Keytab.{is_of}
 use Rattle.cred_files.specs.declared.keytab_entry.KeytabEntry.{KeytabEntry}
 use Rattle.krb_fields.specs.Name.{Components}
 use Rattle.principal_rows.specs.declared.row.KeyVersion.{KeyVersion}
-use Rattle.kadm_changes.specs.Importing.{AreTaken, IsComplete, IsThereIfHeld, greater, has_number, is_below, keys_at}
-use Rattle.kadm_changes.specs.Importing.{next_number, with_version}
+use Rattle.text_fields.specs.Keytabs.{AreTaken, IsComplete, IsThereIfHeld, greater, has_number, is_below, keys_at}
+use Rattle.text_fields.specs.Keytabs.{next_number, with_version}
 
 -- ---- the next number
 

@@ -1,6 +1,6 @@
 use Rattle.std.proofs.Common.{◌≡◌, ◌∷◌, ◌++◌, drop, filter_map}
-use Rattle.kadm_changes.specs.Importing.{key_at}
-use Rattle.kadm_changes.proofs.importing.keys_at.Given as goal
+use Rattle.text_fields.specs.Keytabs.{key_at}
+use Rattle.text_fields.proofs.keytabs.keys_at.Given as goal
 
 abbrev pub invariant-loop-etype : goal.invariant-loop-etype
 invariant-loop-etype l =
