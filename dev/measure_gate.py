@@ -3,11 +3,12 @@
 and build, of its tests with their check, of its edits, and of everything else (links, runs). It needs only Linux and
 Python 3.
 
-    python3 dev/measure_gate.py [--anew]
+    python3 dev/measure_gate.py [--anew] [CRATE ..]
 
-The lines of `rt ci` come first; its last line and its status are also this script's. The seconds are those that the
-system counts for each process that `rt` waits for, so they grow with other work on the machine. With --anew `rt ci`
-proves again what a kit keeps of earlier runs. SIGTERM ends it with what was measured by then."""
+It measures all crates unless some are named. The lines of `rt ci` come first; its last line and its status are also
+this script's. The seconds are those that the system counts for each process that `rt` waits for, so they grow with
+other work on the machine. With --anew `rt ci` proves again what a kit keeps of earlier runs. SIGTERM ends it with what
+was measured by then."""
 
 import argparse
 import collections
@@ -57,7 +58,9 @@ def kind(place, words):
 def main():
     options = argparse.ArgumentParser(description=__doc__, formatter_class=argparse.RawDescriptionHelpFormatter)
     options.add_argument("--anew", action="store_true", help="prove again what is kept of earlier runs")
-    command = ["rt", "ci", *["--anew"] * options.parse_args().anew]
+    options.add_argument("crates", nargs="*", metavar="CRATE")
+    given = options.parse_args()
+    command = ["rt", "ci", *["--anew"] * given.anew, *given.crates]
     with tempfile.TemporaryDirectory() as folder:
         pathlib.Path(folder, "sitecustomize.py").write_text(NOTES)
         costs = pathlib.Path(folder, "costs")
