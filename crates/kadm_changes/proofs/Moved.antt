@@ -1,5 +1,5 @@
 -- The rows of a dump: each is a row, and its name is within the limits.
-use Rattle.std.proofs.Common.{◌≡◌, ◌∙◌, ◌⊎◌, ◌&&◌, ◌+◌, ◌<◌, ◌≤◌, ◌++◌, ◌∷◌, [], ℕ, zero, suc, arith, Bool, true, false, List, All, IsTrue, OnOk, Option, Result, Ok, Err, drop, get_or, length, take, sym, ap, subst, refl, is_some}
+use Rattle.std.proofs.Common.{◌≡◌, ◌∙◌, ◌⊎◌, ◌&&◌, ◌+◌, ◌<◌, ◌≤◌, ◌++◌, ◌∷◌, [], ℕ, zero, suc, arith, Bool, true, false, List, All, IsTrue, OnOk, Option, Result, Ok, Err, drop, drop-cons, get_or, length, take, sym, ap, subst, refl, is_some}
 use Rattle.std.proofs.lemmas.List.{take_all, take_more}
 use Rattle.std.proofs.lemmas.List.Elements.{All-head, All-nil, All-push, All-tail}
 use Rattle.std.specs.FinMap.{contains_key, empty, from_entries, get-empty}
@@ -18,7 +18,6 @@ use Rattle.principals.specs.NamesLaws.{AllNamesFit, names_fit-insert}
 use Rattle.kadm_changes.specs.Dumps.{AreRowsOf, HasRealm, IsDatabaseOf, IsKept, IsPushedRow}
 use Rattle.kadm_changes.specs.Worlds.{MadeFromDump, with_database}
 use Rattle.kadm_changes.specs.declared.dump_import.DumpArgs.{DumpArgs}
-use Rattle.text_fields.proofs.KeytabVersions.{here_is}
 
 abbrev HasRow : Entry Row → Type 0
 HasRow e = IsRow e.value
@@ -66,7 +65,7 @@ names_fit-entries (e ∷ es) fit =
 pub row_here : (realm : List ℕ) (stash : List KeytabEntry) (ps : List DumpedPrincipal) (i j : ℕ) (p : DumpedPrincipal) (old new : List (Entry Row)) → j ≡ suc i
     → p ≡ get_or ps i p → i < length ps → AreRowsOf realm stash (drop j ps) old → IsPushedRow (has_place realm p) stash p old new → AreRowsOf realm stash (drop i ps) new
 row_here realm stash ps i j p old new next is lt so_far pushed =
-    subst (λ (qs : List DumpedPrincipal). AreRowsOf realm stash qs new) (sym (here_is ps i j p next is lt)) (old, so_far, pushed)
+    subst (λ (qs : List DumpedPrincipal). AreRowsOf realm stash qs new) (sym (drop-cons ps i p lt ∙ (λ k. sym is k ∷ drop (sym next k) ps))) (old, so_far, pushed)
 
 pub none_left : {A : Type 0} (es : List A) (i : ℕ) → length es ≤ i → drop i es ≡ []
 none_left [] zero le = refl

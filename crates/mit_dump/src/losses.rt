@@ -3,12 +3,13 @@ ghost use Rattle.std.specs.Prelude.{◌≡◌, ◌++◌, IfOk, OnOk};
 ghost use Rattle.mit_dump.specs.Losses.{has_policy, has_twin, is_default, key_loss, key_losses, loss_if, losses};
 ghost use Rattle.mit_dump.specs.Losses.{lost_bits, names_policy};
 
+use crate::Attribute;
 use crate::master::part_tagged;
 use crate::part::Part;
 use crate::place::has_key;
 use crate::principal::DumpedPrincipal;
 use crate::stored_key::StoredKey;
-use krb_fields::Name;
+use krb_fields::{Flags, Name};
 use std::alloc::{AllocError, Global};
 use std::fmt;
 
@@ -38,12 +39,12 @@ pub enum Loss {
 }
 
 /// The attributes without a place that MIT gives a name, with the words of `kadmin`.
-const ATTRIBUTES: &[(u32, &str)] = &[
-    (0x4, "-allow_tgs_req"),
-    (0x20, "-allow_dup_skey"),
-    (0x100, "+requires_hwauth"),
-    (0x2000, "+password_changing_service"),
-    (0x20_0000, "+ok_to_auth_as_delegate"),
+const ATTRIBUTES: &[(Attribute, &str)] = &[
+    (Attribute::DisallowTgsReq, "-allow_tgs_req"),
+    (Attribute::DisallowDupSkey, "-allow_dup_skey"),
+    (Attribute::RequiresHwAuth, "+requires_hwauth"),
+    (Attribute::PwchangeService, "+password_changing_service"),
+    (Attribute::OkToAuthAsDelegate, "+ok_to_auth_as_delegate"),
 ];
 
 impl fmt::Display for Loss {
@@ -75,17 +76,17 @@ impl fmt::Display for Loss {
 /// Writes attributes in the words of `kadmin`, and bits without a word as a number.
 fn write_attributes<W: fmt::Write>(f: &mut fmt::Formatter<W>, bits: u32) -> fmt::Result {
     f.write_str("its attributes")?;
-    let mut left = bits;
-    for (bit, word) in ATTRIBUTES {
-        if left & *bit != 0 {
+    let mut left = Flags::from_bits(bits);
+    for (attribute, word) in ATTRIBUTES {
+        if left.has(*attribute) {
             write!(f, " {word}")?;
-            left &= !*bit;
+            left = left.without(*attribute);
         }
     }
-    if left == 0 {
+    if left.bits() == 0 {
         return Ok(());
     }
-    write!(f, " {left:#x}")
+    write!(f, " {:#x}", left.bits())
 }
 
 /// The number of the tagged data with the policy: `KRB5_TL_KADM_DATA`.
@@ -94,8 +95,7 @@ const KADM_DATA: u32 = 3;
 /// The number of the tagged data with string attributes: `KRB5_TL_STRING_ATTRS`.
 const STRING_ATTRS: u32 = 11;
 
-/// The attributes that neither have a place in a policy nor say nothing of tickets: `-allow_tgs_req`,
-/// `-allow_dup_skey`, `+requires_hwauth`, `+password_changing_service`, `+ok_to_auth_as_delegate`, and bits that MIT
+/// The attributes that neither have a place in a policy nor say nothing of tickets: [`ATTRIBUTES`], and bits that MIT
 /// gives no name.
 const UNPLACED: u32 = 0xff2f_2d24;
 

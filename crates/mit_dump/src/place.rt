@@ -1,5 +1,5 @@
 //! The realm of a dump, and which principals have a place in its database.
-ghost use Rattle.std.specs.Prelude.{◌≡◌, IfSome, find, option_copied};
+ghost use Rattle.std.specs.Prelude.{◌≡◌, ℕ, List, IfNone, IfSome, find, option_copied};
 ghost use Rattle.krb_fields.specs.NameLimits.{IsComponent};
 ghost use Rattle.mit_dump.specs.Place.{IsRealmOf, grants_tickets, has_key, has_place, is_master, is_own, is_server};
 
@@ -12,6 +12,7 @@ use krb_fields::is_component;
 pub fn dump_realm(found: &[DumpedPrincipal]) -> Option<&[u8]>
     ensures realm { IfSome result (λ realm. IsRealmOf found.now realm.now) }
     ensures fits { IfSome result (λ realm. IsComponent realm.now) }
+    ensures none { IfNone result ((realm : List ℕ) → IsRealmOf found.now realm → ¬ IsComponent realm) }
 {
     let realm = granter(found)?.realm.as_slice();
     if is_component(realm) {

@@ -1,6 +1,6 @@
 -- Reading the versions in a keytab, one after another.
 use Rattle.std.proofs.Common.{◌≡◌, ◌∙◌, ℕ, ◌^◌, ◌≤◌, ◌<◌, ◌==◌, ◌&&◌, ◌||◌, max, zero, refl, Bool, true}
-use Rattle.std.proofs.Common.{false, suc, List, [], ◌∷◌, ◌++◌, All, IsTrue, drop, length, get_or, Option, Some, None}
+use Rattle.std.proofs.Common.{false, suc, List, [], ◌∷◌, ◌++◌, All, IsTrue, drop, drop-cons, length, get_or, Option, Some, None}
 use Rattle.std.proofs.Common.{ap, sym, subst, inl, inr, arith, if◌then◌else◌, append_assoc, filter_map}
 use Rattle.std.proofs.lemmas.List.{append-nil}
 use Rattle.std.proofs.lemmas.Bool.Decides.{nat_tests}
@@ -18,11 +18,8 @@ use Rattle.text_fields.specs.Keytabs.{next_number, with_version}
 -- ---- the next number
 
 -- what is left from an index on
-pub here_is : {A : Type 0} (es : List A) (i j : ℕ) (e : A) → j ≡ suc i → e ≡ get_or es i e → i < length es → drop i es ≡ e ∷ drop j es
-here_is [] i j e next is lt = absurd (omega (arith, lt))
-here_is (x ∷ es) zero j e next is lt = rw (next, is) refl
-here_is (x ∷ es) (suc i) zero e next is lt = absurd (omega (arith, next))
-here_is (x ∷ es) (suc i) (suc j) e next is lt = here_is es i j e (omega (arith, next)) is (omega (arith, lt))
+here_is : {A : Type 0} (es : List A) (i j : ℕ) (e : A) → j ≡ suc i → e ≡ get_or es i e → i < length es → drop i es ≡ e ∷ drop j es
+here_is es i j e next is lt = drop-cons es i e lt ∙ (λ k. sym is k ∷ drop (sym next k) es)
 
 pub none_yet : (s : Components) (bound : Option ℕ) (es : List KeytabEntry) (i : ℕ) → length es ≤ i → next_number s bound (drop i es) ≡ None
 none_yet s bound [] zero le = refl
@@ -85,6 +82,9 @@ is_next s bound (e ∷ es) = step (is_of s e) (is_below bound e.version) refl re
 abbrev pub room : Option ℕ → ℕ
 room None = 2 ^ 32
 room (Some bound) = bound
+
+pub next_below : (s : Components) (bound : Option ℕ) (es : List KeytabEntry) (number : ℕ) → next_number s bound es ≡ Some number → is_below bound number ≡ true
+next_below s bound es number is = (subst (IsNext s bound es) is (is_next s bound es)).0
 
 pub less_room : (bound : Option ℕ) (s : Components) (es : List KeytabEntry) (number : ℕ) → number < 2 ^ 32 → next_number s bound es ≡ Some number → number < room bound
 less_room None s es number fits is = fits
@@ -182,8 +182,8 @@ some_keys number (key ∷ keys) versions some = refl
 abbrev pub IsTakenTo : List KeytabEntry → Components → List Etype → Option ℕ → List KeyVersion → Type 0
 IsTakenTo es s etypes bound versions = All (λ v. v.keys ≡ keys_at es s etypes v.number) versions × IsSeen es s etypes bound versions
 
-pub none_taken : (es : List KeytabEntry) (s : Components) (etypes : List Etype) → IsTakenTo es s etypes None []
-none_taken es s etypes = (All-nil _, none_seen es s etypes)
+pub none_taken : (es : List KeytabEntry) (s : Components) (etypes : List Etype) (versions : List KeyVersion) → versions ≡ [] → IsTakenTo es s etypes None versions
+none_taken es s etypes versions is = subst (IsTakenTo es s etypes None) (sym is) (All-nil _, none_seen es s etypes)
 
 pub taken_to : (es : List KeytabEntry) (s : Components) (etypes : List Etype) (bound : Option ℕ) (versions new : List KeyVersion) (number : ℕ)
     → next_number s bound es ≡ Some number → new ≡ with_version number (keys_at es s etypes number) versions

@@ -1,3 +1,4 @@
 pub mod DateTexts
-pub mod KeytabVersions
+mod KeytabFaults
+mod KeytabVersions
 mod SpanTexts

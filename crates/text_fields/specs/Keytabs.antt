@@ -1,6 +1,6 @@
 -- The keys of a principal in a keytab, in all their versions.
-use Rattle.std.specs.Prelude.{◌≡◌, ◌==◌, ◌&&◌, ◌⊎◌, ℕ, max, Bool, true, nat_lt, [], ◌∷◌, ◌++◌, List, All, IsTrue, filter_map}
-use Rattle.std.specs.Prelude.{if◌then◌else◌}
+use Rattle.std.specs.Prelude.{◌≡◌, ◌==◌, ◌&&◌, ◌⊎◌, ◌<◌, ℕ, max, Bool, true, nat_lt, [], ◌∷◌, ◌++◌, List, All, AllPairs}
+use Rattle.std.specs.Prelude.{if◌then◌else◌, IsTrue, filter_map, length}
 use Rattle.std.specs.Prelude.{Option, Some, None, option_map}
 use Rattle.std.specs.List.{list_any}
 use Rattle.enctypes.specs.declared.etype.Etype.{Etype}
@@ -8,6 +8,7 @@ use Rattle.enctypes.specs.Key.{ProtocolKey}
 use Rattle.cred_files.specs.Keytab.{is_of, newest, passes}
 use Rattle.cred_files.specs.declared.keytab_entry.KeytabEntry.{KeytabEntry}
 use Rattle.krb_fields.specs.Name.{Components}
+use Rattle.principal_rows.specs.KeyList.{has_type_twice}
 use Rattle.principal_rows.specs.Versions.{IsVersions}
 use Rattle.principal_rows.specs.declared.row.KeyVersion.{KeyVersion}
 
@@ -53,6 +54,10 @@ abbrev pub with_version : ℕ → List ProtocolKey → List KeyVersion → List 
 with_version number [] versions = versions
 with_version number (key ∷ keys) versions = versions ++ record { number = number; keys = key ∷ keys } ∷ []
 
+-- the numbers are descending, and each version has a key
+abbrev pub AreOrdered : List KeyVersion → Type 0
+AreOrdered versions = AllPairs (λ v w. w.number < v.number) versions × All (λ v. 0 < length v.keys) versions
+
 -- ---- all of them
 
 -- each version with its keys in the keytab
@@ -64,3 +69,17 @@ AreTaken entries service etypes versions =
 pub record AreVersionsOf (entries : List KeytabEntry) (service : Components) (etypes : List Etype) (versions : List KeyVersion) : Type 0 where
   pub fit : IsVersions versions
   pub taken : AreTaken entries service etypes versions
+
+-- ---- why there are none
+
+-- no version of the principal has a key with one of these types
+abbrev pub HasNoKeys : List KeytabEntry → Components → List Etype → Type 0
+HasNoKeys entries service etypes = All (λ e. IsTrue (is_of service e) → keys_at entries service etypes e.version ≡ []) entries
+
+-- version 0 has such a key; no row can have that version
+abbrev pub HasKeyOfZero : List KeytabEntry → Components → List Etype → Type 0
+HasKeyOfZero entries service etypes = ¬ (keys_at entries service etypes 0 ≡ [])
+
+-- the keys of some version have an encryption type twice
+abbrev pub IsDoubled : List KeytabEntry → Components → List Etype → Type 0
+IsDoubled entries service etypes = (number : ℕ) × IsTrue (has_type_twice (keys_at entries service etypes number))

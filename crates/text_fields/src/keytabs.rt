@@ -1,8 +1,9 @@
 //! The keys of a principal in a keytab, in all their versions.
-ghost use Rattle.std.specs.Prelude.{◌≡◌, ◌∷◌, ◌&&◌, IfOk, OnOk};
+ghost use Rattle.std.specs.Prelude.{◌≡◌, ◌∷◌, ◌&&◌, ◌⊎◌, Err, IfOk, IsTrue, OnOk};
 ghost use Rattle.cred_files.specs.Keytab.{is_of};
-ghost use Rattle.text_fields.specs.Keytabs.{AreTaken, AreVersionsOf, greater, is_below, key_at, keys_at, next_number};
-ghost use Rattle.text_fields.specs.Keytabs.{with_version};
+ghost use Rattle.principal_rows.specs.KeyList.{has_type_twice};
+ghost use Rattle.text_fields.specs.Keytabs.{AreOrdered, AreTaken, AreVersionsOf, HasKeyOfZero, HasNoKeys, IsDoubled};
+ghost use Rattle.text_fields.specs.Keytabs.{greater, is_below, key_at, keys_at, next_number, with_version};
 
 use cred_files::{Keytab, KeytabEntry};
 use enctypes::{Etype, Key};
@@ -21,14 +22,20 @@ pub struct KeytabKeys<'a> {
 }
 
 /// Returns the versions of a principal that have keys with these types in the keytab, the greatest number first.
-/// [`KeyListFault::Empty`] if there is none.
+/// Fails with [`KeyListFault::Empty`] if there is none, or one has the number 0, which no row can have; with
+/// [`KeyListFault::Doubled`] if these types have one twice and a version has a key of it.
 pub fn keytab_versions(
     alloc: Global,
     of: &KeytabKeys<'_>,
     etypes: &[Etype],
 ) -> Result<Versions, KeyListFault>
-    ensures { IfOk result (λ versions. AreVersionsOf of.now.keytab.now (of.now.realm.now ∷ of.now.who.now.components)
-        etypes.now versions) }
+    ensures versions { IfOk result (λ versions. AreVersionsOf of.now.keytab.now
+        (of.now.realm.now ∷ of.now.who.now.components) etypes.now versions) }
+    ensures empty { result ≡ Err KeyListFault.Empty
+        → HasNoKeys of.now.keytab.now (of.now.realm.now ∷ of.now.who.now.components) etypes.now
+        ⊎ HasKeyOfZero of.now.keytab.now (of.now.realm.now ∷ of.now.who.now.components) etypes.now }
+    ensures doubled { result ≡ Err KeyListFault.Doubled
+        → IsDoubled of.now.keytab.now (of.now.realm.now ∷ of.now.who.now.components) etypes.now }
 {
     let versions = taken_versions(alloc, of, etypes)?;
     match Versions::new(versions) {
@@ -43,8 +50,12 @@ fn taken_versions(
     of: &KeytabKeys<'_>,
     etypes: &[Etype],
 ) -> Result<Vec<KeyVersion>, KeyListFault>
-    ensures { IfOk result (λ versions. AreTaken of.now.keytab.now (of.now.realm.now ∷ of.now.who.now.components)
-        etypes.now versions.items) }
+    ensures taken { IfOk result (λ versions. AreTaken of.now.keytab.now
+        (of.now.realm.now ∷ of.now.who.now.components) etypes.now versions.items) }
+    ensures ordered { IfOk result (λ versions. AreOrdered versions.items) }
+    ensures not_empty { ¬ (result ≡ Err KeyListFault.Empty) }
+    ensures doubled { result ≡ Err KeyListFault.Doubled
+        → IsDoubled of.now.keytab.now (of.now.realm.now ∷ of.now.who.now.components) etypes.now }
 {
     let mut versions = Vec::new(alloc);
     let mut bound = None;
@@ -64,7 +75,9 @@ fn push_version(
     number: u32,
     keys: &[Key],
 ) -> Result<(), KeyListFault>
-    ensures { OnOk result (versions.new.items ≡ with_version number keys.now versions.old.items) }
+    ensures pushed { OnOk result (versions.new.items ≡ with_version number keys.now versions.old.items) }
+    ensures not_empty { ¬ (result ≡ Err KeyListFault.Empty) }
+    ensures doubled { result ≡ Err KeyListFault.Doubled → IsTrue (has_type_twice keys.now) }
 {
     if keys.is_empty() {
         return Ok(());

@@ -295,7 +295,7 @@ fn flag_field(name: &str) -> Option<FlagField>
     }
 }
 
-/// Returns the lifetime with this name.
+/// Returns the field that has this name and is a lifetime.
 pub(crate) fn life_field(name: &str) -> Option<LifeField>
     ensures { result ≡ life_of name.now }
 {
@@ -308,7 +308,7 @@ pub(crate) fn life_field(name: &str) -> Option<LifeField>
     }
 }
 
-/// Returns the time with this name.
+/// Returns the field that has this name and is a time.
 pub(crate) fn time_field(name: &str) -> Option<TimeField>
     ensures { result ≡ time_of name.now }
 {

@@ -28,7 +28,8 @@ impl Unit {
     }
 }
 
-/// Reads a time span, in seconds: a decimal number followed by its unit, which is `s`, `m`, `h` or `d`.
+/// Reads a time span, in seconds: a decimal number followed by its unit, which is `s`, `m`, `h` or `d`. `None` also for
+/// 2^32 seconds and more.
 pub fn span(text: &str) -> Option<u32>
     ensures read { IfSome result (λ seconds. IsSpanText seconds text.now) }
     ensures none { IfNone result ((seconds : ℕ) → ¬ IsSpanText seconds text.now) }

@@ -31,7 +31,8 @@ fn life_setting(field: &str, value: &str) -> Option<Setting>
     Some(Setting::Life(life_field(field)?, span(value)?))
 }
 
-/// Reads a field whose value is a time from now. Returns `None` if it is none, or the time is after the year 9999.
+/// Reads a field whose value is a time from now. Returns `None` if no time has this name, the value is no time span, or
+/// the time is after the year 9999.
 pub fn setting_from(field: &str, value: &str, now: u64) -> Option<Setting>
     ensures read { IfSome result (λ setting. IsTimeFrom now setting field.now value.now) }
     ensures none { IfNone result ((setting : settings.Setting) → ¬ IsTimeFrom now setting field.now value.now) }
