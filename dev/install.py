@@ -16,12 +16,14 @@ import pathlib
 import subprocess
 import sys
 
+from make_completion import Unreadable, made
+
 TOP = pathlib.Path(__file__).resolve().parent.parent
 DOCS = TOP / "docs"
 PROGRAMS = ("kdcd", "kadm", "kclient")
 # The units of docs/: the server, and what brings a changed database to other hosts.
 UNITS = ("kdcd.service", "kdcd-push.path", "kdcd-push.service")
-# Where shells look for the files of docs/completion, below share/.
+# Where shells look for the files of `make_completion.py`, below share/.
 COMPLETION = {"{}.bash": "bash-completion/completions/{}", "_{}": "zsh/site-functions/_{}"}
 # What `dev/quick_build.py` adds to the version of a program.
 MARK = "(unproved)"
@@ -64,10 +66,13 @@ def contents(folder, prefix, takes_unproved):
     }
     for page in sorted((DOCS / "man").iterdir()):
         found[f"{prefix}/share/man/man{page.suffix[1:]}/{page.name}"] = page.read_bytes(), 0o644
+    try:
+        completion = made()
+    except Unreadable as fault:
+        raise Refused(f"completion: {fault}") from fault
     for name in PROGRAMS:
-        for made, place in COMPLETION.items():
-            path = f"{prefix}/share/{place.format(name)}"
-            found[path] = (DOCS / "completion" / made.format(name)).read_bytes(), 0o644
+        for file, place in COMPLETION.items():
+            found[f"{prefix}/share/{place.format(name)}"] = completion[file.format(name)].encode(), 0o644
     texts = {f"systemd/system/{unit}": (DOCS / unit).read_text().replace(USUAL, f"{prefix}/bin/") for unit in UNITS}
     texts |= {"sysusers.d/kdcd.conf": USER, "tmpfiles.d/kdcd.conf": FOLDER}
     return found | {f"{prefix}/lib/{name}": (text.encode(), 0o644) for name, text in texts.items()}

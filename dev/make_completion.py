@@ -1,20 +1,19 @@
 #!/usr/bin/env python3
-"""Makes the completion of `kdcd`, `kadm` and `kclient` for bash and zsh, in docs/completion, from the tables of their
-commands and options in the sources. Run it after a change of a table; `tests/packaging/completion.py` checks that the
-files are what it makes.
+"""Makes the completion of `kdcd`, `kadm` and `kclient` for bash and zsh, from the tables of their commands and options
+in the sources. `install.py` installs it.
 
-    python3 dev/make_completion.py
+    python3 dev/make_completion.py FOLDER
 
-It needs only Python 3, and prints each file that it changed. The status is 1 if a table can't be read, or if no command
-has an option of it."""
+It needs only Python 3, and writes a file for each program and shell to the folder. The status is 1 if a table can't be
+read, or if no command has an option of it."""
 
+import argparse
 import pathlib
 import re
 import sys
 import typing
 
 TOP = pathlib.Path(__file__).resolve().parent.parent
-MADE = TOP / "docs" / "completion"
 # Where each program has its tables.
 TABLES = {
     "kadm": [f"kadm/src/{name}.rt" for name in ("commands", "writing", "printing", "options")],
@@ -250,16 +249,16 @@ def made():
 
 
 def main():
+    words = argparse.ArgumentParser(description=__doc__, formatter_class=argparse.RawDescriptionHelpFormatter)
+    words.add_argument("folder", type=pathlib.Path, metavar="FOLDER")
+    folder = words.parse_args().folder
     try:
         files = made()
-    except Unreadable as fault:
+        for name, text in files.items():
+            (folder / name).write_text(text)
+            print(folder / name)
+    except (Unreadable, OSError) as fault:
         sys.exit(f"make_completion.py: {fault}")
-    MADE.mkdir(exist_ok=True)
-    for name, text in files.items():
-        place = MADE / name
-        if not place.exists() or place.read_text() != text:
-            place.write_text(text)
-            print(place.relative_to(TOP))
 
 
 if __name__ == "__main__":

@@ -1,15 +1,15 @@
-"""The completion of `kdcd`, `kadm` and `kclient`: docs/completion is what `dev/make_completion.py` makes of the tables;
-bash completes the commands, the options that `--help` of each command has, and values; and zsh reads its files, if it
-is on the path."""
+"""The completion of `kdcd`, `kadm` and `kclient` that `dev/make_completion.py` makes: bash completes the commands, the
+options that `--help` of each command has, and values; and zsh reads its files, if it is on the path."""
 
 import re
 import shutil
 import subprocess
+import sys
 
-from make_completion import MADE, made
-
+from harness.programs import TOP
 from harness.tests import test
 
+PROGRAMS = ("kadm", "kclient", "kdcd")
 # Completes the words after the function's file and name, in the folder, and prints each proposal on a line.
 COMPLETE = (
     'source "$1"; shift; each=$1; shift; COMP_WORDS=("$@"); COMP_CWORD=$(($# - 1)); "_$each"; '
@@ -29,10 +29,18 @@ def differs(found, wanted):
     return f"{found} and not {wanted}" * (found != wanted)
 
 
-def completed(folder, line):
-    """What bash proposes for the last word of a line."""
+def make(trial):
+    """Makes the files in a folder of their own, and returns it."""
+    trial.enter("made")
+    command = [sys.executable, TOP / "dev/make_completion.py", trial.folder]
+    subprocess.run(command, check=True, stdout=subprocess.DEVNULL)
+    return trial.folder
+
+
+def completed(made, folder, line):
+    """What bash proposes in a folder for the last word of a line."""
     words = line.split(" ")
-    script = MADE / f"{words[0]}.bash"
+    script = made / f"{words[0]}.bash"
     words = ["bash", "-c", COMPLETE, "bash", script, words[0], *words]
     ran = subprocess.run(words, capture_output=True, text=True, cwd=folder)
     return sorted(ran.stdout.split()), ran.stderr
@@ -40,16 +48,14 @@ def completed(folder, line):
 
 @test()
 def files(trial):
-    """The files are what the tables say, and the shells read them."""
-    wanted = made()
-    trial.note("the files of docs/completion", differs(sorted(each.name for each in MADE.iterdir()), sorted(wanted)))
-    for name, text in wanted.items():
-        is_same = (MADE / name).exists() and (MADE / name).read_text() == text
-        older = "it is older than the tables: run dev/make_completion.py"
-        trial.note(f"docs/completion/{name}", "" if is_same else older)
+    """There is a file for each program and shell, and the shells read them."""
+    made = make(trial)
+    wanted = [*(f"_{name}" for name in PROGRAMS), *(f"{name}.bash" for name in PROGRAMS)]
+    trial.note("the files", differs(sorted(each.name for each in made.iterdir()), wanted))
+    for name in wanted:
         shell = "bash" if name.endswith(".bash") else "zsh"
         if shutil.which(shell):
-            ran = subprocess.run([shell, "-n", MADE / name], capture_output=True, text=True)
+            ran = subprocess.run([shell, "-n", made / name], capture_output=True, text=True)
             trial.note(f"{shell} reads {name}", ran.stderr)
         else:
             trial.leave(f"{name}: {shell} is not on the path")
@@ -58,11 +64,12 @@ def files(trial):
 @test()
 def values(trial):
     """What completes the value of an option, in a folder with two files."""
+    made = make(trial)
     trial.enter("values")
     for name in ("database", "www.keytab"):
         (trial.folder / name).touch()
     for line, wanted in VALUES:
-        found, said = completed(trial.folder, line)
+        found, said = completed(made, trial.folder, line)
         trial.note(f"what completes {line!r}", said or differs(found, sorted(wanted.split())))
 
 
@@ -76,13 +83,14 @@ def helped(program, *words):
 @test("kadm", "kclient", "kdcd")
 def options(trial):
     """Each command of each program, with the options of its help."""
+    made = make(trial)
     trial.enter("options")
     for name, program in trial.programs.items():
         commands = [each for each in helped(program)[1] if each != "help"]
-        found = [each for each in completed(trial.folder, f"{name} ")[0] if not each.startswith("-")]
+        found = [each for each in completed(made, trial.folder, f"{name} ")[0] if not each.startswith("-")]
         trial.note(f"the commands of {name}", differs(found, sorted(commands)) or "there is none" * (not commands))
         for command in commands:
             wanted = sorted(set(helped(program, command)[0]))
-            found = completed(trial.folder, f"{name} {command} -")[0]
+            found = completed(made, trial.folder, f"{name} {command} -")[0]
             fault = differs(found, wanted) or "there is none" * (not wanted)
             trial.note(f"the options of {name} {command}", fault)
