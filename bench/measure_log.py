@@ -99,7 +99,7 @@ def main():
         log = Log(logged / "log", words.sink, others)
         servers = [
             kdcd(words.programs, plain, REALM, PRINCIPALS, words.port),
-            kdcd(words.programs, logged, REALM, PRINCIPALS, words.port + 1, True, log.errors),
+            kdcd(words.programs, logged, REALM, PRINCIPALS, words.port + 1, log.errors),
         ]
         for what, client in logins.items():
             measure(what, servers, as_req(REALM.encode(), client), words.turns, words.requests)

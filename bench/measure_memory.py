@@ -87,7 +87,7 @@ def logged_in(numbers, udp):
 
 def usual_request(known, ctime, cusec, service=SERVICES[0]):
     client, ticket, key = known
-    return tgs_req(REALM, client, service, ticket, key, ctime, cusec)
+    return tgs_req(REALM, client, service, (ticket, key), (ctime, cusec))
 
 
 def requests_of(known, ctime, count):

@@ -123,15 +123,16 @@ class Asked:
             return b"", passed > PATIENCE
 
 
-def ask_all(address, client, rate, count, ready, begin, outcomes):
+def ask_all(address, client, rate, count, signals):
     """A client process: it makes its requests, waits until all are ready, and sends them at a rate."""
+    ready, begin, outcomes = signals
     with socket.socket(socket.AF_INET, socket.SOCK_DGRAM) as peer:
         peer.connect(address)
         peer.settimeout(5)
         peer.send(as_req(REALM, client))
         ticket, key = ticket_in(KEY, peer.recv(65536))
     now = int(time.time())
-    requests = [tgs_req(REALM, client, SERVICE, ticket, key, now, number) for number in range(count)]
+    requests = [tgs_req(REALM, client, SERVICE, (ticket, key), (now, number)) for number in range(count)]
     ready.release()
     begin.wait()
     start, waiting, found, poller, place = time.monotonic(), {}, collections.Counter(), select.epoll(), 0
@@ -165,10 +166,8 @@ def measure(server, words, clients):
     rate, count = words.rate / len(clients), words.rate * words.seconds // len(clients)
     ready, begin, outcomes = multiprocessing.Semaphore(0), multiprocessing.Event(), multiprocessing.Queue()
     for client in clients:
-        process = multiprocessing.Process(
-            target=ask_all, args=(server.address, client, rate, count, ready, begin, outcomes), daemon=True
-        )
-        process.start()
+        more = server.address, client, rate, count, (ready, begin, outcomes)
+        multiprocessing.Process(target=ask_all, args=more, daemon=True).start()
     for _ in clients:
         ready.acquire()
     begin.set()

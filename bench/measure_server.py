@@ -128,7 +128,7 @@ def service_requests(server, count):
         peer.ask(as_req(REALM, client))
         ticket, session_key = ticket_in(KEY, peer.reply)
         now = int(time.time())
-        requests += [tgs_req(REALM, client, SERVICE, ticket, session_key, now, cusec) for cusec in range(count)]
+        requests += [tgs_req(REALM, client, SERVICE, (ticket, session_key), (now, cusec)) for cusec in range(count)]
     return requests
 
 

@@ -1,7 +1,8 @@
 /*
  * An acceptor of AP-REQ messages (RFC 4120, section 3.2.3), for services in C (C99 or later) and in C++.
  *
- * docs/SERVICES.md says what a service must do and how to build it ('In C'), and tests/services/ap_service.c is a whole service.
+ * docs/SERVICES.md says what a service must do and how to build it ('In C'), and tests/services/ap_service.c is a whole
+ * service.
  *
  *     struct ap_acceptor acceptor = { 0 };
  *     status = ap_open(&acceptor, keytab, keytab_length, 1024, false, now, 0);
@@ -14,14 +15,15 @@
  *     ..
  *     ap_close(&acceptor);
  *
- * Each call except ap_text and ap_version returns a status: AP_DONE (0), a code of RFC 4120, section 7.5.9 (above 0), or one of the enum below
- * (below 0). A null pointer, a length above PTRDIFF_MAX and a number out of its range are AP_BAD_ARGUMENT. The acceptor is then
- * as it was: ap_octets returns what it returned before. And the call writes nothing, except that ap_accept sets all of *accepted
- * to zero if the time is out of its range, and ap_octets sets *length to 0 if there is no such part.
+ * Each call except ap_text and ap_version returns a status: AP_DONE (0), a code of RFC 4120, section 7.5.9 (above 0),
+ * or one of the enum below (below 0). A null pointer, a length above PTRDIFF_MAX and a number out of its range are
+ * AP_BAD_ARGUMENT. The acceptor is then as it was: ap_octets returns what it returned before. And the call writes
+ * nothing, except that ap_accept sets all of *accepted to zero if the time is out of its range, and ap_octets sets
+ * *length to 0 if there is no such part.
  *
- * No call can check the caller's part: that a pointer that is not null points to as much memory as the caller says, that no two
- * arguments of a call overlap, that nobody writes into a struct ap_acceptor or copies it, and that it stays on the thread that
- * opened it.
+ * No call can check the caller's part: that a pointer that is not null points to as much memory as the caller says,
+ * that no two arguments of a call overlap, that nobody writes into a struct ap_acceptor or copies it, and that it stays
+ * on the thread that opened it.
  */
 #ifndef AP_ACCEPT_H
 #define AP_ACCEPT_H
@@ -69,8 +71,8 @@ enum ap_refusal {
 };
 
 /*
- * The services of a process: their keys, and the replay caches of each one's clients. All bytes are zero before ap_open.
- * Never copy it.
+ * The services of a process: their keys, and the replay caches of each one's clients. All bytes are zero before
+ * ap_open. Never copy it.
  */
 struct ap_acceptor {
 	bool is_open;
@@ -96,14 +98,18 @@ struct ap_accepted {
 /* The parts of an accepted AP-REQ that are bytes. */
 enum ap_part {
 	AP_CLIENT_REALM = 1,
-	AP_CLIENT_NAME = 2, /* as text: '/' between components, and '\' with two digits for '/', '\', '@', a space and what is not printable */
+	/* as text: '/' between components, and '\' with two digits for '/', '\', '@', a space and what is not printable */
+	AP_CLIENT_NAME = 2,
 	AP_SESSION_KEY = 3, /* 16 or 32 */
 	AP_SUBKEY = 4,      /* 16 or 32: the key that the client chose for later messages */
 	AP_CHECKSUM = 5,    /* the authenticator's checksum, which the service checks */
 	AP_AP_REP = 6       /* the AP-REP: the service sends it to the client that asks for one (has_ap_rep) */
 };
 
-/* What ap_open and ap_accept hand to the library: a time, in seconds since 1970 and microseconds, and how an acceptor opens. */
+/*
+ * What ap_open and ap_accept hand to the library: a time, in seconds since 1970 and microseconds, and how an acceptor
+ * opens.
+ */
 struct ap_time {
 	int64_t sec;
 	uint32_t usec;
@@ -116,10 +122,11 @@ struct ap_start {
 };
 
 /* The functions of the library, which those below call. */
-int32_t ap_accept_c_open(struct ap_acceptor *acceptor, const uint8_t *keytab, size_t keytab_length, const struct ap_start *start);
+int32_t ap_accept_c_open(struct ap_acceptor *acceptor, const uint8_t *keytab, size_t keytab_length,
+			 const struct ap_start *start);
 int32_t ap_accept_c_replace_keytab(struct ap_acceptor *acceptor, const uint8_t *keytab, size_t keytab_length);
-int32_t ap_accept_c_accept(struct ap_acceptor *acceptor, const struct ap_time *time, const uint8_t *random, const uint8_t *ap_req,
-			   size_t ap_req_length, struct ap_accepted *accepted);
+int32_t ap_accept_c_accept(struct ap_acceptor *acceptor, const struct ap_time *time, const uint8_t *random,
+			   const uint8_t *ap_req, size_t ap_req_length, struct ap_accepted *accepted);
 int32_t ap_accept_c_octets(struct ap_acceptor *acceptor, uint32_t part, uint8_t *to, size_t capacity, size_t *length);
 int32_t ap_accept_c_close(struct ap_acceptor *acceptor);
 size_t ap_accept_c_text(int32_t status, uint8_t *to, size_t capacity);
@@ -129,14 +136,14 @@ uint32_t ap_accept_c_version(void);
  * Opens an acceptor with the keys of the bytes of a keytab, which are not needed any more after the call.
  *
  * remembered: the size of each client's replay cache, 1 to 65536 authenticators.
- * is_first: the service never ran before, with keys that no service ever had. Otherwise authenticators from before the time +
- * 301 seconds are refused (AP_SKEW), since the replay caches are lost.
+ * is_first: the service never ran before, with keys that no service ever had. Otherwise authenticators from before the
+ * time + 301 seconds are refused (AP_SKEW), since the replay caches are lost.
  * sec, usec: the time, in seconds since 1970 (0 to 253402300799) and microseconds (0 to 999999).
  *
  * AP_DONE, AP_BAD_KEYTAB, AP_NO_MEMORY or AP_BAD_ARGUMENT.
  */
-static inline int32_t ap_open(struct ap_acceptor *acceptor, const void *keytab, size_t keytab_length, uint32_t remembered,
-			      bool is_first, int64_t sec, uint32_t usec)
+static inline int32_t ap_open(struct ap_acceptor *acceptor, const void *keytab, size_t keytab_length,
+			      uint32_t remembered, bool is_first, int64_t sec, uint32_t usec)
 {
 	const struct ap_start start = {remembered, is_first, {sec, usec}};
 
@@ -146,9 +153,9 @@ static inline int32_t ap_open(struct ap_acceptor *acceptor, const void *keytab, 
 }
 
 /*
- * Replaces the keys of an open acceptor with those of the bytes of a keytab. The replay caches stay: no client is refused for the
- * change, and nothing that was accepted is accepted again. What ap_octets copies stays too. If the bytes can't be read, the old keys
- * stay.
+ * Replaces the keys of an open acceptor with those of the bytes of a keytab. The replay caches stay: no client is
+ * refused for the change, and nothing that was accepted is accepted again. What ap_octets copies stays too. If the
+ * bytes can't be read, the old keys stay.
  *
  * AP_DONE, AP_BAD_KEYTAB, AP_NO_MEMORY, AP_CLOSED or AP_BAD_ARGUMENT.
  */
@@ -187,7 +194,8 @@ static inline int32_t ap_accept(struct ap_acceptor *acceptor, int64_t sec, uint3
  *
  * AP_DONE, AP_TOO_SMALL (the buffer is as it was), AP_ABSENT, AP_NO_MEMORY, AP_CLOSED or AP_BAD_ARGUMENT.
  */
-static inline int32_t ap_octets(struct ap_acceptor *acceptor, enum ap_part part, void *to, size_t capacity, size_t *length)
+static inline int32_t ap_octets(struct ap_acceptor *acceptor, enum ap_part part, void *to, size_t capacity,
+				size_t *length)
 {
 	uint8_t none;
 
@@ -205,8 +213,9 @@ static inline int32_t ap_close(struct ap_acceptor *acceptor)
 }
 
 /*
- * Writes a text for a status to a buffer, cut so that it ends with a NUL there, and returns how long the whole text is. A buffer
- * of 128 bytes is long enough for each. If to is null, or capacity is 0 or above PTRDIFF_MAX, it writes nothing.
+ * Writes a text for a status to a buffer, cut so that it ends with a NUL there, and returns how long the whole text is.
+ * A buffer of 128 bytes is long enough for each. If to is null, or capacity is 0 or above PTRDIFF_MAX, it writes
+ * nothing.
  */
 static inline size_t ap_text(int32_t status, char *to, size_t capacity)
 {

@@ -1,21 +1,26 @@
 /*
- * A library to preload into a program. It sets what the system shows to the program, lists the program's calls of the system, and lets single
- * ones fail. `fixed_system` of tests/harness/trial.py makes it with the toolchain's compiler, which has no headers of the C library.
+ * A library to preload into a program. It sets what the system shows to the program, lists the program's calls of the
+ * system, and lets single ones fail. `fixed_system` of tests/harness/trial.py makes it with the toolchain's compiler,
+ * which has no headers of the C library.
  *
  *     LD_PRELOAD=./fixed_system.so CLOCK=1798761600 kadm lint --db database
  *
- * A setting is a variable of the environment, or else the first line of the file with its name in the folder STAGE. It is read at each call, so
- * files can change while the program runs. What has no setting is the system's own.
+ * A setting is a variable of the environment, or else the first line of the file with its name in the folder STAGE. It
+ * is read at each call, so files can change while the program runs. What has no setting is the system's own.
  *
  * CLOCK=SECONDS    the clock shows this many seconds since 1970
  * BOOT=NAME        the system's name for its boot
  * DRAWS=NUMBER     each random byte is this number
- * HELD=NUMBERms    another program has each lock for this many milliseconds; the program's pauses count, and take no time
- * CALLS=FILE       each call of a function below is added to this file: its name, and its path; output, pauses and other clocks are left out
- * FAILS=WHICH      of these calls the one with this number fails, or the next one with this name; the setting is then removed
+ * HELD=NUMBERms    another program has each lock for this many milliseconds; the program's pauses count, and take no
+ *                  time
+ * CALLS=FILE       each call of a function below is added to this file: its name, and its path; output, pauses and
+ *                  other clocks are left out
+ * FAILS=WHICH      of these calls the one with this number fails, or the next one with this name; the setting is then
+ *                  removed
  */
 
-enum { LONGEST = 4096, STDOUT = 1, STDERR = 2, CREATES = 0100, TIME_OF_DAY = 0, INPUT_OUTPUT_ERROR = 5, WOULD_BLOCK = 11 };
+enum { LONGEST = 4096, STDOUT = 1, STDERR = 2, CREATES = 0100, TIME_OF_DAY = 0 };
+enum { INPUT_OUTPUT_ERROR = 5, WOULD_BLOCK = 11 };
 
 struct stream;
 struct statx;
@@ -27,7 +32,8 @@ struct moment {
 extern char *fgets(char *, int, struct stream *), *getenv(const char *);
 extern int *__errno_location(void);
 extern int dprintf(int, const char *, ...), fclose(struct stream *), fprintf(struct stream *, const char *, ...);
-extern int memfd_create(const char *, unsigned), snprintf(char *, unsigned long, const char *, ...), strcmp(const char *, const char *);
+extern int memfd_create(const char *, unsigned), strcmp(const char *, const char *);
+extern int snprintf(char *, unsigned long, const char *, ...);
 extern int unlink(const char *), unsetenv(const char *);
 extern long lseek(int, long, int), strtol(const char *, char **, int);
 extern struct stream *fopen(const char *, const char *);
@@ -130,13 +136,15 @@ static int file_of(const char *line)
 		return fails(#name, path) ? -1 : NEXT(name) arguments;   \
 	}
 
-FALLIBLE(int, statx, path, (int folder, const char *path, int flags, unsigned mask, struct statx *found), (folder, path, flags, mask, found))
+FALLIBLE(int, statx, path, (int folder, const char *path, int flags, unsigned mask, struct statx *found),
+         (folder, path, flags, mask, found))
 FALLIBLE(long, read, "", (int file, void *octets, unsigned long count), (file, octets, count))
 FALLIBLE(int, fchmod, "", (int file, unsigned mode), (file, mode))
 FALLIBLE(int, fsync, "", (int file), (file))
 FALLIBLE(int, rename, from, (const char *from, const char *to), (from, to))
 FALLIBLE(int, bind, "", (int socket, const struct address *address, unsigned length), (socket, address, length))
-FALLIBLE(long, send, "", (int socket, const void *octets, unsigned long count, int flags), (socket, octets, count, flags))
+FALLIBLE(long, send, "", (int socket, const void *octets, unsigned long count, int flags),
+         (socket, octets, count, flags))
 FALLIBLE(long, sendto, "",
 	 (int socket, const void *octets, unsigned long count, int flags, const struct address *address, unsigned length),
 	 (socket, octets, count, flags, address, length))

@@ -8,6 +8,7 @@ import hmac
 import math
 import os
 import time
+import typing
 
 try:
     from cryptography.hazmat.primitives.ciphers import Cipher
@@ -254,17 +255,27 @@ def encrypted_data(key, usage, text, confounder=None):
 
 # Requests.
 
-def body(realm, service, client=None, types=(18, 17, 20, 19), nonce=1, options=bytes(4), kind=2):
-    """The body of a request with till zero. The type of the service's name is `kind`."""
-    parts = [field(0, tlv(0x03, b"\0" + options))]
+class Asked(typing.NamedTuple):
+    """What a request asks for besides its names. The type of the service's name is `kind`."""
+
+    types: tuple = (18, 17, 20, 19)
+    nonce: int = 1
+    options: bytes = bytes(4)
+    kind: int = 2
+
+
+def body(realm, service, client=None, **more):
+    """The body of a request with till zero. `more` is of `Asked`."""
+    asked = Asked(**more)
+    parts = [field(0, tlv(0x03, b"\0" + asked.options))]
     if client:
         parts.append(field(1, name(1, client)))
     parts += [
         field(2, general_string(realm)),
-        field(3, name(kind, *service)),
+        field(3, name(asked.kind, *service)),
         field(5, tlv(0x18, b"19700101000000Z")),
-        field(7, integer(nonce)),
-        field(8, sequence(*[integer(etype) for etype in types])),
+        field(7, integer(asked.nonce)),
+        field(8, sequence(*[integer(etype) for etype in asked.types])),
     ]
     return sequence(*parts)
 
@@ -311,10 +322,13 @@ def ap_req(ticket, session_key, usage, shown, options=bytes(4), confounder=None)
     ))
 
 
-def tgs_req(realm, client, service, ticket, session_key, seconds, microseconds, nonce=1, confounder=None, **more):
-    """A TGS-REQ with an authenticator of this time. `more` goes to `body`."""
-    asked = body(realm, service, nonce=nonce, **more)
-    shown = authenticator(realm, client, seconds, microseconds, (session_key, 6, asked))
+def tgs_req(realm, client, service, held, at, **more):
+    """A TGS-REQ with a ticket, whose session key is beside it in `held`, and with an authenticator of a second and
+    microseconds. `more` is of `Asked`, and the authenticator's confounder."""
+    ticket, session_key = held
+    confounder = more.pop("confounder", None)
+    asked = body(realm, service, **more)
+    shown = authenticator(realm, client, *at, (session_key, 6, asked))
     presented = ap_req(ticket, session_key, 7, shown, confounder=confounder)
     padata = sequence(field(1, integer(1)), field(2, octet_string(presented)))
     return tlv(0x6C, sequence(field(1, integer(5)), field(2, integer(12)), field(3, sequence(padata)), field(4, asked)))

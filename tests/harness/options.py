@@ -12,7 +12,6 @@ ADDRESSES = (
 )
 BAD = {
     **dict.fromkeys(("db", "seed", "password-file", "out", "keytab", "dump", "stash", "cache"), ("",)),
-    **dict.fromkeys(("version", "rounds", "lock-after", "life", "start", "least-count"), NUMBERS),
     **dict.fromkeys(
         ("lock-seconds", "greatest-life", "greatest-renewable"),
         (*NUMBERS, "h", "1w", "1 h", "+1h", "1.5h", "49711d"),
@@ -33,8 +32,9 @@ GOOD = {
     "field": "disabled", "value": "true", "out": "kt", "keytab": "kt", "udp": "127.0.0.1:0", "cache": "cc",
     "log-format": "text", "journal": "j", "journal-size": "1M",
 }
-# What is behind the name of an option: it is required, may be given more than once, has no value, or may have none.
-MARKS = "!*-?"
+# What is behind the name of an option: it is required, may be given more than once, has no value, may have none, or its
+# value is a number.
+MARKS = "!*-?#"
 NAMES = (
     "", "a b", "a//b", "/a", "a/", "u@x", "\\41", "\\4A", "\\4", "\u00e9", "a" * 256, "a/" * 16 + "a", "a\nb",
 )
@@ -68,7 +68,7 @@ def joined(base):
 
 def try_option(trial, command, base, name, marks):
     """Tries bad uses of an option beside the words that the command requires."""
-    option, values = f"--{name}", BAD.get(name, ())
+    option, values = f"--{name}", NUMBERS if "#" in marks else BAD.get(name, ())
     if "-" in marks:
         cases = [[f"{option}=yes"], [option, option]]
     else:

@@ -1,9 +1,11 @@
 /*
- * A library to preload into a program. It refuses allocations, and lets reads of standard input and writes to standard output fail.
- * `refused_memory` of tests/harness/trial.py makes it with the toolchain's compiler, which has no headers of the C library.
+ * A library to preload into a program. It refuses allocations, and lets reads of standard input and writes to standard
+ * output fail. `refused_memory` of tests/harness/trial.py makes it with the toolchain's compiler, which has no headers
+ * of the C library.
  *
  *     LD_PRELOAD=./refused_memory.so COUNTED=counted REFUSED=7 kadm list --db database
- *     LD_PRELOAD=./refused_memory.so REPORT=1 crates/base_tests/out/base_tests_tests messages::fields::names_work_after_memory_ran_out
+ *     LD_PRELOAD=./refused_memory.so REPORT=1 crates/base_tests/out/base_tests_tests \
+ *         messages::fields::names_work_after_memory_ran_out
  *
  * A setting is a variable of the environment.
  *
@@ -14,13 +16,15 @@
  * WRITES=NUMBER    a write to standard output fails after this many
  * REPORT=FILE      marks count (below), and this open file gets the lines about them
  *
- * Marks: a test asks for as many bytes as no system has. Between the marks BEGIN and END each allocation is refused once. For that the program
- * forks at the allocation: in the child this one allocation fails, and the parent waits for the child and continues with the allocation. The
- * child runs until the mark JUDGED, or to its end: by then it has asserted what the test has to assert after a refusal. So one run refuses each
- * allocation of each marked call. Lines of the report:
+ * Marks: a test asks for as many bytes as no system has. Between the marks BEGIN and END each allocation is refused
+ * once. For that the program forks at the allocation: in the child this one allocation fails, and the parent waits for
+ * the child and continues with the allocation. The child runs until the mark JUDGED, or to its end: by then it has
+ * asserted what the test has to assert after a refusal. So one run refuses each allocation of each marked call. Lines
+ * of the report:
  *
  *     call NUMBER of REFUSALS                      at each mark END, of the parent
- *     wrong CALL ALLOCATION STATUS LAST WORDS      a child that ended in another way; its wait status, and the end of what it printed
+ *     wrong CALL ALLOCATION STATUS LAST WORDS      a child that ended in another way; its wait status, and the end of
+ *                                                  what it printed
  */
 
 enum {
@@ -42,7 +46,8 @@ struct limit {
 
 extern char *getenv(const char *);
 extern int *__errno_location(void);
-extern int close(int), dprintf(int, const char *, ...), dup2(int, int), fork(void), ftruncate(int, long), memfd_create(const char *, unsigned);
+extern int close(int), dprintf(int, const char *, ...), dup2(int, int), fork(void), ftruncate(int, long);
+extern int memfd_create(const char *, unsigned);
 extern int open(const char *, int, ...), setrlimit(int, const struct limit *), waitpid(int, int *, int);
 extern long lseek(int, long, int), pread(int, void *, unsigned long, long), strtol(const char *, char **, int);
 extern void *dlsym(void *, const char *);

@@ -218,7 +218,7 @@ def main(doc):
     words = argparse.ArgumentParser(description=doc, formatter_class=argparse.RawDescriptionHelpFormatter)
     words.add_argument(
         "-k", nargs="+", default=[""], metavar="WORD", dest="words",
-        help="the tests with one of these words in their names"
+        help="the tests with one of these words in their names, or, if a word is a whole name, that test"
     )
     words.add_argument("--list", action="store_true", help="prints the names of the tests, and runs none")
     words.add_argument(
@@ -233,7 +233,11 @@ def main(doc):
     words = words.parse_args()
     if words.alone:
         return alone(words.alone)
-    chosen = [test for name, test in all_tests().items() if any(word in name for word in words.words)]
+    tests = all_tests()
+    chosen = [
+        test for name, test in tests.items()
+        if any(word == name if word in tests else word in name for word in words.words)
+    ]
     if not chosen:
         sys.exit(f"no test has {' or '.join(words.words)} in its name")
     if words.list:

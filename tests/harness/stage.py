@@ -125,7 +125,7 @@ class Buyer:
 
     def request(self, second, client=b"w"):
         """A new TGS-REQ, whose authenticator has this time."""
-        return tgs_req(REALM.encode(), client, (b"h",), self.ticket, self.key, second, next(self.turns))
+        return tgs_req(REALM.encode(), client, (b"h",), (self.ticket, self.key), (second, next(self.turns)))
 
     def buy(self, server, second, client=b"w", seconds=20):
         return answer(ask(server, self.request(second, client), seconds))

@@ -141,9 +141,9 @@ def run(words, **how):
         sys.exit(f"{' '.join(map(str, words))}: {ran.stdout}")
 
 
-def kdcd(programs, folder, realm, principals, port, log=False, errors=None):
+def kdcd(programs, folder, realm, principals, port, log=None):
     """Starts `kdcd serve`. `programs` is a folder with `kadm` and `kdcd`, or the folder of the crates, with each at
-    NAME/out/NAME. Standard error goes to a file in `folder`, or to `errors`."""
+    NAME/out/NAME. Standard error goes to a file in `folder`, or to `log`, with a line for each request."""
     found = programs_in(programs, ("kadm", "kdcd"))
     kadm = lambda sub, *words: run([found["kadm"], sub, "--db", folder / "database", *words])
     kadm("init", "--realm", realm)
@@ -159,9 +159,9 @@ def kdcd(programs, folder, realm, principals, port, log=False, errors=None):
     address = f"127.0.0.1:{port}"
     words = [
         found["kdcd"], "serve", "--db", folder / "database", "--udp", address, "--tcp", address, "--first",
-        *["--log"] * log
+        *["--log"] * (log is not None)
     ]
-    errors = open(folder / "log", "w") if errors is None else errors
+    errors = open(folder / "log", "w") if log is None else log
     return Running(words, realm, port, stdout=subprocess.DEVNULL, stderr=errors)
 
 

@@ -6,8 +6,8 @@ from harness.options import try_program
 from harness.programs import TOP
 from harness.tests import test
 
-# A line of a session with the options of a command: `!` is required, `*` may be given more than once, and `-` has no
-# value. Each command has one such line, in a session of its own.
+# A line of a session with the options of a command: `!` is required, `*` may be given more than once, `-` has no value,
+# and `#` has a number. Each command has one such line, in a session of its own.
 ROW = re.compile(r"^% (\w+) (.*)$", re.M)
 
 

@@ -40,8 +40,9 @@ def named(names, realm=REALM, kind=1):
     return number(kind) + number(len(names)) + counted(realm) + b"".join(map(counted, names))
 
 
-def held(client, server, etype, key, times, flags, ticket):
-    """A credential of a cache."""
+def held(client, server, typed_key, times, flags, ticket):
+    """A credential of a cache. Its key has its type before it."""
+    etype, key = typed_key
     front = client + server + short(etype) + counted(key) + b"".join(map(number, times)) + b"\0" + number(flags)
     return front + number(0) * 2 + counted(ticket) + number(0)
 
@@ -68,16 +69,16 @@ TIMES = (NOW, NOW, NOW + 36_000, 0)
 LISTED = (
     b"\5\4\0\x0c\0\1\0\x08" + bytes(8) + OF_U
     + held(
-        OF_U, named((b"krb5_ccache_conf_data", b"pa_type", b"krbtgt/A.B@A.B"), b"X-CACHECONF:", 0), 0, b"",
+        OF_U, named((b"krb5_ccache_conf_data", b"pa_type", b"krbtgt/A.B@A.B"), b"X-CACHECONF:", 0), (0, b""),
         (0, 0, 0, 0), 0, b"2"
     )
-    + held(OF_U, OF_GRANTING, 18, b"k" * 32, (MIDNIGHT, MIDNIGHT, TEN_HOURS, WEEK), 0x40E00000, ticket(GRANTING))
+    + held(OF_U, OF_GRANTING, (18, b"k" * 32), (MIDNIGHT, MIDNIGHT, TEN_HOURS, WEEK), 0x40E00000, ticket(GRANTING))
     + held(
-        OF_U, named((b"host", b"a\nb@/\\c"), kind=3), 17, b"k" * 16, (MIDNIGHT, 0, HOUR, 0), 0,
+        OF_U, named((b"host", b"a\nb@/\\c"), kind=3), (17, b"k" * 16), (MIDNIGHT, 0, HOUR, 0), 0,
         ticket((b"host", b"x"), etype=20)
     )
     + held(
-        named((b"v",), b"C D"), named((b"h",), b"C D"), 23, b"k" * 16, (MIDNIGHT, MIDNIGHT + 60, (1 << 32) - 1, 0),
+        named((b"v",), b"C D"), named((b"h",), b"C D"), (23, b"k" * 16), (MIDNIGHT, MIDNIGHT + 60, (1 << 32) - 1, 0),
         0x7FFC8000, b"hello"
     )
 )
@@ -160,8 +161,8 @@ FILES = {
     # The key of an entry has one byte.
     "broken": keytab((b"h", 1, 17, b"k", 0, False)),
     # Its ticket can't be presented: the key has another type, or it is no ticket.
-    "oddkey": b"\5\4\0\0" + OF_U + held(OF_U, OF_GRANTING, 23, b"k" * 16, TIMES, 0x400000, ticket(GRANTING)),
-    "noticket": b"\5\4\0\0" + OF_U + held(OF_U, OF_GRANTING, 18, b"k" * 32, TIMES, 0x400000, b"hello"),
+    "oddkey": b"\5\4\0\0" + OF_U + held(OF_U, OF_GRANTING, (23, b"k" * 16), TIMES, 0x400000, ticket(GRANTING)),
+    "noticket": b"\5\4\0\0" + OF_U + held(OF_U, OF_GRANTING, (18, b"k" * 32), TIMES, 0x400000, b"hello"),
     "listed": LISTED, "listedcut": LISTED[:100], "listedkeys": LISTED_KEYS,
     # A realm `N` has hosts without an address: no resolver is asked for a name with two dots in a row.
     "conf": """# the realm of the tests

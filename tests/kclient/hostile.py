@@ -22,10 +22,10 @@ class Hostile(Trial):
         begun = time.monotonic()
         return self.run([*bounded, *words]), time.monotonic() - begun
 
-    def faults(self, ran, took, status, out, said, cache, least=0, most=0):
-        """What is wrong with the result. The command has to end with this status after `least` to `most` seconds, print
-        `out`, write these texts to standard error, and leave this cache."""
-        faults = []
+    def faults(self, begun, status, out, said, cache, seconds=(0, 0)):
+        """What is wrong with what `begin` returned. The command has to end with this status after `seconds`, the
+        least and the most, print `out`, write these texts to standard error, and leave this cache."""
+        (ran, took), (least, most), faults = begun, seconds, []
         if ran.status != status:
             faults.append("it does not end" if ran.status is None else f"status {ran.status}, and not {status}")
         if ran.out != out + "\n":
@@ -38,19 +38,21 @@ class Hostile(Trial):
             faults.append("the cache is not what it has to be")
         return faults
 
-    def expect_kinit(self, what, kdcs, options, status, out, said, least, most, counts=None, who=("A.B", "u", "pw")):
-        """Runs a `kinit` that asks these addresses, and has to change no file. The first KDC has to get `counts`
-        datagrams and connections. `who` is the realm, the client, and the file of the password."""
+    def expect_kinit(self, what, kdcs, options, end, counts=None, who=("A.B", "u", "pw")):
+        """Runs a `kinit` that asks these addresses, and has to change no file. `end` is the status, what it prints and
+        says, and the least and the most seconds. The first KDC has to get `counts` datagrams and connections. `who` is
+        the realm, the client, and the file of the password."""
+        status, out, said, *seconds = end
         before = sorted(self.folder.iterdir())
         addresses = [word for each in kdcs for word in ("--kdc", getattr(each, "address", each))]
         as_client = [word for pair in zip(("--realm", "--name", "--password-file"), who) for word in pair]
         words = ["kinit", *addresses, *as_client, "--cache", "cc", *options]
-        ran, took = self.begin(words, CACHE)
-        faults = self.faults(ran, took, status, out, (said,), CACHE, least, most)
+        begun = self.begin(words, CACHE)
+        faults = self.faults(begun, status, out, (said,), CACHE, seconds)
         if counts and (kdcs[0].datagrams, kdcs[0].connections) != counts:
             faults.append(
                 f"sends {kdcs[0].datagrams} datagrams and {kdcs[0].connections} connections, and not {counts}"
             )
         if sorted(self.folder.iterdir()) != before:
             faults.append("leaves files")
-        self.note(f"{what} ({took:.1f} s)", "; ".join(faults))
+        self.note(f"{what} ({begun[1]:.1f} s)", "; ".join(faults))

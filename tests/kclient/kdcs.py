@@ -42,7 +42,8 @@ def presented(service, count=1, **more):
         at, rest = moment_in(SESSION, 7, data)
         found = [
             tgs_req(
-                REALM, b"v", service, granting, SESSION, at, rest + turn, NONCES[turn], CONFOUNDERS[turn], **more
+                REALM, b"v", service, (granting, SESSION), (at, rest + turn), confounder=CONFOUNDERS[turn],
+                nonce=NONCES[turn], **more
             ) for turn in range(count)
         ]
         return found if now[0] <= at <= now[1] else []

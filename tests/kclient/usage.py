@@ -3,12 +3,13 @@
 from harness.options import try_program
 from harness.tests import test
 
-# The options of each command: `!` is required, `*` may be given more than once, and `-` has no value.
+# The options of each command: `!` is required, `*` may be given more than once, `-` has no value, `#` has a number.
 COMMANDS = {
-    "kclient kinit": "kdc* realm name! password-file keytab cache service seed life start least-count renewable- "
+    "kclient kinit": "kdc* realm name! password-file keytab cache service seed life# start# least-count# renewable- "
     "forwardable- proxiable- tcp- renew- validate-",
     "kclient kvno": "kdc* cache name!* keytab seed fresh- tcp-",
     "kclient klist": "cache keytab",
+    "kclient kdestroy": "cache",
 }
 
 

@@ -54,7 +54,7 @@ class Client:
         self.ticket, self.key = ticket_in(key, reply)
 
     def request(self, service, second, microsecond, client=None, **more):
-        return tgs_req(OURS, client or self.client, service, self.ticket, self.key, second, microsecond, **more)
+        return tgs_req(OURS, client or self.client, service, (self.ticket, self.key), (second, microsecond), **more)
 
 
 def forged_ticket(key, service, client, session_key, flag):
@@ -74,13 +74,17 @@ def forged_ticket(key, service, client, session_key, flag):
     ))
 
 
-def forged_requests(key, service, client, second, count, option, flag, asked=None):
-    """TGS-REQs with such a ticket, which ask to renew or to validate it, or for another service. Their authenticators
-    are those that the client may use next."""
+def forged_requests(forger, client, second, count, way, asked=None):
+    """TGS-REQs with a ticket that a service forged with its key, which ask to renew or to validate it, or for another
+    service. `forger` is the key and the service, and `way` the options and the ticket's flag. Their authenticators are
+    those that the client may use next."""
+    (key, service), (options, flag) = forger, way
     session_key = os.urandom(32)
     ticket = forged_ticket(key, service, client, session_key, flag)
-    how = {"options": bits(*option)}
-    return [tgs_req(OURS, client, asked or service, ticket, session_key, second, turn, **how) for turn in range(count)]
+    return [
+        tgs_req(OURS, client, asked or service, (ticket, session_key), (second, turn), options=bits(*options))
+        for turn in range(count)
+    ]
 
 
 def answers(server, requests):
@@ -105,7 +109,7 @@ def forged_by_users(trial):
     now = int(time.time())
     mallory, mallory_key = (b"mallory",), key_of(PASSWORD, OURS + b"mallory")
     for what, option, flag in (("renew", [RENEW], RENEWABLE), ("validate", [VALIDATE], INVALID)):
-        found = answers(server, forged_requests(mallory_key, mallory, b"v", now, 2 * REMEMBERED, option, flag))
+        found = answers(server, forged_requests((mallory_key, mallory), b"v", now, 2 * REMEMBERED, (option, flag)))
         trial.same(
             f"tickets under a user's own key, which name another client, to {what}: no key", found,
             {"45": 2 * REMEMBERED}
@@ -129,19 +133,19 @@ def forged_by_services(trial):
     server = trial.serve(f"--first --remembered {REMEMBERED}")
     now, key = int(time.time()), keytab_key(trial.folder / "h.keytab")
     owner, other = Client(server, b"v"), Client(server, b"u")
-    found = answers(server, forged_requests(key, (b"h",), b"v", now, REMEMBERED, [RENEW], RENEWABLE))
+    found = answers(server, forged_requests((key, (b"h",)), b"v", now, REMEMBERED, ([RENEW], RENEWABLE)))
     trial.same("a keytab's holder renews a ticket for its service in a client's name", found, {"ticket": REMEMBERED})
     found = answers(server, [owner.request((b"h",), now, REMEMBERED)])
     trial.same("so it uses up the client's authenticators", found, {"29": 1})
     found = answers(server, [other.request((b"h",), now, turn) for turn in range(REMEMBERED)])
     trial.same("and nobody else's", found, {"ticket": REMEMBERED})
     others = ((b"krbtgt", OURS), (b"host", b"n"))
-    found = [answers(server, forged_requests(key, other, b"u", now, 1, [RENEW], RENEWABLE)) for other in others]
+    found = [answers(server, forged_requests((key, other), b"u", now, 1, ([RENEW], RENEWABLE))) for other in others]
     trial.same(
         "it makes no ticket for the ticket-granting service, and none for another service", found, [{"31": 1}] * 2
     )
     requests = [
-        forged_requests(key, (b"h",), b"u", now, 1, option, RENEWABLE, others[1]) for option in ([], [RENEW])
+        forged_requests((key, (b"h",)), b"u", now, 1, (option, RENEWABLE), others[1]) for option in ([], [RENEW])
     ]
     found = [answers(server, each) for each in requests]
     trial.same("nor does it buy or renew another service's ticket with one for its own", found, [{"35": 1}] * 2)

@@ -96,7 +96,7 @@ def asked(server):
     ticket, session = ticket_in(bytes.fromhex(realm.NEW_USER_KEY), ask(server, realm.LOGIN))
 
     def buy(service, number, **more):
-        return tgs_req(REALM.encode(), b"w", (service,), ticket, session, T, number, **more)
+        return tgs_req(REALM.encode(), b"w", (service,), (ticket, session), (T, number), **more)
 
     good = buy(b"h", 1)
     requests = (
@@ -210,7 +210,7 @@ def start(trial):
     first = trial.numbers(server)
     trial.has("until when all TGS-REQs are refused", first, {key("kdcd_refused_until_seconds"): T + REFUSING})
     ticket, session = ticket_in(bytes.fromhex(realm.NEW_USER_KEY), ask(server, realm.LOGIN))
-    request = tgs_req(REALM.encode(), b"w", (b"h",), ticket, session, T, 1)
+    request = tgs_req(REALM.encode(), b"w", (b"h",), (ticket, session), (T, 1))
     trial.same("a TGS-REQ at a quiet start", answer(ask(server, request, 0.5)), "none")
     now = trial.next_numbers(server, T + BETWEEN)
     trial.has("what was withheld", now, {

@@ -71,7 +71,7 @@ def fields_of_lines(trial):
         ticket, session_key = ticket_in(key_of(b"a password", realm + b"v"), ask(login("v")))
         parts = field(1, integer(5)), field(2, integer(10)), field(4, body(realm, long_name.encode().split(b"/"), b"v"))
         ask(tlv(0x6A, sequence(*parts)))
-        request = tgs_req(realm, b"v", (b"h",), ticket, session_key, int(time.time()), 1)
+        request = tgs_req(realm, b"v", (b"h",), (ticket, session_key), (int(time.time()), 1))
         # The last byte of the ticket's cipher, and that of the authenticator's.
         for place in (request.index(ticket) + len(ticket) - 1, request.index(body(realm, (b"h",))) - 3):
             ask(request[:place] + bytes([request[place] ^ 1]) + request[place + 1:])

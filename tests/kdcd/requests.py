@@ -44,7 +44,7 @@ def expect_remembered(trial, server, peer):
     before."""
     realm, now = REALM.encode(), int(time.time())
     ticket, key = ticket_in(key_of(b"a password", realm + b"v"), ask_udp(peer, login("v")))
-    requests = [tgs_req(realm, b"v", (b"h",), ticket, key, now, turn) for turn in range(REMEMBERED + 1)]
+    requests = [tgs_req(realm, b"v", (b"h",), (ticket, key), (now, turn)) for turn in range(REMEMBERED + 1)]
     replies = [ask_udp(peer, request) for request in requests]
     bought = sum(reply[:1] == b"\x6d" for reply in replies)
     trial.note(
@@ -71,7 +71,7 @@ def kept(trial):
     with datagrams(server.udp) as peer:
         ticket, key = ticket_in(key_of(b"a password", realm + b"v"), ask_udp(peer, login("v")))
     server.end()
-    request = tgs_req(realm, b"v", (b"h",), ticket, key, now, 0)
+    request = tgs_req(realm, b"v", (b"h",), (ticket, key), (now, 0))
     for most, wanted in ((len(request), "the same"), (len(request) - 1, "34"), (0, "34"), (65535, "the same")):
         server = trial.serve(f"--first --kept {most}")
         with datagrams(server.udp) as peer:

@@ -29,7 +29,7 @@ class Buyer:
 
     def request(self):
         self.turn += 1
-        return tgs_req(REALM.encode(), b"v", (b"h",), self.ticket, self.key, int(time.time()), self.turn)
+        return tgs_req(REALM.encode(), b"v", (b"h",), (self.ticket, self.key), (int(time.time()), self.turn))
 
     def buy(self, server, request=None, tries=3):
         """The answer to this request, or to the next new one."""

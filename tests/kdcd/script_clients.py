@@ -34,7 +34,8 @@ TICKETS = {bytes([letter]): ticket(bytes([letter])) for letter in b"pqrstuvw"}
 
 def buying(client, second, cusec=0, nonce=1):
     """A TGS-REQ for `h`, whose authenticator is from this second and microsecond."""
-    return tgs_req(REALM.encode(), client, (b"h",), TICKETS[client], SESSION_KEY, MIDNIGHT + second, cusec, nonce)
+    held, at = (TICKETS[client], SESSION_KEY), (MIDNIGHT + second, cusec)
+    return tgs_req(REALM.encode(), client, (b"h",), held, at, nonce=nonce)
 
 
 def keys(octet):

@@ -162,7 +162,7 @@ def sandbox(trial):
     udp, tcp = (dict(server.addresses)[kind] for kind in ("udp", "tcp"))
     with datagrams(udp) as peer:
         ticket, key = ticket_in(key_of(b"a password", REALM.encode() + b"v"), ask_udp(peer, login("v")))
-        request = lambda turn: tgs_req(REALM.encode(), b"v", (b"h",), ticket, key, int(time.time()), turn)
+        request = lambda turn: tgs_req(REALM.encode(), b"v", (b"h",), (ticket, key), (int(time.time()), turn))
         found = [answer(ask_udp(peer, request(1))), answer(ask_tcp(tcp, request(2))), answer(ask_tcp(tcp, login("u")))]
     trial.note(
         "a datagram, a connection and a login are answered", "" if found == ["ticket", "ticket", "25"] else str(found)

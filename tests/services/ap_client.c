@@ -4,12 +4,14 @@
  *     cc -o ap_client tests/services/ap_client.c -lkrb5            (Debian: libkrb5-dev)
  *     KRB5CCNAME=FILE:cache ./ap_client PORT imap/h18@A.B [WORD ..]
  *
- * It sends an AP-REQ for the service to 127.0.0.1, by krb5_mk_req_extended, and prints the answer. If mutual authentication is asked
- * for, krb5_rd_rep checks the AP-REP. The cache holds the service's ticket, or a TGT with which the library asks a KDC for it.
+ * It sends an AP-REQ for the service to 127.0.0.1, by krb5_mk_req_extended, and prints the answer. If mutual
+ * authentication is asked for, krb5_rd_rep checks the AP-REP. The cache holds the service's ticket, or a TGT with which
+ * the library asks a KDC for it.
  *
  * The words: 'mutual' asks for mutual authentication, 'subkey', 'number' and 'checksum' for these; 'sendauth' speaks as
- * krb5_sendauth; 'repeat' sends the same bytes on a second connection; 'none' sends bytes that are not an AP-REQ; 'cut' sends the AP-REQ
- * without its last byte; 'old' uses the cache's ticket even after its end; 'skew=SECONDS' sets the client's clock ahead.
+ * krb5_sendauth; 'repeat' sends the same bytes on a second connection; 'none' sends bytes that are not an AP-REQ; 'cut'
+ * sends the AP-REQ without its last byte; 'old' uses the cache's ticket even after its end; 'skew=SECONDS' sets the
+ * client's clock ahead.
  */
 #include <arpa/inet.h>
 #include <krb5.h>
@@ -65,7 +67,10 @@ static int connected(void)
 	return connection;
 }
 
-/* A ticket from the cache, which may have ended. The library makes no AP-REQ from an ended ticket, so its credential gets another end. */
+/*
+ * A ticket from the cache, which may have ended. The library makes no AP-REQ from an ended ticket, so its credential
+ * gets another end.
+ */
 static krb5_creds *old_credentials(krb5_ccache cache, krb5_creds *wanted)
 {
 	static krb5_creds found;
@@ -137,7 +142,8 @@ static void send_plain(krb5_creds *ticket)
 
 	check(krb5_auth_con_init(context, &exchange), "the context");
 	check(krb5_auth_con_setflags(context, exchange, is_asked("number") ? KRB5_AUTH_CONTEXT_DO_SEQUENCE : 0), "the flags");
-	check(krb5_mk_req_extended(context, &exchange, options(), is_asked("checksum") ? &text : NULL, ticket, &request), "the AP-REQ");
+	krb5_data *checked = is_asked("checksum") ? &text : NULL;
+	check(krb5_mk_req_extended(context, &exchange, options(), checked, ticket, &request), "the AP-REQ");
 	if (is_asked("none"))
 		request = (krb5_data){ .length = 5, .data = "hello" };
 	if (is_asked("cut"))
@@ -154,9 +160,11 @@ static void send_auth(krb5_creds *ticket)
 	krb5_error *error = NULL;
 	krb5_ap_rep_enc_part *part = NULL;
 	int connection = connected();
-	krb5_error_code code = krb5_sendauth(context, &exchange, &connection, "ap_client", NULL, NULL, options(), NULL, ticket, NULL, &error, &part, NULL);
+	krb5_error_code code = krb5_sendauth(context, &exchange, &connection, "ap_client", NULL, NULL, options(), NULL,
+		ticket, NULL, &error, &part, NULL);
 
-	printf("%s\n", code != 0 ? krb5_get_error_message(context, code) : part != NULL ? "taken, and the AP-REP is good" : "taken, with no AP-REP");
+	const char *taken = part != NULL ? "taken, and the AP-REP is good" : "taken, with no AP-REP";
+	printf("%s\n", code != 0 ? krb5_get_error_message(context, code) : taken);
 	close(connection);
 }
 

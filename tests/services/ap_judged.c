@@ -1,12 +1,14 @@
 /*
- * Tries what docs/ap_accept.h says about bad arguments and about accepted AP-REQs. Prints each call that returns something else, and
- * the number of these calls.
+ * Tries what docs/ap_accept.h says about bad arguments and about accepted AP-REQs. Prints each call that returns
+ * something else, and the number of these calls.
  *
- *     cc -g -fsanitize=address,undefined -I docs -o ap_judged tests/services/ap_judged.c crates/ap_accept_c/out/libap_accept_c.a KIT/c/liblibc_c.a
+ *     cc -g -fsanitize=address,undefined -I docs -o ap_judged tests/services/ap_judged.c \
+ *         crates/ap_accept_c/out/libap_accept_c.a KIT/c/liblibc_c.a
  *     ./ap_judged KEYTAB [AP-REQ]
  *
- * KEYTAB is a keytab's file. AP-REQ is the hexadecimal digits of an AP-REQ for a service of that keytab, made within the last 300
- * seconds, without a subkey, as tests/services/mk_req.c prints it. Without it nothing here is accepted: tests/services/ap_client.c tries that.
+ * KEYTAB is a keytab's file. AP-REQ is the hexadecimal digits of an AP-REQ for a service of that keytab, made within
+ * the last 300 seconds, without a subkey, as tests/services/mk_req.c prints it. Without it nothing here is accepted:
+ * tests/services/ap_client.c tries that.
  */
 #include "ap_accept.h"
 

@@ -3,15 +3,16 @@
  *
  *     ap_service KEYTAB PORT [first] [CONNECTIONS]
  *
- * It listens on 127.0.0.1, reads an AP-REQ on each connection, prints who sent it or why it is refused, and answers with the AP-REP
- * if the client asks for one. It ends after CONNECTIONS connections, or when a signal ends it. The word first says that it never ran
- * before; without it all clients are refused for 301 seconds (docs/SERVICES.md, 'Starts and restarts').
+ * It listens on 127.0.0.1, reads an AP-REQ on each connection, prints who sent it or why it is refused, and answers
+ * with the AP-REP if the client asks for one. It ends after CONNECTIONS connections, or when a signal ends it. The word
+ * first says that it never ran before; without it all clients are refused for 301 seconds (docs/SERVICES.md, 'Starts
+ * and restarts').
  *
- * A connection has messages, each after its length in four bytes, the most significant first, as MIT's library writes them
- * (krb5_write_message). The client sends an AP-REQ and gets an AP-REP, or an empty message if it asked for none; or it speaks as
- * krb5_sendauth does. If it is refused, the service closes the connection. It also closes it ten seconds after it was accepted, however
- * slowly its peer sends and reads: a limit for each read alone would let a peer that sends a byte now and then keep it, and all others
- * with it, since this example serves one connection at a time.
+ * A connection has messages, each after its length in four bytes, the most significant first, as MIT's library writes
+ * them (krb5_write_message). The client sends an AP-REQ and gets an AP-REP, or an empty message if it asked for none;
+ * or it speaks as krb5_sendauth does. If it is refused, the service closes the connection. It also closes it ten
+ * seconds after it was accepted, however slowly its peer sends and reads: a limit for each read alone would let a peer
+ * that sends a byte now and then keep it, and all others with it, since this example serves one connection at a time.
  *
  * docs/SERVICES.md, 'In C', says how to build it.
  */
@@ -135,7 +136,10 @@ static bool is_sendauth(const struct message *message)
 	return message->length == sizeof(SENDAUTH) && memcmp(message->octets, SENDAUTH, sizeof(SENDAUTH)) == 0;
 }
 
-/* After that text comes the application's own text. The service accepts any, and answers with a byte 0. Then the AP-REQ comes. */
+/*
+ * After that text comes the application's own text. The service accepts any, and answers with a byte 0. Then the AP-REQ
+ * comes.
+ */
 static bool read_after_sendauth(const struct connection *connection, struct message *message)
 {
 	static const uint8_t taken = 0;
@@ -182,7 +186,10 @@ static bool answer(const struct connection *connection, struct ap_acceptor *acce
 {
 	size_t length = 0;
 	char *reply = part_of(acceptor, AP_AP_REP, &length);
-	/* krb5_sendauth expects an empty message first, which says that there is no error, and no other message if it asked for no reply */
+	/*
+	 * krb5_sendauth expects an empty message first, which says that there is no error, and no other message if it asked
+	 * for no reply
+	 */
 	bool done = !sendauth || write_message(connection, NULL, 0);
 
 	if (done && (reply != NULL || !sendauth))

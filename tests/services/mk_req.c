@@ -4,14 +4,15 @@
  *     cc -o mk_req tests/services/mk_req.c -lkrb5            (Debian: libkrb5-dev)
  *     KRB5CCNAME=FILE:cache KRB5_KTNAME=FILE:keytab ./mk_req imap/h18@A.B [subkey] [mutual] [number] [checksum]
  *
- * The cache holds the service's ticket, or a TGT with which the library asks a KDC for it; the keytab holds the service's key.
- * The words ask for a subkey, for MUTUAL-REQUIRED, for a sequence number, and for a checksum of the text 'checksum'.
+ * The cache holds the service's ticket, or a TGT with which the library asks a KDC for it; the keytab holds the
+ * service's key. The words ask for a subkey, for MUTUAL-REQUIRED, for a sequence number, and for a checksum of the text
+ * 'checksum'.
  *
- * It prints a line for each of: the AP-REQ, the ticket's session key, the subkey if there is one, and what the library itself
- * reads from the AP-REQ with the keytab (krb5_rd_req): the second and the microsecond of the authenticator, the sequence
- * number and the checksum if there is one, and the client, flags and times of the ticket. Bytes are hexadecimal digits, and an
- * absent time is 0. With MUTUAL-REQUIRED it then reads a line with the digits of an AP-REP, and says whether the library accepts
- * that as the reply (krb5_rd_rep).
+ * It prints a line for each of: the AP-REQ, the ticket's session key, the subkey if there is one, and what the library
+ * itself reads from the AP-REQ with the keytab (krb5_rd_req): the second and the microsecond of the authenticator, the
+ * sequence number and the checksum if there is one, and the client, flags and times of the ticket. Bytes are
+ * hexadecimal digits, and an absent time is 0. With MUTUAL-REQUIRED it then reads a line with the digits of an AP-REP,
+ * and says whether the library accepts that as the reply (krb5_rd_rep).
  */
 #include <krb5.h>
 #include <stdio.h>
@@ -106,7 +107,9 @@ static void print_ticket(const krb5_enc_tkt_part *part)
 	krb5_free_unparsed_name(context, client);
 }
 
-/* What the service's side of the library reads. Without KRB5_AUTH_CONTEXT_DO_TIME it keeps no replay cache in a file. */
+/*
+ * What the service's side of the library reads. Without KRB5_AUTH_CONTEXT_DO_TIME it keeps no replay cache in a file.
+ */
 static void print_read(const krb5_data *request)
 {
 	krb5_auth_context service;
