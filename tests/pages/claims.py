@@ -213,11 +213,19 @@ def pages():
 def crates(trial):
     crates = sorted(each.name for each in CRATES.iterdir() if (each / "src").is_dir())
     table = re.findall(r"^\| ((?:`\w+`(?:, )?)+) \|", section("docs/MAP.md", "The crates"), re.M)
-    named = sorted(name for cell in table for name in re.findall(r"`(\w+)`", cell))
-    trial.note("MAP.md: the crates of its table", differs(named, crates))
+    named = [name for cell in table for name in re.findall(r"`(\w+)`", cell)]
+    trial.note("MAP.md: the crates of its table", differs(sorted(named), crates))
     picture = read("docs/MAP.md").partition("\n    programs")[2].partition("\n## ")[0]
-    lacking = [name for name in crates if not re.search(rf"\b{name}\b", picture) and not name.endswith("_tests")]
+    lines = {name: at for at, line in enumerate(picture.splitlines()) for name in re.findall(r"\w+", line)}
+    lacking = [name for name in crates if name not in lines and not name.endswith("_tests")]
     trial.note("MAP.md: the crates of its picture", ", ".join(lacking))
+    listed = re.findall(r"^(\w.*?):(.*)$", read("crates.txt"), re.M)
+    uses = {head.split()[0]: libraries.split() for head, libraries in listed}
+    pairs = [(name, library) for name in crates for library in uses[name] if library in crates]
+    late = [f"{name} uses {library}" for name, library in pairs if named.index(library) > named.index(name)]
+    trial.note("MAP.md: its table has each crate behind those that it uses", ", ".join(late))
+    above = [f"{name} uses {library}" for name, library in pairs if lines[library] < lines.get(name, -1)]
+    trial.note("MAP.md: its picture has no crate below one that uses it", ", ".join(above))
 
 
 def sources():
