@@ -1,6 +1,6 @@
 #!/usr/bin/env python3
 """Lists the public items of the crates without a doc comment: functions, methods, types, traits, constants and modules
-that are `pub`, the variants of public enums, and with --all also public fields.
+that are `pub`, the methods of public traits, the variants of public enums, and with --all also public fields.
 
     python3 dev/list_undocumented.py [--all] [CRATE ..]
 
@@ -15,9 +15,14 @@ import sys
 import typing
 
 TOP = pathlib.Path(__file__).resolve().parent.parent
-ITEM = re.compile(r"^\s*pub (?:const |unsafe |ghost )*(fn|struct|enum|trait|const|static|type|mod|union) (\w+)")
+ITEM = re.compile(
+    r"^\s*pub (?:const |unsafe |ghost |extern \"C\" )*(fn|struct|enum|trait|const|static|type|mod|union) (\w+)"
+)
 FIELD = re.compile(r"^\s+pub (\w+): ")
 VARIANT = re.compile(r"^    ([A-Z]\w*)(?: \{|\(|,|$)")
+METHOD = re.compile(r"^    fn (\w+)")
+# What is public in a public enum and trait.
+INNER = {"enum": VARIANT, "trait": METHOD}
 # A crate that no other one uses: a program, or tests.
 PRIVATE = re.compile(r"_tests$|^(kdcd|kadm|kclient|example_service|example_login|krb_joined)$")
 
@@ -48,7 +53,7 @@ def has_doc(lines, at):
 
 def items_in(file, takes_all):
     """The public items of a file. A module may have its doc at the head of its own file."""
-    lines, found, enum = file.read_text().splitlines(), [], None
+    lines, found, kind = file.read_text().splitlines(), [], None
     for at, line in enumerate(lines):
         place = f"{file.relative_to(TOP)}:{at + 1}"
         item = ITEM.match(line)
@@ -58,9 +63,9 @@ def items_in(file, takes_all):
             found.append(Item(place, item[1], item[2], is_in_file or has_doc(lines, at)))
         if takes_all and (field := FIELD.match(line)) and not item:
             found.append(Item(place, "field", field[1], has_doc(lines, at)))
-        enum = bool(item and item[1] == "enum") or bool(enum and line != "}")
-        if enum and not item and (variant := VARIANT.match(line)):
-            found.append(Item(place, "variant", variant[1], has_doc(lines, at)))
+        kind = item[1] if item and item[1] in INNER else kind if line != "}" else None
+        if kind and not item and (inner := INNER[kind].match(line)):
+            found.append(Item(place, f"part of a {kind}", inner[1], has_doc(lines, at)))
     return found
 
 

@@ -3,8 +3,8 @@
 from harness.options import try_program
 from harness.tests import test
 
-# The options of each command: `!` is required, `*` may be given more than once, `-` has no value, `?` may have none, and
-# `#` has a number.
+# The options of each command: `!` is required, `*` may be given more than once, `-` has no value, `?` may have none,
+# and `#` has a number.
 COMMANDS = {
     "kdcd serve":
         "db! udp!* tcp* log- log-format first- journal? no-journal- journal-size quiet-start- fixed- seed rounds# "

@@ -131,18 +131,30 @@ def anchors(page):
     return {re.sub(r"[^\w -]", "", head.lower()).replace(" ", "-") for head in heads}
 
 
+def wide_among(lines, mark=""):
+    """The numbers of the lines that are too wide, of those that begin with a mark."""
+    found = (number for number, line in enumerate(lines, 1) if len(line) > WIDEST and line.lstrip().startswith(mark))
+    return ", ".join(map(str, found))
+
+
 @test()
 def scripts(notes):
-    """The widths and lengths of Python's files."""
+    """The widths of Python's and C's files, and of comments of code and of sessions; the lengths of Python's files."""
     files_of = [
         TOP / "tests" / "run", *(path for folder in ("tests", "bench", "dev") for path in TOP.glob(f"{folder}/**/*.py"))
     ]
     texts = {str(path.relative_to(TOP)): path.read_text().splitlines() for path in files_of}
-    wide = [
-        f"{name}:{number}" for name, lines in texts.items() for number,
-        line in enumerate(lines, 1) if len(line) > WIDEST
-    ]
-    notes.note(f"Python's lines of more than {WIDEST} columns", ", ".join(wide))
+    more = {
+        "C and shell": ("", [TOP / ".ci/run", *TOP.glob("tests/**/*.c"), *TOP.glob("docs/*.h")]),
+        "comments of code": ("//", TOP.glob("crates/*/src/**/*.rt")),
+        "comments of sessions": ("#", TOP.glob("tests/**/*.session")),
+    }
+    wide = [f"{name}: {numbers}" for name, lines in texts.items() if (numbers := wide_among(lines))]
+    notes.note(f"Python's lines of more than {WIDEST} columns", "; ".join(wide))
+    for what, (mark, paths) in more.items():
+        each = ((path, wide_among(path.read_text().splitlines(), mark)) for path in paths)
+        wide = [f"{path.relative_to(TOP)}: {numbers}" for path, numbers in each if numbers]
+        notes.note(f"{what}: lines of more than {WIDEST} columns", "; ".join(wide))
     long = [name for name, lines in texts.items() if len(lines) > MOST_LINES_OF_PYTHON]
     notes.note(f"Python's files of more than {MOST_LINES_OF_PYTHON} lines", ", ".join(long))
 

@@ -8,8 +8,8 @@ use crate::words::{add_round_key, inverse_round, last_inverse_round, last_round,
 
 /// Encrypts the state in place (CIPHER), with 10 or 14 rounds: the first, then groups of four, then the last.
 // The rounds are unrolled: as a loop they take a fifth more instructions, because words change registers at its end.
-// They are also inlined into each loop over blocks, each round with them, so that the words of a block stay in registers:
-// calls of `round` take a third more instructions.
+// They are also inlined into each loop over blocks, each round with them, so that the words of a block stay in
+// registers: calls of `round` take a third more instructions.
 #[inline(always)]
 pub fn cipher(state: &mut [u32; 4], schedule: &[u32], round_count: usize)
     requires some { 10 ≤ round_count }

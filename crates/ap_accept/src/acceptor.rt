@@ -84,16 +84,17 @@ impl Acceptor {
         // The session key decrypts the AP-REP, if there is one, to the authenticator's time.
         ensures reply { IfOk result (λ accepted. IfSome (recorded_by self.old at.sec ap_req.now) (λ p.
             IfSome accepted.ap_rep (λ octets. IsApReply p.session_key confounder.now p.authenticator octets))) }
-        // Only the replay cache of the service and the client whose authenticator is recorded changes. Entries of the service's other clients may
-        // be dropped, but their caches give the same verdict on every authenticator from an hour before this call on.
+        // Only the replay cache of the service and the client whose authenticator is recorded changes. Entries of the
+        // service's other clients may be dropped, but their caches give the same verdict on every authenticator from an
+        // hour before this call on.
         ensures services { (service : Components) → (IsService service (recorded_by self.old at.sec ap_req.now) → ⊥)
             → clients_of self.new service ≡ clients_of self.old service }
         ensures caches { (service client : Components)
             → (IsParty service client (recorded_by self.old at.sec ap_req.now) → ⊥)
             → SaysTheSame (at.sec -ℤ pos hour) (cache_of self.new service client)
             (cache_of self.old service client) }
-        // Another client's cache is unchanged or dropped. It is dropped only if the service's floor lay more than an hour
-        // too low, and if an empty cache with the raised floor refuses no less.
+        // Another client's cache is unchanged or dropped. It is dropped only if the service's floor lay more than an
+        // hour too low, and if an empty cache with the raised floor refuses no less.
         ensures kept { (service client : Components)
             → (IsParty service client (recorded_by self.old at.sec ap_req.now) → ⊥)
             → IsKeptOrDropped at.sec (clients_of self.old service).floor (cache_of self.old service client)

@@ -1,8 +1,8 @@
 //! Properties of every run of an acceptor: laws over the definition that `Acceptor::accept` meets.
 ghost use Rattle.ap_accept.specs.Run.{AcceptedOnce, DropsUnseen};
 
-/// No authenticator is accepted twice for the same ticket realm, service and client, whatever comes in and whenever, and
-/// however often the keys are replaced.
+/// No authenticator is accepted twice for the same ticket realm, service and client, whatever comes in and whenever,
+/// and however often the keys are replaced.
 pub fn accepted_once()
     ensures { AcceptedOnce }
 {}

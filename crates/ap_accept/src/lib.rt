@@ -1,15 +1,23 @@
 //! Accepting AP-REQ messages as a service (RFC 4120, section 3.2.3).
 //!
+//! ```
+//! let keytab = Keytab::read(alloc, octets)?; // of `cred_files`
+//! let options = AcceptorOptions::default();
+//! let mut acceptor = Acceptor::open(alloc, keytab, options, Opening::Restart(start))?;
+//! let accepted = acceptor.accept(alloc, at, &confounder, ap_req)?; // or an ApFault
+//! let is_alice = accepted.client.is(b"EXAMPLE.COM", &alice);
+//! let key = accepted.subkey.unwrap_or(accepted.session_key);
+//! ```
+//!
 //! | call | what it does |
 //! |---|---|
 //! | [`Acceptor::open`] | an acceptor for the services of a keytab |
 //! | [`Acceptor::accept`] | the client, keys and ticket of an AP-REQ ([`Accepted`]), or its refusal |
 //! | [`Acceptor::replace`] | replaces the keytab; the replay caches stay |
 //!
-//! Nothing here sends or waits, draws random bytes or reads a clock: the caller supplies the moment
-//! and the confounder. It does not decide what a client may do, does not check the authenticator's
-//! checksum, and protects no later message. The replay caches are in memory alone: [`Opening`] says
-//! what a start does about those of the process before.
+//! Nothing here sends or waits, draws random bytes or reads a clock: the caller supplies the moment and the confounder.
+//! It does not decide what a client may do, does not check the authenticator's checksum, and protects no later message.
+//! The replay caches are in memory alone: [`Opening`] says what a start does about those of the process before.
 #![tactic(auto)]
 
 mod accepted;

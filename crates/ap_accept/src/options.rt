@@ -1,4 +1,4 @@
-//! What an acceptor is told besides its keys.
+//! What an acceptor is given besides its keys.
 ghost use Rattle.std.specs.Prelude.{◌≡◌};
 
 /// The options of an acceptor. `AcceptorOptions::default()` suits most services.

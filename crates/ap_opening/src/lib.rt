@@ -1,8 +1,21 @@
 //! The ticket and the authenticator that an AP-REQ presents, decrypted and checked (RFC 4120, section 3.2.3).
 //!
+//! ```
+//! let held = held_in(&keytab, &ap.ticket, &service);
+//! let part = shown_ticket(alloc, None, &held, &ap)??; // AllocError, then ApRefusal
+//! let key = session_key_of(realm, &part)?;
+//! let usage = KeyUsage::ApReqAuthenticator;
+//! let authenticator = authenticator_of(alloc, None, usage, &key, &ap.authenticator)??;
+//! let is_other = is_mismatched(&part, &authenticator);
+//! let subkey = subkey_in(authenticator.subkey.as_ref());
+//! let is_over = has_ended(&ticket_terms(&part), at);
+//! ```
+//!
 //! A ticket-granting service checks them by the same rules as any other service (section 3.3.2). The servers differ in
-//! where they find the ticket's key, in the key usage of the authenticator, and in the rules that they add. Replay caches
-//! are theirs.
+//! where they find the ticket's key, in the key usage of the authenticator, and in the rules that they add.
+//!
+//! Replay caches are theirs: `ap_accept` and `tgs_exchange` check for replays. `tgs_opening` checks the authenticator's
+//! checksum.
 #![tactic(auto)]
 
 mod authenticated;

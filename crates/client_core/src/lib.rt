@@ -10,11 +10,22 @@
 //! | [`read_ap_reply`] | AP-REP, or KRB-ERROR | 3.2.5 |
 //! | [`password_key`] | ETYPE-INFO2 | 5.2.7.5 |
 //!
-//! A caller that has to look at a reply before it has the key reads it once, with [`refusal_in`] and
-//! [`ticket_reply_in`], and passes it to [`judge_as_reply`] or [`judge_tgs_reply`].
+//! ```
+//! let key = password_key(alloc, pass, asked.realm.as_slice(), &asked.client, &info)?;
+//! let request = with_timestamp(alloc, &asked, &key, at, &confounder)?;
+//! // The caller sends the request, and receives the reply.
+//! let credential = read_as_reply(alloc, &asked, &key, at, &reply)?;
+//! if is_presentable(&credential) {
+//!     let ap_req = ap_request(alloc, &credential, at, &wanted, &next_confounder)?;
+//! }
+//! ```
+//!
+//! A request needs an [`Asked`] that is askable ([`Asked::is_askable`]). A caller that has to look at a reply before it
+//! has the key reads it once, with [`refusal_in`] and [`ticket_reply_in`], and passes it to [`judge_as_reply`] or
+//! [`judge_tgs_reply`].
 //!
 //! Nothing here sends or waits, draws random bytes or reads a clock: the caller supplies the moment and the
-//! confounders.
+//! confounders. `client_login` is such a caller.
 #![tactic(auto)]
 
 mod asked;

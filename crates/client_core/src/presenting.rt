@@ -90,6 +90,7 @@ pub fn present(
     encode_ap_req(alloc, &request)
 }
 
+/// Returns the AP-REQ. It is a function apart from `present` only for the sake of the proof.
 #[tactic(auto, using(crate::specs::ShortLaws::presents_short))]
 fn presented(
     alloc: Global,

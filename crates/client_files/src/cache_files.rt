@@ -1,5 +1,5 @@
-//! The files of credential caches and keytabs. Each is read and written only if it is a plain file; a cache only if it is
-//! the user's own.
+//! The files of credential caches and keytabs. Each is read and written only if it is a plain file; a cache only if it
+//! is the user's own.
 ghost use Rattle.std.specs.Prelude.{◌≡◌, IfOk, OnErr, OnOk, option_map};
 ghost use Rattle.cred_files.specs.Cache.{cache_text, put_first};
 ghost use Rattle.client_files.specs.Caches.{HasCache, new_cache};
@@ -109,8 +109,8 @@ pub fn put_credential(
     Ok(cache.put(alloc, credential)?)
 }
 
-/// Writes a new cache for the credential's client, with the credential. It replaces the file at the path. After an `Err`
-/// the path is unchanged.
+/// Writes a new cache for the credential's client, with the credential. It replaces the file at the path. After an
+/// `Err` the path is unchanged.
 pub fn write_new_cache<T: ClientStore>(
     alloc: Global,
     store: &mut T,

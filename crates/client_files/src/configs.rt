@@ -34,8 +34,8 @@ struct Reading {
 }
 
 impl Config {
-    /// Reads the file that the environment names, or else the system's, with the files that it includes. What is no plain
-    /// file is passed over, and so is what is included more than three deep; `notes` says so.
+    /// Reads the file that the environment names, or else the system's, with the files that it includes. What is no
+    /// plain file is passed over, and so is what is included more than three deep; `notes` says so.
     pub fn read<T: ClientStore>(
         alloc: Global,
         store: &mut T,

@@ -42,8 +42,8 @@ const CACHE_NOT_UTF8: &str = "KRB5CCNAME is not UTF-8: --cache takes a file";
 const CONFIG_NOT_UTF8: &str = "KRB5_CONFIG, which names the krb5.conf to be read, is not UTF-8";
 
 impl<'a> Defaults<'a> {
-    /// Returns the path of the cache: that of `KRB5CCNAME`, or else of the `krb5.conf`, or else the user's own, which MIT's
-    /// and Heimdal's clients use too.
+    /// Returns the path of the cache: that of `KRB5CCNAME`, or else of the `krb5.conf`, or else the user's own, which
+    /// MIT's and Heimdal's clients use too.
     pub fn cache_path<T: ClientStore>(&self, alloc: Global, store: &mut T) -> Result<String, Fault>
         ensures unchanged { T.world store.new ≡ T.world store.old }
     {

@@ -1,4 +1,4 @@
-//! A client's files: its credential cache, its keytab, and the `krb5.conf` that names its realm and the KDCs of a realm.
+//! A client's files: its credential cache, its keytab, and the `krb5.conf` that names its realm and a realm's KDCs.
 //!
 //! | call | what it does |
 //! |---|---|
@@ -8,14 +8,24 @@
 //! | [`Config::principal`] | the principal that a text such as `alice@EXAMPLE.COM` names |
 //! | [`Config::ticket_request`], [`Config::cache_path`] | what it says of first tickets, and of the cache |
 //! | [`read_cache`], [`write_cache`], [`write_new_cache`], [`remove_cache`] | the user's own credential cache |
-//! | [`granting_ticket`], [`good_credential`] | a credential of a cache, also only if it can still be used |
+//! | [`granting_ticket`], [`good_credential`] | a cache's TGT; its credential for a service, if still usable |
 //! | [`read_keytab`] | a keytab |
-//! | [`Fault::of_login`], [`unknown_hosts`] | why a login got no ticket, and what that concerns; hosts that were not asked |
+//! | [`Fault::of_login`], [`unknown_hosts`] | the fault for a login without a ticket; hosts that were not asked |
 //!
-//! All of them fail with a [`Fault`], which names its subject and can be shown to a user.
+//! ```
+//! let config = Config::read(alloc, &mut store, &defaults)?;
+//! let client = config.principal(alloc, "alice@EXAMPLE.COM")?;
+//! let places = config.kdcs(alloc, client.realm.as_slice())?;
+//! // `client_login` gets a ticket from these KDCs.
+//! let path = defaults.cache_path(alloc, &mut store)?;
+//! write_new_cache(alloc, &mut store, path.as_str(), &tgt)?;
+//! ```
 //!
-//! It does not send anything: `client_login` gets the tickets. `krb5_conf` says what a line of a `krb5.conf` means. A cache or a keytab is always a
-//! file: other types, such as `KEYRING:` and `KCM:`, are refused.
+//! A failed call returns a [`Fault`], which names its subject and can be shown to a user, or its [`Cause`] alone, as
+//! [`granting_ticket`] does.
+//!
+//! It does not send anything: `client_login` gets the tickets. `krb5_conf` says what a line of a `krb5.conf` means. A
+//! cache or a keytab is always a file: other types, such as `KEYRING:` and `KCM:`, are refused.
 #![tactic(auto)]
 
 mod cache_files;

@@ -8,9 +8,9 @@ use krb_fields::{Code, Moment, SKEW};
 
 impl<X> KdcClient<X> {
     /// Sets the moment by the clock of a KDC that refuses because the clocks differ. Returns by how many seconds its
-    /// clock is ahead; the fault names the KDC. Returns `None` if the KDC refuses for another reason, if the clocks differ
-    /// by at most 300 seconds, which happens if a KDC was just restarted, or if a KDC's clock was taken before and the
-    /// moment has not been set since.
+    /// clock is ahead; the fault names the KDC. Returns `None` if the KDC refuses for another reason, if the clocks
+    /// differ by at most 300 seconds, which happens if a KDC was just restarted, or if a KDC's clock was taken before
+    /// and the moment has not been set since.
     ///
     /// Anyone on the path can name any time, so a program should say that it took one.
     pub fn take_clock(&mut self, fault: LoginFault) -> Option<i64>

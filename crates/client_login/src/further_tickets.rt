@@ -80,7 +80,8 @@ impl<X: Network> KdcClient<X> {
         ask_with_ticket(self, rng, &further)
     }
 
-    /// Gets a ticket again: renewed, with a new start; or validated, if it was postdated (RFC 4120, sections 2.3 and 2.4).
+    /// Gets a ticket again: renewed, with a new start; or validated, if it was postdated (RFC 4120, sections 2.3 and
+    /// 2.4).
     #[tactic(auto, using(crate::proofs::Moving::moved_none, crate::proofs::Within::same_places))]
     pub fn renew<R: Rng>(
         &mut self,

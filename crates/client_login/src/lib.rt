@@ -11,9 +11,18 @@
 //! | [`KdcClient::verify`] | the same, checked with the service's keytab: no other KDC can have sealed it |
 //! | [`KdcClient::renew`] | the ticket that it is given, renewed or validated |
 //!
+//! ```
+//! let service = granting_service(alloc, &principal.realm)?;
+//! let login = Login { client: principal, service, request: TicketRequest::PLAIN };
+//! let kdcs = Kdcs::new(network, places, Transports::UdpFirst);
+//! let mut client = KdcClient::new(alloc, kdcs, at);
+//! let tgt = client.log_in(&mut rng, &login, &Secret::Keytab(keytab))?;
+//! let ticket = client.service_ticket(&mut rng, &tgt, &host)?;
+//! ```
+//!
 //! If a KDC refuses because the clocks differ, [`KdcClient::take_clock`] sets the client's moment by the KDC's clock.
 //!
-//! It does not write a credential cache: `client_files` does.
+//! A [`Network`] over sockets is in `client_sockets`. It does not write a credential cache: `client_files` does.
 #![tactic(auto)]
 
 mod asking;

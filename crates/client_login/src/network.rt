@@ -32,7 +32,8 @@ pub trait Network {
     // any.
     ghost answers: { addresses.SocketAddr → List ℕ → List ℕ → Type 0 };
 
-    // The addresses of a host, by its name and a port. A network over a real network says `λ host port address. ⊤`: any.
+    // The addresses of a host, by its name and a port. A network over a real network says `λ host port address. ⊤`:
+    // any.
     ghost finds: { List ℕ → ℕ → addresses.SocketAddr → Type 0 };
 
     /// Begins a login, or a request for a further ticket. The network's waiting time counts from here.

@@ -28,8 +28,8 @@ use std::alloc::{AllocError, Global};
 use std::cmp::Ordering;
 
 impl<X: Network> KdcClient<X> {
-    /// Checks that the KDC that logged the client in is the realm's: gets a ticket for a service whose keytab is at hand,
-    /// and checks it with [`verified_ticket`], at the client's moment. Returns that ticket.
+    /// Checks that the KDC that logged the client in is the realm's: gets a ticket for a service whose keytab is at
+    /// hand, and checks it with [`verified_ticket`], at the client's moment. Returns that ticket.
     ///
     /// **A program that lets somebody in by a password has to call this.** `log_in` alone shows that a KDC knows the
     /// password, and the person who types it may also answer in the KDC's place. So the service's key has to be random,
@@ -89,9 +89,9 @@ pub fn verified_ticket(
     }
 }
 
-/// Decrypts the ticket of a credential with the key of the keytab that it names. Only a KDC that knows this key can have
-/// sealed it. Fails if it is for another client, or has another session key, than the credential: then it was sealed for
-/// somebody else, or at another time.
+/// Decrypts the ticket of a credential with the key of the keytab that it names. Only a KDC that knows this key can
+/// have sealed it. Fails if it is for another client, or has another session key, than the credential: then it was
+/// sealed for somebody else, or at another time.
 #[tactic(auto, using(crate::proofs::Verified::opened_if))]
 pub fn opened_ticket(
     alloc: Global,

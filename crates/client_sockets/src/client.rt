@@ -21,8 +21,8 @@ use std::alloc::Global;
 use std::env;
 use std::marker::Model;
 
-/// A client of a realm. It asks the KDCs that the `krb5.conf` in force names, and keeps its ticket-granting ticket (TGT)
-/// in memory. All its errors name what is to blame: a KDC, a file or a principal.
+/// A client of a realm. It asks the KDCs that the `krb5.conf` in force names, and keeps its ticket-granting ticket
+/// (TGT) in memory. All its errors name what is to blame: a KDC, a file or a principal.
 ///
 /// Each call reads the computer's clock and waits for the KDCs for at most 30 seconds. It never takes a KDC's clock.
 #[derive(Drop)]

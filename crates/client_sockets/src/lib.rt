@@ -1,10 +1,19 @@
 //! A client over the system's sockets, clock and files.
 //!
-//! [`Client`] is a whole client: it is opened by its name, logs in and gets tickets. Below it, [`SocketNetwork`] sends a
-//! client's messages and looks up hosts.
+//! ```
+//! let mut client = Client::open(rt, "alice@EXAMPLE.COM")?;
+//! let keytab = client.read_keytab("www.keytab")?;
+//! let password = client.ask_password()?;
+//! client.log_in(&password)?;
+//! client.verify(&keytab)?;
+//! let ticket = client.ticket("host/www.example.com")?;
+//! ```
 //!
-//! It does not write a credential cache (`client_files` does), and [`Client`] never takes a KDC's
-//! clock.
+//! [`Client`] is a whole client: it is opened by its name, logs in and gets tickets. Below it, [`SocketNetwork`] sends
+//! a client's messages and looks up hosts. `crates/example_login` is a whole program with a [`Client`].
+//!
+//! It does not decide which KDC is asked or which reply is taken (`client_login` does). It does not write a credential
+//! cache (`client_files` does), and [`Client`] never takes a KDC's clock.
 #![tactic(auto)]
 
 mod client;

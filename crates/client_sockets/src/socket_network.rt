@@ -97,7 +97,8 @@ impl<'a, R: Net + Clock> Network for SocketNetwork<'a, R> {
         }
     }
 
-    /// Asks the system's resolver, unless waiting is over. How long the resolver takes is its own affair, but it counts.
+    /// Asks the system's resolver, unless waiting is over. How long the resolver takes is its own affair, but it
+    /// counts.
     fn look_up(&mut self, alloc: Global, host: &str, port: u16) -> io::Result<Vec<SocketAddr>> {
         self.end()?.left(self.system)?;
         let mut addresses = Vec::new(alloc);

@@ -1,4 +1,13 @@
-//! Keytabs and credential caches.
+//! Keytabs and credential caches: the bytes of their files, read, searched and written.
+//!
+//! ```
+//! let keytab = Keytab::read(alloc, octets)?;
+//! let key = keytab.find(b"EXAMPLE.COM", &service, Etype::Aes256CtsHmacSha1_96, None)?; // of the highest key version
+//!
+//! let mut cache = Cache::new(alloc, b"EXAMPLE.COM", &client)?;
+//! cache.put(alloc, &credential)?;
+//! let octets = cache.write(alloc)?;
+//! ```
 //!
 //! | call | what it does |
 //! |---|---|
@@ -7,8 +16,7 @@
 //! | [`Cache::read`], [`Cache::write`] | a credential cache from the bytes of a file; the bytes of its file |
 //! | [`Cache::find`], [`Cache::put`] | the credential for a service; puts one in, in place of an earlier one |
 //!
-//! It does not open files: `client_files` does. Keytabs of version 1 and caches of versions 1 to 3
-//! are refused.
+//! It does not open files: `client_files` does. Keytabs of version 1 and caches of versions 1 to 3 are refused.
 #![tactic(auto)]
 
 mod cache;

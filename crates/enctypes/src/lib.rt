@@ -2,6 +2,15 @@
 //! call returns exactly what its definition in `specs/` says, over the definitions of the crates `aes_cts` and
 //! `prf_kdf`.
 //!
+//! ```
+//! let etype = Etype::Aes256CtsHmacSha1_96;
+//! let key = string_to_key(alloc, etype, b"a password", b"EXAMPLE.COMalice", etype.default_count())?;
+//! let cipher = seal(alloc, &key, KeyUsage::Ticket, &confounder, text)?;
+//! let text = open(alloc, &key, KeyUsage::Ticket, &cipher)?; // None if the HMAC is wrong
+//! let mac = checksum(&key, KeyUsage::TgsReqAuthenticatorChecksum, body);
+//! let is_right = verify(&key, KeyUsage::TgsReqAuthenticatorChecksum, body, mac.bytes());
+//! ```
+//!
 //! | call | standard | returns |
 //! |---|---|---|
 //! | [`Key::new`], [`Key::from_random`] | RFC 3961, section 3 | a key of 16 or 32 bytes |
@@ -17,9 +26,9 @@
 //! has its numbers, its sizes and its hash function, with one implementation for each of the four. How keys are derived
 //! follows from the [`Hash`]: SHA-1's profile is in `simplified`, that of the other two in `sha2_profile`.
 //!
-//! Nothing here draws random bytes: the caller supplies each confounder and the bytes of each
-//! random key. There is no DES, RC4 or Camellia. No contract says how long a call takes, or that
-//! keys are wiped.
+//! Nothing here draws random bytes: the caller supplies each confounder and the bytes of each random key. There is no
+//! DES, RC4 or Camellia. No contract says how long a call takes, or that keys are wiped. It encodes no message:
+//! `sealed_parts` seals values.
 #![tactic(auto)]
 
 mod aes_key;

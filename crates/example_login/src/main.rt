@@ -1,6 +1,6 @@
-//! `example_login NAME SERVICE KEYTAB`: an example of a program that lets somebody in by a password. It logs in with the
-//! password on the first line of standard input, checks with a keytab of this computer that the KDC is the realm's, and
-//! prints when the ticket of a service ends.
+//! `example_login NAME SERVICE KEYTAB`: an example of a program that lets somebody in by a password. It logs in with
+//! the password on the first line of standard input, checks with a keytab of this computer that the KDC is the realm's,
+//! and prints when the ticket of a service ends.
 #![tactic(auto)]
 
 use client_files::Fault;
@@ -28,8 +28,8 @@ fn main(rt: HostRuntime) -> io::Result<ExitCode> {
     }
 }
 
-/// Logs in and gets the ticket of a service. It verifies the login before that: the person who typed the password may also
-/// have answered in the KDC's place.
+/// Logs in and gets the ticket of a service. It verifies the login before that: the person who typed the password may
+/// also have answered in the KDC's place.
 fn get_ticket(
     rt: &HostRuntime,
     name: &str,

@@ -1,5 +1,5 @@
-//! `example_service KEYTAB [first]`: a service that reads AP-REQs from standard input, one a line in hexadecimal digits,
-//! and prints who sent each. It takes the keys of a new keytab while it runs.
+//! `example_service KEYTAB [first]`: a service that reads AP-REQs from standard input, one a line in hexadecimal
+//! digits, and prints who sent each. It takes the keys of a new keytab while it runs.
 #![tactic(auto)]
 
 use ap_accept::{Accepted, Acceptor, AcceptorOptions, ApFault, Opening};

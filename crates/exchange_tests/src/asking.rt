@@ -26,8 +26,8 @@ pub const HOST: Parts = (1, &[b"h"]);
 
 pub const TGS: Parts = (2, &[b"krbtgt", REALM]);
 
-// The options of a request, and the flags of a ticket that they ask for (RFC 4120, sections 5.3 and 5.4.1). Bit 0 is the
-// most significant.
+// The options of a request, and the flags of a ticket that they ask for (RFC 4120, sections 5.3 and 5.4.1). Bit 0 is
+// the most significant.
 
 pub const FORWARDABLE: u32 = 1 << 30;
 

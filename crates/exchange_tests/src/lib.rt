@@ -1,9 +1,22 @@
-//! Tests of the exchanges: of a KDC and the crates around it (runs of events, streams cut into messages, the hub, a
-//! server over a host in memory, the lines of its log), of everything that receives tickets (a client, a service, and
-//! the whole path between a KDC and both), and of what no command line of `kclient` shows of `client_login` and of a
-//! `krb5.conf`. They are a crate of their own because a crate with tests is proved twice. They are one crate because
-//! each crate takes a minute before its first test. Scripts, sockets and what a server reads and says otherwise are
-//! tried over the programs (`tests`).
+//! Tests of the exchanges: of a KDC and the crates around it, and of everything that receives tickets.
+//!
+//! | modules | what they test |
+//! |---|---|
+//! | `kdcs`, `streams`, `hubs` | runs of events of a KDC; streams cut into messages; the hub |
+//! | `runs`, `lines` | a server over a host in memory; the lines of its log |
+//! | `client`, `acceptor`, `paths` | a client; a service; the whole path between a KDC and both |
+//! | `logins`, `conf_realms` | what no command line of `kclient` shows of `client_login` and of a `krb5.conf` |
+//!
+//! In this folder, `rt test -- WORD` proves the crate and its tests, and runs the tests that have WORD in their names.
+//! To run one unproved, build them at the top with `python3 dev/quick_build.py exchange_tests`, and run
+//! `out/unproved/exchange_tests_tests NAME`; `--list` prints the names.
+//!
+//! They are a crate of their own because a crate with tests is proved twice. They are one crate because each crate
+//! takes a minute before its first test.
+//!
+//! The libraries under the KDC are tested in `base_tests`. Scripts, sockets and what a server reads and says otherwise
+//! are tried over the programs (`tests`). `tests/crates/allocations.py` runs these tests once more, and refuses each
+//! allocation of the calls that they mark.
 #![tactic(auto)]
 
 #[cfg(test)]

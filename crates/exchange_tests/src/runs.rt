@@ -66,8 +66,8 @@ const BUYS: &str = "\
 /// Its length.
 const LENGTH: &str = "00000206";
 
-/// A login of an unknown client in a datagram. Then a TGS-REQ on a connection, whose reply the journal can't keep; and the
-/// same in a datagram. Then nothing comes.
+/// A login of an unknown client in a datagram. Then a TGS-REQ on a connection, whose reply the journal can't keep; and
+/// the same in a datagram. Then nothing comes.
 fn coming(alloc: Global) -> Result<VecDeque<(Moment, Event)>, Fail> {
     let mut coming = VecDeque::new(alloc);
     push(&mut coming, datagram(octets(alloc, BASIC_OF_X)?, 1001))?;

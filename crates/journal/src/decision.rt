@@ -44,8 +44,8 @@ pub struct Place<'a> {
 pub enum Doubt {
     /// There is no journal.
     Absent,
-    /// It was cut within an entry, an entry was changed, or one was left out or added before others; or others may write
-    /// the journal. A journal that lacks its last entries is not noticed, nor an older one that was put back.
+    /// It was cut within an entry, an entry was changed, or one was left out or added before others; or others may
+    /// write the journal. A journal that lacks its last entries is not noticed, nor an older one that was put back.
     Damaged,
     /// The journal is of another realm.
     OtherRealm,

@@ -2,8 +2,8 @@
 ghost use Rattle.std.specs.Prelude.{◌≡◌, is_some, option_map, drop};
 ghost use Rattle.journal.specs.Head.{behind_length, behind_tag, head_of, may_be_journal, more_octets};
 
-/// The tags at the front of a journal: those of an OCTET STRING, of the SEQUENCE in it, of that one's first field, and of an
-/// OCTET STRING again.
+/// The tags at the front of a journal: those of an OCTET STRING, of the SEQUENCE in it, of that one's first field, and
+/// of an OCTET STRING again.
 const STRING: u8 = 0x04;
 
 const SEQUENCE: u8 = 0x30;
@@ -13,8 +13,8 @@ const FIRST_FIELD: u8 = 0xa0;
 /// The number of bytes at the front by which [`may_be_journal`] decides.
 pub const HEAD: usize = 24;
 
-/// Checks whether a text may be a journal, or the front of one, by its first tags. A journal that was cut or changed behind
-/// them may be one. Files of another kind hardly ever are.
+/// Checks whether a text may be a journal, or the front of one, by its first tags. A journal that was cut or changed
+/// behind them may be one. Files of another kind hardly ever are.
 pub fn may_be_journal(text: &[u8]) -> bool
     ensures { result ≡ may_be_journal text.now }
 {

@@ -67,8 +67,8 @@ pub struct JournalFile<F> {
     most: u64,
     /// `None` while an authenticator could not be kept.
     tail: Option<Tail>,
-    /// The least second that is above the time of every authenticator that was handed over, and not below the floor of the
-    /// start, if an `i64` is.
+    /// The least second that is above the time of every authenticator that was handed over, and not below the floor of
+    /// the start, if an `i64` is.
     floor: Option<i64>,
     /// Whether it was said that an authenticator could not be kept.
     is_said: bool,

@@ -116,8 +116,8 @@ pub fn above(floor: i64, ctime: KTime) -> i64
     floor.max(ctime.seconds() + 1)
 }
 
-/// Returns the floor of a server that goes on with a journal: it is not below this floor, and above all that the journal
-/// holds, and the one before it.
+/// Returns the floor of a server that goes on with a journal: it is not below this floor, and above all that the
+/// journal holds, and the one before it.
 pub fn floor_on(floor: i64, journal: &Journal) -> i64
     ensures { result ≡ floor_on floor journal.now }
 {

@@ -21,8 +21,8 @@ pub fn every_front()
     ensures { FrontsMayBe }
 {}
 
-/// The life of a journal: whichever processes have its files one after the other, and however they end, no start resumes
-/// with these files without what each of them said to have kept.
+/// The life of a journal: whichever processes have its files one after the other, and however they end, no start
+/// resumes with these files without what each of them said to have kept.
 pub fn every_journal_life()
     ensures { LivesHold }
 {}

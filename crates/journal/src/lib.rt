@@ -1,13 +1,24 @@
 //! A KDC's journal: a file of the authenticators in its replay caches, from which the next start resumes.
 //!
+//! ```
+//! let older = read_part(alloc, &mut files, Part::Older)?;
+//! let newer = read_part(alloc, &mut files, Part::Newer)?;
+//! let start = start_of(alloc, &place, &older, &newer)?;
+//! let mut journal = JournalFile::new(files, realm, boot, floor, most);
+//! journal.start(alloc, at, &start, &newer, len)?;
+//! journal.keep(alloc, at, &seen)?; // before the reply to its request is sent
+//! ```
+//!
 //! A journal is a header and entries. Each is in DER, in an OCTET STRING, and is followed by its check: a digest of the
-//! check before it and of its octets. So an entry that was cut or changed breaks the chain, and so does one that was left
-//! out or added before others. Nothing shows that the last entries are missing, or that an older journal was put back.
+//! check before it and of its octets. So an entry that was cut or changed breaks the chain, and so does one that was
+//! left out or added before others. Nothing shows that the last entries are missing, or that an older journal was put
+//! back.
 //!
-//! A start in another boot resumes only with a journal that was sealed: the system may have lost the end of another one.
+//! A start in another boot resumes only with a journal that was sealed: the system may have lost the end of another
+//! one.
 //!
-//! It opens no file itself: [`JournalFiles`] are what a [`JournalFile`] reads and writes. It reads
-//! no clock.
+//! It opens no file itself: [`JournalFiles`] are what a [`JournalFile`] reads and writes, and `kdc_files` has those of
+//! the system. It reads no clock.
 #![tactic(auto)]
 
 mod checks;

@@ -152,7 +152,8 @@ fn take_entries(
     })
 }
 
-/// Drops the entries that are too old to matter, once there are `most`. Returns how many there may be until the next time.
+/// Drops the entries that are too old to matter, once there are `most`. Returns how many there may be until the next
+/// time.
 fn make_room(entries: &mut Vec<Entry>, most: usize, latest: i64) -> usize
     requires { first_second ≤ℤ latest }
     ensures { AgreeFrom latest entries.new.items entries.old.items }

@@ -48,8 +48,8 @@ pub(crate) enum CommandKind<'a> {
     Write(WriteCommand<'a>),
 }
 
-/// Parses the command line, whose first word is the program's name. Its values are then where `value_of` finds them: the
-/// parser takes no word that begins with `--` as a value, and no option twice.
+/// Parses the command line, whose first word is the program's name. Its values are then where `value_of` finds them:
+/// the parser takes no word that begins with `--` as a value, and no option twice.
 pub(crate) fn read_args<'a>(alloc: Global, words: &'a [&'a str]) -> Result<ArgMatches<'a>, Error> {
     parser(alloc)?.try_get_matches_from(words)
 }

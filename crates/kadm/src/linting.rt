@@ -202,8 +202,8 @@ fn has_strong_key(row: &Row) -> bool {
     false
 }
 
-/// Adds a principal for which there may be tickets although its name is not a service's: such a ticket is encrypted with
-/// a key that may be derived from a password. Also adds a service of a host that no client asks for.
+/// Adds a principal for which there may be tickets although its name is not a service's: such a ticket is encrypted
+/// with a key that may be derived from a password. Also adds a service of a host that no client asks for.
 fn push_service(
     alloc: Global,
     lines: &mut Vec<String>,
@@ -246,7 +246,8 @@ fn is_hosts(octet: &u8) -> bool {
         || matches!(octet, b'-' | b'.' | b'_' | b':')
 }
 
-/// Returns the host in which a name ends, which has a dot. Names of users with a role, such as `alice/admin`, have none.
+/// Returns the host in which a name ends, which has a dot. Names of users with a role, such as `alice/admin`, have
+/// none.
 fn host_of(name: &Name) -> Option<&[u8]> {
     match name.components.as_slice() {
         [_, .., host] if host.as_slice().contains(&b'.') => Some(host.as_slice()),

@@ -77,8 +77,8 @@ fn main(rt: HostRuntime) -> ExitCode {
     ExitCode::from(status.code())
 }
 
-/// Reports that a word, or the path in the environment, is not UTF-8. If that can't be written, there is nowhere to report
-/// it.
+/// Reports that a word, or the path in the environment, is not UTF-8. If that can't be written, there is nowhere to
+/// report it.
 fn report_not_utf8(rt: &HostRuntime) -> Status {
     let _ = eprintln!(rt; "error: an argument or {KADM_DB} is not UTF-8");
     Status::Usage

@@ -28,9 +28,10 @@ pub(crate) struct CommandLine<'a> {
     pub is_watched: bool,
 }
 
-/// Runs a command line. Prints the outcome to `writer`, and the reason of a refusal or failure and what is wrong with the
-/// words to `errors`. `Done` means that what the words ask for was done, or that they ask for help. Otherwise the files are
-/// unchanged, unless the words ask for a batch that keeps going (`Refused`), or only the printing failed (`Failed`).
+/// Runs a command line. Prints the outcome to `writer`, and the reason of a refusal or failure and what is wrong with
+/// the words to `errors`. `Done` means that what the words ask for was done, or that they ask for help. Otherwise the
+/// files are unchanged, unless the words ask for a batch that keeps going (`Refused`), or only the printing failed
+/// (`Failed`).
 pub(crate) fn kadm_run<T: Store, W: Write + Drop, E: Write + Drop>(
     alloc: Global,
     line: CommandLine<'_>,

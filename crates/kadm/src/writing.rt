@@ -314,7 +314,8 @@ fn batch_args<'a>(words: &'a [&'a str]) -> Result<WriteCommand<'a>, CommandFault
     })
 }
 
-/// Runs a command that writes a file. Returns whether all was done: a batch that keeps going may have been done in part.
+/// Runs a command that writes a file. Returns whether all was done: a batch that keeps going may have been done in
+/// part.
 #[tactic(auto, using(crate::proofs::Ending::batch_write))]
 pub(crate) fn write_files<'a, T: Store, W: Write, E: Write>(
     context: &mut Context<W, E>,

@@ -1,7 +1,22 @@
 //! The changes of a realm's database: what its file, or a keytab, holds after a command of the administration tool.
 //!
-//! `make_realm`, `make_update`, `write_keytab` and `import_dump` each do a command that was read, with the files of a `Store`.
-//! A batch reads a database by `read_database`, changes it by `update_in_batch`, and writes it by `write_database`.
+//! `make_realm`, `make_update`, `write_keytab` and `import_dump` each do a command that was read, with the files of a
+//! `Store`. A batch reads a database by `read_database`, changes it by `update_in_batch`, and writes it by
+//! `write_database`.
+//!
+//! ```
+//! make_update(&mut context, &mut store, &target, Update::Row(row))?;
+//!
+//! // a batch
+//! let locked = lock_database(&mut context, &mut store, &target)?;
+//! let database = read_database(&mut context, &mut store, target.db)?;
+//! let mut draft = Draft { alloc, database };
+//! update_in_batch(&mut context.errors, &mut store, &mut draft, &target.etypes, update, &subject)?;
+//! write_database(alloc, &mut store, &locked, &draft.database)?;
+//! ```
+//!
+//! It reads no command line and prints no result: `kadm` does. `principals` makes or refuses each change of a row, and
+//! `principals_text` reads and writes the text of a database.
 #![tactic(auto)]
 
 mod assigning;

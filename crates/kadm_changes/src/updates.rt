@@ -203,7 +203,8 @@ fn row_in_batch<'p, T: Store, E: Write>(
     Ok(())
 }
 
-/// Gives keys to a principal, and then makes the settings of the command line. After an `Err` it may be changed in part.
+/// Gives keys to a principal, and then makes the settings of the command line. After an `Err` it may be changed in
+/// part.
 fn change_row<'p, T: Store>(
     store: &mut T,
     draft: &mut Draft,

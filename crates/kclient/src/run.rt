@@ -47,10 +47,10 @@ impl Printed {
 }
 
 /// Runs a command line, whose first word is the program's name, at the context's moment. It writes the result to
-/// `writer`, and explains failures on `errors`. The status is `Refused` because of a word, a file, the KDC or the client,
-/// and `Failed` because of a file, because no KDC replied, or because memory ran out. Unless it is `Done`, the cache is
-/// unchanged, with two exceptions: if only the printing failed, the status is `Failed` and the cache is written; and of
-/// several names, one that fails keeps the tickets of those before it.
+/// `writer`, and explains failures on `errors`. The status is `Refused` because of a word, a file, the KDC or the
+/// client, and `Failed` because of a file, because no KDC replied, or because memory ran out. Unless it is `Done`, the
+/// cache is unchanged, with two exceptions: if only the printing failed, the status is `Failed` and the cache is
+/// written; and of several names, one that fails keeps the tickets of those before it.
 pub fn kclient_run<S: AsStr, T: ClientStore, X: AnyMessage, W: Write + Drop, E: Write + Drop>(
     context: &mut Context<T, X>,
     args: &[S],

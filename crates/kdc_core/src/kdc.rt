@@ -118,8 +118,8 @@ impl Kdc {
         Ok(Kdc { state, ready })
     }
 
-    /// Places the keys of its cache by a hash with this secret: 16 random bytes. So nobody outside knows which keys share
-    /// a place. It affects speed only, never a reply.
+    /// Places the keys of its cache by a hash with this secret: 16 random bytes. So nobody outside knows which keys
+    /// share a place. It affects speed only, never a reply.
     pub fn place_keys(&mut self, secret: &[u8; 16])
         ensures { self.new ≡ self.old }
     {
@@ -187,8 +187,8 @@ impl Kdc {
         ensures limits { self.new.limits ≡ self.old.limits }
         ensures caches { (name : Components) → (named self.old request.now).client ≢ Some name
             → cache_of self.new name ≡ cache_of self.old name }
-        // Without a ticket of a client nothing changes what that client's replay cache has seen. A ticket counts only if
-        // a key of a service decrypts it.
+        // Without a ticket of a client nothing changes what that client's replay cache has seen. A ticket counts only
+        // if a key of a service decrypts it.
         ensures holder { (name : Components) → (ShowsTicket self.old request.now name → ⊥)
             → IsSeenAlike (cache_of self.old name) (cache_of self.new name) }
         ensures err { OnErr result (self.new ≡ self.old) }
@@ -200,9 +200,9 @@ impl Kdc {
         reply_alone(self.answer(alloc, random, room, &timed, false))
     }
 
-    /// Answers as [`Kdc::handle`] does, with an account of the request, if it is wanted, and with the authenticator that
-    /// is recorded for it. The names of an account are copied before anything changes. A call that runs out of memory
-    /// changes nothing.
+    /// Answers as [`Kdc::handle`] does, with an account of the request, if it is wanted, and with the authenticator
+    /// that is recorded for it. The names of an account are copied before anything changes. A call that runs out of
+    /// memory changes nothing.
     pub fn answer<'q>(
         &mut self,
         alloc: Global,

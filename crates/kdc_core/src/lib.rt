@@ -1,5 +1,13 @@
 //! The key distribution centre: answers the bytes of a request with a reply and an account of the request.
 //!
+//! ```
+//! let mut kdc = Kdc::open(alloc, database, limits, Opening::Restart(start))?;
+//! kdc.place_keys(&secret);
+//! let reply = kdc.handle(alloc, at, &random, 1_400, request)?; // None if the bytes encode no request
+//! kdc.apply(alloc, &change)?;
+//! kdc.tidy(at);
+//! ```
+//!
 //! | call | what it does |
 //! |---|---|
 //! | [`Kdc::open`], [`Kdc::resume`] | a KDC with a database, also with the authenticators that were seen before |
@@ -9,8 +17,8 @@
 //! | [`Kdc::tidy`] | drops authenticators that are too old to come again |
 //! | [`Kdc::run`] | handles events in order: requests, changes, restarts |
 //!
-//! Nothing here sends or waits, opens a file, draws random bytes or reads a clock: the caller
-//! supplies the moment and 64 random bytes for each request.
+//! Nothing here sends or waits, opens a file, draws random bytes or reads a clock: the caller supplies the moment and
+//! 64 random bytes for each request. `kdc_hub` is such a caller.
 #![tactic(auto)]
 
 mod account;

@@ -38,8 +38,8 @@ pub fn begin_journal<'a, F: Files<File = File>, W: Write + Drop>(
     }
 }
 
-/// Begins the journal of a server, or goes on with what was read of its files. The newer one has `len` octets, and takes its
-/// turn once it has `most`.
+/// Begins the journal of a server, or goes on with what was read of its files. The newer one has `len` octets, and
+/// takes its turn once it has `most`.
 pub fn begun<F: JournalFiles + Drop>(
     alloc: Global,
     files: F,

@@ -21,7 +21,8 @@ pub struct JournalPlace<'a, 'p, F, W> {
     pub lines: W,
 }
 
-/// The files of a journal, which this process holds. It keeps no record of what they hold, and says what becomes of them.
+/// The files of a journal, which this process holds. It keeps no record of what they hold, and says what becomes of
+/// them.
 #[derive(Drop)]
 pub struct SystemJournal<'a, F, W> {
     files: &'a F,
@@ -35,8 +36,8 @@ pub struct SystemJournal<'a, F, W> {
 }
 
 impl<'a, F: Files<File = File>, W: Write + Drop> SystemJournal<'a, F, W> {
-    /// Locks the journal at its place, and opens it. If something else than a journal has one of its names, it is refused, and
-    /// nothing is changed.
+    /// Locks the journal at its place, and opens it. If something else than a journal has one of its names, it is
+    /// refused, and nothing is changed.
     pub fn open(
         alloc: Global,
         place: JournalPlace<'a, '_, F, W>,

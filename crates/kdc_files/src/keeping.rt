@@ -14,7 +14,8 @@ use std::alloc::Global;
 
 /// Keeps the authenticators that enter a KDC's replay caches. It may keep a record, for contracts alone.
 pub trait JournalWriter {
-    // The authenticators that it was handed so far, each with the moment of its request, in order, if it keeps a record.
+    // The authenticators that it was handed so far, each with the moment of its request, in order, if it keeps a
+    // record.
     ghost handed: { Self → Option (List Handed) };
 
     // Whether it has kept all of them.
@@ -66,8 +67,8 @@ impl<J: JournalWriter> JournalWriter for Option<J> {
     }
 }
 
-/// Has a journal keep what an action's reply makes the KDC remember. Returns whether it has kept all, if the action has a
-/// reply.
+/// Has a journal keep what an action's reply makes the KDC remember. Returns whether it has kept all, if the action has
+/// a reply.
 pub fn keep_for<J: JournalWriter>(
     alloc: Global,
     journal: &mut J,

@@ -1,4 +1,20 @@
 //! The files of a server: its database, its seed, and its journal, which keeps the authenticators of its requests.
+//!
+//! ```
+//! let mut rows = RowsFile::new(rt, "database", rt.stderr());
+//! let database = rows.read(alloc)?;
+//! let place = JournalPlace { files: rt, path: "database.journal", lines: rt.stderr() };
+//! let OpenedJournals { journals, files } = open_journals(alloc, place)?;
+//! let mut journal = begin_journal(alloc, files, beginning, most)?;
+//! let is_kept = keep_for(alloc, &mut journal, at, &action);
+//! ```
+//!
+//! A [`RowsFile`] is also the source from which a running server takes changed rows. [`open_journals`] keeps other
+//! servers from the journal. No contract can say what a file of the system holds; a [`MemoryJournal`] records what it
+//! is handed.
+//!
+//! It does not decide whether a start resumes, or what a journal's octets mean: `journal` does. `principals_text` reads
+//! the text of a database. A server's start, and the wire that hands authenticators over, are in `kdcd_run`.
 #![tactic(auto)]
 
 mod files;

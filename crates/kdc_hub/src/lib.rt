@@ -1,9 +1,19 @@
-//! The hub: one key distribution centre for many peers and connections (RFC 4120, section 7.2). A `Hub` takes events
-//! one by one and returns the actions for each. `serve` takes events from a `Wire` and does their actions. `serve_life` is a
-//! server's whole life: it serves rounds, and between them checks whether the rows have changed.
+//! The hub: one key distribution centre for many peers and connections (RFC 4120, section 7.2).
 //!
-//! It opens no socket and no file: a `Wire` does, such as that of `kdc_sockets`, and a `RowSource`.
-//! It reads no clock: each event has its moment.
+//! A `Hub` takes events one by one and returns the actions for each. `serve` takes events from a `Wire` and does their
+//! actions. `serve_life` is a server's whole life: it serves rounds, and between them checks whether the rows have
+//! changed.
+//!
+//! ```
+//! let kdc = Kdc::open(alloc, database, limits, Opening::Restart(at))?; // of `kdc_core`
+//! let mut hub = Hub::new(alloc, kdc, rng, false);
+//! let actions = hub.step(alloc, at, Event::Datagram { peer, request })?;
+//! let totals = serve_life(alloc, &mut wire, &mut source, &mut hub, rounds, &mut ());
+//! ```
+//!
+//! It does not decide a reply: `kdc_core` does. It opens no socket and no file: a `Wire` does, such as that of
+//! `kdc_sockets`, and a `RowSource`, such as that of `kdc_files`. It reads no clock: each event has its moment. It
+//! writes no journal and no log: the wire of `kdcd_run` does.
 #![tactic(auto)]
 
 mod connections;

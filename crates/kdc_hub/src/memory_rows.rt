@@ -38,7 +38,8 @@ impl MemoryRows {
         }
     }
 
-    /// Records a look. If there was no memory to copy it, or is none to store it, the record is incomplete from then on.
+    /// Records a look. If there was no memory to copy it, or is none to store it, the record is incomplete from then
+    /// on.
     fn keep(&mut self, look: Result<Look, AllocError>)
         ensures records { IfOk look
             (λ look. Records (complete self.old.is_whole self.old.looks.items) (look ∷ [])

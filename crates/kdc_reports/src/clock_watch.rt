@@ -176,8 +176,8 @@ fn later(latest: &Option<Moment>, now: Moment) -> Moment
     }
 }
 
-/// Writes once a minute which requests are refused, while the clock shows an earlier time than before. A lost line comes
-/// again in a minute.
+/// Writes once a minute which requests are refused, while the clock shows an earlier time than before. A lost line
+/// comes again in a minute.
 pub fn watch_clock<E: Write>(
     clock: &mut ClockWatch,
     errors: &mut E,

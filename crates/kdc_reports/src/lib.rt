@@ -1,5 +1,20 @@
 //! The reports of a server to its operators: a line for each request, its metrics, how it started, and warnings when
 //! the clock goes back or memory runs out.
+//!
+//! ```
+//! let mut log = CountedLog::new(RequestLines::new(lines, LogFormat::Text));
+//! log_action(alloc, &mut log, &Tried { came, action: &action, is_sent });
+//! watch_clock(&mut clock, &mut errors, &polled);
+//! if let Some(counts) = log.counts() {
+//!     push_numbers(&mut text, VERSION, &numbers, counts)?; // `VERSION` of `program`
+//!     metrics.write_metrics(&text);
+//! }
+//! ```
+//!
+//! [`MemoryLog`], [`MemoryTally`] and [`MemoryMetrics`] keep what they are given in memory, for tests.
+//!
+//! It does not lay out a line of the log or count requests: `request_log` does. It gathers no numbers and does not
+//! decide when they are written: `kdcd_run` does.
 #![tactic(auto)]
 
 mod clock_watch;

@@ -8,8 +8,8 @@ use kdc_hub::{Action, CloseReason, Event, WireFault};
 use krb_fields::Moment;
 use std::io::Write;
 
-/// A watch over a server's memory: how many requests were left unanswered because memory ran out, and when that was said
-/// last. Counts stop at the greatest `u64`.
+/// A watch over a server's memory: how many requests were left unanswered because memory ran out, and when that was
+/// said last. Counts stop at the greatest `u64`.
 #[derive(Clone, Copy, Debug, PartialEq, Eq)]
 pub struct MemoryWatch {
     /// Whether a datagram came, and has had no action yet.
@@ -34,9 +34,9 @@ impl MemoryWatch {
         }
     }
 
-    /// Learns at this moment that the last event has had all its actions, whether the next one awaits an action, and how many
-    /// requests were lost so far before they were read. Returns how many were left unanswered since it did so last, once a
-    /// minute if there are any.
+    /// Learns at this moment that the last event has had all its actions, whether the next one awaits an action, and
+    /// how many requests were lost so far before they were read. Returns how many were left unanswered since it did so
+    /// last, once a minute if there are any.
     fn take(&mut self, lost: u64, at: Moment, awaits: bool) -> Option<u64>
         ensures said { result ≡ unanswered.said_at self.old lost at }
         ensures watched { self.new ≡ unanswered.after_poll self.old lost at awaits }
@@ -98,8 +98,8 @@ fn awaits_action(event: &Event) -> bool
     }
 }
 
-/// Logs once a minute how many requests were left unanswered because memory ran out. This many were lost before they were
-/// read.
+/// Logs once a minute how many requests were left unanswered because memory ran out. This many were lost before they
+/// were read.
 pub fn watch_memory<E: Write>(
     memory: &mut MemoryWatch,
     errors: &mut E,

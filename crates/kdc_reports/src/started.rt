@@ -46,8 +46,8 @@ impl JournalFound {
     }
 }
 
-/// A server that listens. Its text is a line each for the version, the addresses, the database, the journal if there is one, what is
-/// refused after the start if anything is, and the limits.
+/// A server that listens. Its text is a line each for the version, the addresses, the database, the journal if there is
+/// one, what is refused after the start if anything is, and the limits.
 #[derive(Clone, Copy)]
 pub struct Started<'a> {
     pub udp: &'a [SocketAddr],

@@ -15,10 +15,12 @@ pub trait Tally {
     // How many have failed.
     ghost fault_count: { Self → ℕ };
 
+    /// Adds a poll, and counts it if it failed.
     fn add_poll(&mut self, alloc: Global, outcome: &Result<(Moment, Option<Event>), WireFault>)
         ensures records { Records (recorded self.old) (polled outcome.now ∷ []) (recorded self.new) }
         ensures counted { IsCounted (fault_count self.old) (faults_of outcome.now) (fault_count self.new) };
 
+    /// Adds an act, and counts it if it failed.
     fn add_act(&mut self, alloc: Global, action: &Action, outcome: Result<(), WireFault>)
         ensures records { Records (recorded self.old) (acted action.now outcome ∷ []) (recorded self.new) }
         ensures counted { IsCounted (fault_count self.old) (faults_of outcome) (fault_count self.new) };

@@ -1,5 +1,14 @@
 //! The KDC's wire over sockets (RFC 4120, section 7.2): UDP sockets and TCP listeners, all served in one thread.
 //!
+//! ```
+//! let wait = Duration::from_millis(100);
+//! let mut wire = SocketWire::bind(alloc, rt.clone()?, rt, &udp, &tcp, wait)?;
+//! let served = serve(alloc, &mut wire, &mut hub, rounds); // of `kdc_hub`
+//!
+//! let errors = ReadyWriter::new(alloc, rt, rt.stderr())?;
+//! let mut lines = SharedWriter::new(alloc, errors)?;
+//! ```
+//!
 //! No contract can say what a socket receives or sends. It is proved that each call is safe, returns and counts its
 //! errors. It is proved of the connections, whatever the sockets do:
 //! - A new connection's number is not in use, and each end of a connection is reported once.
@@ -12,9 +21,11 @@
 //! The rest is tested, on the loopback interface.
 //!
 //! A [`ReadyWriter`] is a stream of lines that never blocks the program. The reader of a pipe, a socket or a terminal
-//! may stop reading; a write then blocks, and with it the whole program. So the writer first asks the system whether the
-//! stream is ready, and returns `WouldBlock` instead of waiting. No contract can say what a system does with the bytes.
-//! It is proved that each call is safe and returns; the rest is tested, over a pipe.
+//! may stop reading; a write then blocks, and with it the whole program. So the writer first asks the system whether
+//! the stream is ready, and returns `WouldBlock` instead of waiting. No contract can say what a system does with the
+//! bytes. It is proved that each call is safe and returns; the rest is tested, over a pipe.
+//!
+//! It does not cut a stream into requests or answer them: `kdc_hub` does. A client's sockets are in `client_sockets`.
 #![tactic(auto)]
 
 mod bind_fault;

@@ -133,8 +133,9 @@ impl<C: Clock + Drop> Sockets<C> {
         self.connections.peer(conn)
     }
 
-    /// Returns the moment and the next event from a ready socket, in turn. If no socket has one, it waits, and returns no
-    /// event if none comes. While some sockets are known to be ready, it polls the others only in every sixteenth call.
+    /// Returns the moment and the next event from a ready socket, in turn. If no socket has one, it waits, and returns
+    /// no event if none comes. While some sockets are known to be ready, it polls the others only in every sixteenth
+    /// call.
     pub fn next(&mut self, alloc: Global) -> io::Result<(Moment, Option<Event>)> {
         if !self.ready.is_empty() && self.unlooked < MOST_UNLOOKED {
             self.unlooked = self.unlooked.saturating_add(1);

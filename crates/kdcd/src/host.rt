@@ -176,7 +176,7 @@ impl<'a> Host for SystemHost<'a> {
             is_quiet: self.is_quiet,
             limits: self.limits,
         };
-        // If that fails, there is nobody to be told.
+        // If that fails, there is nowhere to report it.
         let _ = write!(self.errors, "{started}");
     }
 

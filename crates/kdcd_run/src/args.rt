@@ -225,8 +225,8 @@ const SCRIPT: SubcommandRow = SubcommandRow {
     flags: &[],
 };
 
-/// Reads the words of a command line, which begin with the program's name. A server whose `--journal` has no value has its
-/// journal at the path `beside`.
+/// Reads the words of a command line, which begin with the program's name. A server whose `--journal` has no value has
+/// its journal at the path `beside`.
 pub fn read_args<'a>(
     alloc: Global,
     args: &'a [String],
@@ -255,8 +255,8 @@ fn journal_option<'a>(alloc: Global, beside: &'a str) -> Arg<'a> {
         )
 }
 
-/// Returns the path of the journal beside the database of a server, by the words of its command line. It is empty if they
-/// are none of a server's.
+/// Returns the path of the journal beside the database of a server, by the words of its command line. It is empty if
+/// they are none of a server's.
 pub fn path_beside(alloc: Global, args: &[String]) -> Result<String, AllocError> {
     let Ok(matches) = read_args(alloc, args, "journal") else {
         return Ok(String::new(alloc));

@@ -69,14 +69,14 @@ pub trait Host {
         ensures held { IfOk result (λ _. Records (recorded self.old) (Held udp.now tcp.now ∷ []) (recorded self.new)) }
         ensures new { IfOk result (λ sockets. IsNew (Self.Sockets.recorded sockets)) };
 
-    /// Holds the journal at a path, and reads it with the one that went before it. From then on no other process appends
-    /// to it.
+    /// Holds the journal at a path, and reads it with the one that went before it. From then on no other process
+    /// appends to it.
     fn read_journals(&mut self, alloc: Global, path: &str) -> Result<Journals, FileFault>
         ensures { IfOk result (λ journals.
             Records (recorded self.old) (ReadJournals path.now journals ∷ []) (recorded self.new)) };
 
-    /// Makes sure that no journal is beside the database, for a server that has none. One that is there refuses the start,
-    /// or is removed, as the options say.
+    /// Makes sure that no journal is beside the database, for a server that has none. One that is there refuses the
+    /// start, or is removed, as the options say.
     fn refuse_journal(&mut self, alloc: Global) -> Result<(), FileFault>
         ensures { IfOk result (λ _. Records (recorded self.old) (HasNoJournal ∷ []) (recorded self.new)) };
 

@@ -5,8 +5,8 @@ use kdc_core::Kdc;
 use rand_chacha::ChaCha20Rng;
 use rand_core::{Rng, SeedableRng};
 
-/// Has the KDC place the keys of its cache by a secret of this start: 16 bytes of the seed's second stream. No answer draws
-/// from that.
+/// Has the KDC place the keys of its cache by a secret of this start: 16 bytes of the seed's second stream. No answer
+/// draws from that.
 pub(crate) fn placed(mut kdc: Kdc, seed: [u8; 32]) -> Kdc
     ensures { result ≡ kdc }
 {

@@ -7,8 +7,8 @@ use journal::{every_journal, every_journal_life};
 use kdc_core::any_run;
 use kdc_hub::one_run;
 
-/// Over every life of a server, what a journal is handed, act by act, is what the requests made the KDC remember: all of
-/// it, in order, and nothing else. A `ServerWire` hands its journal this, and nothing else (`served`).
+/// Over every life of a server, what a journal is handed, act by act, is what the requests made the KDC remember: all
+/// of it, in order, and nothing else. A `ServerWire` hands its journal this, and nothing else (`served`).
 pub fn every_life()
     ensures rounds { HandsAllInRounds }
     ensures life { HandsAllInLife }
@@ -25,8 +25,8 @@ pub fn every_restart()
     every_journal();
 }
 
-/// The same, where nothing is asked of what the files of the journal hold: each process does with them what a `JournalFile`
-/// promises, and the next start finds what that left, or refuses to resume.
+/// The same, where nothing is asked of what the files of the journal hold: each process does with them what a
+/// `JournalFile` promises, and the next start finds what that left, or refuses to resume.
 pub fn every_journaled_restart()
     ensures one_ticket { OneTicketThroughJournals }
 {

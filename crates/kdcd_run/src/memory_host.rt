@@ -43,7 +43,7 @@ pub enum HostCall {
         path: Octets,
         journals: Journals,
     },
-    /// It was told that there is no journal.
+    /// It made sure that no journal is beside the database.
     HasNoJournal,
     /// Its clock showed this moment.
     Showed(Moment),

@@ -160,8 +160,8 @@ fn second_of(second: i64) -> u64
     if second < 0 { 0 } else { second.unsigned_abs() }
 }
 
-/// Returns when to report, if that is due: ten seconds after the last report by the moment of the last poll, or if that is
-/// before the report.
+/// Returns when to report, if that is due: ten seconds after the last report by the moment of the last poll, or if that
+/// is before the report.
 fn due(reported: &Option<Moment>, last: &Option<Moment>) -> Option<Moment>
     ensures { result ≡ due reported.now last.now }
 {

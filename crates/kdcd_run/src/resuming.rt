@@ -18,8 +18,8 @@ use principal_rows::Limits;
 use principals::Database;
 use std::alloc::{AllocError, Global};
 
-/// Reads the journals at the options' path; without a path there are none, and none is beside the database. A start that is
-/// to be the first is refused if there are some.
+/// Reads the journals at the options' path; without a path there are none, and none is beside the database. A start
+/// that is to be the first is refused if there are some.
 pub(crate) fn read_journals<'a, H: Host>(
     alloc: Global,
     host: &mut H,

@@ -43,8 +43,8 @@ pub struct StartTimes {
 }
 
 /// The sockets of a server. Before it sends a reply, it has its journal keep what the reply makes the KDC remember. It
-/// withholds a reply if the journal can't, or if the start is quiet and the reply is one that a quiet start withholds: then
-/// the act fails, and ends the connection that it was for. After each act it writes to its log.
+/// withholds a reply if the journal can't, or if the start is quiet and the reply is one that a quiet start withholds:
+/// then the act fails, and ends the connection that it was for. After each act it writes to its log.
 ///
 /// Its record is that of its tally: all that was polled, and all acts that were tried, with those that were withheld.
 #[derive(Drop)]
@@ -185,8 +185,8 @@ impl<S: Sockets, J: JournalWriter, L: LogWriter, E: Write, T: Tally> Wire
         // If the journal has kept all, and the start is not quiet about it, the action is done.
         ensures sent { may_send J.is_whole self.new.journal self.old.quiet_until self.old.came.at action.now ≡ true
             → Records (S.recorded self.old.sockets) (acted action.now result ∷ []) (S.recorded self.new.sockets) }
-        // Otherwise nothing is sent, and a connection ends: so an authenticator is kept before the reply to its request is
-        // sent, and a client on a connection can ask another server at once.
+        // Otherwise nothing is sent, and a connection ends: so an authenticator is kept before the reply to its request
+        // is sent, and a client on a connection can ask another server at once.
         ensures withheld { may_send J.is_whole self.new.journal self.old.quiet_until self.old.came.at action.now ≡ false
             → EndsOnly S.HangsUp self.old.sockets (action_connection action.now) self.new.sockets × (is_ok result ≡ false) }
         // The log has an entry for the request that the action answers, if it answers one, and no other.

@@ -102,9 +102,9 @@ pub struct ReadyServer<S> {
     pub row_count: usize,
 }
 
-/// Makes a server ready as its options say. It reads the database and the seed, opens its sockets, then reads the journals,
-/// if it is to have one, and only then the clock. So no earlier process appends to a journal after it was read, or answers a
-/// request after the moment of this start.
+/// Makes a server ready as its options say. It reads the database and the seed, opens its sockets, then reads the
+/// journals, if it is to have one, and only then the clock. So no earlier process appends to a journal after it was
+/// read, or answers a request after the moment of this start.
 pub fn ready<'a, H: Host>(
     alloc: Global,
     host: &mut H,

@@ -9,8 +9,8 @@
 //!
 //! A line is one of four things: the start of a section (`[realms]`), the start of a group (`EXAMPLE.COM = {`), its end
 //! (`}`), or a relation (`kdc = 192.0.2.1:88`). The brace that starts a group may be on a line of its own, after
-//! `EXAMPLE.COM =`. Blanks around a line, a name or a value are ignored, and so are quotation marks around a value. Lines
-//! that start with `#` or `;`, and those in any other form, are ignored too.
+//! `EXAMPLE.COM =`. Blanks around a line, a name or a value are ignored, and so are quotation marks around a value.
+//! Lines that start with `#` or `;`, and those in any other form, are ignored too.
 //!
 //! It reads no file and follows no `include`: `client_files` does.
 #![tactic(auto)]

@@ -65,6 +65,8 @@ fn time_parts(bytes: &[u8]) -> Result<(KTime, &[u8]), DerFault>
     Ok((time, rest))
 }
 
+// Each `split_` function returns what its `_parts` function above returns. They are two functions only for the sake of
+// the proof: `_parts` is proved from the definition, and the clauses `found` and `only` follow from its result.
 /// Returns the contents of the value with this tag at the front, and the bytes after it.
 pub fn split_tlv(bytes: &[u8], tag: u8) -> Result<(&[u8], &[u8]), DerFault>
     ensures found { IfOk result (λ x. (bytes.now ≡ tlv tag x.0.now ++ x.1.now) × (length x.0.now < 2 ^ 32)) }

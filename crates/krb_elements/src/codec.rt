@@ -64,6 +64,7 @@ pub trait MakeOwned: Sized {
     /// The value of the copy, which is the same.
     ghost same: { Self → Self.Owned };
 
+    /// Returns a copy that owns its parts.
     fn copy(&self, alloc: Global) -> Result<Self::Owned, AllocError>
         ensures { IfOk result (λ copy. copy ≡ Self.same self.now) };
 }

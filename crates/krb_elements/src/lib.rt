@@ -3,8 +3,20 @@
 //! A message is one list of fields. Reading it, the relation to its encoding, and the text that is written are each
 //! built from the same pieces: a field, an optional field, a list, the end.
 //!
-//! [`decode`] returns the message that bytes encode, and [`encode`] the bytes of a message. No message is defined here:
-//! `krb_types` defines them.
+//! ```
+//! impl<'a> DecodeFields<'a> for PaEncTsEnc { // a type of `krb_types`
+//!     fn look_fields(fields: &mut Reader<'a>) -> Result<PaEncTsEnc, DerFault> {
+//!         let patimestamp = take_field(fields, 0)?;
+//!         let pausec = take_optional(fields, 1)?;
+//!         Ok(PaEncTsEnc { patimestamp, pausec })
+//!     }
+//! }
+//! let part: PaEncTsEnc = decode(alloc, octets)?;
+//! let octets = encode(alloc, &part)?;
+//! ```
+//!
+//! [`decode`] returns a message that owns its parts. [`read`] returns one that borrows them, and allocates nothing. No
+//! message is defined here: `krb_types` defines them.
 #![tactic(auto)]
 
 mod byte_string;

@@ -33,6 +33,7 @@ impl<'a, T: DecodeFields<'a>> Decode<'a> for T {
 
 /// A value that owns its parts and is read from all of the bytes.
 pub trait ReadOwned: Coded {
+    /// Reads the value that all of the bytes encode, and copies its parts.
     fn read_parts(alloc: Global, bytes: &[u8]) -> Result<Self, Fault>
         ensures { Decodes result (whole Self.codec.at bytes.now) };
 }

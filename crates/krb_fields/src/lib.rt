@@ -1,7 +1,18 @@
-//! The values inside Kerberos messages: names, times, flags, error codes, and the types that several messages
-//! share (RFC 4120, sections 5.2 and 7.5).
+//! The values inside Kerberos messages: names, times, flags, error codes, and the types that several messages share
+//! (RFC 4120, sections 5.2 and 7.5).
 //!
-//! It has no whole message: `krb_types` has them.
+//! ```
+//! let name = Name::from_text(alloc, "host/www.example.com")?;
+//! let text = name.to_text(alloc)?;
+//! let at = Moment::new(sec, usec); // an Option: both numbers have a range
+//! let flags = Flags::from_bits(0).with(TicketFlag::Initial);
+//! let is_renewable = flags.has(TicketFlag::Renewable);
+//! let number = Code::KrbApErrSkew.number(); // 37
+//! ```
+//!
+//! A type whose name ends in `Ref` borrows from the bytes of a message. [`numbers`] has the constants of RFC 4120.
+//!
+//! It has no whole message: `krb_types` has them. It reads no clock: the caller supplies each moment.
 #![tactic(auto)]
 
 mod ap_option;

@@ -37,7 +37,7 @@ pub fn read_reply(
     read_by_role(alloc, asked, reader, octets)
 }
 
-/// Reads the reply by the key's role.
+/// Reads the reply by the key's role. It is a function apart from `read_reply` only for the sake of the proof.
 fn read_by_role(
     alloc: Global,
     asked: &Asked,

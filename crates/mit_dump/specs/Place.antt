@@ -25,7 +25,7 @@ abbrev pub grants_tickets : Components → List ℕ → Bool
 grants_tickets (service ∷ instance ∷ []) realm = bytes_eq service (codes "krbtgt") && bytes_eq instance realm
 grants_tickets _ realm = false
 
--- the realm is that of krbtgt/REALM@REALM
+-- the realm is that of the first krbtgt/REALM@REALM
 abbrev pub IsRealmOf : List DumpedPrincipal → List ℕ → Type 0
 IsRealmOf found realm =
     (p : DumpedPrincipal) × (find (λ q. grants_tickets q.name.components q.realm) found ≡ Some p) × (realm ≡ p.realm)

@@ -1,8 +1,22 @@
 //! The text of a database that MIT's `kdb5_util dump` writes, and what its principals are here.
 //!
+//! ```
+//! let found = read_dump(alloc, text)?;
+//! let realm = dump_realm(&found)?; // None without krbtgt/REALM@REALM
+//! for principal in &found {
+//!     let losses = principal.losses(alloc, realm)?;
+//!     if principal.has_place(realm) {
+//!         let entries = principal.entries(alloc, &stash)?; // `stash`: a keytab with the master key
+//!         let policy = principal.policy();
+//!     }
+//! }
+//! ```
+//!
 //! [`read_dump`] reads the text, `DumpedPrincipal` is what it says of one principal, and `entries`, `policy` and
 //! `losses` say what of it has a place in a row: its keys, decrypted with a master key, its policy, and what is lost.
 //! [`dump_realm`] says whose database it is.
+//!
+//! It reads no file and makes no database: `kadm_changes` does. It writes no dump.
 #![tactic(auto)]
 
 mod attribute;

@@ -95,8 +95,8 @@ const KADM_DATA: u32 = 3;
 /// The number of the tagged data with string attributes: `KRB5_TL_STRING_ATTRS`.
 const STRING_ATTRS: u32 = 11;
 
-/// The attributes that neither have a place in a policy nor say nothing of tickets: [`ATTRIBUTES`], and bits that MIT
-/// gives no name.
+/// The attributes that matter for tickets and have no place in a policy: [`ATTRIBUTES`], and bits that MIT gives no
+/// name.
 const UNPLACED: u32 = 0xff2f_2d24;
 
 /// The type of the default salt: `KRB5_KDB_SALTTYPE_NORMAL`.

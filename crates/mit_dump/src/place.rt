@@ -8,7 +8,7 @@ use crate::stored_key::StoredKey;
 use krb_elements::KerberosString;
 use krb_fields::is_component;
 
-/// Returns the realm of a dump: that of the principal `krbtgt/REALM@REALM`, if it has 1 to 255 bytes.
+/// Returns the realm of a dump: that of the first principal `krbtgt/REALM@REALM`, if it has 1 to 255 bytes.
 pub fn dump_realm(found: &[DumpedPrincipal]) -> Option<&[u8]>
     ensures realm { IfSome result (λ realm. IsRealmOf found.now realm.now) }
     ensures fits { IfSome result (λ realm. IsComponent realm.now) }

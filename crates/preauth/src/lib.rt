@@ -1,6 +1,19 @@
 //! Preauthentication by timestamps (RFC 4120, sections 3.1.3 and 5.2.7), and the lock of clients that fail at it.
 //!
-//! There is no other method of preauthentication, such as FAST or PKINIT.
+//! ```
+//! let counted = counted_for(failures, client.versions.current().number); // `client`: a `Row` of `principal_rows`
+//! let is_refused = is_locked(counted, &limits, at);
+//! let failures = match check_timestamp(alloc, &ready, &client, at, message.padata.as_ref())? {
+//!     Outcome::Good => after_success(counted),
+//!     Outcome::Bad => after_failure(counted, at),
+//!     Outcome::Skewed | Outcome::Absent => failures,
+//! };
+//! let types = types_of(alloc, &client.versions.current().keys, &message.body.value.etype)?;
+//! let methods = method_data(alloc, salt, &types)?; // for KDC_ERR_PREAUTH_REQUIRED
+//! ```
+//!
+//! There is no other method of preauthentication, such as FAST or PKINIT. `as_exchange` decides what each outcome
+//! causes, and `kdc_state` stores the failures.
 #![tactic(auto)]
 
 mod keys;

@@ -1,4 +1,4 @@
-//! METHOD-DATA: what the KDC tells a client that must show its key (RFC 4120, sections 5.2.7.5 and 5.9.1).
+//! METHOD-DATA: what the KDC sends to a client that must show its key (RFC 4120, sections 5.2.7.5 and 5.9.1).
 ghost use Rattle.std.specs.Prelude.{◌≡◌, ◌≤◌, length, IfOk, map};
 ghost use Rattle.preauth.specs.MethodData.{info_entry, etype_info2, timestamp_wanted, method_data};
 

@@ -2,6 +2,14 @@
 //! derivation of RFC 8009. None allocates. Each returns exactly what its definition in `specs/` says, over the
 //! definitions of the hash functions in the crates `sha1` and `sha2`.
 //!
+//! ```
+//! let mac = hmac_sha256(key, &[header, body]); // of both parts as one text
+//! let mut out = [0; 32];
+//! pbkdf2_sha256(password, salt, 32_768, &mut out);
+//! kdf_sha256(key, label, &mut out);
+//! n_fold(input, &mut out);
+//! ```
+//!
 //! | call | standard | fills or returns |
 //! |---|---|---|
 //! | [`hmac_sha1`], [`hmac_sha256`], [`hmac_sha384`] | RFC 2104, RFC 4231 | 20, 32, 48 bytes |

@@ -45,6 +45,7 @@ impl<'a> NameKey for NameRef<'a> {
 pub trait ValueTest<V> {
     ghost passes: { Self → V → Bool };
 
+    /// Checks whether the value passes.
     fn passes(&self, value: &V) -> bool
         ensures { result ≡ passes self.now value.now };
 }
@@ -53,12 +54,14 @@ pub trait ValueTest<V> {
 pub trait ValueChange<V> {
     ghost changed: { Self → V → V };
 
+    /// Changes the value in place.
     fn change(&self, value: &mut V)
         ensures { value.new ≡ changed self.now value.old };
 }
 
 /// Work on a value that contracts don't see, as freeing memory.
 pub trait Upkeep<V> {
+    /// Does the work on the value.
     fn keep_up(&self, value: &mut V)
         ensures { value.new ≡ value.old };
 }

@@ -1,9 +1,22 @@
 //! What each program of this repository is made of, whatever it does: its options, its files, its clock,
 //! its standard error, and its status.
 //!
+//! ```
+//! let Some(args) = read_words(rt)? else {
+//!     return report_usage(rt, &NOT_UTF8);
+//! };
+//! let octets = match read_file(rt.alloc(), &mut FileStore::new(rt), path) {
+//!     Ok(octets) => octets,
+//!     Err(fault) => return report_end(rt, "kadm", &fault, fault.cause.refusal()),
+//! };
+//! ```
+//!
 //! Subcommands and their options are tables ([`SubcommandRow`]). A program uses a [`Store`] for its files, and for what
 //! it takes if no file is named: random bytes, and a password from standard input. [`FileStore`] is the file system;
 //! [`MemoryStore`] keeps its files in memory, for a test. A fault says which file it concerns.
+//!
+//! It does not parse a command line (the toolchain's `clap` does) or open sockets (`kdc_sockets` and `client_sockets`
+//! do). A server reads its own files with `kdc_files`.
 #![tactic(auto)]
 
 mod command_options;

@@ -64,8 +64,8 @@ impl Rights {
     }
 }
 
-/// Refuses a folder, a FIFO or a device, before it is opened: to open a FIFO would wait for its other end. Who may write
-/// in the folder can still put one there before it is opened, since no option of `OpenOptions` keeps a link out.
+/// Refuses a folder, a FIFO or a device, before it is opened: to open a FIFO would wait for its other end. Who may
+/// write in the folder can still put one there before it is opened, since no option of `OpenOptions` keeps a link out.
 fn check_is_file(files: &impl Files, path: &str) -> io::Result<()> {
     if fs::metadata(files, path)?.is_file() {
         Ok(())

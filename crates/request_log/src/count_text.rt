@@ -23,8 +23,8 @@ const REPLIES: &str = "kdcd_replies_total";
 const REPLIES_HELP: &str = "Replies, by transport, and whether they were sent.";
 
 impl Counts {
-    /// Appends the counts in Prometheus' text format: a sample for each kind of request, and for the replies of each transport
-    /// that were sent, and not sent.
+    /// Appends the counts in Prometheus' text format: a sample for each kind of request, and for the replies of each
+    /// transport that were sent, and not sent.
     pub fn push_text(&self, text: &mut Vec<u8>) -> Result<(), AllocError>
         ensures { OnOk result (text.new.items ≡ text.old.items ++ counts_text self.now) }
     {

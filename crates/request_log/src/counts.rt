@@ -9,8 +9,8 @@ use crate::kind::Kind;
 use crate::places::{KIND_COUNT, place};
 use kdc_core::Account;
 
-/// How many requests of each kind came, and how many replies were sent over each transport, and not sent. A count stops at
-/// the greatest `u64`.
+/// How many requests of each kind came, and how many replies were sent over each transport, and not sent. A count stops
+/// at the greatest `u64`.
 #[derive(Drop)]
 pub struct Counts {
     requests: [u64; KIND_COUNT],
@@ -29,8 +29,8 @@ impl Counts {
         }
     }
 
-    /// Counts a request that came over a transport, with its account and whether its reply was sent. There is no account if
-    /// memory ran out.
+    /// Counts a request that came over a transport, with its account and whether its reply was sent. There is no
+    /// account if memory ran out.
     pub fn count(&mut self, transport: Transport, account: Option<&Account>, is_sent: bool)
         // Each count grows by one if it is that of the request, and stays as it is if not.
         ensures one { CountsOne self.old (record {

@@ -1,7 +1,18 @@
-//! The encrypted parts of messages.
+//! The encrypted parts of messages (RFC 4120, section 5.2.9): values encoded and encrypted, or decrypted and decoded.
 //!
-//! A part is encoded and encrypted, or decrypted and decoded. Nothing here chooses a key or a key
-//! usage, or draws a confounder: the caller supplies them.
+//! ```
+//! let cipher = seal_part(alloc, &key, KeyUsage::PaEncTimestamp, &confounder, &part)?;
+//! let found: Option<PaEncTsEnc> = open_part(alloc, &key, KeyUsage::PaEncTimestamp, &cipher)?; // of `krb_types`
+//!
+//! let ready = ReadyKeys::new(alloc)?; // faster for a key that is used again
+//! let found: Option<PaEncTsEnc> = ready.open_part(alloc, &key, KeyUsage::PaEncTimestamp, &cipher)?;
+//! ```
+//!
+//! [`encrypted`] returns an EncryptedData, which also names the encryption type and the key version. [`key_of`] and
+//! [`key_part`] convert a key from and to the EncryptionKey of a message.
+//!
+//! Nothing here chooses a key or a key usage, or draws a confounder: the caller supplies them. `enctypes` encrypts and
+//! decrypts the bytes.
 #![tactic(auto)]
 
 mod encrypting;

@@ -66,7 +66,8 @@ impl<K: Prepared> Places<K> {
         Ok(Places { places })
     }
 
-    /// Returns the place of a key for a usage, by a hash that has begun with a secret. Returns `None` while it is in use.
+    /// Returns the place of a key for a usage, by a hash that has begun with a secret. Returns `None` while it is in
+    /// use.
     pub fn place_of(
         &self,
         secret: &DefaultHasher,

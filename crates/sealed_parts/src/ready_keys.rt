@@ -17,8 +17,8 @@ use std::fmt;
 use std::hash::{DefaultHasher, Hasher};
 
 /// A cache of recently used keys, each prepared for one usage. Most requests use keys that were used shortly before.
-/// Each key has a fixed place and evicts the one that was there. The places come from a hash with a secret. So nobody can
-/// choose a key that shares a place with another one, and learn about that key from the time that its use takes.
+/// Each key has a fixed place and evicts the one that was there. The places come from a hash with a secret. So nobody
+/// can choose a key that shares a place with another one, and learn about that key from the time that its use takes.
 ///
 /// It affects speed only: each use checks that the place holds this key for this usage. So contracts don't see its
 /// contents.
@@ -90,7 +90,8 @@ impl ReadyKeys {
         encrypted(alloc, key, confounder, part)
     }
 
-    /// Checks a checksum like `verify`, faster if the key is in the cache for checksums of this usage. It is afterwards.
+    /// Checks a checksum like `verify`, faster if the key is in the cache for checksums of this usage. It is
+    /// afterwards.
     pub fn verify(&self, key: &Key, usage: KeyUsage, text: &[u8], octets: &[u8]) -> bool
         ensures { IsTrue result
             ↔ (octets.now ≡ mac key.now.etype key.now.bytes (usage_number usage) text.now) }

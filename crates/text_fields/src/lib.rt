@@ -1,6 +1,20 @@
 //! Reads and writes decimal numbers, time spans, dates, policy settings and encryption types, as words of a line or a
 //! command; splits a line into words; makes a principal's new keys, from a password or random, and finds those that it
 //! has in a keytab.
+//!
+//! ```
+//! let words = line_words(alloc, b"policy --name alice --set greatest_life=10h")?;
+//! if let Some(setting) = setting_of("greatest_life", "10h") {
+//!     row.policy = setting.on(row.policy);
+//! }
+//! let etypes = offered(alloc)?;
+//! let keys = password_keys(alloc, &etypes, b"a password", b"EXAMPLE.COMalice")?;
+//! let keys = random_keys(alloc, &etypes, seed)?;
+//! let versions = keytab_versions(alloc, &KeytabKeys { keytab, realm, who }, &etypes)?;
+//! ```
+//!
+//! It reads no file and no clock, and draws no seed: the caller supplies the bytes, the time and the seed. `program`
+//! reads the options of a command line, and `kadm_changes` changes rows.
 #![tactic(auto)]
 
 mod dates;

@@ -1,5 +1,19 @@
 //! The ticket-granting service exchange (RFC 4120, section 3.3): makes the reply, and what is stored of request and
 //! reply, from what a request presents and what is known of its client and its service.
+//!
+//! ```
+//! let incoming = Incoming { at, random, room, octets, ready }; // of `kdc_replies`
+//! let view = TgsView { realm, limits, client, service, cache };
+//! let answer = tgs_answer(alloc, &view, &incoming, &message.body.value, &presented)?;
+//! if let Some(kept) = answer.kept {
+//!     state.record_seen(alloc, at, &seen, kept)?; // of `kdc_state`
+//! }
+//!
+//! let error = tgs_error(alloc, realm, at, &message.body.value, rejection.rule)?; // if `tgs_open` rejected it
+//! ```
+//!
+//! It decrypts nothing: `tgs_opening` finds what a request presents. It looks up no row and stores nothing: `kdc_core`
+//! does.
 #![tactic(auto)]
 
 mod answering;

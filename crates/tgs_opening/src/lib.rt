@@ -1,7 +1,19 @@
 //! The ticket and the authenticator that a TGS-REQ presents, decrypted and checked (RFC 4120, sections 3.2.3 and
 //! 3.3.2).
 //!
-//! Nothing here depends on the replay cache, on the client's row or on the time.
+//! ```
+//! let (_, message) = read_kdc_req(octets)?; // of `krb_types`
+//! let view = TicketView { realm, tgs, service, ready };
+//! let presented = match tgs_open(alloc, &view, &message)? {
+//!     Ok(presented) => presented,
+//!     Err(rejection) => return Ok(Err(rejection)), // the caller answers with `rejection.rule`
+//! };
+//! let client = &presented.ticket.cname;
+//! ```
+//!
+//! [`TgsRefusal`] has the rules of the whole exchange. Those that every AP-REQ has to pass are in `ap_opening`.
+//!
+//! Nothing here depends on the replay cache, on the client's row or on the time: `tgs_exchange` decides by these.
 #![tactic(auto)]
 
 mod authenticators;

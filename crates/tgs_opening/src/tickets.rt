@@ -141,8 +141,8 @@ fn row_of<'v>(view: &TicketView<'v>, whom: Addressee) -> Option<&'v Row>
     }
 }
 
-/// Returns the row if tickets are issued for its principal. Otherwise no ticket is decrypted with its keys: a user knows
-/// the keys of a password, and could make tickets with them in any client's name.
+/// Returns the row if tickets are issued for its principal. Otherwise no ticket is decrypted with its keys: a user
+/// knows the keys of a password, and could make tickets with them in any client's name.
 fn if_service(row: Option<&Row>) -> Option<&Row>
     ensures { option_copied result ≡ if_service (option_copied row.entry) }
 {

@@ -315,7 +315,8 @@ pub const REPLY_VALUE: &str = "\
     { bytes: [65, 46, 66] }] } }, caddr: Some(Seq { items: [Typed { number: 2, octets: Octets { bytes: [10, 0, 0, 1] \
     } }] }) } })";
 
-/// An EncTGSRepPart without optional fields and without a LastReq, with flags that have no name, and with the first and the last time.
+/// An EncTGSRepPart without optional fields and without a LastReq, with flags that have no name, and with the first and
+/// the last time.
 pub const LEAST_REPLY: &str = "\
     7a773075\
     a01b3019a003020111a1120410000102030405060708090a0b0c0d0e0f\

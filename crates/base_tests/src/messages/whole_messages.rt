@@ -323,8 +323,8 @@ fn again_by_name(alloc: Global, kind: Kind, octets: &[u8]) -> Option<Result<Vec<
     }
 }
 
-/// Asserts that the message is written as it was read, if there are calls of its name. Reads and writes it again if memory
-/// ran out.
+/// Asserts that the message is written as it was read, if there are calls of its name. Reads and writes it again if
+/// memory ran out.
 fn is_written_by_name(rt: &impl Abort, alloc: Global, kind: Kind, octets: &[u8]) {
     mark(alloc, BEGIN);
     let first = again_by_name(alloc, kind, octets);

@@ -1,4 +1,4 @@
-//! Tests of the text of a database (`principals`).
+//! Tests of the text of a database (`principals_text`).
 use crate::expect::{BEGIN, END, JUDGED, mark, same};
 use principals::Database;
 use principals_text::ReadFault;

@@ -321,8 +321,8 @@ fn count_of(alloc: Global, times: &[i64]) -> Result<Option<usize>, AllocError> {
     count(&found(alloc, &journal.text))
 }
 
-/// How many calls on a server's files succeed, how many then fail, how many octets of an entry are there after those, and
-/// whether they leave a file half begun.
+/// How many calls on a server's files succeed, how many then fail, how many octets of an entry are there after those,
+/// and whether they leave a file half begun.
 type Failure = (u32, u32, usize, bool);
 
 /// Whether each of three authenticators was kept, and with how many the next start resumes, if it does.

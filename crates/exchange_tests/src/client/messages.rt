@@ -1,5 +1,5 @@
-//! The messages of a client, its KDC and its service, in hexadecimal digits. They come from models of the messages and of
-//! the cryptography in Python.
+//! The messages of a client, its KDC and its service, in hexadecimal digits. They come from models of the messages and
+//! of the cryptography in Python.
 
 /// An AS-REQ of `u` in `A.B` for `krbtgt/A.B`: till zero, nonce 1, encryption type 18.
 pub const PLAIN: &str = "\
