@@ -3,14 +3,13 @@ ghost use Rattle.std.specs.Prelude.{◌≡◌, option_copied};
 ghost use Rattle.client_files.specs.Holding.{good_credential, if_good, is_good};
 
 use crate::faults::Cause;
-use client_login::granting_service;
 use cred_files::{Cache, Credential, FileFault};
-use krb_fields::{Moment, Name, TicketFlag};
+use krb_fields::{Moment, Name, TicketFlag, tgs_name};
 use std::alloc::Global;
 
 /// Returns the cache's ticket-granting ticket.
 pub fn granting_ticket(alloc: Global, cache: &Cache) -> Result<&Credential, Cause> {
-    let service = granting_service(alloc, &cache.principal().realm)?;
+    let service = tgs_name(alloc, cache.principal().realm.as_slice())?;
     match cache.find(&service) {
         Ok(granting) => Ok(granting),
         Err(_) => Err(Cause::Cache(FileFault::Absent)),

@@ -1,11 +1,10 @@
 -- What a client requests from a KDC (RFC 4120, section 5.4.1).
 use Rattle.std.specs.Prelude.{ℕ, ℤ, pos, ◌+◌, ◌+ℤ◌, int_lt, Bool, true, if◌then◌else◌, is_some}
-use Rattle.std.specs.Prelude.{codes, List, [], ◌∷◌, Option, Some, None, option_map}
+use Rattle.std.specs.Prelude.{List, Option, Some, None, option_map}
 use Rattle.std.specs.Option.{unwrap_or}
 use Rattle.cred_files.specs.declared.principal.Principal.{Principal}
 use Rattle.client_core.specs.declared.asked.Asked.{Asked}
 use Rattle.enctypes.specs.declared.etype.Etype.{Etype}
-use Rattle.krb_fields.specs.declared.numbers.TheConstants.{NT_SRV_INST}
 use Rattle.krb_fields.specs.Flags.{has_bit, with_bit}
 use Rattle.krb_fields.specs.KdcOption.{kdc_option_number}
 use Rattle.krb_fields.specs.PrincipalName.{Name}
@@ -73,10 +72,6 @@ abbrev pub rtime_of : ℤ → TicketRequest → Option ℤ
 rtime_of now w = if w.renewable then Some (till_by now (unwrap_or w.start 0) w.renew_lifetime) else None
 
 -- ---- the whole request
-
--- krbtgt/REALM, with the name-type NT-SRV-INST (section 6.2)
-abbrev pub granting_service : List ℕ → Name
-granting_service realm = record { name_type = NT_SRV_INST; components = codes "krbtgt" ∷ realm ∷ [] }
 
 -- a first ticket for a service of the client's realm, with these types
 abbrev pub first_asked : Login → List Etype → ℤ → ℕ → Asked

@@ -12,7 +12,7 @@
 //! | [`KdcClient::renew`] | the ticket that it is given, renewed or validated |
 //!
 //! ```
-//! let service = granting_service(alloc, &principal.realm)?;
+//! let service = tgs_name(alloc, principal.realm.as_slice())?; // of `krb_fields`
 //! let login = Login { client: principal, service, request: TicketRequest::PLAIN };
 //! let kdcs = Kdcs::new(network, places, Transports::UdpFirst);
 //! let mut client = KdcClient::new(alloc, kdcs, at);
@@ -50,5 +50,5 @@ pub use faults::{Doubt, LoginError, LoginFault};
 pub use kdc_places::KdcPlace;
 pub use network::{AnyMessage, Network, Route, Transport};
 pub use secrets::{Password, Secret};
-pub use ticket_requests::{Login, Renewal, TicketRequest, granting_service};
+pub use ticket_requests::{Login, Renewal, TicketRequest};
 pub use verifying::{opened_ticket, verified_ticket};

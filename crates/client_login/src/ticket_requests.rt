@@ -1,7 +1,6 @@
 //! What a client requests from a KDC (RFC 4120, section 5.4.1).
 ghost use Rattle.std.specs.Prelude.{◌≡◌, ◌<◌, ◌^◌, IfOk};
 ghost use Rattle.client_login.specs.Asking.{renewal_option, renewal_options, first_asked, from_of, further_asked};
-ghost use Rattle.client_login.specs.Asking.{granting_service};
 ghost use Rattle.client_login.specs.Asking.{options_of, rtime_of, till_by, till_of, time_after, up_to_last, with_if, with_kept};
 ghost use Rattle.client_login.specs.Keys.{offered};
 
@@ -9,8 +8,7 @@ use client_core::Asked;
 use cred_files::Principal;
 use enctypes::Etype;
 use krb_der::KTime;
-use krb_elements::{KerberosString, Seq};
-use krb_fields::numbers::NT_SRV_INST;
+use krb_elements::Seq;
 use krb_fields::{Flags, KdcOption, Moment, Name};
 use std::alloc::{AllocError, Global};
 
@@ -18,7 +16,7 @@ use std::alloc::{AllocError, Global};
 #[derive(Drop)]
 pub struct Login {
     pub client: Principal,
-    /// A service of the client's realm, usually [`granting_service`].
+    /// A service of the client's realm, usually [`krb_fields::tgs_name`].
     pub service: Name,
     pub request: TicketRequest,
 }
@@ -56,13 +54,6 @@ pub enum Renewal {
     Renew,
     /// It becomes valid, once it has started.
     Validate,
-}
-
-/// Returns the name of the ticket-granting service of a realm, `krbtgt/REALM`.
-pub fn granting_service(alloc: Global, realm: &KerberosString) -> Result<Name, AllocError>
-    ensures { IfOk result (λ name. name ≡ granting_service realm.now) }
-{
-    Name::new(alloc, NT_SRV_INST, &[b"krbtgt", realm.as_slice()])
 }
 
 /// Returns the request for a first ticket.

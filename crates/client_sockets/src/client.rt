@@ -8,12 +8,10 @@ use client_files::{
     Cause, Config, Defaults, Fault, Variable, at_file, at_password, name_of, principal_text,
     read_keytab,
 };
-use client_login::{
-    KdcClient, Kdcs, Login, LoginFault, Password, Secret, Transports, granting_service,
-};
+use client_login::{KdcClient, Kdcs, Login, LoginFault, Password, Secret, Transports};
 use cred_files::{Credential, Keytab, Principal};
 use krb_elements::Octets;
-use krb_fields::{Moment, Name, component_to_text};
+use krb_fields::{Moment, Name, component_to_text, tgs_name};
 use program::{FileCause, FileStore, STANDARD_INPUT, ask_password, draw_seed, now};
 use rand_chacha::ChaCha20Rng;
 use rand_core::SeedableRng;
@@ -201,7 +199,7 @@ fn read_config(rt: &HostRuntime) -> Result<Config, Fault> {
 fn login_of(alloc: Global, config: &Config, principal: &str) -> Result<Login, Fault> {
     let client = config.principal(alloc, principal)?;
     Ok(Login {
-        service: granting_service(alloc, &client.realm)?,
+        service: tgs_name(alloc, client.realm.as_slice())?,
         client,
         request: config.ticket_request(alloc)?,
     })

@@ -1,11 +1,9 @@
 //! Logins of one client, one after another.
 use crate::network::{HOST, SECOND_PORT, Said, SaidNetwork};
-use client_login::{
-    KdcClient, KdcPlace, Kdcs, Login, Password, Secret, TicketRequest, Transports, granting_service,
-};
+use client_login::{KdcClient, KdcPlace, Kdcs, Login, Password, Secret, TicketRequest, Transports};
 use cred_files::Principal;
 use krb_elements::{KerberosString, Octets};
-use krb_fields::{Moment, Name, component_from_text};
+use krb_fields::{Moment, Name, component_from_text, tgs_name};
 use rand_chacha::ChaCha20Rng;
 use rand_core::SeedableRng;
 use std::alloc::Global;
@@ -33,7 +31,7 @@ fn client(alloc: Global) -> Result<Client, Fail> {
 fn login(alloc: Global) -> Result<Login, Fail> {
     let realm: KerberosString = component_from_text(alloc, "A.B")?;
     let name = Name::from_text(alloc, "u")?;
-    let service = granting_service(alloc, &realm)?;
+    let service = tgs_name(alloc, realm.as_slice())?;
     Ok(Login {
         client: Principal { realm, name },
         service,

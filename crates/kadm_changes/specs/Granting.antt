@@ -8,7 +8,8 @@ use Rattle.krb_fields.specs.Name.{Components}
 use Rattle.principal_rows.specs.declared.row.KeyVersion.{KeyVersion}
 use Rattle.principal_rows.specs.declared.row.Row.{Row}
 use Rattle.principals.specs.Change.{row_changed, row_refusal}
-use Rattle.principals.specs.Database.{Principals, tgs_principal}
+use Rattle.principals.specs.Database.{Principals}
+use Rattle.krb_fields.specs.Granting.{tgs_principal}
 use Rattle.principals.specs.declared.change.RowChange.{RowChange}
 use Rattle.principals.specs.declared.change.RowChange.TheVariants as row_changes
 use Rattle.text_fields.specs.Settings.{with_setting}

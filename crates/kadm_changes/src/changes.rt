@@ -1,6 +1,6 @@
 //! A new database, and changes of one without new keys.
 ghost use Rattle.std.specs.Prelude.{◌≡◌, IfOk, IsFalse, OnOk, OnErr, false, option_map, true};
-ghost use Rattle.principals.specs.Database.{tgs_principal};
+ghost use Rattle.krb_fields.specs.Granting.{tgs_principal};
 ghost use Rattle.principals.specs.declared.change.RowChange.TheVariants as row_changes;
 ghost use Rattle.kadm_changes.specs.Changing.{AreChanged, AreSet, IsChanged, IsChangedAt, IsNamedChanged, IsSetAt};
 ghost use Rattle.kadm_changes.specs.Denying.{migrated_rows};
@@ -19,8 +19,8 @@ use crate::stop::{Stop, of_realm};
 use crate::target::Target;
 use crate::words::value_at;
 use krb_elements::KerberosString;
-use krb_fields::{Name, component_from_text};
-use principals::{ChangeFault, Database, RowChange, tgs_name};
+use krb_fields::{Name, component_from_text, tgs_name};
+use principals::{ChangeFault, Database, RowChange};
 use program::{Store, has_file, read_clock, read_or_draw_seed};
 use std::alloc::{AllocError, Global};
 use std::io::Write;

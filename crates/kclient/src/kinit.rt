@@ -17,10 +17,10 @@ use client_files::{
     Cause, ClientStore, Defaults, Fault, Variable, at_file, at_password, read_cache, read_keytab,
     write_new_cache,
 };
-use client_login::{AnyMessage, Login, Password, Secret, TicketRequest, granting_service};
+use client_login::{AnyMessage, Login, Password, Secret, TicketRequest};
 use cred_files::{Credential, Principal};
 use krb_elements::{KerberosString, Octets};
-use krb_fields::{Name, component_to_text};
+use krb_fields::{Name, component_to_text, tgs_name};
 use program::{STANDARD_INPUT, ask_password, read_or_draw_seed, read_password};
 use rand_chacha::ChaCha20Rng;
 use rand_core::SeedableRng;
@@ -207,7 +207,7 @@ fn login_of(
 ) -> Result<Login, Fault> {
     let service = match service {
         Some(service) => service,
-        None => granting_service(alloc, &client.realm)?,
+        None => tgs_name(alloc, client.realm.as_slice())?,
     };
     Ok(Login {
         client,

@@ -11,8 +11,7 @@ use clap::ArgMatches;
 use client_files::{
     Cause, ClientStore, Defaults, Fault, good_credential, read_cache, read_keytab, remove_cache,
 };
-use client_login::granting_service;
-use krb_fields::Moment;
+use krb_fields::{Moment, tgs_name};
 use program::Status;
 use std::alloc::Global;
 
@@ -65,7 +64,7 @@ fn has_good_ticket<T: ClientStore>(
     ensures unchanged { T.world store.new ≡ T.world store.old }
 {
     let cache = read_cache(alloc, store, path)?;
-    let service = granting_service(alloc, &cache.principal().realm)?;
+    let service = tgs_name(alloc, cache.principal().realm.as_slice())?;
     Ok(good_credential(&cache, &service, at).is_some())
 }
 

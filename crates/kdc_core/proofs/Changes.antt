@@ -12,7 +12,8 @@ use Rattle.principal_rows.specs.Versions.{with_keys, without}
 use Rattle.principal_rows.specs.declared.row.Row.{Row}
 use Rattle.principals.specs.Change.{changed, refusal, row_changed, row_refusal, with_row}
 use Rattle.principals.specs.Change.{new_keys_rules, drop_keys_rules, set_policy_rules}
-use Rattle.principals.specs.Database.{Principals, tgs_principal}
+use Rattle.principals.specs.Database.{Principals}
+use Rattle.krb_fields.specs.Granting.{tgs_principal}
 use Rattle.principals.specs.declared.change.Change.{Change}
 use Rattle.principals.specs.declared.change.RowChange.{RowChange}
 use Rattle.principals.specs.declared.change.RowChange.TheVariants.{Add, Remove, NewKeys, DropKeys, SetPolicy}

@@ -10,7 +10,7 @@ use Rattle.krb_fields.specs.Name.{Components, name_cmp, name_total}
 use Rattle.krb_types.specs.declared.kdc_req.Exchange.{Exchange}
 use Rattle.krb_types.specs.declared.kdc_req.Exchange.TheVariants.{As, Tgs}
 use Rattle.krb_types.specs.KdcReq.{Received}
-use Rattle.principals.specs.Database.{tgs_principal}
+use Rattle.krb_fields.specs.Granting.{tgs_principal}
 use Rattle.replay.specs.declared.keep.Kept.{Kept}
 use Rattle.replay.specs.declared.cache.ReplayCache.{ReplayCache}
 use Rattle.replay.specs.Tidied.{empty_cache}

@@ -2,7 +2,8 @@
 use Rattle.std.specs.Prelude.{◌≡◌, ⊤, IsTrue, List, [], ◌∷◌}
 use Rattle.std.specs.FinMap as map
 use Rattle.krb_fields.specs.Name.{Components}
-use Rattle.principals.specs.Database.{Principals, tgs_principal}
+use Rattle.principals.specs.Database.{Principals}
+use Rattle.krb_fields.specs.Granting.{tgs_principal}
 use Rattle.replay.specs.Resumed.{resumed_cache}
 use Rattle.replay.specs.declared.seen.Resumption.{Resumption}
 use Rattle.kdc_state.specs.declared.state.State.{State}

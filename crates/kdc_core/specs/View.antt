@@ -8,7 +8,7 @@ use Rattle.krb_types.specs.declared.kdc_req.Exchange.TheVariants.{As, Tgs}
 use Rattle.krb_types.specs.KdcReq.{Received}
 use Rattle.principal_rows.specs.declared.limits.Limits.{Limits}
 use Rattle.principal_rows.specs.declared.row.Row.{Row}
-use Rattle.principals.specs.Database.{tgs_principal}
+use Rattle.krb_fields.specs.Granting.{tgs_principal}
 use Rattle.replay.specs.declared.keep.Kept.{Kept}
 use Rattle.replay.specs.declared.cache.ReplayCache.{ReplayCache}
 use Rattle.replay.specs.declared.opening.Opening.TheVariants.{First}

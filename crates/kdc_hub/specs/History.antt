@@ -8,7 +8,8 @@ use Rattle.framing.specs.Splitting.{Splitting, fed, handed_out}
 use Rattle.krb_fields.specs.Name.{Components}
 use Rattle.krb_fields.specs.declared.moment.Moment.{Moment}
 use Rattle.principal_rows.specs.declared.limits.Limits.{Limits}
-use Rattle.principals.specs.Database.{Principals, tgs_principal}
+use Rattle.principals.specs.Database.{Principals}
+use Rattle.krb_fields.specs.Granting.{tgs_principal}
 use Rattle.replay.specs.declared.opening.Opening.TheVariants.{Restart}
 use Rattle.replay.specs.Run.{OneForEach, with_any}
 use Rattle.replay.specs.Stamp.{Stamp}

@@ -1,7 +1,7 @@
 -- What others send can move the moments at which a server takes new rows and tidies, and nothing else.
 use Rattle.std.specs.Prelude.{◌≡◌, IsTrue, List}
 use Rattle.krb_fields.specs.Name.{Components}
-use Rattle.principals.specs.Database.{tgs_principal}
+use Rattle.krb_fields.specs.Granting.{tgs_principal}
 use Rattle.kdc_core.specs.Struck.{AgreesFor, Names, ServicesWithin, is_request_of, strike}
 use Rattle.kdc_core.specs.Unaffected.{AreAlike}
 use Rattle.kdc_core.specs.Unseen.{RequestsFollow, untidied}

@@ -6,7 +6,7 @@ use Rattle.krb_fields.specs.declared.code.Code.{Code}
 use Rattle.krb_fields.specs.declared.moment.Moment.{Moment}
 use Rattle.krb_fields.specs.PrincipalName.{Name, name}
 use Rattle.krb_types.specs.KrbError.{KrbError, krb_error}
-use Rattle.principals.specs.Database.{tgs_name}
+use Rattle.krb_fields.specs.Granting.{tgs_name}
 use Rattle.kdc_replies.specs.ErrorReply.{error_reply}
 use Rattle.kdc_replies.specs.LengthLaws.{error_short}
 

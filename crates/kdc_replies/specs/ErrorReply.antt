@@ -8,7 +8,7 @@ use Rattle.krb_fields.specs.Code.{number_of}
 use Rattle.krb_fields.specs.PrincipalName.{Name}
 use Rattle.krb_types.specs.KrbError.{KrbError}
 use Rattle.krb_types.specs.ReqBody.{ReqBody}
-use Rattle.principals.specs.Database.{tgs_name}
+use Rattle.krb_fields.specs.Granting.{tgs_name}
 
 -- KRB-ERROR (RFC 4120, section 5.9.1): the moment, the code, this realm, the requested service or else the
 -- ticket-granting service, and the data for the code

@@ -17,7 +17,7 @@ use Rattle.krb_types.specs.LastReq.{last_req, last_req_form}
 use Rattle.krb_types.specs.KdcRep.{KdcRep, kdc_rep, kdc_rep_of, kdc_rep_form}
 use Rattle.krb_types.specs.Ticket.{ticket_of, ticket_form}
 use Rattle.krb_types.specs.KrbError.{krb_error, krb_error_of, krb_error_form}
-use Rattle.principals.specs.Database.{tgs_name}
+use Rattle.krb_fields.specs.Granting.{tgs_name}
 use Rattle.kdc_replies.specs.ErrorReply.{error_reply}
 use Rattle.kdc_replies.specs.declared.grant.Grant.{Grant}
 use Rattle.kdc_replies.specs.Grant.{IsShort, ticket_part, reply_part}

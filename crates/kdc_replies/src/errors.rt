@@ -9,9 +9,8 @@ ghost use Rattle.kdc_replies.specs.ErrorReply.{error_reply, too_big};
 
 use crate::sent_names::sent_name;
 use krb_elements::{Coded, KerberosStringRef, Octets, write};
-use krb_fields::{Code, Moment, NameRef};
+use krb_fields::{Code, Moment, NameRef, tgs_name};
 use krb_types::{KrbError, ReqBodyRef};
-use principals::tgs_name;
 use std::alloc::{AllocError, Global};
 
 /// An error that borrows its realm.

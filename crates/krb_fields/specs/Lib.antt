@@ -1,6 +1,7 @@
 pub mod ApOption
 pub mod Code
 pub mod Flags
+pub mod Granting
 pub mod KdcOption
 pub mod Moment
 pub mod Name

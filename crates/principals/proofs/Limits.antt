@@ -5,7 +5,8 @@ use Rattle.krb_fields.specs.Name.{Components}
 use Rattle.krb_fields.specs.NameLimits.{is_component, is_within_limits, IsComponent, IsWithinLimits}
 use Rattle.lists.specs.Refusals.{first_holding}
 use Rattle.principals.specs.Change.{add_rules}
-use Rattle.principals.specs.Database.{Principals, tgs_principal}
+use Rattle.principals.specs.Database.{Principals}
+use Rattle.krb_fields.specs.Granting.{tgs_principal}
 use Rattle.principals.specs.declared.change.ChangeFault.{ChangeFault}
 use Rattle.principals.specs.declared.change.ChangeFault.TheVariants.{BadName, Exists}
 

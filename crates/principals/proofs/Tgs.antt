@@ -4,7 +4,7 @@ use Rattle.std.specs.Ordering.{eq_by_cmp, nat_cmp, ordering_then}
 use Rattle.std.specs.Cmp.Lexicographic.{slice_cmp}
 use Rattle.std.proofs.lemmas.Map.Text.{is_eq-slice_cmp}
 use Rattle.krb_fields.specs.Name.{Components, name_cmp}
-use Rattle.principals.specs.Database.{tgs_principal}
+use Rattle.krb_fields.specs.Granting.{tgs_principal}
 
 first_then : (o p : Ordering) → is_eq (ordering_then o p) ≡ (is_eq o && is_eq p)
 first_then Less p = refl

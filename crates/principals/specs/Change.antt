@@ -15,7 +15,8 @@ use Rattle.principals.specs.declared.change.RowChange.TheVariants.{Add, Remove, 
 use Rattle.principals.specs.declared.change.ChangeFault.{ChangeFault}
 use Rattle.principals.specs.declared.change.ChangeFault.TheVariants.{BadName, Exists, Protected, Absent, LastVersion}
 use Rattle.principals.specs.declared.change.ChangeFault.TheVariants.{CurrentKeys}
-use Rattle.principals.specs.Database.{Principals, tgs_principal}
+use Rattle.principals.specs.Database.{Principals}
+use Rattle.krb_fields.specs.Granting.{tgs_principal}
 
 abbrev pub add_rules : Principals → Components → List (Rule ChangeFault)
 add_rules p name = (not (is_within_limits name), BadName) ∷ (contains_key p.rows name, Exists) ∷ []

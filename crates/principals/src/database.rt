@@ -8,15 +8,15 @@ ghost use Rattle.std.specs.Ordering.{eq_by_cmp};
 ghost use Rattle.krb_fields.specs.Name.{Components, name_cmp};
 ghost use Rattle.principal_rows.specs.NameMap.{pairs};
 ghost use Rattle.principal_rows.specs.Row.{IsRow};
-ghost use Rattle.principals.specs.Database.{AreRows, IsDatabase, first_database, tgs_name, tgs_principal};
+ghost use Rattle.principals.specs.Database.{AreRows, IsDatabase, first_database};
+ghost use Rattle.krb_fields.specs.Granting.{tgs_principal};
 ghost use Rattle.principals.specs.Change.{refusal, add_rules, changed, row_changed, row_refusal};
 
 use crate::granting::TgsOf;
 use crate::split_name::row_of;
 use crate::{Change, ChangeFault, RowChange};
 use krb_elements::KerberosString;
-use krb_fields::numbers::NT_SRV_INST;
-use krb_fields::{Name, NameFault, NameRef, is_component};
+use krb_fields::{Name, NameFault, NameRef, is_component, tgs_name};
 use lists::first_holding;
 use principal_rows::{Entry, KeyList, NameMap, Policy, Row};
 use std::alloc::{AllocError, Global};
@@ -316,12 +316,4 @@ fn is_tgs(name: &Name, realm: &[u8]) -> bool
         }
         _ => false,
     }
-}
-
-/// Returns the name of a realm's ticket-granting service, `krbtgt/REALM`, with name-type NT-SRV-INST (RFC 4120 section
-/// 7.3).
-pub fn tgs_name(alloc: Global, realm: &[u8]) -> Result<Name, AllocError>
-    ensures { IfOk result (λ name. name ≡ tgs_name realm.now) }
-{
-    Name::new(alloc, NT_SRV_INST, &[b"krbtgt", realm])
 }

@@ -3,7 +3,7 @@ ghost use Rattle.std.specs.Prelude.{◌≡◌, ◌&&◌, codes};
 ghost use Rattle.std.specs.Str.{bytes_eq};
 ghost use Rattle.std.specs.Ordering.{eq_by_cmp};
 ghost use Rattle.krb_fields.specs.Name.{name_cmp};
-ghost use Rattle.principals.specs.Database.{tgs_principal};
+ghost use Rattle.krb_fields.specs.Granting.{tgs_principal};
 
 use krb_fields::{Name, NameRef};
 use principal_rows::NameKey;

@@ -19,7 +19,8 @@ use Rattle.principal_rows.specs.declared.row.Row.{Row}
 use Rattle.text_fields.specs.Settings.{newest_version, newest_version_text}
 use Rattle.principals_text.specs.Format.{newest}
 use Rattle.principals_text.specs.Ahead.{value_at, members_at, rows_in, text_value, HoldsParts}
-use Rattle.principals.specs.Database.{tgs_principal, AreRows}
+use Rattle.principals.specs.Database.{AreRows}
+use Rattle.krb_fields.specs.Granting.{tgs_principal}
 use Rattle.principals_text.specs.NameOf.{component_of, name_of}
 use Rattle.principals_text.specs.RowValue.{row_of}
 use Rattle.principals_text.specs.Value.{database_or, text_database}

@@ -9,7 +9,8 @@ use Rattle.principal_rows.specs.declared.row.Row.{Row}
 use Rattle.principals_text.specs.declared.format.Format.{Format}
 use Rattle.principals_text.specs.declared.read_fault.ReadFault.{ReadFault}
 use Rattle.principals_text.specs.declared.read_fault.ReadFault.TheVariants.{NotJson, BadVersion, BadRow, NoTicketGranter}
-use Rattle.principals.specs.Database.{Principals, tgs_principal}
+use Rattle.principals.specs.Database.{Principals}
+use Rattle.krb_fields.specs.Granting.{tgs_principal}
 use Rattle.principals_text.specs.Format.{format_of}
 use Rattle.principals_text.specs.NameOf.{component_of, name_of}
 use Rattle.principals_text.specs.RowValue.{◌>>=◌, member_count, unsigned_of, row_of}

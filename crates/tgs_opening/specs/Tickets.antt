@@ -23,7 +23,7 @@ use Rattle.preauth.specs.Keys.{has_key, key_named}
 use Rattle.preauth.specs.Timestamp.{first_of}
 use Rattle.principal_rows.specs.declared.row.KeyVersion.{KeyVersion}
 use Rattle.principal_rows.specs.declared.row.Row.{Row}
-use Rattle.principals.specs.Database.{tgs_principal}
+use Rattle.krb_fields.specs.Granting.{tgs_principal}
 use Rattle.ticket_times.specs.Asked.{keeps_ticket}
 use Rattle.ap_opening.specs.Authenticators.{is_same}
 use Rattle.ap_opening.specs.HeldKey.{HeldKey}

@@ -2,8 +2,8 @@
 use crate::expect::{BEGIN, END, JUDGED, bytes, mark, same, shows};
 use crate::realm::fixtures::{Checks, LONGEST, Step, TOO_LONG, change, check, first, seen};
 use krb_elements::read;
-use krb_fields::{Name, NameFault, NameRef};
-use principals::{Database, tgs_name};
+use krb_fields::{Name, NameFault, NameRef, tgs_name};
+use principals::Database;
 use std::alloc::Global;
 use std::process::Abort;
 

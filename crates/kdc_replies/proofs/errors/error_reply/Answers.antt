@@ -2,7 +2,7 @@ use Rattle.std.proofs.Common.{rules, ◌≡◌, ◌<◌, length, Option, Some, N
 use Rattle.std.specs.Option.{option_copied, unwrap_or}
 use Rattle.krb_fields.specs.PrincipalName.{Name, name}
 use Rattle.krb_types.specs.KrbError.{krb_error}
-use Rattle.principals.specs.Database.{tgs_name}
+use Rattle.krb_fields.specs.Granting.{tgs_name}
 use Rattle.kdc_replies.proofs.ErrorLengths.{made_is, made_short}
 use Rattle.kdc_replies.proofs.Results.{respelled}
 use Rattle.kdc_replies.proofs.errors.error_reply.Goals as goal

@@ -1,7 +1,7 @@
 use Rattle.std.proofs.Common.{rules, ◌≡◌, ◌≢◌, ◌&&◌, codes, sym, length, get_or, bytes_eq}
 use Rattle.std.specs.Ordering.{eq_by_cmp}
 use Rattle.krb_fields.specs.Name.{name_cmp}
-use Rattle.principals.specs.Database.{tgs_principal}
+use Rattle.krb_fields.specs.Granting.{tgs_principal}
 use Rattle.principals.proofs.Tgs.{tgs_pair, tgs_other}
 use Rattle.principals.proofs.database.is_tgs.Goals as goal
 

@@ -1,7 +1,7 @@
 use Rattle.std.proofs.Common.{rules, ◌≡◌, ◌&&◌, codes, List, ℕ, [], ◌∷◌, sym, ap, ◌∙◌, bytes_eq}
 use Rattle.std.specs.Ordering.{eq_by_cmp}
 use Rattle.krb_fields.specs.Name.{name_cmp}
-use Rattle.principals.specs.Database.{tgs_principal}
+use Rattle.krb_fields.specs.Granting.{tgs_principal}
 use Rattle.principals.proofs.Tgs.{tgs_two}
 use Rattle.principals.proofs.granting.names_tgs.Goals as goal
 

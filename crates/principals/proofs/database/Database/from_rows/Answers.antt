@@ -1,6 +1,6 @@
 use Rattle.std.proofs.Common.{rules, IsTrue}
 use Rattle.std.specs.FinMap.{contains_key}
-use Rattle.principals.specs.Database.{tgs_principal}
+use Rattle.krb_fields.specs.Granting.{tgs_principal}
 use Rattle.principals.specs.NamesLaws.{AllNamesFit}
 use Rattle.principals.proofs.Rows.{is_database-read}
 use Rattle.principals.proofs.database.Database.from_rows.Goals as goal
