@@ -144,14 +144,13 @@ def scripts(notes):
         TOP / "tests" / "run", *(path for folder in ("tests", "bench", "dev") for path in TOP.glob(f"{folder}/**/*.py"))
     ]
     texts = {str(path.relative_to(TOP)): path.read_text().splitlines() for path in files_of}
-    more = {
+    kinds = {
+        "Python": ("", files_of),
         "C and shell": ("", [TOP / ".ci/run", *TOP.glob("tests/**/*.c"), *TOP.glob("docs/*.h")]),
         "comments of code": ("//", TOP.glob("crates/*/src/**/*.rt")),
         "comments of sessions": ("#", TOP.glob("tests/**/*.session")),
     }
-    wide = [f"{name}: {numbers}" for name, lines in texts.items() if (numbers := wide_among(lines))]
-    notes.note(f"Python's lines of more than {WIDEST} columns", "; ".join(wide))
-    for what, (mark, paths) in more.items():
+    for what, (mark, paths) in kinds.items():
         each = ((path, wide_among(path.read_text().splitlines(), mark)) for path in paths)
         wide = [f"{path.relative_to(TOP)}: {numbers}" for path, numbers in each if numbers]
         notes.note(f"{what}: lines of more than {WIDEST} columns", "; ".join(wide))
