@@ -1,6 +1,6 @@
 -- The assigned numbers and key lengths of the encryption types: RFC 3962, section 7; RFC 8009, section 5.
 use Rattle.std.specs.Prelude.{ℕ, ℤ, Bool, true, false}
-use Rattle.enctypes.specs.declared.numbers.TheConstants as numbers
+use Rattle.krb_fields.specs.declared.numbers.TheConstants as numbers
 use Rattle.enctypes.specs.declared.etype.Etype.{Etype}
 use Rattle.enctypes.specs.declared.etype.Etype.TheVariants.{Aes128CtsHmacSha1_96, Aes256CtsHmacSha1_96}
 use Rattle.enctypes.specs.declared.etype.Etype.TheVariants.{Aes128CtsHmacSha256_128, Aes256CtsHmacSha384_192}

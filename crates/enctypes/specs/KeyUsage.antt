@@ -1,6 +1,6 @@
 -- Key usage numbers: RFC 4120, section 7.5.1; 0 for the keys in the database of MIT's KDC.
 use Rattle.std.specs.Prelude.{ℕ}
-use Rattle.enctypes.specs.declared.numbers.TheConstants as numbers
+use Rattle.krb_fields.specs.declared.numbers.TheConstants as numbers
 use Rattle.enctypes.specs.declared.key_usage.KeyUsage.{KeyUsage}
 use Rattle.enctypes.specs.declared.key_usage.KeyUsage.TheVariants.{PaEncTimestamp, Ticket}
 use Rattle.enctypes.specs.declared.key_usage.KeyUsage.TheVariants.{AsRepEncPart, TgsReqAuthenticatorChecksum}

@@ -4,10 +4,11 @@ ghost use Rattle.enctypes.specs.Etype.{hash, number, key_len, mac_key_len, mac_l
 ghost use Rattle.enctypes.specs.Sealing.{macs_cipher};
 ghost use Rattle.enctypes.specs.Suite.{constants_of};
 
+use crate::Etype;
 use crate::hash::Hash;
 use crate::mac_key::{MacKey, SHA1_MAC_LEN};
 use crate::suite::Suite;
-use crate::{Etype, numbers};
+use krb_fields::numbers;
 use prf_kdf::HmacKey;
 
 /// aes128-cts-hmac-sha1-96.

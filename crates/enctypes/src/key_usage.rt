@@ -2,7 +2,7 @@
 ghost use Rattle.std.specs.Prelude.{◌≡◌};
 ghost use Rattle.enctypes.specs.KeyUsage.{usage_number};
 
-use crate::numbers;
+use krb_fields::numbers;
 
 /// A usage of keys by this KDC, its clients or its services. Each usage has derived keys of its own, which keeps the
 /// usages apart.

@@ -42,7 +42,6 @@ mod hash;
 mod key;
 mod key_usage;
 mod mac_key;
-mod numbers;
 mod octets;
 mod passwords;
 mod purpose;

@@ -1,11 +1,11 @@
 -- What is granted, as it stands in the ticket and in the part of the reply that the client decrypts (RFC 4120, sections
 -- 5.3 and 5.4.2).
-use Rattle.std.specs.Prelude.{ℕ, ℤ, pos, ◌<◌, ◌≤◌, IfSome, List, [], ◌∷◌, length, take, Some, None}
+use Rattle.std.specs.Prelude.{ℕ, ℤ, ◌<◌, ◌≤◌, IfSome, List, [], ◌∷◌, length, take, Some, None}
 use Rattle.enctypes.specs.declared.key.Key.{Key}
 use Rattle.enctypes.specs.Etype.{key_len}
 use Rattle.enctypes.specs.declared.etype.Etype.{Etype}
 use Rattle.krb_elements.specs.Codec.{list_of}
-use Rattle.krb_fields.specs.declared.numbers.TheConstants.{DOMAIN_X500_COMPRESS}
+use Rattle.krb_fields.specs.declared.numbers.TheConstants.{DOMAIN_X500_COMPRESS, LR_NONE}
 use Rattle.krb_fields.specs.NameLimits.{IsWithinLimits}
 use Rattle.krb_fields.specs.Typed.{Typed, typed}
 use Rattle.krb_types.specs.EncKdcRepPart.{EncKdcRepPart}
@@ -47,7 +47,7 @@ ticket_part grant = record {
 abbrev pub reply_part : Grant → ℤ → ℤ → EncKdcRepPart
 reply_part grant nonce now = record {
   key = key_part grant.session_key;
-  last_req = record { lr_type = pos 0; lr_value = now } ∷ [];
+  last_req = record { lr_type = LR_NONE; lr_value = now } ∷ [];
   nonce = nonce;
   key_expiration = None;
   flags = grant.flags;

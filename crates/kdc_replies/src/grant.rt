@@ -7,7 +7,7 @@ ghost use Rattle.kdc_replies.specs.Grant.{IsShort, no_realms, ticket_part, reply
 use enctypes::Key;
 use krb_der::KTime;
 use krb_elements::{KerberosStringRef, Lent, Octets, Seq, UInt32};
-use krb_fields::numbers::DOMAIN_X500_COMPRESS;
+use krb_fields::numbers::{DOMAIN_X500_COMPRESS, LR_NONE};
 use krb_fields::{Flags, Name, Typed};
 use krb_types::{EncKdcRepPart, EncTicketPart, LastReq};
 use sealed_parts::key_part;
@@ -100,7 +100,7 @@ impl<'a> Grant<'a> {
         } = self.times;
         let mut last_req = Seq::new(alloc);
         last_req.push(LastReq {
-            lr_type: 0,
+            lr_type: LR_NONE,
             lr_value: now,
         })?;
         Ok(EncKdcRepPart {

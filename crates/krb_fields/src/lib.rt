@@ -10,7 +10,7 @@
 //! let number = Code::KrbApErrSkew.number(); // 37
 //! ```
 //!
-//! A type whose name ends in `Ref` borrows from the bytes of a message. [`numbers`] has the constants of RFC 4120.
+//! A type whose name ends in `Ref` borrows from the bytes of a message. [`numbers`] has the numbers that IANA assigned.
 //!
 //! It has no whole message: `krb_types` has them. It reads no clock: the caller supplies each moment.
 #![tactic(auto)]

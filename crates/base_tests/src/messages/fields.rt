@@ -3,7 +3,7 @@ use crate::expect::{BEGIN, END, JUDGED, mark, same, shows, written};
 use krb_elements::KerberosString;
 use krb_fields::{
     ApOption, Code, Flags, KdcOption, Moment, Name, NameFault, TicketFlag, component_from_text,
-    component_to_text, is_component,
+    component_to_text, is_component, numbers,
 };
 use std::alloc::{AllocError, Global};
 use std::cmp::Ordering;
@@ -359,6 +359,20 @@ const CODES: &[(Code, &str)] = &[
     (Code::KrbErrGeneric, "60 KRB_ERR_GENERIC"),
     (Code::KrbErrFieldToolong, "61 KRB_ERR_FIELD_TOOLONG"),
 ];
+
+#[test]
+fn numbers_are_those_of_the_standard(rt: HostRuntime) {
+    let found = [
+        numbers::NT_PRINCIPAL,
+        numbers::NT_SRV_INST,
+        numbers::DOMAIN_X500_COMPRESS,
+        numbers::LR_NONE,
+        numbers::PA_TGS_REQ,
+        numbers::PA_ENC_TIMESTAMP,
+        numbers::PA_ETYPE_INFO2,
+    ];
+    same(&rt, &"numbers of fields", &found, &[1, 2, 1, 0, 1, 2, 19]);
+}
 
 #[test]
 fn codes_have_their_names(rt: HostRuntime) {
