@@ -4,8 +4,8 @@ use Rattle.krb_fields.specs.Code as codes
 use Rattle.ap_opening.specs.Refusal.{code_of}
 use Rattle.ap_accept.specs.declared.fault.ApFault.{ApFault}
 use Rattle.ap_accept.specs.declared.fault.ApFault.TheVariants as faults
-use Rattle.cred_files.specs.declared.fault.FileFault.{FileFault}
-use Rattle.cred_files.specs.declared.fault.FileFault.TheVariants as files
+use Rattle.cred_files.specs.declared.fault.CredFault.{CredFault}
+use Rattle.cred_files.specs.declared.fault.CredFault.TheVariants as files
 use Rattle.ap_accept_c.specs.declared.status.Status.{Status}
 use Rattle.ap_accept_c.specs.declared.status.Status.TheVariants.{Done, NotAnApReq, NoMemory, BadArgument, TooSmall}
 use Rattle.ap_accept_c.specs.declared.status.Status.TheVariants.{BadKeytab, Closed, Absent, Refused}
@@ -28,7 +28,7 @@ status_of (faults.Refused refusal) = Refused refusal
 status_of faults.Memory = NoMemory
 
 -- why a keytab could not be read
-abbrev pub status_of_file : FileFault → Status
+abbrev pub status_of_file : CredFault → Status
 status_of_file files.Memory = NoMemory
 status_of_file files.BadMagic = BadKeytab
 status_of_file files.Truncated = BadKeytab

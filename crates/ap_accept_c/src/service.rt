@@ -98,7 +98,7 @@ fn keytab_in(alloc: Global, octets: &[u8]) -> Result<Keytab, Status>
 {
     match Keytab::read(alloc, octets) {
         Ok(keytab) => Ok(keytab),
-        Err(fault) => Err(Status::of_file_fault(fault)),
+        Err(fault) => Err(Status::of_cred_fault(fault)),
     }
 }
 

@@ -4,7 +4,7 @@ ghost use Rattle.ap_accept_c.specs.Status.{number_of, status_of, status_of_file}
 ghost use Rattle.ap_accept_c.specs.declared.status.Status.TheVariants as statuses;
 
 use ap_accept::{ApFault, ApRefusal};
-use cred_files::FileFault;
+use cred_files::CredFault;
 use std::alloc::AllocError;
 
 /// The result of a call from C. A status with a code of RFC 4120 has its number; the others are 0 and below.
@@ -60,16 +60,16 @@ impl Status {
     }
 
     /// Returns the status for a keytab that could not be read.
-    pub fn of_file_fault(fault: FileFault) -> Status
+    pub fn of_cred_fault(fault: CredFault) -> Status
         ensures { result ≡ status_of_file fault }
     {
         match fault {
-            FileFault::Memory => Status::NoMemory,
-            FileFault::BadMagic
-            | FileFault::Truncated
-            | FileFault::BadEntry
-            | FileFault::TooLate
-            | FileFault::Absent => Status::BadKeytab,
+            CredFault::Memory => Status::NoMemory,
+            CredFault::BadMagic
+            | CredFault::Truncated
+            | CredFault::BadEntry
+            | CredFault::TooLate
+            | CredFault::Absent => Status::BadKeytab,
         }
     }
 }

@@ -7,7 +7,7 @@ ghost use Rattle.program.specs.World.{with_file, without_file};
 
 use crate::client_store::{ClientStore, PathKind};
 use crate::faults::{Cause, Fault, at, at_file};
-use cred_files::{Cache, Credential, FileFault, Keytab};
+use cred_files::{Cache, CredFault, Credential, Keytab};
 use program::{FileCause, read_file, write_file};
 use std::alloc::Global;
 use std::io;
@@ -85,7 +85,7 @@ fn make_cache(alloc: Global, credential: &Credential) -> Result<Cache, Cause>
     ensures { IfOk result (λ cache. cache ≡ new_cache credential.now) }
 {
     if !credential.has_room() {
-        return Err(Cause::Cache(FileFault::BadEntry));
+        return Err(Cause::Cache(CredFault::BadEntry));
     }
     let client = &credential.client;
     let mut cache = Cache::new(alloc, client.realm.as_slice(), &client.name)?;
@@ -104,7 +104,7 @@ pub fn put_credential(
     ensures err { OnErr result (cache.new ≡ cache.old) }
 {
     if !credential.has_room() {
-        return Err(Cause::Cache(FileFault::BadEntry));
+        return Err(Cause::Cache(CredFault::BadEntry));
     }
     Ok(cache.put(alloc, credential)?)
 }

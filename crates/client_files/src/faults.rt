@@ -2,9 +2,9 @@
 ghost use Rattle.std.specs.Prelude.{◌≡◌, IfOk, Ok};
 
 use client_login::{KdcPlace, Kdcs, LoginError, LoginFault};
-use cred_files::FileFault;
+use cred_files::CredFault;
 use krb_fields::{NameFault, component_to_text};
-use program::FileCause;
+use program::{FileCause, FileFault};
 use std::alloc::{AllocError, AllocFailed, Global};
 use std::net::SocketAddr;
 use std::{fmt, io};
@@ -29,9 +29,9 @@ pub enum Cause {
     /// The line with a password has more than 1,024 bytes.
     LongPassword,
     /// What is wrong with the contents of a cache.
-    Cache(FileFault),
+    Cache(CredFault),
     /// What is wrong with the contents of a keytab.
-    Keytab(FileFault),
+    Keytab(CredFault),
     /// There is no cache.
     NoCache,
     /// The cache belongs to another user, or others may write it.
@@ -66,9 +66,9 @@ pub enum Cause {
 
 impl Cause {
     /// Returns the cause for what is wrong with a keytab.
-    pub(crate) fn of_keytab(fault: FileFault) -> Cause {
+    pub(crate) fn of_keytab(fault: CredFault) -> Cause {
         match fault {
-            FileFault::Memory => Cause::Memory,
+            CredFault::Memory => Cause::Memory,
             fault => Cause::Keytab(fault),
         }
     }
@@ -103,7 +103,7 @@ impl Fault {
     }
 
     /// Returns the fault for a file that could not be read or written, or is refused.
-    pub fn of_file(alloc: Global, fault: program::FileFault<'_>) -> Fault {
+    pub fn of_file(alloc: Global, fault: FileFault<'_>) -> Fault {
         Fault::new(alloc, fault.path, Cause::File(fault.cause))
     }
 
@@ -128,10 +128,7 @@ pub fn at<T: Drop>(alloc: Global, subject: &str, found: Result<T, Cause>) -> Res
 }
 
 /// Returns what was read or written, or the fault of the file.
-pub fn at_file<T: Drop>(
-    alloc: Global,
-    done: Result<T, program::FileFault<'_>>,
-) -> Result<T, Fault> {
+pub fn at_file<T: Drop>(alloc: Global, done: Result<T, FileFault<'_>>) -> Result<T, Fault> {
     match done {
         Ok(value) => Ok(value),
         Err(fault) => Err(Fault::of_file(alloc, fault)),
@@ -142,7 +139,7 @@ pub fn at_file<T: Drop>(
 pub fn at_password(
     alloc: Global,
     source: &str,
-    read: Result<Option<Vec<u8>>, program::FileFault<'_>>,
+    read: Result<Option<Vec<u8>>, FileFault<'_>>,
 ) -> Result<Vec<u8>, Fault> {
     match at_file(alloc, read)? {
         Some(pass) => Ok(pass),
@@ -243,10 +240,10 @@ impl From<AllocError> for Cause {
 }
 
 /// Converts what is wrong with a cache.
-impl From<FileFault> for Cause {
-    fn from(fault: FileFault) -> Cause {
+impl From<CredFault> for Cause {
+    fn from(fault: CredFault) -> Cause {
         match fault {
-            FileFault::Memory => Cause::Memory,
+            CredFault::Memory => Cause::Memory,
             fault => Cause::Cache(fault),
         }
     }

@@ -3,7 +3,7 @@ ghost use Rattle.std.specs.Prelude.{◌≡◌, option_copied};
 ghost use Rattle.client_files.specs.Holding.{good_credential, if_good, is_good};
 
 use crate::faults::Cause;
-use cred_files::{Cache, Credential, FileFault};
+use cred_files::{Cache, CredFault, Credential};
 use krb_fields::{Moment, Name, TicketFlag, tgs_name};
 use std::alloc::Global;
 
@@ -12,7 +12,7 @@ pub fn granting_ticket(alloc: Global, cache: &Cache) -> Result<&Credential, Caus
     let service = tgs_name(alloc, cache.principal().realm.as_slice())?;
     match cache.find(&service) {
         Ok(granting) => Ok(granting),
-        Err(_) => Err(Cause::Cache(FileFault::Absent)),
+        Err(_) => Err(Cause::Cache(CredFault::Absent)),
     }
 }
 

@@ -1,7 +1,7 @@
 //! The words for each cause: one for programs, and what it means, for people.
 use crate::faults::Cause;
 use client_login::{Doubt, LoginError};
-use cred_files::FileFault;
+use cred_files::CredFault;
 use krb_fields::Second;
 use program::FileCause;
 use std::fmt;
@@ -80,33 +80,33 @@ fn file_cause_text(cause: FileCause) -> &'static str {
     }
 }
 
-fn cache_words(fault: FileFault) -> (&'static str, &'static str) {
+fn cache_words(fault: CredFault) -> (&'static str, &'static str) {
     match fault {
-        FileFault::BadMagic => (
+        CredFault::BadMagic => (
             "BadMagic",
             "the file is not a credential cache of version 4",
         ),
-        FileFault::Truncated => ("Truncated", "the file ends too early"),
-        FileFault::BadEntry => (
+        CredFault::Truncated => ("Truncated", "the file ends too early"),
+        CredFault::BadEntry => (
             "BadEntry",
             "a part of the credential is too long for a cache",
         ),
-        FileFault::TooLate => (
+        CredFault::TooLate => (
             "TooLate",
             "a cache has room for times from the year 1970 to 2106, and a time of the ticket is another",
         ),
-        FileFault::Absent => (
+        CredFault::Absent => (
             "Absent",
             "there is no usable ticket-granting ticket of the realm: run kinit",
         ),
-        FileFault::Memory => ("", "out of memory"),
+        CredFault::Memory => ("", "out of memory"),
     }
 }
 
-fn keytab_words(fault: FileFault) -> (&'static str, &'static str) {
+fn keytab_words(fault: CredFault) -> (&'static str, &'static str) {
     match fault {
-        FileFault::BadMagic => ("BadMagic", "the file is not a keytab of version 2"),
-        FileFault::BadEntry => (
+        CredFault::BadMagic => ("BadMagic", "the file is not a keytab of version 2"),
+        CredFault::BadEntry => (
             "BadEntry",
             "the key of an entry has the wrong length for its encryption type",
         ),

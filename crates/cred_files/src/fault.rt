@@ -1,16 +1,16 @@
 //! Errors of reading, searching and changing files.
 ghost use Rattle.std.specs.Prelude.{◌≡◌};
 ghost use Rattle.cred_files.specs.declared.fault.Cut.TheVariants as cuts;
-ghost use Rattle.cred_files.specs.declared.fault.FileFault.TheVariants.{Memory};
+ghost use Rattle.cred_files.specs.declared.fault.CredFault.TheVariants.{Memory};
 ghost use Rattle.cred_files.specs.Reading.{fault_of};
 
 use std::alloc::{AllocError, AllocFailed};
 use std::error::Error;
 use std::fmt;
 
-/// What is wrong with a file or a request to it.
+/// What is wrong with a keytab or a credential cache, or with a request to it.
 #[derive(Clone, Copy, Debug, PartialEq, Eq)]
-pub enum FileFault {
+pub enum CredFault {
     /// The file has fewer than two bytes, or doesn't start with those of its format.
     BadMagic,
     /// The file ends within a field, an entry or a hole.
@@ -26,20 +26,20 @@ pub enum FileFault {
     Memory,
 }
 
-impl fmt::Display for FileFault {
+impl fmt::Display for CredFault {
     fn fmt<W: fmt::Write>(&self, f: &mut fmt::Formatter<W>) -> fmt::Result {
         f.write_str(match self {
-            FileFault::BadMagic => "the file does not start with the bytes of its format",
-            FileFault::Truncated => "the file ends too early",
-            FileFault::BadEntry => "an entry is invalid, or too long for the file",
-            FileFault::TooLate => "a time is out of the range of the file format",
-            FileFault::Absent => "there is no such credential",
-            FileFault::Memory => "out of memory",
+            CredFault::BadMagic => "the file does not start with the bytes of its format",
+            CredFault::Truncated => "the file ends too early",
+            CredFault::BadEntry => "an entry is invalid, or too long for the file",
+            CredFault::TooLate => "a time is out of the range of the file format",
+            CredFault::Absent => "there is no such credential",
+            CredFault::Memory => "out of memory",
         })
     }
 }
 
-impl Error for FileFault {}
+impl Error for CredFault {}
 
 /// Why no value could be read from the front of bytes.
 #[derive(Clone, Copy, PartialEq, Eq)]
@@ -66,31 +66,31 @@ impl<T: Drop> From<AllocFailed<T>> for Cut {
     }
 }
 
-impl From<AllocError> for FileFault {
+impl From<AllocError> for CredFault {
     ghost from_gives = { λ _ e. e ≡ Memory };
 
-    fn from(_error: AllocError) -> FileFault {
-        FileFault::Memory
+    fn from(_error: AllocError) -> CredFault {
+        CredFault::Memory
     }
 }
 
-impl<T: Drop> From<AllocFailed<T>> for FileFault {
+impl<T: Drop> From<AllocFailed<T>> for CredFault {
     ghost from_gives = { λ _ e. e ≡ Memory };
 
-    fn from(_error: AllocFailed<T>) -> FileFault {
-        FileFault::Memory
+    fn from(_error: AllocFailed<T>) -> CredFault {
+        CredFault::Memory
     }
 }
 
 /// A field extends past the end of the file. (If it extends past the end of its entry, that is a
-/// [`FileFault::BadEntry`].)
-impl From<Cut> for FileFault {
+/// [`CredFault::BadEntry`].)
+impl From<Cut> for CredFault {
     ghost from_gives = { λ cut e. e ≡ fault_of cut };
 
-    fn from(cut: Cut) -> FileFault {
+    fn from(cut: Cut) -> CredFault {
         match cut {
-            Cut::End => FileFault::Truncated,
-            Cut::Memory => FileFault::Memory,
+            Cut::End => CredFault::Truncated,
+            Cut::Memory => CredFault::Memory,
         }
     }
 }

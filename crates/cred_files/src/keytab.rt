@@ -8,7 +8,7 @@ ghost use Rattle.cred_files.specs.KeytabReading.{Gives, GivesBy, GivesNext, entr
 ghost use Rattle.cred_files.specs.Reading.{IsReadUnlessMemory};
 ghost use Rattle.cred_files.specs.declared.keytab_entry.KeytabEntry as entries;
 
-use crate::fault::FileFault;
+use crate::fault::CredFault;
 use crate::keytab_entry::{HOLES, KeytabEntry, read_entry, write_entry};
 use crate::magic::{FIRST, KEYTAB, after_magic};
 use crate::reader::Reader;
@@ -69,7 +69,7 @@ impl Model for Keytab {
 }
 
 #[tactic(auto, unfolding(crate::specs::KeytabReading::next_at))]
-fn next_part(alloc: Global, reader: &mut Reader<'_>) -> Result<Part, FileFault>
+fn next_part(alloc: Global, reader: &mut Reader<'_>) -> Result<Part, CredFault>
     ensures { GivesNext result reader.new (next_at reader.old) }
 {
     if reader.is_empty() {
@@ -92,7 +92,7 @@ fn next_part(alloc: Global, reader: &mut Reader<'_>) -> Result<Part, FileFault>
 }
 
 /// Reads entries to the end of the file.
-fn read_entries(alloc: Global, bytes: &[u8]) -> Result<Vec<KeytabEntry>, FileFault>
+fn read_entries(alloc: Global, bytes: &[u8]) -> Result<Vec<KeytabEntry>, CredFault>
     ensures { GivesBy (λ v. v.items) result (entries_at bytes.now) }
 {
     let mut entries = Vec::new(alloc);
@@ -108,7 +108,7 @@ fn read_entries(alloc: Global, bytes: &[u8]) -> Result<Vec<KeytabEntry>, FileFau
 }
 
 /// Appends an entry after its length.
-fn put_entry(alloc: Global, out: &mut Vec<u8>, entry: &KeytabEntry) -> Result<(), FileFault>
+fn put_entry(alloc: Global, out: &mut Vec<u8>, entry: &KeytabEntry) -> Result<(), CredFault>
     ensures text { OnOk result (out.new.items ≡ out.old.items ++ part_text entry.now) }
     ensures spelled { IfOk result (λ done. IsPart (Some entry.now) (part_text entry.now)) }
     ensures fault { IfErr result (λ fault. IsNotWritten (HasRoom entry.now) fault) }
@@ -120,7 +120,7 @@ fn put_entry(alloc: Global, out: &mut Vec<u8>, entry: &KeytabEntry) -> Result<()
 }
 
 /// Appends entries, each after its length.
-fn put_entries(alloc: Global, out: &mut Vec<u8>, entries: &[KeytabEntry]) -> Result<(), FileFault>
+fn put_entries(alloc: Global, out: &mut Vec<u8>, entries: &[KeytabEntry]) -> Result<(), CredFault>
     ensures text { OnOk result (out.new.items ≡ out.old.items ++ flat_map part_text entries.now) }
     ensures spelled { IfOk result (λ done. All (λ e. IsPart (Some e) (part_text e)) entries.now) }
     ensures fault { IfErr result (λ fault. IsNotWritten (All HasRoom entries.now) fault) }
@@ -166,7 +166,7 @@ fn newest<'a>(
 
 impl Keytab {
     /// Returns a keytab with copies of these entries. Fails with `BadEntry` if one is too long for a file.
-    pub fn new(alloc: Global, entries: &[KeytabEntry]) -> Result<Keytab, FileFault>
+    pub fn new(alloc: Global, entries: &[KeytabEntry]) -> Result<Keytab, CredFault>
         ensures ok { IfOk result (λ keytab. keytab ≡ entries.now) }
         ensures room { IfOk result (λ keytab. All HasRoom entries.now) }
         ensures fault { IfErr result (λ fault. IsNotWritten (All HasRoom entries.now) fault) }
@@ -194,7 +194,7 @@ impl Keytab {
     }
 
     /// Reads a keytab from the bytes of a file.
-    pub fn read(alloc: Global, bytes: &[u8]) -> Result<Keytab, FileFault>
+    pub fn read(alloc: Global, bytes: &[u8]) -> Result<Keytab, CredFault>
         // If it succeeds, the file holds this keytab.
         ensures found { IfOk result (λ keytab. IsKeytab keytab bytes.now) }
         // If the file holds a keytab, it succeeds, unless memory runs out.
@@ -210,7 +210,7 @@ impl Keytab {
 
     /// Returns the bytes of the file. Fails with `BadEntry` if an entry is too long for it. One with 2147483644 bytes
     /// or more may be: it was read without the version of four bytes, which is always written.
-    pub fn write(&self, alloc: Global) -> Result<Vec<u8>, FileFault>
+    pub fn write(&self, alloc: Global) -> Result<Vec<u8>, CredFault>
         ensures text { IfOk result (λ bytes. bytes.items ≡ keytab_text self.now) }
         // So reading them gives the same entries.
         ensures spelled { IfOk result (λ bytes. IsKeytab self.now bytes.items) }

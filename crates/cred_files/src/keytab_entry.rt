@@ -9,7 +9,7 @@ ghost use Rattle.cred_files.specs.Keytab.{is_numbered, is_typed, passes, version
 ghost use Rattle.cred_files.specs.KeytabReading.{Gives, content_at};
 ghost use Rattle.cred_files.specs.Reading.{Reads};
 
-use crate::fault::{Cut, FileFault};
+use crate::fault::{CredFault, Cut};
 use crate::principal::is_same;
 use crate::reader::Reader;
 use crate::stored::{Stored, put_all, read_several};
@@ -149,20 +149,20 @@ pub fn known_etype(number: u16) -> Option<Etype>
 
 /// Reads an entry, or `None` if its key has an unsupported encryption type.
 #[tactic(auto, unfolding(crate::specs::KeytabReading::content_at))]
-pub fn read_entry(alloc: Global, content: &[u8]) -> Result<Option<KeytabEntry>, FileFault>
+pub fn read_entry(alloc: Global, content: &[u8]) -> Result<Option<KeytabEntry>, CredFault>
     ensures { Gives result (content_at content.now) }
 {
     let mut reader = Reader::new(content);
     let fields = match read_fields(alloc, &mut reader) {
         Ok(fields) => fields,
-        Err(Cut::End) => return Err(FileFault::BadEntry),
-        Err(Cut::Memory) => return Err(FileFault::Memory),
+        Err(Cut::End) => return Err(CredFault::BadEntry),
+        Err(Cut::Memory) => return Err(CredFault::Memory),
     };
     let Some(etype) = known_etype(fields.key_type) else {
         return Ok(None);
     };
     let Some(key) = Key::new(etype, fields.key.as_slice()) else {
-        return Err(FileFault::BadEntry);
+        return Err(CredFault::BadEntry);
     };
     let version = full_version(fields.version, reader.rest());
     let EntryFields { realm, name, .. } = fields;
@@ -222,20 +222,20 @@ fn put_fields(out: &mut Vec<u8>, entry: &KeytabEntry) -> Result<(), AllocError>
 
 /// Returns the bytes of an entry, without their length. Fails with `BadEntry` if one of its lengths or its number of
 /// components doesn't fit.
-pub fn write_entry(alloc: Global, entry: &KeytabEntry) -> Result<Vec<u8>, FileFault>
+pub fn write_entry(alloc: Global, entry: &KeytabEntry) -> Result<Vec<u8>, CredFault>
     ensures room { IfOk result (λ octets. HasRoom entry.now) }
     ensures text { IfOk result (λ octets. octets.items ≡ entry_text entry.now) }
     ensures spelled { IfOk result (λ octets. IsEntry (Some entry.now) octets.items) }
     ensures fault { IfErr result (λ fault. IsNotWritten (HasRoom entry.now) fault) }
 {
     if !has_counts(entry) {
-        return Err(FileFault::BadEntry);
+        return Err(CredFault::BadEntry);
     }
     let mut octets = Vec::new(alloc);
     put_fields(&mut octets, entry)?;
     put_u32(&mut octets, entry.version)?;
     if octets.len() >= HOLES {
-        return Err(FileFault::BadEntry);
+        return Err(CredFault::BadEntry);
     }
     Ok(octets)
 }

@@ -34,7 +34,7 @@ mod writer;
 
 pub use cache::Cache;
 pub use credential::{Credential, SessionKey, Times, TypedOctets};
-pub use fault::FileFault;
+pub use fault::CredFault;
 pub use keytab::{Keytab, Miss};
 pub use keytab_entry::KeytabEntry;
 pub use principal::Principal;

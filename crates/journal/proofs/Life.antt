@@ -38,14 +38,14 @@ use Rattle.journal.specs.Life.{all_after, kept_by_process, kept_in, past_after, 
 use Rattle.journal.specs.Life.Call.{Keep, Mend}
 use Rattle.journal.specs.Life.Stage.{Ran, Sealed, Lost}
 use Rattle.journal.specs.Sealing.{HasSealed}
+use Rattle.journal.specs.declared.sealing.SealOutcome.{SealOutcome}
+use Rattle.journal.specs.declared.sealing.SealOutcome.TheVariants as outcomes
 use Rattle.journal.specs.World.{World}
 use Rattle.journal.specs.declared.decision.Doubt.{Doubt}
 use Rattle.journal.specs.declared.decision.Doubt.TheVariants.{Absent, Damaged}
 use Rattle.journal.specs.declared.decision.Found.{Found}
 use Rattle.journal.specs.declared.decision.Found.TheVariants.{Nothing, Broken, Whole}
 use Rattle.journal.specs.declared.reading.Journal.{Journal}
-use Rattle.journal.specs.declared.sealing.NotSealed.{NotSealed}
-use Rattle.journal.specs.declared.sealing.NotSealed.TheVariants.{Doubted, Failed}
 use Rattle.journal.specs.declared.decision.Start.{Start}
 use Rattle.journal.specs.declared.decision.Start.TheVariants.{Resumes, Refuses}
 use Rattle.journal.specs.declared.journal_file.NotKept.{NotKept}
@@ -425,11 +425,11 @@ world_or w None = w
 one_world : (old new : World) → Some new ≡ Some old → new ≡ old
 one_world old new same = ap (world_or old) same
 
-pub sealing_left : {E : Type 0} (place : Place) (older newer : Found) (result : Result Unit (NotSealed E)) (old new : World)
+pub sealing_left : {E : Type 0} (place : Place) (older newer : Found) (result : Result SealOutcome E) (old new : World)
     → HasSealed place older newer (Some old) result (Some new) → IsStage Sealed old new
-sealing_left place older newer (Ok done) old new (check, sealed, left) = (check, left)
-sealing_left place older newer (Err (Doubted doubt)) old new (doubted, same) = (old.seal, one_world old new same)
-sealing_left place older newer (Err (Failed fault)) old new (check, sealed, (part, rest, whole, left)) = (part, left)
+sealing_left place older newer (Ok outcomes.Sealed) old new (check, sealed, left) = (check, left)
+sealing_left place older newer (Ok (outcomes.Doubted doubt)) old new (doubted, same) = (old.seal, one_world old new same)
+sealing_left place older newer (Err fault) old new (check, sealed, (part, rest, whole, left)) = (part, left)
 
 -- one more call is made
 one_more_call : (calls : List Call) (call : Call) (old next new : JournalState) → AreCalls calls old next → IsCall call next new

@@ -129,8 +129,8 @@ abbrev pub floor_on : ℤ → Journal → ℤ
 floor_on floor j = int_max floor j.high
 
 -- What is older than the skew before the start is refused by its time, and nothing else is. If the clock is behind the
--- journal, everything is refused that may have come before by either: the floor is above all that the journal holds, and
--- not below that of a start without one.
+-- journal, everything is refused that may have come before by either: the floor is above all that the journal holds,
+-- and not below that of a start without one.
 abbrev pub resumed_floor : Place → Journal → Found → ℤ
 resumed_floor place j older =
     if is_early place j older

@@ -1,4 +1,5 @@
--- The life of a journal: processes that have its files one after the other, and what no start resumes without after them.
+-- The life of a journal: processes that have its files one after the other, and what no start resumes without after
+-- them.
 use Rattle.std.specs.Prelude.{◌≡◌, ℕ, ℤ, pos, ◌-ℤ◌, ◌≤ℤ◌, ⊤, Bool, true, false, List, [], ◌∷◌, ◌++◌, Option, Some, Result}
 use Rattle.std.specs.Prelude.{Contains, IfSome, if◌then◌else◌, is_ok}
 use Rattle.krb_fields.specs.Skew.{skew}
@@ -87,9 +88,9 @@ seen_asked (asked ∷ others) = with_any asked.seen (seen_asked others)
 
 -- ---- one process
 
--- A process: the moment of its start, what it found in the newer file, what it made of both files, its floor, whether its
--- journal began, and its calls from then on. It may end after any of them. One that is killed within a call counts as one
--- whose call failed: the calls on the files that it did not come to failed and did nothing.
+-- A process: the moment of its start, what it found in the newer file, what it made of both files, its floor, whether
+-- its journal began, and its calls from then on. It may end after any of them. One that is killed within a call counts
+-- as one whose call failed: the calls on the files that it did not come to failed and did nothing.
 pub record Process : Type 0 where
   pub at : Moment
   pub newer : Found
@@ -121,8 +122,9 @@ kept_by_process p = kept_in (known_by p.floor p.start) (known_by p.floor p.start
 
 -- ---- a life
 
--- What happens to the files: a process has them; their seal is made or broken; or they are lost, and may be anything, since
--- the system stopped without warning, or since somebody removed or replaced them. A reading leaves them as they are.
+-- What happens to the files: a process has them; their seal is made or broken; or they are lost, and may be anything,
+-- since the system stopped without warning, or since somebody removed or replaced them. A reading leaves them as they
+-- are.
 pub data Stage : Type 0 where
   Ran : Process → Stage
   Sealed : Stage
@@ -154,8 +156,8 @@ unfoldable pub past_after_all : Past → List Stage → Past
 past_after_all past [] = past
 past_after_all past (stage ∷ life) = past_after_all (past_after past stage) life
 
--- What was kept is not forgotten by a start that resumes with files that aren't lost, with a floor at most the skew before
--- the moment of the start before it; nor by one that refuses, with a floor above all of it.
+-- What was kept is not forgotten by a start that resumes with files that aren't lost, with a floor at most the skew
+-- before the moment of the start before it; nor by one that refuses, with a floor above all of it.
 abbrev pub IsLater : Resumption → Past → ℤ → Start → Type 0
 IsLater kept past floor (Resumes found check) = (past.are_lost ≡ false) × (past.low ≤ℤ found.floor)
 IsLater kept past floor (Refuses doubt) = IsAbove floor kept
@@ -200,8 +202,8 @@ abbrev pub AllIsKept : Type 0
 AllIsKept = (r : Resumption) (calls : List Call) (last : Call) → is_ok (result_of last) ≡ true
     → kept_in r r (calls ++ last ∷ []) ≡ record { floor = r.floor; seen = r.seen ++ seen_in (calls ++ last ∷ []) }
 
--- The floor of a start that resumes is not below its own moment less the skew: so where clocks don't go back, it is later
--- than the start before it.
+-- The floor of a start that resumes is not below its own moment less the skew: so where clocks don't go back, it is
+-- later than the start before it.
 abbrev pub StartsAreLater : Type 0
 StartsAreLater = (place : Place) (older newer : Found) (found : Resumption) (check : Option (List ℕ))
     → start_of place older newer ≡ Resumes found check → (place.at.sec -ℤ pos skew) ≤ℤ found.floor

@@ -8,15 +8,15 @@ use Rattle.journal.specs.declared.decision.Found.{Found}
 use Rattle.journal.specs.declared.decision.Found.TheVariants.{Whole}
 use Rattle.journal.specs.declared.decision.Start.TheVariants.{Resumes}
 use Rattle.journal.specs.declared.reading.Journal.{Journal}
-use Rattle.journal.specs.declared.sealing.NotSealed.{NotSealed}
-use Rattle.journal.specs.declared.sealing.NotSealed.TheVariants.{Doubted, Failed}
+use Rattle.journal.specs.declared.sealing.SealOutcome.{SealOutcome}
+use Rattle.journal.specs.declared.sealing.SealOutcome.TheVariants.{Doubted, Sealed}
 
 -- the files are sealed, or a start would refuse them and nothing was done, or the call on the files failed
-abbrev pub HasSealed : {E : Type 0} → Place → Found → Found → Option World → Result Unit (NotSealed E) → Option World → Type 0
-HasSealed place older newer old (Ok done) new =
+abbrev pub HasSealed : {E : Type 0} → Place → Found → Found → Option World → Result SealOutcome E → Option World → Type 0
+HasSealed place older newer old (Ok Sealed) new =
     (check : List ℕ) × (seal_of place older newer ≡ Ok check) × Leaves (Seals check true) old new
-HasSealed place older newer old (Err (Doubted doubt)) new = (seal_of place older newer ≡ Err doubt) × (new ≡ old)
-HasSealed place older newer old (Err (Failed fault)) new =
+HasSealed place older newer old (Ok (Doubted doubt)) new = (seal_of place older newer ≡ Err doubt) × (new ≡ old)
+HasSealed place older newer old (Err fault) new =
     (check : List ℕ) × (seal_of place older newer ≡ Ok check) × Leaves (Seals check false) old new
 
 -- ---- the laws
@@ -27,8 +27,9 @@ abbrev pub SealsWhatResumes : Type 0
 SealsWhatResumes = (place : Place) (older newer : Found) (check : List ℕ) → seal_of place older newer ≡ Ok check
     → (r : Resumption) × (behind : Option (List ℕ)) × (start_of place older newer ≡ Resumes r behind)
 
--- A start resumes only with a journal of its boot, or with one that is sealed. A server breaks the seal before its first
--- reply. So if the system stops without warning, which may take any of the last octets of the files, the next start refuses.
+-- A start resumes only with a journal of its boot, or with one that is sealed. A server breaks the seal before its
+-- first reply. So if the system stops without warning, which may take any of the last octets of the files, the next
+-- start refuses.
 abbrev pub ThisBootOrSealed : Type 0
 ThisBootOrSealed = (place : Place) (older newer : Found) (r : Resumption) (behind : Option (List ℕ))
     → start_of place older newer ≡ Resumes r behind

@@ -122,7 +122,7 @@ fn resumes(
 }
 
 /// Returns the seal of these journals: the last check of the newer one, if a start would resume with both.
-pub fn seal_of(place: &Place<'_>, older: &Found, newer: &Found) -> Result<[u8; 16], Doubt>
+pub(crate) fn seal_of(place: &Place<'_>, older: &Found, newer: &Found) -> Result<[u8; 16], Doubt>
     ensures { result ≡ seal_of place.now older.now newer.now }
 {
     match newer {

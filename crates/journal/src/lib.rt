@@ -37,7 +37,7 @@ mod reading;
 mod sealing;
 mod writing;
 
-pub use decision::{Doubt, Found, Place, Start, seal_of, start_of};
+pub use decision::{Doubt, Found, Place, Start, start_of};
 pub use entry::{Entry, EntryRef};
 pub use fault::{FilesFault, JournalFault};
 pub use files::{BeginFault, Begun, FileText, JournalFiles, News, Part};
@@ -48,5 +48,5 @@ pub use keeping::{above, floor_on, write_beginning, write_seen};
 pub use laws::{every_front, every_journal, every_journal_life, every_seal};
 pub use memory_files::{MemoryFiles, WriteFailures};
 pub use reading::{Journal, read_journal};
-pub use sealing::{NotSealed, seal_journal};
+pub use sealing::{SealOutcome, seal_journal};
 pub use writing::{Written, write_entry, write_header};

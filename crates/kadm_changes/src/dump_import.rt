@@ -19,7 +19,7 @@ use crate::dump_reports::{
 use crate::reason::Reason;
 use crate::stop::Stop;
 use crate::target::Target;
-use cred_files::{Keytab, KeytabEntry};
+use cred_files::{CredFault, Keytab, KeytabEntry};
 use krb_elements::KerberosString;
 use mit_dump::{DumpedPrincipal, dump_realm, read_dump};
 use principal_rows::{Entry, NameMap, Row};
@@ -82,7 +82,7 @@ fn read_stash<'p, T: Store>(alloc: Global, store: &mut T, path: &'p str) -> Resu
     let octets = read_file(alloc, store, path)?;
     match Keytab::read(alloc, &octets) {
         Ok(stash) => Ok(stash),
-        Err(cred_files::FileFault::Memory) => Err(Stop::from(AllocError)),
+        Err(CredFault::Memory) => Err(Stop::from(AllocError)),
         Err(_) => Err(Stop::Refused(Reason::BadStash)),
     }
 }

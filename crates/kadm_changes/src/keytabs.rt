@@ -10,7 +10,7 @@ use crate::joining::joined;
 use crate::reason::Reason;
 use crate::stop::Stop;
 use crate::target::Target;
-use cred_files::{Keytab, KeytabEntry};
+use cred_files::{CredFault, Keytab, KeytabEntry};
 use krb_elements::KerberosString;
 use krb_fields::Name;
 use principal_rows::KeyVersion;
@@ -166,11 +166,7 @@ fn read_judged<'p, T: Store>(
 }
 
 /// Returns the content of an old keytab that was checked, followed by the entries of a new one.
-fn behind(
-    alloc: Global,
-    old: Option<Vec<u8>>,
-    new: Vec<u8>,
-) -> Result<Vec<u8>, cred_files::FileFault>
+fn behind(alloc: Global, old: Option<Vec<u8>>, new: Vec<u8>) -> Result<Vec<u8>, CredFault>
     ensures { IfOk result (λ all. IsBehind (option_map (λ octets. octets.items) old) new.items all.items) }
 {
     match old {

@@ -2,6 +2,7 @@
 ghost use Rattle.kadm_changes.specs.Stops.{IsFailed};
 
 use crate::reason::Reason;
+use cred_files::CredFault;
 use krb_fields::NameFault;
 use principal_rows::KeyListFault;
 use principals::ChangeFault;
@@ -115,12 +116,12 @@ impl From<ChangeFault> for Stop<'_> {
     }
 }
 
-impl From<cred_files::FileFault> for Stop<'_> {
-    fn from(fault: cred_files::FileFault) -> Self {
+impl From<CredFault> for Stop<'_> {
+    fn from(fault: CredFault) -> Self {
         match fault {
-            cred_files::FileFault::BadMagic => Stop::Refused(Reason::BadMagic),
-            cred_files::FileFault::Truncated => Stop::Refused(Reason::Truncated),
-            cred_files::FileFault::BadEntry => Stop::Refused(Reason::BadEntry),
+            CredFault::BadMagic => Stop::Refused(Reason::BadMagic),
+            CredFault::Truncated => Stop::Refused(Reason::Truncated),
+            CredFault::BadEntry => Stop::Refused(Reason::BadEntry),
             // the others concern caches
             _ => Stop::from(AllocError),
         }

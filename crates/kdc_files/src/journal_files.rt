@@ -1,5 +1,5 @@
 //! The files of a journal: which process holds them, and what is found in them.
-use crate::files::{FileFault, read_at_most, read_whole};
+use crate::files::{ServerFileFault, read_up_to, read_whole};
 use crate::journal_store::{JournalPlace, SystemJournal};
 use crate::journals::Journals;
 use crate::plain_files::{open_plain, open_plain_with, own_user};
@@ -36,7 +36,7 @@ pub struct OpenedJournals<'a, F, W> {
 pub fn open_journals<'a, F: Files<File = File>, W: Write + Drop>(
     alloc: Global,
     place: JournalPlace<'a, '_, F, W>,
-) -> Result<OpenedJournals<'a, F, W>, FileFault> {
+) -> Result<OpenedJournals<'a, F, W>, ServerFileFault> {
     let files = place.files;
     let mut held = SystemJournal::open(alloc, place)?;
     let boot = boot_id(alloc, files)?;
@@ -59,11 +59,11 @@ fn found<F: Files<File = File>, W: Write + Drop>(
     alloc: Global,
     held: &mut SystemJournal<'_, F, W>,
     part: Part,
-) -> Result<Found, FileFault> {
+) -> Result<Found, ServerFileFault> {
     match read_part(alloc, held, part) {
         Ok(found) => Ok(found),
-        Err(FilesFault::Files(error)) => Err(FileFault::from(error)),
-        Err(FilesFault::Memory | FilesFault::Unfit) => Err(FileFault::from(AllocError)),
+        Err(FilesFault::Files(error)) => Err(ServerFileFault::from(error)),
+        Err(FilesFault::Memory | FilesFault::Unfit) => Err(ServerFileFault::from(AllocError)),
     }
 }
 
@@ -112,8 +112,8 @@ fn if_there(opened: io::Result<File>) -> io::Result<Option<File>> {
 }
 
 /// Reads the system's name for its current boot.
-fn boot_id<F: Files<File = File>>(alloc: Global, files: &F) -> Result<Octets, FileFault> {
-    let octets = read_at_most(alloc, File::open(files, BOOT_ID)?, LONGEST_BOOT_ID)?;
+fn boot_id<F: Files<File = File>>(alloc: Global, files: &F) -> Result<Octets, ServerFileFault> {
+    let octets = read_up_to(alloc, File::open(files, BOOT_ID)?, LONGEST_BOOT_ID)?;
     Ok(Octets::from_slice(alloc, octets.trim_ascii())?)
 }
 
@@ -127,7 +127,8 @@ pub(crate) fn text_at<F: Files<File = File>>(
     text_in(alloc, files, file.as_ref())
 }
 
-/// Reads an open file. One of another user, or one that others may write, is no journal, nor is one that is too long.
+/// Reads an open file. One of another user, or one that others may write, is no journal, nor is one that is longer than
+/// a database may be.
 pub(crate) fn text_in<F: Files<File = File>>(
     alloc: Global,
     files: &F,
@@ -141,7 +142,7 @@ pub(crate) fn text_in<F: Files<File = File>>(
     }
     match read_whole(alloc, file) {
         Ok(text) => Ok(FileText::Octets(text)),
-        Err(FileFault::File(FileCause::Failed(error))) => Err(error),
+        Err(ServerFileFault::File(FileCause::Failed(error))) => Err(error),
         Err(_) => Ok(FileText::Unusable),
     }
 }

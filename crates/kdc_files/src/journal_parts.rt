@@ -1,5 +1,5 @@
 //! The files beside one another that make up a journal, and whether what has their names is a journal's.
-use crate::files::FileFault;
+use crate::files::ServerFileFault;
 use crate::plain_files::open_plain;
 use journal::{HEAD, may_be_journal};
 use program::FileCause;
@@ -65,7 +65,7 @@ impl Paths {
     }
 
     /// Refuses names that something else than a journal has. Nothing is changed by that.
-    pub(crate) fn check<F: Files>(&self, alloc: Global, files: &F) -> Result<(), FileFault> {
+    pub(crate) fn check<F: Files>(&self, alloc: Global, files: &F) -> Result<(), ServerFileFault> {
         check_part(alloc, files, self.newer.as_str(), JournalPart::Newer)?;
         check_part(alloc, files, self.older.as_str(), JournalPart::Older)?;
         check_part(alloc, files, self.beside.as_str(), JournalPart::Beside)?;
@@ -87,11 +87,11 @@ fn check_part<F: Files>(
     files: &F,
     path: &str,
     part: JournalPart,
-) -> Result<(), FileFault> {
+) -> Result<(), ServerFileFault> {
     if may_be_replaced(alloc, files, path)? {
         return Ok(());
     }
-    Err(FileFault::NotJournal(part))
+    Err(ServerFileFault::NotJournal(part))
 }
 
 /// Refuses a path that has something else than a plain file of at most this many bytes.
@@ -100,12 +100,12 @@ fn check_short<F: Files>(
     path: &str,
     most: u64,
     part: JournalPart,
-) -> Result<(), FileFault> {
+) -> Result<(), ServerFileFault> {
     match fs::metadata(files, path) {
         Ok(file) if file.is_file() && file.len() <= most => Ok(()),
-        Ok(_) => Err(FileFault::NotJournal(part)),
+        Ok(_) => Err(ServerFileFault::NotJournal(part)),
         Err(error) if error.kind() == ErrorKind::NotFound => Ok(()),
-        Err(error) => Err(FileFault::from(error)),
+        Err(error) => Err(ServerFileFault::from(error)),
     }
 }
 
@@ -121,22 +121,30 @@ pub(crate) fn require_replaceable<F: Files>(
             ErrorKind::AlreadyExists,
             "a file that is no journal has the name of one of its files",
         )),
-        Err(FileFault::File(FileCause::Failed(error))) => Err(error),
+        Err(ServerFileFault::File(FileCause::Failed(error))) => Err(error),
         Err(_) => Err(Error::from(ErrorKind::InvalidData)),
     }
 }
 
 /// Checks whether a path has nothing, or a plain file that begins as a journal does.
-fn may_be_replaced<F: Files>(alloc: Global, files: &F, path: &str) -> Result<bool, FileFault> {
+fn may_be_replaced<F: Files>(
+    alloc: Global,
+    files: &F,
+    path: &str,
+) -> Result<bool, ServerFileFault> {
     match fs::metadata(files, path) {
         Ok(file) if file.is_file() => begins_as_journal(alloc, files, path),
         Ok(_) => Ok(false),
         Err(error) if error.kind() == ErrorKind::NotFound => Ok(true),
-        Err(error) => Err(FileFault::from(error)),
+        Err(error) => Err(ServerFileFault::from(error)),
     }
 }
 
-fn begins_as_journal<F: Files>(alloc: Global, files: &F, path: &str) -> Result<bool, FileFault> {
+fn begins_as_journal<F: Files>(
+    alloc: Global,
+    files: &F,
+    path: &str,
+) -> Result<bool, ServerFileFault> {
     let mut head = Vec::new(alloc);
     open_plain(files, path)?
         .take(HEAD as u64)

@@ -2,7 +2,7 @@
 ghost use Rattle.std.specs.Prelude.{◌≡◌};
 ghost use Rattle.kdc_files.specs.Unrecorded.{no_world};
 
-use crate::files::FileFault;
+use crate::files::ServerFileFault;
 use crate::journal_files::{OWNER_ONLY, open_locked, open_newer, seal_at, text_at, text_in};
 use crate::journal_parts::{Paths, require_replaceable};
 use journal::{BeginFault, Begun, FileText, JournalFiles, News, Part};
@@ -41,7 +41,7 @@ impl<'a, F: Files<File = File>, W: Write + Drop> SystemJournal<'a, F, W> {
     pub fn open(
         alloc: Global,
         place: JournalPlace<'a, '_, F, W>,
-    ) -> Result<SystemJournal<'a, F, W>, FileFault> {
+    ) -> Result<SystemJournal<'a, F, W>, ServerFileFault> {
         let JournalPlace { files, path, lines } = place;
         let paths = Paths::new(alloc, path)?;
         paths.check(alloc, files)?;

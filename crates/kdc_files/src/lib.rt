@@ -30,7 +30,7 @@ mod record;
 mod rows_file;
 mod sealing;
 
-pub use crate::files::{FileFault, database_of, read_at_most, read_whole, seed_in};
+pub use crate::files::{ServerFileFault, database_of, read_up_to, read_whole, seed_in};
 pub use crate::journal_file::{FileJournal, begin_journal, begun};
 pub use crate::journal_files::{OpenedJournals, open_journals};
 pub use crate::journal_parts::JournalPart;

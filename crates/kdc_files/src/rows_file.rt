@@ -1,7 +1,7 @@
 //! The rows of a realm from a file, which may be replaced while they are served.
 ghost use Rattle.std.specs.Prelude.{None};
 
-use crate::files::{FileFault, database_of, place_of, read_whole};
+use crate::files::{ServerFileFault, database_of, place_of, read_whole};
 use crate::plain_files::{KeyFile, open_plain, say_rights};
 use kdc_hub::{Look, OtherRealm, RowSource, RowsState};
 use principals::Database;
@@ -33,7 +33,7 @@ enum News {
     /// Its rows are served: this many.
     Taken(usize),
     /// It can't be read, or is refused.
-    Faulty(FileFault),
+    Faulty(ServerFileFault),
     OtherRealm,
 }
 
@@ -78,7 +78,7 @@ impl<'a, F: Files + Clock, W: Write + Drop> RowsFile<'a, F, W> {
     }
 
     /// Reads the rows of the file. Logs if others have rights on it.
-    pub fn read(&mut self, alloc: Global) -> Result<Database, FileFault> {
+    pub fn read(&mut self, alloc: Global) -> Result<Database, ServerFileFault> {
         self.place = None;
         let file = open_plain(self.files, self.path)?;
         let standing = file.metadata()?;
@@ -106,13 +106,13 @@ impl<'a, F: Files + Clock, W: Write + Drop> RowsFile<'a, F, W> {
     }
 
     /// Reads the rows if the file changed since the last look, or could not be read then.
-    fn changed_rows(&mut self, alloc: Global) -> Result<Option<Database>, FileFault> {
+    fn changed_rows(&mut self, alloc: Global) -> Result<Option<Database>, ServerFileFault> {
         let seen = self.seen.take();
         let metadata = match fs::metadata(self.files, self.path) {
             Ok(metadata) => metadata,
             // That there is no file is said once.
             Err(_) if seen.is_none() => return Ok(None),
-            Err(error) => return Err(FileFault::from(error)),
+            Err(error) => return Err(ServerFileFault::from(error)),
         };
         let stamp = stamp_of(&metadata);
         self.seen = Some(stamp);
@@ -124,7 +124,7 @@ impl<'a, F: Files + Clock, W: Write + Drop> RowsFile<'a, F, W> {
     }
 
     /// Reads the rows again, some seconds after the system failed to. Another such failure is not said.
-    fn retried_rows(&mut self, alloc: Global) -> Result<Option<Database>, FileFault> {
+    fn retried_rows(&mut self, alloc: Global) -> Result<Option<Database>, ServerFileFault> {
         if !self.is_retry_due() {
             return Ok(None);
         }
@@ -146,7 +146,7 @@ impl<'a, F: Files + Clock, W: Write + Drop> RowsFile<'a, F, W> {
     }
 
     /// Reads the rows, and notes when the system fails to.
-    fn read_or_note(&mut self, alloc: Global) -> Result<Database, FileFault> {
+    fn read_or_note(&mut self, alloc: Global) -> Result<Database, ServerFileFault> {
         let read = self.read(alloc);
         self.failed_at = match &read {
             Err(fault) if is_of_system(fault) => Instant::now(self.files).ok(),
@@ -227,7 +227,7 @@ fn second_at(clock: &impl Clock) -> Option<i64> {
 }
 
 /// Checks whether the system failed, and the file itself may be good.
-fn is_of_system(fault: &FileFault) -> bool {
+fn is_of_system(fault: &ServerFileFault) -> bool {
     fault.refusal().is_none()
 }
 

@@ -1,9 +1,9 @@
 //! Sealing a journal, and removing one.
-use crate::files::FileFault;
+use crate::files::ServerFileFault;
 use crate::journal_files::{OpenedJournals, open_journals};
 use crate::journal_parts::Paths;
 use crate::journal_store::{JournalPlace, SystemJournal};
-use journal::{Doubt, Found, NotSealed, Place, seal_journal};
+use journal::{Doubt, Found, Place, SealOutcome, seal_journal};
 use krb_fields::Moment;
 use std::alloc::Global;
 use std::fs::File;
@@ -26,25 +26,18 @@ pub fn seal_at_path<F: Files<File = File>, W: Write + Drop>(
     alloc: Global,
     journal: JournalPlace<'_, '_, F, W>,
     at: Moment,
-) -> Result<(), NotSealed<FileFault>> {
+) -> Result<SealOutcome, ServerFileFault> {
     let OpenedJournals {
         journals,
         mut files,
-    } = match open_journals(alloc, journal) {
-        Ok(opened) => opened,
-        Err(fault) => return Err(NotSealed::Failed(fault)),
-    };
+    } = open_journals(alloc, journal)?;
     let place = Place {
         realm: realm_of(&journals.newer),
         boot: journals.boot.as_slice(),
         seal: journals.seal.as_slice(),
         at,
     };
-    match seal_journal(&mut files, &place, &journals.older, &journals.newer) {
-        Ok(()) => Ok(()),
-        Err(NotSealed::Doubted(doubt)) => Err(NotSealed::Doubted(doubt)),
-        Err(NotSealed::Failed(error)) => Err(NotSealed::Failed(FileFault::from(error))),
-    }
+    Ok(seal_journal(&mut files, &place, &journals.older, &journals.newer)?)
 }
 
 /// Returns the realm of a journal, or no octets if there is none.
@@ -60,12 +53,12 @@ pub fn refuse_journal<F: Files<File = File>, W: Write + Drop>(
     alloc: Global,
     place: JournalPlace<'_, '_, F, W>,
     removes: bool,
-) -> Result<(), FileFault> {
+) -> Result<(), ServerFileFault> {
     if !Paths::new(alloc, place.path)?.are_there(place.files)? {
         return Ok(());
     }
     if !removes {
-        return Err(FileFault::Journal);
+        return Err(ServerFileFault::Journal);
     }
     let mut journal = SystemJournal::open(alloc, place)?;
     journal.remove(alloc)?;

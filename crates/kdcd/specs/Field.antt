@@ -20,8 +20,8 @@ pub record IsMomentText (at : Moment) (sec_text usec_text : List ℕ) : Type 0 w
   pub usec : IsNumberText at.usec usec_text
   pub usec_fits : IsMicrosecond at.usec
 
--- the limits: five numbers; the size of a replay cache is 1 to 65536 authenticators. The replies to requests of up to 4096
--- bytes are kept
+-- the limits: five numbers; the size of a replay cache is 1 to 65536 authenticators. The replies to requests of up to
+-- 4096 bytes are kept
 abbrev pub AreLimitsTexts : Limits → List (List ℕ) → Type 0
 AreLimitsTexts limits (remembered ∷ lock_after ∷ lock_seconds ∷ life ∷ renewable ∷ []) =
     IsU32Text limits.remembered remembered × IsU32Text limits.lock_after lock_after

@@ -2,8 +2,8 @@
 ghost use Rattle.std.specs.Prelude.{None};
 
 use kdc_files::{
-    FileFault, FileJournal, JournalBeginning, JournalPlace, Journals, KeyFile, OpenedJournals,
-    RowsFile, SystemJournal, begin_journal, open_journals, open_plain, read_at_most,
+    FileJournal, JournalBeginning, JournalPlace, Journals, KeyFile, OpenedJournals, RowsFile,
+    ServerFileFault, SystemJournal, begin_journal, open_journals, open_plain, read_up_to,
     refuse_journal, say_rights,
 };
 use kdc_reports::{JournalNews, MetricsFile, MetricsPaths, Started};
@@ -88,9 +88,9 @@ impl<'a> Host for SystemHost<'a> {
 
     ghost recorded = { λ _. None };
 
-    fn read_rows(&mut self, alloc: Global) -> Result<Database, FileFault> {
+    fn read_rows(&mut self, alloc: Global) -> Result<Database, ServerFileFault> {
         let Some(rows) = &mut self.rows else {
-            return Err(FileFault::from(Error::from(ErrorKind::NotFound)));
+            return Err(ServerFileFault::from(Error::from(ErrorKind::NotFound)));
         };
         let read = rows.read(alloc);
         if read.is_err() {
@@ -99,7 +99,7 @@ impl<'a> Host for SystemHost<'a> {
         read
     }
 
-    fn read_seed(&mut self, alloc: Global, path: &str) -> Result<Vec<u8>, FileFault> {
+    fn read_seed(&mut self, alloc: Global, path: &str) -> Result<Vec<u8>, ServerFileFault> {
         let file = open_plain(self.rt, path)?;
         let seed = KeyFile {
             what: "seed",
@@ -107,7 +107,7 @@ impl<'a> Host for SystemHost<'a> {
             metadata: &file.metadata()?,
         };
         say_rights(self.rt, &mut self.errors, seed);
-        read_at_most(alloc, file, LONGEST_FILE)
+        read_up_to(alloc, file, LONGEST_FILE)
     }
 
     fn draw(&mut self) -> io::Result<[u8; 32]> {
@@ -127,7 +127,7 @@ impl<'a> Host for SystemHost<'a> {
         Ok(sockets)
     }
 
-    fn read_journals(&mut self, alloc: Global, path: &str) -> Result<Journals, FileFault> {
+    fn read_journals(&mut self, alloc: Global, path: &str) -> Result<Journals, ServerFileFault> {
         let place = JournalPlace {
             files: self.rt,
             path,
@@ -138,7 +138,7 @@ impl<'a> Host for SystemHost<'a> {
         Ok(journals)
     }
 
-    fn refuse_journal(&mut self, alloc: Global) -> Result<(), FileFault> {
+    fn refuse_journal(&mut self, alloc: Global) -> Result<(), ServerFileFault> {
         let path = journal_beside(alloc, self.db)?;
         let place = JournalPlace {
             files: self.rt,

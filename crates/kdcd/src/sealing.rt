@@ -1,6 +1,6 @@
 //! Sealing a journal: `kdcd seal`.
 use crate::PROGRAM;
-use journal::NotSealed;
+use journal::SealOutcome;
 use kdc_files::{JournalPlace, doubt_word, seal_at_path};
 use program::{Status, now, report_end};
 use std::io;
@@ -16,11 +16,11 @@ pub fn seal(rt: &HostRuntime, path: Option<&str>) -> io::Result<Status> {
         lines: rt.stderr(),
     };
     match seal_at_path(rt.alloc(), place, now(rt)?) {
-        Ok(()) => {
+        Ok(SealOutcome::Sealed) => {
             println!(rt; "ok")?;
             Ok(Status::Done)
         }
-        Err(NotSealed::Doubted(doubt)) => {
+        Ok(SealOutcome::Doubted(doubt)) => {
             report_end(
                 rt,
                 PROGRAM,
@@ -28,7 +28,7 @@ pub fn seal(rt: &HostRuntime, path: Option<&str>) -> io::Result<Status> {
                 Some(doubt_word(doubt)),
             )
         }
-        Err(NotSealed::Failed(fault)) => {
+        Err(fault) => {
             report_end(
                 rt,
                 PROGRAM,

@@ -27,8 +27,8 @@ use Rattle.kdcd_run.specs.Processes.{IsLate, Process, beginning, history, known_
 abbrev pub OnJournal : Type 0
 OnJournal = journal.Process
 
--- A process that started at this moment, knew this and lived so: its calls on the journal kept what it knew and all that
--- it handed over. They left these files.
+-- A process that started at this moment, knew this and lived so: its calls on the journal kept what it knew and all
+-- that it handed over. They left these files.
 pub record KeepsAll (at : Moment) (r : Resumption) (periods : List Period) (did : OnJournal) (old new : World) : Type 0 where
   pub has_begun : did.has_begun ≡ true
   pub moment : did.at ≡ at
@@ -41,8 +41,8 @@ pub record Journaled : Type 0 where
   pub did : OnJournal
   pub before : List Stage
 
--- A start that resumes does so with these files, which aren't lost. Its floor is at most the skew before the moment of the
--- start before it.
+-- A start that resumes does so with these files, which aren't lost. Its floor is at most the skew before the moment of
+-- the start before it.
 pub record ResumesWith (past : Past) (w : World) (at : Moment) (found : Resumption) (check : Option (List ℕ)) : Type 0 where
   pub there : past.are_lost ≡ false
   pub late : past.low ≤ℤ found.floor

@@ -52,7 +52,8 @@ beginning p = beginning_by p p.start
 abbrev pub known_at : Process → Resumption
 known_at p = known_by (Restart p.at) p.start
 
--- what a process that started at this moment began with, and every authenticator that its journal was handed in its life
+-- what a process that started at this moment began with, and every authenticator that its journal was handed in its
+-- life
 abbrev pub known_after : Moment → Resumption → List Period → Resumption
 known_after at r periods = record {
   floor = r.floor;
@@ -74,14 +75,14 @@ pub record FindsAll (r : Resumption) (at : Moment) (start : Start) : Type 0 wher
   pub newer_found : IsFound world.newer newer
   pub decided : start ≡ start_of place older newer
 
--- A start that resumes has a floor that is at most the skew before each event of the process before it. So its clock may be
--- behind that one's, where its floor makes up for it.
+-- A start that resumes has a floor that is at most the skew before each event of the process before it. So its clock
+-- may be behind that one's, where its floor makes up for it.
 abbrev pub IsLate : Start → List KdcEvent → Type 0
 IsLate (Refuses doubt) events = ⊤
 IsLate (Resumes found check) events = (latest : ℤ) × AreUpTo latest events × ((latest -ℤ pos skew) ≤ℤ found.floor)
 
--- A start may refuse for any reason, and it is no matter then what the journals hold. It resumes only with journals that
--- hold all.
+-- A start may refuse for any reason, and it is no matter then what the journals hold. It resumes only with journals
+-- that hold all.
 abbrev pub MayStart : Resumption → Moment → Start → Type 0
 MayStart r at (Refuses doubt) = ⊤
 MayStart r at (Resumes found check) = FindsAll r at (Resumes found check)

@@ -4,8 +4,8 @@ use Rattle.krb_fields.specs.declared.moment.Moment.{Moment}
 use Rattle.kdc_reports.specs.declared.clock_watch.Refused.{Refused}
 use Rattle.kdc_reports.specs.declared.clock_watch.Refused.TheVariants.{All, ServedLater}
 
--- When to report, given the moments of the last report and of the last successful poll: at the poll's moment, unless it is
--- within the ten seconds that began with the report. So a clock that went back doesn't stop reports.
+-- When to report, given the moments of the last report and of the last successful poll: at the poll's moment, unless it
+-- is within the ten seconds that began with the report. So a clock that went back doesn't stop reports.
 abbrev pub due : Option Moment → Option Moment → Option Moment
 due reported None = None
 due None (Some at) = Some at

@@ -78,8 +78,8 @@ began None beginning = []
 -- ---- a start
 
 -- What was asked of the host for these options, in this order: its sockets are held before the journals are read, and
--- these before it looks at the clock. And the hub that is made of it, what its journal is to begin with, and how many rows
--- it serves. The moment and the floor of the start are those of the journal's beginning.
+-- these before it looks at the clock. And the hub that is made of it, what its journal is to begin with, and how many
+-- rows it serves. The moment and the floor of the start are those of the journal's beginning.
 pub record IsReady (options : ServeOptions) (before after : Option (List HostDid)) (hub : HubState)
     (beginning : JournalBeginning) (row_count : ℕ) : Type 0 where
   pub rows : Principals

@@ -12,12 +12,14 @@ abbrev pub may_send : {J : Type 0} → (J → Bool) → J → Option ℤ → Mom
 may_send is_whole journal quiet_until at action =
     is_kept is_whole journal action && not (quiet_withholds quiet_until at action)
 
--- What becomes of the sockets where an action is withheld: the connection that it was for ends, and nothing else is done.
+-- What becomes of the sockets where an action is withheld: the connection that it was for ends, and nothing else is
+-- done.
 abbrev pub EndsOnly : {S : Type 0} → (S → ℕ → S → Type 0) → S → Option ℕ → S → Type 0
 EndsOnly HangsUp old None new = new ≡ old
 EndsOnly HangsUp old (Some conn) new = HangsUp old conn new
 
--- How many replies were withheld, after an action: for the journal, if it has not kept all, or else for the quiet start.
+-- How many replies were withheld, after an action: for the journal, if it has not kept all, or else for the quiet
+-- start.
 abbrev pub withheld_after : Withheld → Bool → Bool → Withheld
 withheld_after w false is_withheld = record { by_journal = plus w.by_journal 1; by_quiet_start = w.by_quiet_start }
 withheld_after w true true = record { by_journal = w.by_journal; by_quiet_start = plus w.by_quiet_start 1 }

@@ -18,7 +18,7 @@ use crate::reporter::Reporter;
 use crate::server_wire::{Outlets, ServerWire, StartTimes};
 use crate::starting::{ReadyServer, StartFault, ready};
 use journal::Start;
-use kdc_files::{FileFault, JournalBeginning, JournalWriter};
+use kdc_files::{JournalBeginning, JournalWriter, ServerFileFault};
 use kdc_hub::{Hub, Totals, Wire, serve_life};
 use kdc_reports::{JournalFound, LogNumbers, LogWriter, Tally, refused_at_start};
 use rand_chacha::ChaCha20Rng;
@@ -152,7 +152,7 @@ fn begin_journal<'a, H: Host>(
     };
     match host.begin_journal(alloc, path, beginning) {
         Ok(journal) => Ok(journal),
-        Err(error) => Err(StartFault::File(path, FileFault::from(error))),
+        Err(error) => Err(StartFault::File(path, ServerFileFault::from(error))),
     }
 }
 

@@ -13,7 +13,7 @@ use crate::host::Host;
 use crate::key_places::placed;
 use crate::resuming::{decide, floor_by, open, read_journals};
 use kdc_core::Opening;
-use kdc_files::{FileFault, JournalBeginning, seed_in};
+use kdc_files::{JournalBeginning, ServerFileFault, seed_in};
 use kdc_hub::Hub;
 use krb_elements::Octets;
 use krb_fields::Moment;
@@ -26,7 +26,7 @@ use std::{fmt, io};
 #[derive(Debug, Drop)]
 pub enum StartFault<'a, S> {
     /// The file at this path.
-    File(&'a str, FileFault),
+    File(&'a str, ServerFileFault),
     /// A call of the system failed.
     System(SystemPart, io::Error),
     /// A socket was not opened.
@@ -176,7 +176,7 @@ fn take_seed<'a, H: Host>(
     }
 }
 
-fn read_seed<H: Host>(alloc: Global, host: &mut H, path: &str) -> Result<[u8; 32], FileFault>
+fn read_seed<H: Host>(alloc: Global, host: &mut H, path: &str) -> Result<[u8; 32], ServerFileFault>
     ensures { IfOk result (λ seed. IsSeed (Some path.now) (H.recorded host.old) (H.recorded host.new) seed) }
 {
     let octets = host.read_seed(alloc, path)?;

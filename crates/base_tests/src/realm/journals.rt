@@ -4,7 +4,7 @@ use crate::cryptography::fixtures::sized;
 use crate::expect::{are, bytes, holds, same};
 use crate::realm::fixtures::{T, at};
 use journal::{
-    Doubt, Found, JournalFault, JournalFile, JournalFiles, MemoryFiles, NotSealed, Part, Place,
+    Doubt, Found, JournalFault, JournalFile, JournalFiles, MemoryFiles, Part, Place, SealOutcome,
     Start, WriteFailures, Written, read_journal, read_part, seal_journal, start_of,
     write_beginning, write_seen,
 };
@@ -483,9 +483,9 @@ fn sealed_in(alloc: Global, files: &mut MemoryFiles, boot: &[u8]) -> Result<Resu
         at: at(302),
     };
     match seal_journal(files, &place, &found.older, &found.newer) {
-        Ok(()) => Ok(Ok(0)),
-        Err(NotSealed::Doubted(doubt)) => Ok(Err(doubt)),
-        Err(NotSealed::Failed(_)) => Err(AllocError),
+        Ok(SealOutcome::Sealed) => Ok(Ok(0)),
+        Ok(SealOutcome::Doubted(doubt)) => Ok(Err(doubt)),
+        Err(_) => Err(AllocError),
     }
 }
 

@@ -5,5 +5,5 @@ use Rattle.ap_accept_c.proofs.service.keytab_in.Goals as goal
 
 pub returns-in-Err-clause-fault : goal.returns-in-Err-clause-fault
 returns-in-Err-clause-fault c =
-    subst (λ status. IsKeytabFault status c.args.octets.now) (sym c.of_file_fault.ensures)
+    subst (λ status. IsKeytabFault status c.args.octets.now) (sym c.of_cred_fault.ensures)
     (not_read c.in-Err.fault c.args.octets.now c.in-Err.ensures.only)
