@@ -16,11 +16,11 @@ import typing
 TOP = pathlib.Path(__file__).resolve().parent.parent
 # Where each program has its tables.
 TABLES = {
-    "kadm": [f"kadm/src/{name}.rt" for name in ("commands", "writing", "printing", "options")],
+    "kadm": [f"kadm/src/{name}.rt" for name in ("commands", "changing", "writing", "printing", "options")],
     "kclient": ["kclient/src/options.rt"], "kdcd": ["kdcd_run/src/args.rt"],
 }
 # The tables of a program whose commands are in several files, in the order of its help.
-PARTS = ("CHANGES", "PRINTS", "LATER_CHANGES")
+PARTS = ("INIT", "CHANGES", "PRINTS", "LATER_CHANGES")
 # What a command takes besides its own table: the names of the constants, or of the function of an option whose value
 # may be left away.
 ADDED = {"kinit": ("KINIT_OPTIONS", "KINIT_FLAGS"), "serve": ("journal_option",)}

@@ -44,16 +44,16 @@ IsStatusOf (File fault) status = IsFileCauseStatus fault.cause status
 -- ---- what is done
 
 -- the effect of each command, from the world before it to the one after it
-abbrev pub Did : Option World → List ℕ → List Etype → WriteCommand → Option World → Type 0
-Did before db etypes (writes.Init new) after = MadeRealm before db etypes new.realm.now (path_of new.seed) after
-Did before db etypes (writes.Update update) after = Updated before db etypes update after
-Did before db etypes (writes.Batch keep_going) after = Batched before db after
-Did before db etypes (writes.Keytab to) after = WroteKeytab before db to after
-Did before db etypes (writes.Dump from) after = MadeFromDump before db from after
+abbrev pub CommandLeaves : Option World → List ℕ → List Etype → WriteCommand → Option World → Type 0
+CommandLeaves before db etypes (writes.Init new) after = MadeRealm before db etypes new.realm.now (path_of new.seed) after
+CommandLeaves before db etypes (writes.Update update) after = Updated before db etypes update after
+CommandLeaves before db etypes (writes.Batch keep_going) after = Batched before db after
+CommandLeaves before db etypes (writes.Keytab to) after = WroteKeytab before db to after
+CommandLeaves before db etypes (writes.Dump from) after = MadeFromDump before db from after
 
 abbrev pub IsKindDone : Option World → List ℕ → List Etype → CommandKind → Option World → Type 0
 IsKindDone before db etypes (Print what) after = after ≡ before
-IsKindDone before db etypes (Write write) after = Did before db etypes write after
+IsKindDone before db etypes (Write write) after = CommandLeaves before db etypes write after
 
 abbrev pub IsDone : Option World → Command → Option World → Type 0
 IsDone before command after = IsKindDone before command.target.db.now command.target.etypes.items command.kind after
@@ -64,7 +64,7 @@ IsWriteTried before db write after = (write ≡ writes.Batch true) × Tried befo
 
 -- all was done, or some lines of a batch were
 abbrev pub IsWriteDone : Option World → Target → WriteCommand → Bool → Option World → Type 0
-IsWriteDone before target write true after = Did before target.db.now target.etypes.items write after
+IsWriteDone before target write true after = CommandLeaves before target.db.now target.etypes.items write after
 IsWriteDone before target write false after = IsWriteTried before target.db.now write after
 
 -- the command is a batch that keeps going, and some of its lines were done

@@ -18,7 +18,7 @@ use kadm_changes::{
 use program::{FileCause, FileFault, Status, Store};
 use std::alloc::{AllocError, Global};
 use std::io::{ErrorKind, Write};
-use text_fields::{WordsFault, line_words};
+use text_fields::line_words;
 
 /// The greatest length of a line, in bytes.
 const LONGEST_LINE: usize = 65_536;
@@ -95,11 +95,11 @@ fn read_lines<T: Store, E: Write>(
         let Some(octets) = next_line(alloc, store)? else {
             return Ok(lines);
         };
-        if let Err(fault) = push_line(alloc, &mut lines, number, &octets) {
-            return Err(report_line_fault(errors, number, fault.text()));
+        if let Err(fault) = push_line(alloc, &mut lines, number, &octets)? {
+            return Err(report_line_fault(errors, number, fault));
         }
     }
-    Err(report_line_fault(errors, MOST_LINES, Some(TOO_MANY)))
+    Err(report_line_fault(errors, MOST_LINES, TOO_MANY))
 }
 
 /// Reads the next line. `None` if the input has ended.
@@ -120,34 +120,27 @@ fn next_line<T: Store>(alloc: Global, store: &mut T) -> Result<Option<Vec<u8>>, 
     }
 }
 
-/// Adds a line, if it has a command.
+/// Adds a line, if it has a command. The inner `Err` says what is wrong with the line.
 fn push_line(
     alloc: Global,
     lines: &mut Vec<BatchLine>,
     number: usize,
     octets: &[u8],
-) -> Result<(), WordsFault> {
-    let words = line_words(alloc, octets)?;
+) -> Result<Result<(), &'static str>, AllocError> {
+    let words = match line_words(alloc, octets)? {
+        Ok(words) => words,
+        Err(fault) => return Ok(Err(fault)),
+    };
     if !words.is_empty() {
         lines.push(BatchLine { number, words })?;
     }
-    Ok(())
+    Ok(Ok(()))
 }
 
-/// Reports why a line is no command, or that memory ran out if there is no text. Returns how the batch ends. Ignores a
-/// failed write.
-fn report_line_fault<E: Write>(
-    errors: &mut E,
-    number: usize,
-    text: Option<&'static str>,
-) -> Stop<'static> {
-    match text {
-        Some(text) => {
-            let _ = writeln!(errors, "kadm: line {number}: {text}");
-            Stop::Usage
-        }
-        None => Stop::from(AllocError),
-    }
+/// Reports why a line is no command. Returns how the batch ends. Ignores a failed write.
+fn report_line_fault<E: Write>(errors: &mut E, number: usize, fault: &str) -> Stop<'static> {
+    let _ = writeln!(errors, "kadm: line {number}: {fault}");
+    Stop::Usage
 }
 
 /// Runs the commands, and returns whether all were done. If one is not, that is the end, unless the batch keeps going.

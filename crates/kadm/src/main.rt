@@ -2,7 +2,7 @@
 #![tactic(auto)]
 
 mod batch;
-mod command_words;
+mod changing;
 mod commands;
 mod json_lines;
 mod linting;

@@ -3,7 +3,7 @@ ghost use Rattle.std.specs.Prelude.{◌≡◌, IfOk};
 ghost use Rattle.kadm.specs.Ends.{IsStatusOf};
 ghost use Rattle.program.specs.declared.status.Status.TheVariants.{Failed, Refused};
 
-use crate::writing::NOT_IN_BATCH;
+use crate::changing::NOT_IN_BATCH;
 use kadm_changes::{Context, KEYTAB, Reason, Stop, Subject, begin_line, value_of};
 use program::{FileCause, Status};
 use std::io;

@@ -5,7 +5,7 @@ ghost use Rattle.kadm.specs.Words.{sets_some};
 
 use crate::words::is_given;
 use kadm_changes::{SettingWords, setting_at};
-use text_fields::{Setting, setting_from, setting_of};
+use text_fields::{FieldKind, field_kind, setting_from, setting_of};
 
 const FLAGS: &str = "true or false";
 
@@ -16,15 +16,11 @@ a date (2027-01-01, 2027-01-01T12:00:00Z), a second since 1970, a time from now 
 
 /// Returns what the field with this name accepts. `None` if a policy has no such field.
 pub(crate) fn accepted_by(field: &str) -> Option<&'static str> {
-    if Setting::of(field, "true").is_some() {
-        Some(FLAGS)
-    } else if Setting::of(field, "0").is_none() {
-        None
-    } else if Setting::of(field, "never").is_some() {
-        Some(TIMES)
-    } else {
-        Some(LIVES)
-    }
+    Some(match field_kind(field)? {
+        FieldKind::Flag => FLAGS,
+        FieldKind::Life => LIVES,
+        FieldKind::Time => TIMES,
+    })
 }
 
 /// Checks whether the words ask for a setting, and have neither `--field` nor `--value` alone.

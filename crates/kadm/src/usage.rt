@@ -1,8 +1,10 @@
 //! What is wrong with a command line, in words.
+ghost use Rattle.std.specs.Prelude.{◌≡◌, IfOk, Some};
+ghost use Rattle.kadm_changes.specs.Words.{texts, value_of};
 
 use crate::settings::{accepted_by, invalid_setting};
 use clap::error::{Error, ErrorKind};
-use kadm_changes::{SettingWords, Stop};
+use kadm_changes::{SettingWords, Stop, value_of};
 use std::alloc::AllocError;
 use std::io::Write;
 
@@ -16,18 +18,32 @@ pub(crate) enum CommandFault<'a> {
     BadValue(&'static str),
     /// A policy has no field with this name.
     NoField(SettingWords<'a>),
-    /// A field of a policy does not accept this value.
-    NoSetting(SettingWords<'a>),
+    /// A field of a policy does not accept this value. The text says what it accepts.
+    NoSetting(SettingWords<'a>, &'static str),
     Memory,
+}
+
+/// Returns the value of an option. Without it the fault has this text.
+pub(crate) fn required<'a>(
+    words: &[&'a str],
+    option: &str,
+    text: &'static str,
+) -> Result<&'a str, CommandFault<'a>>
+    ensures { IfOk result (λ value. value_of (texts words.now) option.now ≡ Some value.now) }
+{
+    match value_of(words, option) {
+        Some(value) => Ok(value),
+        None => Err(CommandFault::BadValue(text)),
+    }
 }
 
 /// Returns what is wrong with the first invalid setting, if there is one.
 pub(crate) fn setting_fault<'a>(words: &[&'a str]) -> Option<CommandFault<'a>> {
     let setting = invalid_setting(words)?;
-    if accepted_by(setting.field).is_none() {
-        return Some(CommandFault::NoField(setting));
+    match accepted_by(setting.field) {
+        Some(accepted) => Some(CommandFault::NoSetting(setting, accepted)),
+        None => Some(CommandFault::NoField(setting)),
     }
-    Some(CommandFault::NoSetting(setting))
 }
 
 /// Reports what the parser says of a command line. Returns how it ends. Ignores a failed write.
@@ -52,12 +68,11 @@ pub(crate) fn report_command_fault<E: Write>(
             setting.form.field_option(),
             setting.field
         ),
-        CommandFault::NoSetting(setting) => writeln!(
+        CommandFault::NoSetting(setting, accepted) => writeln!(
             errors,
-            "error: {}: {} takes {}, not '{}'",
+            "error: {}: {} takes {accepted}, not '{}'",
             setting.form.value_option(),
             setting.field,
-            accepted_by(setting.field).unwrap_or("another value"),
             setting.value
         ),
         CommandFault::Memory => return Stop::from(AllocError),

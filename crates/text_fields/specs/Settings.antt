@@ -1,10 +1,12 @@
 -- Settings of a policy, and the texts that spell them.
 use Rattle.std.specs.Prelude.{◌≡◌, ◌==◌, ℕ, ℤ, pos, ◌<◌, Bool, true, false, List, [], ◌∷◌, length, Option, Some, None}
-use Rattle.std.specs.Prelude.{codes, bytes_eq, if◌then◌else◌}
+use Rattle.std.specs.Prelude.{codes, bytes_eq, is_some, if◌then◌else◌}
 use Rattle.std.specs.List.{before_first, after_first, position_or_len, fold}
 use Rattle.std.specs.Str.Parse.{IsNumeral, digits_value}
 use Rattle.krb_fields.specs.Moment.{IsSecond}
 use Rattle.principal_rows.specs.declared.policy.Policy.{Policy}
+use Rattle.text_fields.specs.declared.settings.FieldKind.{FieldKind}
+use Rattle.text_fields.specs.declared.settings.FieldKind.TheVariants as kinds
 use Rattle.text_fields.specs.declared.settings.FlagField.{FlagField}
 use Rattle.text_fields.specs.declared.settings.FlagField.TheVariants.{Disabled, Preauth, Forwardable, Proxiable}
 use Rattle.text_fields.specs.declared.settings.FlagField.TheVariants.{Postdate, OkAsDelegate, Service}
@@ -64,6 +66,14 @@ time_of name =
     if bytes_eq name (codes "expires") then Some Expires
     else if bytes_eq name (codes "password_expires") then Some PasswordExpires
     else if bytes_eq name (codes "revoked_before") then Some RevokedBefore
+    else None
+
+-- what the value of the field with this name is
+abbrev pub field_kind : List ℕ → Option FieldKind
+field_kind name =
+    if is_some (flag_of name) then Some kinds.Flag
+    else if is_some (life_of name) then Some kinds.Life
+    else if is_some (time_of name) then Some kinds.Time
     else None
 
 abbrev pub IsFlagText : Bool → List ℕ → Type 0

@@ -3,7 +3,7 @@
 //! has in a keytab.
 //!
 //! ```
-//! let words = line_words(alloc, b"policy --name alice --set greatest_life=10h")?;
+//! let words = line_words(alloc, b"policy --name alice --set greatest_life=10h")?; // or what is wrong with the line
 //! if let Some(setting) = setting_of("greatest_life", "10h") {
 //!     row.policy = setting.on(row.policy);
 //! }
@@ -32,11 +32,11 @@ pub use dates::UtcDate;
 pub use etypes::{offered, read_etypes};
 pub use keys::{password_keys, random_keys};
 pub use keytabs::{KeytabKeys, keytab_versions};
-pub use lines::{WordsFault, line_words};
+pub use lines::line_words;
 pub use numbers::{number, number_u32};
 pub use settings::{
-    BEFORE_KEYS, FIELD_NAMES, FlagField, LifeField, MIGRATION, NEWEST_VERSION, NEWEST_VERSION_TEXT,
-    SETTINGS, Setting, TimeField,
+    BEFORE_KEYS, FIELD_NAMES, FieldKind, FlagField, LifeField, MIGRATION, NEWEST_VERSION,
+    NEWEST_VERSION_TEXT, SETTINGS, Setting, TimeField, field_kind,
 };
 pub use shell::shell_word;
 pub use spans::{lifetime, span};

@@ -1,43 +1,14 @@
 //! Splits a line into words, as a shell does.
 
-use std::alloc::{AllocError, AllocFailed, Global};
+use std::alloc::{AllocError, Global};
 
-/// Why a line can't be split into words.
-#[derive(Clone, Copy)]
-pub enum WordsFault {
-    /// It is not UTF-8.
-    NotUtf8,
-    /// A quotation mark is not followed by its other one.
-    OpenQuote,
-    /// The line ends in a backslash.
-    OpenEscape,
-    /// Memory ran out.
-    Memory,
-}
+// What is wrong with a line that can't be split.
 
-impl WordsFault {
-    /// Returns what is wrong with the line, in words. `None` if memory ran out.
-    pub fn text(self) -> Option<&'static str> {
-        match self {
-            WordsFault::NotUtf8 => Some("it is not UTF-8"),
-            WordsFault::OpenQuote => Some("a quotation mark is not closed"),
-            WordsFault::OpenEscape => Some("nothing follows the backslash at its end"),
-            WordsFault::Memory => None,
-        }
-    }
-}
+const NOT_UTF8: &str = "it is not UTF-8";
 
-impl From<AllocError> for WordsFault {
-    fn from(_: AllocError) -> WordsFault {
-        WordsFault::Memory
-    }
-}
+const OPEN_QUOTE: &str = "a quotation mark is not closed";
 
-impl<T: Drop> From<AllocFailed<T>> for WordsFault {
-    fn from(_: AllocFailed<T>) -> WordsFault {
-        WordsFault::Memory
-    }
-}
+const OPEN_ESCAPE: &str = "nothing follows the backslash at its end";
 
 /// What the next character is read as.
 #[derive(Clone, Copy, PartialEq, Eq)]
@@ -56,10 +27,14 @@ enum State {
 }
 
 /// Returns the words of a line: none if it is empty or a comment. Spaces and tabs separate words; `'` and `"` enclose
-/// characters of a word, and `\` stands before one; `#` at the start of a word begins a comment.
-pub fn line_words(alloc: Global, line: &[u8]) -> Result<Vec<String>, WordsFault> {
+/// characters of a word, and `\` stands before one; `#` at the start of a word begins a comment. The inner `Err` says
+/// what is wrong with the line: it is not UTF-8, or ends in a backslash or within quotation marks.
+pub fn line_words(
+    alloc: Global,
+    line: &[u8],
+) -> Result<Result<Vec<String>, &'static str>, AllocError> {
     let Ok(text) = std::str::from_utf8(line) else {
-        return Err(WordsFault::NotUtf8);
+        return Ok(Err(NOT_UTF8));
     };
     let mut words = Vec::new(alloc);
     let mut state = State::Between;
@@ -67,9 +42,9 @@ pub fn line_words(alloc: Global, line: &[u8]) -> Result<Vec<String>, WordsFault>
         state = read_letter(alloc, &mut words, state, letter)?;
     }
     match state {
-        State::Between | State::InWord | State::InComment => Ok(words),
-        State::InSingle | State::InDouble => Err(WordsFault::OpenQuote),
-        State::Escaped | State::EscapedInDouble => Err(WordsFault::OpenEscape),
+        State::Between | State::InWord | State::InComment => Ok(Ok(words)),
+        State::InSingle | State::InDouble => Ok(Err(OPEN_QUOTE)),
+        State::Escaped | State::EscapedInDouble => Ok(Err(OPEN_ESCAPE)),
     }
 }
 

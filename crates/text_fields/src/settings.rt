@@ -6,7 +6,7 @@ ghost use Rattle.principal_rows.specs.declared.policy.Policy as policies;
 ghost use Rattle.text_fields.specs.Settings.{flag_name, life_name, time_name, setting_name, flag_of, life_of, time_of};
 ghost use Rattle.text_fields.specs.Settings.{IsFlagText, IsTimeText, IsSettingOf, IsSettingText, IsDateOf};
 ghost use Rattle.text_fields.specs.Settings.{with_setting};
-ghost use Rattle.text_fields.specs.Settings.{settings_of, since};
+ghost use Rattle.text_fields.specs.Settings.{field_kind, settings_of, since};
 ghost use Rattle.text_fields.specs.declared.settings.FlagField as flags;
 ghost use Rattle.text_fields.specs.declared.settings.LifeField as lives;
 ghost use Rattle.text_fields.specs.declared.settings.TimeField as times;
@@ -56,6 +56,17 @@ pub enum TimeField {
     PasswordExpires,
     /// Tickets whose client authenticated before are revoked.
     RevokedBefore,
+}
+
+/// What the value of a field is.
+#[derive(Clone, Copy, PartialEq, Eq)]
+pub enum FieldKind {
+    /// A boolean.
+    Flag,
+    /// A number of seconds.
+    Life,
+    /// A moment, or none.
+    Time,
 }
 
 /// How many fields a policy has.
@@ -271,6 +282,21 @@ fn time_setting(name: &str, value: &str) -> Option<Setting>
         → ¬ IsSettingOf (kinds.Time field time) name.now value.now) }
 {
     Some(Setting::Time(time_field(name)?, time(value)?))
+}
+
+/// Returns what the value of the field with this name is. `None` if a policy has no such field.
+pub fn field_kind(name: &str) -> Option<FieldKind>
+    ensures { result ≡ field_kind name.now }
+{
+    if flag_field(name).is_some() {
+        Some(FieldKind::Flag)
+    } else if life_field(name).is_some() {
+        Some(FieldKind::Life)
+    } else if time_field(name).is_some() {
+        Some(FieldKind::Time)
+    } else {
+        None
+    }
 }
 
 fn flag_field(name: &str) -> Option<FlagField>
