@@ -16,7 +16,7 @@ use Rattle.client_login.specs.declared.faults.LoginFault.{LoginFault}
 use Rattle.client_login.specs.declared.kdc_places.KdcPlace.{KdcPlace}
 use Rattle.client_login.specs.declared.secrets.Secret.{Secret}
 use Rattle.kclient.specs.CacheSessions.{Collected}
-use Rattle.kclient.specs.Worlds.{Added, CameFirst, CameFurther, Did, Filled, Made, Removed, with_tickets}
+use Rattle.kclient.specs.Worlds.{Added, CameFirst, CameFurther, CommandLeaves, Filled, Made, Removed, with_tickets}
 use Rattle.kclient.specs.declared.kvno.CacheSession.{CacheSession}
 
 -- ---- the tickets that came
@@ -39,17 +39,17 @@ module _ (finds : List ℕ → ℕ → SocketAddr → Type 0) (places : List Kdc
 
 -- ---- a new cache, and one that is removed
 
-pub made : {A E : Type 0} (result : Result A E) (Came : Credential → Type 0) (before came after : Option World)
+pub made : {A E : Type 0} (result : Result A E) (IsReceived : Credential → Type 0) (before came after : Option World)
     (path : List ℕ) (ticket : Credential)
     → OnOk result (after ≡ option_map (with_file path (cache_text (new_cache ticket))) came)
-    → Came ticket → came ≡ before → OnOk result (Made Came before after)
-made (Ok x) Came before came after path ticket written is kept = record {
+    → IsReceived ticket → came ≡ before → OnOk result (Made IsReceived before after)
+made (Ok x) IsReceived before came after path ticket written is kept = record {
   path = path;
   ticket = ticket;
   came = is;
   written = written ∙ ap (option_map (with_file path (cache_text (new_cache ticket)))) kept;
 }
-made (Err fault) Came before came after path ticket written is kept = tt
+made (Err fault) IsReceived before came after path ticket written is kept = tt
 
 -- a later call failed, or none
 pub removed : (before read after : Option World) (path : List ℕ) → after ≡ option_map (without_file path) read
@@ -58,21 +58,21 @@ removed before read after path is kept = record { path = path; removed = is ∙ 
 
 -- ---- a session
 
-module _ (Came : Credential → Type 0) where
+module _ (IsReceived : Credential → Type 0) where
   more : (tickets others : List Credential) (cache : CacheContents)
       → with_tickets (tickets ++ others) cache ≡ with_tickets others (with_tickets tickets cache)
   more [] others cache = refl
   more (ticket ∷ tickets) others cache =
       more tickets others (record cache { credentials = put_first ticket cache.credentials })
 
-  pub collected_none : (session : CacheSession) → Collected Came session session
-  collected_none session = record { tickets = []; came = All-nil Came; cache = refl; path = refl }
+  pub collected_none : (session : CacheSession) → Collected IsReceived session session
+  collected_none session = record { tickets = []; came = All-nil IsReceived; cache = refl; path = refl }
 
-  pub collected_more : (first between last : CacheSession) → Collected Came first between → Collected Came between last
-      → Collected Came first last
+  pub collected_more : (first between last : CacheSession) → Collected IsReceived first between → Collected IsReceived between last
+      → Collected IsReceived first last
   collected_more first between last one other = record {
     tickets = one.tickets ++ other.tickets;
-    came = All-append Came one.tickets other.tickets one.came other.came;
+    came = All-append IsReceived one.tickets other.tickets one.came other.came;
     cache = other.cache ∙ ap (with_tickets other.tickets) one.cache ∙ sym (more one.tickets other.tickets first.cache);
     path = other.path ∙ one.path;
   }
@@ -80,22 +80,22 @@ module _ (Came : Credential → Type 0) where
   -- after a ticket was asked for, it was put or not
   pub collected_one : {A E : Type 0} (result : Result A E) (first asked last : CacheSession) (ticket : Credential)
       → OnOk result (last.cache ≡ record asked.cache { credentials = put_first ticket asked.cache.credentials })
-      → OnErr result (last.cache ≡ asked.cache) → last.path ≡ asked.path → Came ticket → asked.cache ≡ first.cache
-      → asked.path ≡ first.path → Collected Came first last
+      → OnErr result (last.cache ≡ asked.cache) → last.path ≡ asked.path → IsReceived ticket → asked.cache ≡ first.cache
+      → asked.path ≡ first.path → Collected IsReceived first last
   collected_one (Ok x) first asked last ticket put kept stays is same at = record {
     tickets = ticket ∷ [];
-    came = All-cons Came ticket [] is (All-nil Came);
+    came = All-cons IsReceived ticket [] is (All-nil IsReceived);
     cache = put ∙ ap (λ (cache : CacheContents). record cache { credentials = put_first ticket cache.credentials }) same;
     path = stays ∙ at;
   }
   collected_one (Err fault) first asked last ticket put kept stays is same at =
-      record { tickets = []; came = All-nil Came; cache = kept ∙ same; path = stays ∙ at }
+      record { tickets = []; came = All-nil IsReceived; cache = kept ∙ same; path = stays ∙ at }
 
   -- its cache is written, or not
   pub added : (before asked after : Option World) (first last : CacheSession)
       → (after ≡ asked) ⊎ (after ≡ option_map (with_file (string_bytes last.path) (cache_text last.cache)) asked)
-      → Collected Came first last → asked ≡ before
-      → (after ≡ before) ⊎ Added Came (string_bytes first.path) first.cache before after
+      → Collected IsReceived first last → asked ≡ before
+      → (after ≡ before) ⊎ Added IsReceived (string_bytes first.path) first.cache before after
   added before asked after first last (inl same) is kept = inl (same ∙ kept)
   added before asked after first last (inr written) is kept = inr (record {
     tickets = is.tickets;
@@ -105,12 +105,12 @@ module _ (Came : Credential → Type 0) where
         ∙ ap (λ cache. option_map (with_file (string_bytes first.path) (cache_text cache)) before) is.cache;
   })
 
-  pub unfilled : (before after : Option World) → after ≡ before → (after ≡ before) ⊎ Filled Came before after
+  pub unfilled : (before after : Option World) → after ≡ before → (after ≡ before) ⊎ Filled IsReceived before after
   unfilled before after same = inl same
 
   pub filled : (before read after : Option World) (path : List ℕ) (cache : CacheContents)
-      → (after ≡ read) ⊎ Added Came path cache read after → HasCache before path cache → read ≡ before
-      → (after ≡ before) ⊎ Filled Came before after
+      → (after ≡ read) ⊎ Added IsReceived path cache read after → HasCache before path cache → read ≡ before
+      → (after ≡ before) ⊎ Filled IsReceived before after
   filled before read after path cache (inl same) holds kept = inl (same ∙ kept)
   filled before read after path cache (inr is) holds kept = inr (record {
     path = path;
@@ -131,24 +131,24 @@ written_or_kept (Err fault) before written after is kept = inl kept
 -- ---- a command
 
 module _ (First Further : Credential → Type 0) (before after : Option World) where
-  pub did_nothing : after ≡ before → Did First Further before after
+  pub did_nothing : after ≡ before → CommandLeaves First Further before after
   did_nothing same = inl same
 
-  pub did_fill : (after ≡ before) ⊎ Filled Further before after → Did First Further before after
+  pub did_fill : (after ≡ before) ⊎ Filled Further before after → CommandLeaves First Further before after
   did_fill (inl same) = inl same
   did_fill (inr is) = inr (inr (inr (inl is)))
 
   pub did_make_first : {A E : Type 0} (result : Result A E) → OnOk result (Made First before after)
-      → OnErr result (after ≡ before) → Did First Further before after
+      → OnErr result (after ≡ before) → CommandLeaves First Further before after
   did_make_first (Ok x) is kept = inr (inl is)
   did_make_first (Err fault) is kept = inl kept
 
   pub did_make_further : {A E : Type 0} (result : Result A E) → OnOk result (Made Further before after)
-      → OnErr result (after ≡ before) → Did First Further before after
+      → OnErr result (after ≡ before) → CommandLeaves First Further before after
   did_make_further (Ok x) is kept = inr (inr (inl is))
   did_make_further (Err fault) is kept = inl kept
 
   pub did_remove : {A E : Type 0} (result : Result A E) → OnOk result (Removed before after)
-      → OnErr result (after ≡ before) → Did First Further before after
+      → OnErr result (after ≡ before) → CommandLeaves First Further before after
   did_remove (Ok x) is kept = inr (inr (inr (inr is)))
   did_remove (Err fault) is kept = inl kept

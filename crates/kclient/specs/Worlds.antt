@@ -35,10 +35,10 @@ pub record CameFurther (finds : List ℕ → ℕ → SocketAddr → Type 0) (car
 -- ---- the effect of each command, from the world before it to the one after it
 
 -- a path has a new cache of one ticket that came, and every other path is unchanged
-pub record Made (Came : Credential → Type 0) (before after : Option World) : Type 0 where
+pub record Made (IsReceived : Credential → Type 0) (before after : Option World) : Type 0 where
   pub path : List ℕ
   pub ticket : Credential
-  pub came : Came ticket
+  pub came : IsReceived ticket
   pub written : after ≡ option_map (with_file path (cache_text (new_cache ticket))) before
 
 -- each of these tickets in place of the first one of the same service, else at the end
@@ -48,18 +48,18 @@ with_tickets (ticket ∷ tickets) cache =
     with_tickets tickets (record cache { credentials = put_first ticket cache.credentials })
 
 -- a path has this cache with tickets that came, and every other path is unchanged
-pub record Added (Came : Credential → Type 0) (path : List ℕ) (cache : CacheContents) (before after : Option World)
+pub record Added (IsReceived : Credential → Type 0) (path : List ℕ) (cache : CacheContents) (before after : Option World)
     : Type 0 where
   pub tickets : List Credential
-  pub came : All Came tickets
+  pub came : All IsReceived tickets
   pub written : after ≡ option_map (with_file path (cache_text (with_tickets tickets cache))) before
 
 -- a path has the cache that it had, with tickets that came
-pub record Filled (Came : Credential → Type 0) (before after : Option World) : Type 0 where
+pub record Filled (IsReceived : Credential → Type 0) (before after : Option World) : Type 0 where
   pub path : List ℕ
   pub cache : CacheContents
   pub held : HasCache before path cache
-  pub added : Added Came path cache before after
+  pub added : Added IsReceived path cache before after
 
 -- a path has no file, and every other path is unchanged
 pub record Removed (before after : Option World) : Type 0 where
@@ -67,6 +67,6 @@ pub record Removed (before after : Option World) : Type 0 where
   pub removed : after ≡ option_map (without_file path) before
 
 -- the world is as it was, or one of these
-abbrev pub Did : (First Further : Credential → Type 0) → Option World → Option World → Type 0
-Did First Further before after =
+abbrev pub CommandLeaves : (First Further : Credential → Type 0) → Option World → Option World → Type 0
+CommandLeaves First Further before after =
     (after ≡ before) ⊎ (Made First before after ⊎ (Made Further before after ⊎ (Filled Further before after ⊎ Removed before after)))

@@ -6,7 +6,7 @@ ghost use Rattle.krb_fields.specs.NameText.{component_text, text_of};
 use cred_files::{Cache, Credential, Keytab, KeytabEntry, Principal};
 use krb_der::KTime;
 use krb_elements::{KerberosString, read};
-use krb_fields::{Flags, Name, Second, component_to_text};
+use krb_fields::{Flags, Name, Second, TicketFlag, component_to_text};
 use krb_types::TicketRef;
 use std::alloc::{AllocError, Global};
 use text_fields::UtcDate;
@@ -17,29 +17,25 @@ const SETTINGS_REALM: &[u8] = b"X-CACHECONF:";
 /// The first component of its name.
 const SETTINGS_NAME: &[u8] = b"krb5_ccache_conf_data";
 
-/// The letters of a ticket's flags (RFC 4120, section 5.3; RFC 8062, section 3), as in MIT's `klist -f`, in its order.
-const LETTERS: &[(u32, char)] = &[
-    // forwardable, forwarded
-    (1 << 30, 'F'),
-    (1 << 29, 'f'),
-    // proxiable, proxy
-    (1 << 28, 'P'),
-    (1 << 27, 'p'),
-    // may-postdate, postdated
-    (1 << 26, 'D'),
-    (1 << 25, 'd'),
-    // invalid, renewable, initial
-    (1 << 24, 'i'),
-    (1 << 23, 'R'),
-    (1 << 22, 'I'),
-    // hw-authent, pre-authent
-    (1 << 20, 'H'),
-    (1 << 21, 'A'),
-    // transited-policy-checked, ok-as-delegate, anonymous
-    (1 << 19, 'T'),
-    (1 << 18, 'O'),
-    (1 << 15, 'a'),
+/// The letters of a ticket's flags, as in MIT's `klist -f`, in its order.
+const LETTERS: &[(TicketFlag, char)] = &[
+    (TicketFlag::Forwardable, 'F'),
+    (TicketFlag::Forwarded, 'f'),
+    (TicketFlag::Proxiable, 'P'),
+    (TicketFlag::Proxy, 'p'),
+    (TicketFlag::MayPostdate, 'D'),
+    (TicketFlag::Postdated, 'd'),
+    (TicketFlag::Invalid, 'i'),
+    (TicketFlag::Renewable, 'R'),
+    (TicketFlag::Initial, 'I'),
+    (TicketFlag::HwAuthent, 'H'),
+    (TicketFlag::PreAuthent, 'A'),
+    (TicketFlag::TransitedPolicyChecked, 'T'),
+    (TicketFlag::OkAsDelegate, 'O'),
 ];
+
+/// The flag `anonymous` (RFC 8062, section 3), whose letter follows. Only other KDCs set it.
+const ANONYMOUS: u32 = 1 << 15;
 
 /// Returns a line `principal NAME@REALM`, and one for each credential of the cache.
 pub(crate) fn lines_of_cache(alloc: Global, cache: &Cache) -> Result<String, AllocError> {
@@ -136,10 +132,13 @@ fn date_of(time: KTime) -> Option<UtcDate> {
 fn push_flags(lines: &mut String, flags: Flags) -> Result<(), AllocError> {
     lines.push_str(" flags ")?;
     let len = lines.len();
-    for (bit, letter) in LETTERS {
-        if flags.bits() & *bit != 0 {
+    for (flag, letter) in LETTERS {
+        if flags.has(*flag) {
             lines.push(*letter)?;
         }
+    }
+    if flags.bits() & ANONYMOUS != 0 {
+        lines.push('a')?;
     }
     if lines.len() == len {
         lines.push('-')?;

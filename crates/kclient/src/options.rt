@@ -49,7 +49,7 @@ const CACHE: OptionRow = OptionRow {
 const SEED: OptionRow = OptionRow {
     name: "seed",
     shape: "FILE",
-    help: "A file of 32 random bytes, new for each command; without it, the system's random bytes",
+    help: "A file of 32 random bytes, new for each command; by default the system draws them",
     times: Times::AtMostOnce,
 };
 
@@ -70,7 +70,7 @@ const CLIENT: OptionRow = OptionRow {
 const PASSWORD: OptionRow = OptionRow {
     name: "password-file",
     shape: "FILE",
-    help: "A file whose first line is the password, of at most 1,024 bytes; without it, standard input",
+    help: "A file whose first line is the password, of at most 1,024 bytes; by default it is read from standard input",
     times: Times::AtMostOnce,
 };
 
@@ -84,14 +84,14 @@ const CLIENT_KEYTAB: OptionRow = OptionRow {
 const SERVICE: OptionRow = OptionRow {
     name: "service",
     shape: "NAME",
-    help: "The service that the ticket is for; without it, krbtgt/REALM",
+    help: "The service that the ticket is for; by default krbtgt/REALM",
     times: Times::AtMostOnce,
 };
 
 const LIFE: OptionRow = OptionRow {
     name: "life",
     shape: "TIME",
-    help: "The lifetime to ask for, in seconds or as 30m, 8h or 7d; without it, the longest that the KDC gives",
+    help: "The lifetime to ask for, in seconds or as 30m, 8h or 7d; by default the longest that the KDC gives",
     times: Times::AtMostOnce,
 };
 
@@ -105,7 +105,7 @@ const START: OptionRow = OptionRow {
 const LEAST_COUNT: OptionRow = OptionRow {
     name: "least-count",
     shape: "N",
-    help: "The fewest iterations of string-to-key that the KDC may ask for; without it, 4096 or 32768, by the encryption type",
+    help: "The fewest iterations of string-to-key that the KDC may ask for; by default 4096 or 32768, by the encryption type",
     times: Times::AtMostOnce,
 };
 
@@ -132,7 +132,7 @@ const LISTED_KEYTAB: OptionRow = OptionRow {
 
 const TCP: FlagRow = FlagRow {
     name: "tcp",
-    help: "Uses only TCP; without it, UDP first",
+    help: "Uses only TCP; by default UDP first",
 };
 
 /// `kinit`, with what describes a first ticket. `--renew` and `--validate` take none of it.
@@ -283,7 +283,7 @@ fn command<'a>(alloc: Global, kind: CommandKind) -> Result<Command<'a>, AllocErr
 /// Returns `kinit` with what it takes besides a first ticket's description.
 fn kinit<'a>(alloc: Global, kinit: Command<'a>) -> Result<Command<'a>, AllocError> {
     let client = Arg::new(alloc, "client").value_name("CLIENT").help(
-        "The client's name, also with its realm, such as alice@EXAMPLE.COM; without it, the cache's client, or else LOGNAME",
+        "The client's name, also with its realm, such as alice@EXAMPLE.COM; by default the cache's client, or else LOGNAME",
     );
     let kinit = with_options(alloc, kinit, KINIT_OPTIONS)?;
     with_flags(alloc, kinit, KINIT_FLAGS)?.arg(client)

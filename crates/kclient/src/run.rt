@@ -1,6 +1,6 @@
 //! Running one command line: from its words to what is printed.
 ghost use Rattle.std.specs.Prelude.{◌≡◌};
-ghost use Rattle.kclient.specs.Worlds.{CameFirst, CameFurther, Did};
+ghost use Rattle.kclient.specs.Worlds.{CameFirst, CameFurther, CommandLeaves};
 
 use crate::context::Context;
 use crate::kinit::get_first;
@@ -59,7 +59,7 @@ pub fn kclient_run<S: AsStr, T: ClientStore, X: AnyMessage, W: Write + Drop, E: 
     errors: E,
 ) -> Status
     // The files are as before, or one path has what the command is for.
-    ensures world { Did (CameFirst X.finds X.carries X.answers) (CameFurther X.finds X.carries X.answers)
+    ensures world { CommandLeaves (CameFirst X.finds X.carries X.answers) (CameFurther X.finds X.carries X.answers)
         (T.world context.old.store) (T.world context.new.store) }
 {
     context.begin();
@@ -108,7 +108,7 @@ fn run_command<S: AsStr, T: ClientStore, X: AnyMessage>(
     args: &[S],
     defaults: &Defaults<'_>,
 ) -> Result<Printed, Fault>
-    ensures world { Did (CameFirst X.finds X.carries X.answers) (CameFurther X.finds X.carries X.answers)
+    ensures world { CommandLeaves (CameFirst X.finds X.carries X.answers) (CameFurther X.finds X.carries X.answers)
         (T.world context.old.store) (T.world context.new.store) }
 {
     let matches = match read_args(context.alloc, args) {

@@ -7,7 +7,7 @@ use client_login::{Renewal, TicketRequest};
 use krb_elements::KerberosString;
 use krb_fields::{Name, component_from_text};
 use std::alloc::{AllocError, Global};
-use text_fields::number_u32;
+use text_fields::{lifetime, number_u32};
 
 /// The words for a first ticket.
 #[derive(Clone, Copy)]
@@ -196,25 +196,12 @@ fn number_in(options: &ArgMatches<'_>, name: &str) -> Option<Option<u32>> {
     }
 }
 
-/// The seconds in each unit of time.
-const UNITS: &[(char, u32)] = &[('s', 1), ('m', 60), ('h', 3_600), ('d', 86_400)];
-
 /// Returns the seconds after an option, which may be absent; `None` if the word is not a time.
 fn seconds_in(options: &ArgMatches<'_>, name: &str) -> Option<Option<u32>> {
     match options.get_str(name) {
-        Some(text) => Some(Some(seconds(text)?)),
+        Some(text) => Some(Some(lifetime(text)?)),
         None => Some(None),
     }
-}
-
-/// Reads a number of seconds, or of the unit after it; `None` if it is no number, or more than 4294967295 seconds.
-fn seconds(text: &str) -> Option<u32> {
-    for (unit, count) in UNITS {
-        if let Some(number) = text.strip_suffix(*unit) {
-            return number_u32(number)?.checked_mul(*count);
-        }
-    }
-    number_u32(text)
 }
 
 /// Reads the name after an option. A fault has the option and the whole word.

@@ -95,79 +95,79 @@ const SERVE: SubcommandRow = SubcommandRow {
         OptionRow {
             name: "udp",
             shape: "ADDRESS:PORT",
-            help: "Accept datagrams at this address, such as 127.0.0.1:88 or [::1]:88. At most 8 of --udp and --tcp in all",
+            help: "Accepts datagrams at this address, such as 127.0.0.1:88 or [::1]:88. At most 8 of --udp and --tcp in all",
             times: Times::Any,
         },
         OptionRow {
             name: "tcp",
             shape: "ADDRESS:PORT",
-            help: "Accept connections at this address",
+            help: "Accepts connections at this address",
             times: Times::Any,
         },
         OptionRow {
             name: "rounds",
             shape: "N",
-            help: "End after N rounds, 0 to 4294967295",
+            help: "Ends after N rounds, 0 to 4294967295",
             times: Times::AtMostOnce,
         },
         OptionRow {
             name: "seed",
             shape: "FILE",
-            help: "Make all session keys from the first 32 bytes of this file, new for each start (default: the system's)",
+            help: "Makes all session keys from the first 32 bytes of this file, new for each start; by default the system draws them",
             times: Times::AtMostOnce,
         },
         OptionRow {
             name: "remembered",
             shape: "N",
-            help: "Keep up to N authenticators in the replay cache of each client, 1 to 65536 (default 4096)",
+            help: "Keeps up to N authenticators in the replay cache of each client, 1 to 65536; by default 4096",
             times: Times::AtMostOnce,
         },
         OptionRow {
             name: "kept",
             shape: "N",
-            help: "Keep the replies to TGS-REQs of up to N bytes, 0 to 65535 (default 4096): one that comes again gets the same reply",
+            help: "Keeps the replies to TGS-REQs of up to N bytes, 0 to 65535, by default 4096: one that comes again gets the same reply",
             times: Times::AtMostOnce,
         },
         OptionRow {
             name: "lock-after",
             shape: "N",
-            help: "Lock a client after N failed logins in a row (default 0: never). It needs --lock-seconds",
+            help: "Locks a client after N failed logins in a row; by default 0, which means never. It needs --lock-seconds",
             times: Times::AtMostOnce,
         },
         OptionRow {
             name: "lock-seconds",
             shape: "TIME",
-            help: "Lock it until TIME after the last failure: seconds, or a number with s, m, h or d (300, 5m)",
+            help: "Locks it until TIME after the last failure: seconds, or a number with s, m, h or d (300, 5m)",
             times: Times::AtMostOnce,
         },
         OptionRow {
             name: "greatest-life",
             shape: "TIME",
-            help: "Issue tickets with a lifetime of at most TIME (default 10h)",
+            help: "Issues tickets with a lifetime of at most TIME; by default 10h",
             times: Times::AtMostOnce,
         },
         OptionRow {
             name: "greatest-renewable",
             shape: "TIME",
-            help: "Renew tickets for at most TIME (default 7d)",
+            help: "Renews tickets for at most TIME; by default 7d",
             times: Times::AtMostOnce,
         },
         OptionRow {
             name: "journal-size",
             shape: "SIZE",
-            help: "Begin another file of the journal once one has SIZE bytes, up to 512M (default 64M)",
+            help: "Begins another file of the journal once one has SIZE bytes, up to 512M; by default 64M",
             times: Times::AtMostOnce,
         },
         OptionRow {
             name: "metrics",
             shape: "FILE",
-            help: "Write the server's numbers to FILE every ten seconds, in Prometheus' text format, for those who watch it",
+            help: "Writes the server's numbers to FILE every ten seconds, in Prometheus' text format, for those who watch it",
             times: Times::AtMostOnce,
         },
         OptionRow {
             name: "log-format",
             shape: "FORMAT",
-            help: "Write a line to standard error for each request: text, or with json a JSON object",
+            help: "Writes a line to standard error for each request: text, or with json a JSON object",
             times: Times::AtMostOnce,
         },
     ],
@@ -179,15 +179,15 @@ const SERVE: SubcommandRow = SubcommandRow {
         },
         FlagRow {
             name: "quiet-start",
-            help: "Send no reply to a TGS-REQ while all are refused after the start, and close its connection: clients then ask another KDC",
+            help: "Sends no reply to a TGS-REQ while all are refused after the start, and closes its connection: clients then ask another KDC",
         },
         FlagRow {
             name: "no-journal",
-            help: "Remove the journal that is beside the database, and serve without one",
+            help: "Removes the journal that is beside the database, and serves without one",
         },
         FlagRow {
             name: "fixed",
-            help: "Read the database once, and never look at its file again",
+            help: "Reads the database once, and never looks at its file again",
         },
         FlagRow {
             name: "log",
@@ -251,7 +251,7 @@ fn journal_option<'a>(alloc: Global, beside: &'a str) -> Arg<'a> {
         .default_missing_value(beside)
         .value_parser(ValueParser::NonEmptyString)
         .help(
-            "Append the authenticators of the replay caches to FILE (default DATABASE.journal), so that a restart refuses nothing else",
+            "Appends the authenticators of the replay caches to FILE, by default DATABASE.journal, so that a restart refuses nothing else",
         )
 }
 
