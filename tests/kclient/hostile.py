@@ -8,6 +8,8 @@ from harness.trial import Trial
 CACHE = b"what the cache was before\n"
 # The seconds by which a command may be late, beside other work on the machine.
 SLACK = 3 * SLOWNESS
+# What names the client of most commands.
+AS_U = ("--realm", "A.B", "--name", "u", "--password-file", "pw")
 # The address space of a command, in KiB. It fails if it needs more memory.
 ROOM = 16384
 
@@ -22,10 +24,11 @@ class Hostile(Trial):
         begun = time.monotonic()
         return self.run([*bounded, *words]), time.monotonic() - begun
 
-    def faults(self, begun, status, out, said, cache, seconds=(0, 0)):
-        """What is wrong with what `begin` returned. The command has to end with this status after `seconds`, the
-        least and the most, print `out`, write these texts to standard error, and leave this cache."""
-        (ran, took), (least, most), faults = begun, seconds, []
+    def faults(self, begun, end, cache, seconds=(0, 0)):
+        """What is wrong with what `begin` returned. `end` is the status, what the command has to print, and the texts
+        that it has to write to standard error. It has to leave this cache, and to end after `seconds`, the least and
+        the most."""
+        (ran, took), (status, out, said), (least, most), faults = begun, end, seconds, []
         if ran.status != status:
             faults.append("it does not end" if ran.status is None else f"status {ran.status}, and not {status}")
         if ran.out != out + "\n":
@@ -38,17 +41,17 @@ class Hostile(Trial):
             faults.append("the cache is not what it has to be")
         return faults
 
-    def expect_kinit(self, what, kdcs, options, end, counts=None, who=("A.B", "u", "pw")):
-        """Runs a `kinit` that asks these addresses, and has to change no file. `end` is the status, what it prints and
-        says, and the least and the most seconds. The first KDC has to get `counts` datagrams and connections. `who` is
-        the realm, the client, and the file of the password."""
+    def expect_kinit(self, what, kdcs, options, end, counts=None):
+        """Runs a `kinit` that asks these addresses, and has to change no file. Options that name no client are those of
+        `u`. `end` is the status, what it prints and says, and the least and the most seconds. The first KDC has to get
+        `counts` datagrams and connections."""
         status, out, said, *seconds = end
         before = sorted(self.folder.iterdir())
         addresses = [word for each in kdcs for word in ("--kdc", getattr(each, "address", each))]
-        as_client = [word for pair in zip(("--realm", "--name", "--password-file"), who) for word in pair]
+        as_client = () if "--name" in options else AS_U
         words = ["kinit", *addresses, *as_client, "--cache", "cc", *options]
         begun = self.begin(words, CACHE)
-        faults = self.faults(begun, status, out, (said,), CACHE, seconds)
+        faults = self.faults(begun, (status, out, (said,)), CACHE, seconds)
         if counts and (kdcs[0].datagrams, kdcs[0].connections) != counts:
             faults.append(
                 f"sends {kdcs[0].datagrams} datagrams and {kdcs[0].connections} connections, and not {counts}"

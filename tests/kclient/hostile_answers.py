@@ -28,16 +28,18 @@ ENTRIES = ((18,), (18, 17), (23, 18, 17), (17, 18))
 def expect_keys(hostile):
     """Keys from passwords, by entries with the salt, and by entries without it, where it is the default one."""
     hostile.write("pw.raeburn", "password\n")
-    who, least = ("ATHENA.MIT.EDU", "raeburn", "pw.raeburn"), ("--least-count", "1")
+    options = (
+        "--realm", "ATHENA.MIT.EDU", "--name", "raeburn", "--password-file", "pw.raeburn", "--least-count", "1"
+    )
     for types, salt in itertools.product(ENTRIES, (b"ATHENA.MIT.EDUraeburn", None)):
         first = next(etype for etype in types if etype in KEYS)
         entries = [entry(etype, number(1), salt) for etype in types]
         kdc = Kdc(wants_key(first, *entries), no_connection)
         what = f"a key by entries of the types {types}, {'with' if salt else 'without'} a salt"
-        hostile.expect_kinit(what, [kdc], least, (1, "refused 6", "error 6", 0, 0), (2, 0), who)
+        hostile.expect_kinit(what, [kdc], options, (1, "refused 6", "error 6", 0, 0), (2, 0))
     kdc = Kdc(datagram(wanted(entry(23, number(1)))), no_connection)
     said = "the KDC names no key of the client with one of the encryption types 17 to 20"
-    hostile.expect_kinit("an entry of type 23 alone", [kdc], least, (1, "refused CannotOpen", said, 0, 0), (1, 0), who)
+    hostile.expect_kinit("an entry of type 23 alone", [kdc], options, (1, "refused CannotOpen", said, 0, 0), (1, 0))
 
 
 @test("kclient", trial=Hostile, seconds=100)

@@ -28,7 +28,7 @@ def files(hostile):
             hostile.folder.joinpath("own").write_bytes(EMPTY)
             hostile.folder.joinpath("own").chmod(0o600)
             ran, took = hostile.begin(words, CACHE)
-            hostile.note(" ".join(words), "; ".join(hostile.faults((ran, took), *no_file, CACHE)))
+            hostile.note(" ".join(words), "; ".join(hostile.faults((ran, took), no_file, CACHE)))
     (hostile.folder / "folder").mkdir()
     os.mkfifo(hostile.folder / "folder" / "in_it")
     hostile.write("including", "include pipe\nincludedir folder\n")
@@ -40,7 +40,8 @@ def files(hostile):
         said = (
             *[f"kclient: {each}: it is not a file" for each in passed_over], f"kclient: {path}: it has no default_realm"
         )
-        hostile.note(f"{path} as krb5.conf", "; ".join(hostile.faults((ran, took), 1, "refused NoRealm", said, CACHE)))
+        faults = hostile.faults((ran, took), (1, "refused NoRealm", said), CACHE)
+        hostile.note(f"{path} as krb5.conf", "; ".join(faults))
     not_ours = 1, "refused NotOurs", ("belongs to another user",)
     changes = [
         ("other users may write", lambda path: path.chmod(0o602)), ("a group may write", lambda path: path.chmod(0o620))
@@ -55,7 +56,7 @@ def files(hostile):
             path.chmod(0o600)
             change(path)
             ran, took = hostile.begin([*command, "--cache", "theirs"], CACHE)
-            faults = hostile.faults((ran, took), *not_ours, CACHE)
+            faults = hostile.faults((ran, took), not_ours, CACHE)
             if not path.exists():
                 faults.append("the cache is gone")
             hostile.note(f"a cache {what}: {command[0]}", "; ".join(faults))

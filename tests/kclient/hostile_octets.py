@@ -143,9 +143,10 @@ class Sweep:
             return took, ["no reply with a ticket came"]
         if due is TAKEN:
             out, cache = self.taken(self.proxy.changed)
-            return took, self.hostile.faults((ran, took), 0, out, (), cache)
+            return took, self.hostile.faults((ran, took), (0, out, ()), cache)
         out, said = due
-        return took, self.hostile.faults((ran, took), 1, out, (f"kclient: {self.proxy.address}: ", said), self.before)
+        texts = f"kclient: {self.proxy.address}: ", said
+        return took, self.hostile.faults((ran, took), (1, out, texts), self.before)
 
     def expect(self, what, changes):
         """Checks that each of these changes has its expected outcome."""
@@ -199,7 +200,7 @@ def expect_next(hostile, good):
         kdc = Kdc(datagram(error(code)), no_connection)
         words = ["kinit", "--kdc", kdc.address, "--kdc", good, "--realm", "A.B", "--name", "u", "--keytab", "u.keytab"]
         ran, took = hostile.begin([*words, "--cache", "new"], CACHE)
-        faults = hostile.faults((ran, took), 0, "ok", (), CACHE)
+        faults = hostile.faults((ran, took), (0, "ok", ()), CACHE)
         if kdc.datagrams != 1:
             faults.append(f"sends {kdc.datagrams} datagrams to the first")
         hostile.note(f"error {code}, then a good KDC", "; ".join(faults))

@@ -3,6 +3,7 @@ rules that lines of the log name, the crates of MAP.md, the numbers of COUNTS, t
 sections that a link names in words, the names of refusals in the manual pages, and the commands and options of command
 lines."""
 
+import collections
 import re
 import shlex
 
@@ -27,7 +28,7 @@ NEVER = {"kclient.1": {"NoLogin", "NotValid"}}
 # The manual page of each program, and the options that are plain words in its synopsis.
 MANUALS = {"kadm": ("kadm.8", set()), "kclient": ("kclient.1", {"--name"}), "kdcd": ("kdcd.8", set())}
 # Names in the tables of PROMISES.md that no source has.
-NO_NAMES = {"grep", "rn", "NAME", "crates"}
+NO_NAMES = {"grep", "rn", "NAME", "crates", "antt"}
 # Pages whose names of items and files are those of this repository, and names there of other ones.
 OF_CODE = (
     "CONTRIBUTING.md", "docs/CLIENT_LIBRARY.md", "docs/DECISIONS.md", "docs/FORMATS.md", "docs/MAP.md",
@@ -260,15 +261,20 @@ def items(trial):
 
 @test()
 def promises(trial):
-    """Each name of the columns 'carried by' and 'in' of PROMISES.md is a word of the sources, and each file is
-    there."""
-    known = {word for file in sources() for word in re.findall(r"\w+", file.read_text())}
+    """Each name of the column 'carried by' of PROMISES.md is a word of the crates whose files the row names, or of any
+    if it names none; and each file is there."""
+    known = collections.defaultdict(set)
+    for file in sources():
+        words = set(re.findall(r"\w+", file.read_text()))
+        for crate in (file.relative_to(CRATES).parts[0], ""):
+            known[crate] |= words | {crate}
     unknown, files = [], []
     for cells in rows(read("docs/PROMISES.md").partition("\n## Promises\n")[2].partition("\n## Wrong bodies\n")[0]):
         if len(cells) != 3:
             continue
         names = [each for name in re.findall(r"`([^`]+)`", cells[1]) for each in re.findall(r"\w+", name)]
-        unknown += [name for name in names if name not in known]
+        crates = {crate for crate in re.findall(r"`(\w+)/", cells[2]) if crate in known} or {""}
+        unknown += [name for name in names if not any(name in known[crate] for crate in crates)]
         files += lacking_files(cells[2])
     trial.note("PROMISES.md: the names that carry promises", ", ".join(sorted(set(unknown) - NO_NAMES)))
     trial.note("PROMISES.md: their files", ", ".join(sorted(set(files))))
