@@ -12,6 +12,7 @@ use krb_elements::Octets;
 use krb_fields::{Moment, Name};
 use replay::Seen;
 use std::alloc::{AllocError, Global};
+use std::process::Abort;
 
 // A journal of the realm A.B, begun at the second T after a restart, with two authenticators of the client u. One has
 // the time T and 7 microseconds, and came a second later. One has T + 300 and 999999, and came 298 seconds before
@@ -67,12 +68,16 @@ fn entry(
     ctime: i64,
     cusec: u32,
 ) -> Result<Option<Written>, AllocError> {
-    let seen = Seen {
+    write_seen(alloc, &sized(check), at(later), &seen(alloc, ctime, cusec)?)
+}
+
+/// Returns an authenticator of the client u with this time.
+fn seen(alloc: Global, ctime: i64, cusec: u32) -> Result<Seen, AllocError> {
+    Ok(Seen {
         client: Name::new(alloc, 1, &[b"u"])?,
         ctime,
         cusec,
-    };
-    write_seen(alloc, &sized(check), at(later), &seen)
+    })
 }
 
 /// Checks whether these bytes with their check are written.
@@ -147,24 +152,27 @@ fn a_journal_that_was_cut_or_changed_is_broken(rt: HostRuntime) {
     }
     match text(alloc, &[BEGINNING, FIRST, SECOND]) {
         Ok(mut text) => {
-            for end in 0..text.len() {
-                let wanted = match end {
-                    79 => Some(0),
-                    146 => Some(1),
-                    _ => None,
-                };
-                same(&rt, &end, &count(&found(alloc, &text[..end])), &Ok(wanted));
-            }
-            for place in 0..216 {
-                same(
-                    &rt,
-                    &place,
-                    &count_changed(alloc, &mut text, place),
-                    &Ok(None),
-                );
-            }
+            is_broken_where_cut(&rt, alloc, &text);
+            is_broken_where_changed(&rt, alloc, &mut text);
         }
         Err(fault) => same(&rt, &"a journal", &Err(fault), &Ok(())),
+    }
+}
+
+fn is_broken_where_cut(rt: &impl Abort, alloc: Global, text: &[u8]) {
+    for end in 0..text.len() {
+        let wanted = match end {
+            79 => Some(0),
+            146 => Some(1),
+            _ => None,
+        };
+        same(rt, &end, &count(&found(alloc, &text[..end])), &Ok(wanted));
+    }
+}
+
+fn is_broken_where_changed(rt: &impl Abort, alloc: Global, text: &mut [u8]) {
+    for place in 0..216 {
+        same(rt, &place, &count_changed(alloc, text, place), &Ok(None));
     }
 }
 
@@ -255,21 +263,55 @@ fn a_start_resumes_or_says_why_not(rt: HostRuntime) {
             &Ok(*wanted),
         );
     }
-    let shorter = found_of(alloc, &[BEGINNING, FIRST]);
-    let newer = linked(alloc, T + 301);
-    let lower = linked(alloc, T + 300);
-    for (number, older, newer, wanted) in [
-        (1, &whole, &Found::Nothing, Err(Doubt::Absent)),
-        (2, &whole, &Found::Broken, Err(Doubt::Damaged)),
-        (3, &whole, &newer, Ok((T + 400, 2))),
-        (4, &shorter, &newer, Err(Doubt::Unlinked)),
-        (5, &Found::Nothing, &newer, Err(Doubt::Unlinked)),
-        (6, &Found::Broken, &newer, Err(Doubt::Unlinked)),
-        (7, &whole, &lower, Err(Doubt::Unlinked)),
-    ] {
-        same(&rt, &number, &made(alloc, &HERE, older, newer), &Ok(wanted));
-    }
     holds(&rt, has_last_check(&whole), "the last check");
+}
+
+/// The whole journal, and what may stand in one of its two files.
+const FILES: usize = 6;
+
+const NOTHING: usize = 0;
+
+const BROKEN: usize = 1;
+
+const WHOLE: usize = 2;
+
+const SHORTER: usize = 3;
+
+const LINKED: usize = 4;
+
+const LINKED_LOWER: usize = 5;
+
+fn all_files(alloc: Global) -> [Found; FILES] {
+    [
+        Found::Nothing,
+        Found::Broken,
+        found_of(alloc, &[BEGINNING, FIRST, SECOND]),
+        found_of(alloc, &[BEGINNING, FIRST]),
+        linked(alloc, T + 301),
+        linked(alloc, T + 300),
+    ]
+}
+
+/// What a start does with these in its older and its newer file.
+const PAIRS: &[(usize, usize, Made)] = &[
+    (WHOLE, NOTHING, Err(Doubt::Absent)),
+    (WHOLE, BROKEN, Err(Doubt::Damaged)),
+    (WHOLE, LINKED, Ok((T + 400, 2))),
+    (SHORTER, LINKED, Err(Doubt::Unlinked)),
+    (NOTHING, LINKED, Err(Doubt::Unlinked)),
+    (BROKEN, LINKED, Err(Doubt::Unlinked)),
+    (WHOLE, LINKED_LOWER, Err(Doubt::Unlinked)),
+];
+
+#[test]
+fn a_start_with_two_files_resumes_or_says_why_not(rt: HostRuntime) {
+    const HERE: Where = (b"A.B", b"boot", b"", T + 700);
+    let alloc = rt.alloc();
+    let files = all_files(alloc);
+    for (older, newer, wanted) in PAIRS {
+        let found = made(alloc, &HERE, &files[*older], &files[*newer]);
+        same(&rt, &(*older, *newer), &found, &Ok(*wanted));
+    }
 }
 
 fn has_last_check(found: &Found) -> bool {
@@ -307,18 +349,25 @@ fn count_of(alloc: Global, times: &[i64]) -> Result<Option<usize>, AllocError> {
     let mut later = 0u32;
     for ctime in times {
         later = later.wrapping_add(1);
-        let seen = Seen {
-            client: Name::new(alloc, 1, &[b"u"])?,
-            ctime: *ctime,
-            cusec: later,
-        };
-        let Some(entry) = write_seen(alloc, &journal.check, at(later), &seen)? else {
-            return Err(AllocError);
-        };
-        journal.text.extend_from_slice(&entry.text)?;
-        journal.check = entry.check;
+        push_entry(alloc, &mut journal, later, *ctime)?;
     }
     count(&found(alloc, &journal.text))
+}
+
+/// Adds an entry for an authenticator with this time, whose request came this many seconds after T.
+fn push_entry(
+    alloc: Global,
+    journal: &mut Written,
+    later: u32,
+    ctime: i64,
+) -> Result<(), AllocError> {
+    let seen = seen(alloc, ctime, later)?;
+    let Some(entry) = write_seen(alloc, &journal.check, at(later), &seen)? else {
+        return Err(AllocError);
+    };
+    journal.text.extend_from_slice(&entry.text)?;
+    journal.check = entry.check;
+    Ok(())
 }
 
 /// How many calls on a server's files succeed, how many then fail, how many octets of an entry are there after those,
@@ -360,44 +409,51 @@ fn after(alloc: Global, failure: &Failure) -> Result<Kept, AllocError> {
         cut,
         tears,
     });
-    let realm = Octets::from_slice(alloc, b"A.B")?;
-    let boot = Octets::from_slice(alloc, b"boot")?;
-    let mut journal = JournalFile::new(files, realm, boot, T + 301, 1_000_000);
+    let mut journal = journal_in(alloc, files, b"boot")?;
+    let kept = are_kept(alloc, &mut journal)?;
+    let mut files = journal.into_files();
+    Ok((kept, resumed_in(alloc, &mut files, b"boot")?.ok()))
+}
+
+/// Starts where there is no journal, and keeps three authenticators. Returns which of them were kept.
+fn are_kept(
+    alloc: Global,
+    journal: &mut JournalFile<MemoryFiles>,
+) -> Result<[bool; 3], AllocError> {
     let absent = Start::Refuses {
         doubt: Doubt::Absent,
     };
-    if journal
-        .start(alloc, at(0), &absent, &Found::Nothing, 0)
-        .is_err()
-    {
+    let begun = journal.start(alloc, at(0), &absent, &Found::Nothing, 0);
+    if begun.is_err() {
         return Err(AllocError);
     }
     let mut kept = [false; 3];
     for later in 0..3 {
-        let seen = Seen {
-            client: Name::new(alloc, 1, &[b"u"])?,
-            ctime: T + 301,
-            cusec: later,
-        };
-        kept[later as usize] = journal.keep(alloc, at(301), &seen).is_ok();
+        kept[later as usize] = is_kept(alloc, journal, at(301), later)?;
     }
-    let mut files = journal.into_files();
-    let resumed = resumed_with(alloc, &mut files)?;
-    Ok((kept, resumed))
+    Ok(kept)
 }
 
-/// Returns with how many authenticators a start resumes, if it does.
-fn resumed_with(alloc: Global, files: &mut MemoryFiles) -> Result<Option<usize>, AllocError> {
-    let (Ok(older), Ok(newer)) = (
-        read_part(alloc, files, Part::Older),
-        read_part(alloc, files, Part::Newer),
-    ) else {
-        return Err(AllocError);
-    };
-    Ok(match start_of(alloc, &here(302), &older, &newer)? {
-        Start::Resumes { resumption, .. } => Some(resumption.seen.len()),
-        Start::Refuses { .. } => None,
-    })
+/// Returns a journal of a boot over these files.
+fn journal_in(
+    alloc: Global,
+    files: MemoryFiles,
+    boot: &[u8],
+) -> Result<JournalFile<MemoryFiles>, AllocError> {
+    let realm = Octets::from_slice(alloc, b"A.B")?;
+    let boot = Octets::from_slice(alloc, boot)?;
+    Ok(JournalFile::new(files, realm, boot, T + 301, 1_000_000))
+}
+
+/// Keeps an authenticator with this number of microseconds. Returns whether that succeeded.
+fn is_kept(
+    alloc: Global,
+    journal: &mut JournalFile<MemoryFiles>,
+    at: Moment,
+    cusec: u32,
+) -> Result<bool, AllocError> {
+    let seen = seen(alloc, T + 301, cusec)?;
+    Ok(journal.keep(alloc, at, &seen).is_ok())
 }
 
 /// With how many authenticators a start resumes, or why it doesn't.
@@ -467,7 +523,11 @@ fn start_in(alloc: Global, found: &Files, boot: &[u8]) -> Result<Start, AllocErr
 
 fn resumed_in(alloc: Global, files: &mut MemoryFiles, boot: &[u8]) -> Result<Resumed, AllocError> {
     let found = files_in(alloc, files)?;
-    Ok(match start_in(alloc, &found, boot)? {
+    resumed(alloc, &found, boot)
+}
+
+fn resumed(alloc: Global, found: &Files, boot: &[u8]) -> Result<Resumed, AllocError> {
+    Ok(match start_in(alloc, found, boot)? {
         Start::Resumes { resumption, .. } => Ok(resumption.seen.len()),
         Start::Refuses { doubt } => Err(doubt),
     })
@@ -476,6 +536,10 @@ fn resumed_in(alloc: Global, files: &mut MemoryFiles, boot: &[u8]) -> Result<Res
 /// Seals files. Returns 0 if that succeeds.
 fn sealed_in(alloc: Global, files: &mut MemoryFiles, boot: &[u8]) -> Result<Resumed, AllocError> {
     let found = files_in(alloc, files)?;
+    seal(files, &found, boot)
+}
+
+fn seal(files: &mut MemoryFiles, found: &Files, boot: &[u8]) -> Result<Resumed, AllocError> {
     let place = Place {
         realm: b"A.B",
         boot,
@@ -498,18 +562,32 @@ fn kept_in(
 ) -> Result<MemoryFiles, AllocError> {
     let mut files = files;
     let found = files_in(alloc, &mut files)?;
-    let start = start_in(alloc, &found, boot)?;
-    let realm = Octets::from_slice(alloc, b"A.B")?;
-    let boot = Octets::from_slice(alloc, boot)?;
-    let mut journal = JournalFile::new(files, realm, boot, T + 301, 1_000_000);
+    kept_after(alloc, files, &found, boot, cusec)
+}
+
+fn kept_after(
+    alloc: Global,
+    files: MemoryFiles,
+    found: &Files,
+    boot: &[u8],
+    cusec: u32,
+) -> Result<MemoryFiles, AllocError> {
+    let mut journal = journal_in(alloc, files, boot)?;
+    start_and_keep(alloc, &mut journal, found, boot, cusec)?;
+    Ok(journal.into_files())
+}
+
+fn start_and_keep(
+    alloc: Global,
+    journal: &mut JournalFile<MemoryFiles>,
+    found: &Files,
+    boot: &[u8],
+    cusec: u32,
+) -> Result<(), AllocError> {
+    let start = start_in(alloc, found, boot)?;
     let begun = journal.start(alloc, at(302), &start, &found.newer, 0);
-    let seen = Seen {
-        client: Name::new(alloc, 1, &[b"u"])?,
-        ctime: T + 301,
-        cusec,
-    };
-    if begun.is_err() || journal.keep(alloc, at(302), &seen).is_err() {
+    if begun.is_err() || !is_kept(alloc, journal, at(302), cusec)? {
         return Err(AllocError);
     }
-    Ok(journal.into_files())
+    Ok(())
 }
