@@ -1,12 +1,14 @@
 //! Starting a server as its options say.
-ghost use Rattle.std.specs.Prelude.{◌≡◌, ◌||◌, IfOk, is_some};
+ghost use Rattle.std.specs.Prelude.{◌≡◌, ◌||◌, ◌++◌, ◌∷◌, [], true, IfOk, is_some};
+ghost use Rattle.std.specs.FinMap as map;
 ghost use Rattle.std.specs.Option.{option_copied};
 ghost use Rattle.kdc_hub.specs.Hub.{standing};
+ghost use Rattle.kdc_hub.specs.Wire.{Records};
 ghost use Rattle.kdc_files.specs.Recorded.{IsNew};
 ghost use Rattle.rand_core.specs.Steps.{steps_u32, stream_of};
 ghost use Rattle.rand_chacha.specs.ChaCha.{next_word};
-ghost use Rattle.kdcd_run.specs.Resuming.{IsReady};
-ghost use Rattle.kdcd_run.specs.Starting.{IsSeed, opened_by};
+ghost use Rattle.kdcd_run.specs.Resuming.{AreAt, IsDecided, IsReady, known_by, may_be_first, reading, started_state};
+ghost use Rattle.kdcd_run.specs.Starting.{IsSeed, Showed, opened_by, seeded};
 
 use crate::args::ServeOptions;
 use crate::host::Host;
@@ -17,6 +19,7 @@ use kdc_files::{JournalBeginning, ServerFileFault, seed_in};
 use kdc_hub::Hub;
 use krb_elements::Octets;
 use krb_fields::Moment;
+use principals::Database;
 use rand_chacha::ChaCha20Rng;
 use rand_core::SeedableRng;
 use std::alloc::{AllocError, Global};
@@ -124,29 +127,72 @@ pub fn ready<'a, H: Host>(
         Ok(sockets) => sockets,
         Err(fault) => return Err(StartFault::Sockets(fault)),
     };
+    let beginning = begin(alloc, host, options, &rows)?;
+    let hub = hub_of(alloc, options, rows, seed, &beginning)?;
+    Ok(ReadyServer {
+        hub,
+        sockets,
+        beginning,
+        row_count,
+    })
+}
+
+/// Reads the journals, and then the clock. Returns what the journal is to begin with.
+fn begin<'a, H: Host>(
+    alloc: Global,
+    host: &mut H,
+    options: &ServeOptions<'a>,
+    rows: &Database,
+) -> Result<JournalBeginning, StartFault<'a, H::SocketFault>>
+    ensures did { IfOk result (λ beginning. Records (H.recorded host.old)
+        (reading (option_copied options.now.journal) beginning.journals ++ Showed beginning.at ∷ [])
+        (H.recorded host.new)) }
+    ensures found { IfOk result (λ beginning. AreAt (option_copied options.now.journal) beginning.journals) }
+    ensures first { IfOk result (λ beginning. may_be_first options.now.is_first beginning.journals ≡ true) }
+    ensures decided { IfOk result (λ beginning.
+        IsDecided rows.now beginning.journals beginning.at beginning.start) }
+    ensures realm { IfOk result (λ beginning. beginning.realm ≡ rows.now.realm) }
+    ensures floor { IfOk result (λ beginning.
+        beginning.floor ≡ (known_by (opened_by options.now.is_first beginning.at) beginning.start).floor) }
+{
     let journals = read_journals(alloc, host, options)?;
     let at = match host.now() {
         Ok(at) => at,
         Err(error) => return Err(StartFault::System(SystemPart::Clock, error)),
     };
-    let start = decide(alloc, &rows, &journals, at)?;
+    let start = decide(alloc, rows, &journals, at)?;
     let realm = Octets::from_slice(alloc, rows.realm())?;
-    let opening = opened_by(options.is_first, at);
-    let floor = floor_by(opening, &start);
-    let kdc = open(alloc, rows, options.limits, opening, &start)?;
-    let rng = ChaCha20Rng::from_seed(seed);
-    Ok(ReadyServer {
-        hub: Hub::new(alloc, placed(kdc, seed), rng, keeps_accounts(options)),
-        sockets,
-        beginning: JournalBeginning {
-            realm,
-            at,
-            floor,
-            start,
-            journals,
-        },
-        row_count,
+    let floor = floor_by(opened_by(options.is_first, at), &start);
+    Ok(JournalBeginning {
+        realm,
+        at,
+        floor,
+        start,
+        journals,
     })
+}
+
+/// Returns the hub of a start that its journal begins with.
+fn hub_of(
+    alloc: Global,
+    options: &ServeOptions<'_>,
+    rows: Database,
+    seed: [u8; 32],
+    beginning: &JournalBeginning,
+) -> Result<Hub<ChaCha20Rng>, AllocError>
+    ensures kdc { IfOk result (λ hub. (standing (stream_of (steps_u32 (next_word 10))) hub).issuing.kdc
+        ≡ started_state rows options.now.limits (opened_by options.now.is_first beginning.now.at) beginning.now.start) }
+    ensures random { IfOk result (λ hub.
+        (standing (stream_of (steps_u32 (next_word 10))) hub).issuing.random ≡ seeded seed) }
+    ensures accounts { IfOk result (λ hub. (standing (stream_of (steps_u32 (next_word 10))) hub).issuing.accounts
+        ≡ (is_some options.now.log || options.now.is_quiet || is_some options.now.metrics)) }
+    ensures connections { IfOk result (λ hub.
+        (standing (stream_of (steps_u32 (next_word 10))) hub).connections ≡ map.empty) }
+{
+    let opening = opened_by(options.is_first, beginning.at);
+    let kdc = open(alloc, rows, options.limits, opening, &beginning.start)?;
+    let rng = ChaCha20Rng::from_seed(seed);
+    Ok(Hub::new(alloc, placed(kdc, seed), rng, keeps_accounts(options)))
 }
 
 /// Checks whether the log, a quiet start or the counts of requests need the account of each request.
