@@ -27,12 +27,32 @@ pub(crate) fn list<T: ClientStore, X>(
 ) -> Result<Printed, Fault>
     ensures unchanged { T.world context.new.store ≡ T.world context.old.store }
 {
-    let alloc = context.alloc;
-    if let Some(path) = keytab_path(options)? {
-        check_alone(options)?;
-        let keytab = read_keytab(alloc, &mut context.store, path)?;
-        return Ok(Printed::done(lines_of_keytab(alloc, &keytab)?));
+    match keytab_path(options)? {
+        Some(path) => list_keytab(context, options, path),
+        None => list_cache(context, options, defaults),
     }
+}
+
+fn list_keytab<T: ClientStore, X>(
+    context: &mut Context<T, X>,
+    options: &ArgMatches<'_>,
+    path: &str,
+) -> Result<Printed, Fault>
+    ensures unchanged { T.world context.new.store ≡ T.world context.old.store }
+{
+    check_alone(options)?;
+    let keytab = read_keytab(context.alloc, &mut context.store, path)?;
+    Ok(Printed::done(lines_of_keytab(context.alloc, &keytab)?))
+}
+
+fn list_cache<T: ClientStore, X>(
+    context: &mut Context<T, X>,
+    options: &ArgMatches<'_>,
+    defaults: &Defaults<'_>,
+) -> Result<Printed, Fault>
+    ensures unchanged { T.world context.new.store ≡ T.world context.old.store }
+{
+    let alloc = context.alloc;
     let path = cache_path(alloc, &mut context.store, options, defaults)?;
     if options.get_flag("s") {
         let at = context.client.at;

@@ -63,8 +63,23 @@ pub(crate) fn get_tickets<T: ClientStore, X: AnyMessage>(
     use_given_kdcs(context.alloc, &mut context.client.kdcs, options)?;
     let services = read_services(context, &names)?;
     let mut session = read_session(context, options, path, keytab)?;
-    check_realms(context, &services, &session.cache)?;
-    Ok(Printed::done(fill(context, defaults, &mut session, &services)?))
+    fill_checked(context, defaults, &mut session, &services)
+}
+
+/// Does so for services whose realms the cache serves.
+#[tactic(auto, using(crate::proofs::Doing::added))]
+fn fill_checked<T: ClientStore, X: AnyMessage>(
+    context: &mut Context<T, X>,
+    defaults: &Defaults<'_>,
+    session: &mut CacheSession,
+    services: &[Service],
+) -> Result<Printed, Fault>
+    ensures world { (T.world context.new.store ≡ T.world context.old.store)
+        ⊎ Added (CameFurther X.finds X.carries X.answers) (string_bytes session.old.path) session.old.cache
+        (T.world context.old.store) (T.world context.new.store) }
+{
+    check_realms(context, services, &session.cache)?;
+    Ok(Printed::done(fill(context, defaults, session, services)?))
 }
 
 /// Gets a ticket for each service, until one fails, and writes the cache with those that came. Returns a line for each.

@@ -15,7 +15,6 @@ use rand_chacha::ChaCha20Rng;
 use std::alloc::Global;
 
 /// Gets the cache's ticket-granting ticket again, and writes a new cache with it. After an `Err` no file is changed.
-#[tactic(auto, using(crate::proofs::Doing::made))]
 pub(crate) fn renew_ticket<T: ClientStore, X: AnyMessage>(
     context: &mut Context<T, X>,
     options: &ArgMatches<'_>,
@@ -26,19 +25,49 @@ pub(crate) fn renew_ticket<T: ClientStore, X: AnyMessage>(
         Made (CameFurther X.finds X.carries X.answers) (T.world context.old.store) (T.world context.new.store)) }
     ensures unchanged { OnErr result (T.world context.new.store ≡ T.world context.old.store) }
 {
+    let held = read_held(context, options, defaults)?;
+    let mut rng = generator(context.alloc, &mut context.store, options)?;
+    let path = held.path.as_str();
+    let credential = renewable(context.alloc, path, &held.cache, renewal)?;
+    use_kdcs_of(context, defaults, held.cache.principal().realm.as_slice())?;
+    renew_from(context, &mut rng, &Granting { path, credential }, renewal)
+}
+
+/// A cache, and its path.
+#[derive(Drop)]
+struct HeldCache {
+    path: String,
+    cache: Cache,
+}
+
+fn read_held<T: ClientStore, X>(
+    context: &mut Context<T, X>,
+    options: &ArgMatches<'_>,
+    defaults: &Defaults<'_>,
+) -> Result<HeldCache, Fault>
+    ensures store { T.world context.new.store ≡ T.world context.old.store }
+{
     let alloc = context.alloc;
     let path = cache_path(alloc, &mut context.store, options, defaults)?;
     use_given_kdcs(alloc, &mut context.client.kdcs, options)?;
     let cache = read_cache(alloc, &mut context.store, path.as_str())?;
-    let mut rng = generator(alloc, &mut context.store, options)?;
-    let held = renewable(alloc, path.as_str(), &cache, renewal)?;
-    use_kdcs_of(context, defaults, cache.principal().realm.as_slice())?;
-    let granting = Granting {
-        path: path.as_str(),
-        credential: held,
-    };
-    let credential = renewed(context, &mut rng, &granting, renewal)?;
-    write_new(context, path.as_str(), &credential)
+    Ok(HeldCache { path, cache })
+}
+
+/// Gets the ticket again, and writes a new cache with it. After an `Err` no file is changed.
+#[tactic(auto, using(crate::proofs::Doing::made))]
+fn renew_from<T: ClientStore, X: AnyMessage>(
+    context: &mut Context<T, X>,
+    rng: &mut ChaCha20Rng,
+    granting: &Granting<'_>,
+    renewal: Renewal,
+) -> Result<Printed, Fault>
+    ensures made { OnOk result (
+        Made (CameFurther X.finds X.carries X.answers) (T.world context.old.store) (T.world context.new.store)) }
+    ensures unchanged { OnErr result (T.world context.new.store ≡ T.world context.old.store) }
+{
+    let credential = renewed(context, rng, granting, renewal)?;
+    write_new(context, granting.path, &credential)
 }
 
 /// Returns the ticket renewed or validated. It is requested once more if the KDC's time is taken.
