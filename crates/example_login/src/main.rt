@@ -28,8 +28,6 @@ fn main(rt: HostRuntime) -> io::Result<ExitCode> {
     }
 }
 
-/// Logs in and gets the ticket of a service. It verifies the login before that: the person who typed the password may
-/// also have answered in the KDC's place.
 fn get_ticket(
     rt: &HostRuntime,
     name: &str,
@@ -37,6 +35,16 @@ fn get_ticket(
     keytab: &str,
 ) -> Result<Credential, Fault> {
     let mut client = Client::open(rt, name)?;
+    verified_ticket(&mut client, service, keytab)
+}
+
+/// Logs in and gets the ticket of a service. It verifies the login before that: the person who typed the password may
+/// also have answered in the KDC's place.
+fn verified_ticket(
+    client: &mut Client<'_>,
+    service: &str,
+    keytab: &str,
+) -> Result<Credential, Fault> {
     let keytab = client.read_keytab(keytab)?;
     let password = client.ask_password()?;
     client.log_in(&password)?;
