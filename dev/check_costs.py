@@ -18,7 +18,7 @@ TOP = pathlib.Path(__file__).resolve().parent.parent
 PARTS = ("Lts", "Tie", "Proof")
 FILE = re.compile(r"Rattle-\w+-(?:specs|proofs)\.(.+?)\.(\w+)\.oantt$")
 # A pause as long as this, in seconds, is no function's: the check waited.
-LONGEST = 200
+LONGEST = 900
 
 
 def costs_of(crate):

@@ -7,18 +7,22 @@ Python 3.
 
 It measures all crates unless some are named. The lines of `rt ci` come first; its last line and its status are also
 this script's. The seconds are those that the system counts for each process that `rt` waits for, so they grow with
-other work on the machine. With --anew `rt ci` proves again what a kit keeps of earlier runs. SIGTERM ends it with what
-was measured by then."""
+other work on the machine, and on that of its neighbours. So it also times a short loop, on each processor in turn,
+and says how many minutes an idle machine takes. With --anew `rt ci` proves again what a kit keeps of earlier runs.
+SIGTERM ends it with what was measured by then."""
 
 import argparse
 import collections
+import multiprocessing
 import os
 import pathlib
 import re
 import signal
+import statistics
 import subprocess
 import sys
 import tempfile
+import time
 
 TOP = pathlib.Path(__file__).resolve().parent.parent
 # Python reads this when `rt` starts: it prints, after each process that was waited for, a line with its seconds, its
@@ -42,6 +46,7 @@ class Popen(subprocess.Popen):
 subprocess.Popen = Popen
 '''
 KINDS = ("check", "tests", "edits", "else")
+CPUS = os.sched_getaffinity(0)
 
 
 def kind(place, words):
@@ -55,6 +60,32 @@ def kind(place, words):
     return crate, "tests" if re.search(r" --test( |$)", words) else "check"
 
 
+def loop_seconds():
+    begun, total = time.process_time(), 0
+    for number in range(60_000):
+        total += number
+    return time.process_time() - begun
+
+
+def time_loops(path):
+    """Writes the seconds of the loop on each processor in turn, until the process is ended."""
+    with open(path, "w") as file:
+        while True:
+            for cpu in sorted(CPUS):
+                os.sched_setaffinity(0, {cpu})
+                print(loop_seconds(), file=file, flush=True)
+                time.sleep(0.2)
+
+
+def slowdown(seconds):
+    """How often longer than on an idle machine the checks took, by what the loop took.
+
+    While neighbours kept the processors busy, 38 checks of `framing` took 4.3 + 19.0 s seconds, where s is the harmonic
+    mean of the loop's times over its least (1.1 to 2.1), with a mean error of 1.1 seconds."""
+    least = sorted(seconds)[len(seconds) // 100]
+    return (4.3 + 19 * statistics.harmonic_mean(seconds) / least) / 23.3
+
+
 def main():
     options = argparse.ArgumentParser(description=__doc__, formatter_class=argparse.RawDescriptionHelpFormatter)
     options.add_argument("--anew", action="store_true", help="prove again what is kept of earlier runs")
@@ -65,6 +96,8 @@ def main():
         pathlib.Path(folder, "sitecustomize.py").write_text(NOTES)
         costs = pathlib.Path(folder, "costs")
         costs.touch()
+        loops = pathlib.Path(folder, "loops")
+        multiprocessing.Process(target=time_loops, args=(loops,), daemon=True).start()
         ran = subprocess.Popen(
             command, cwd=TOP, stdout=subprocess.PIPE, stderr=subprocess.STDOUT, text=True, errors="replace",
             env={**os.environ, "PYTHONPATH": folder, "GATE_COSTS": str(costs)}
@@ -74,6 +107,7 @@ def main():
         for line in ran.stdout:
             print(line, end="", flush=True)
         status = ran.wait()
+        slower = slowdown([float(each) for each in loops.read_text().splitlines()])
         found = collections.defaultdict(collections.Counter)
         for cost in costs.read_text(errors="replace").splitlines():
             seconds, place, words = cost.split("\t", 2)
@@ -84,7 +118,7 @@ def main():
         print(crate, *[f"{of[what]:.0f}" for what in KINDS], sep="\t")
     whole = sum(map(collections.Counter.total, found.values()))
     print("minutes of all crates", *[f"{sum(of[what] for of in found.values()) / 60:.0f}" for what in KINDS], sep="\t")
-    print(f"{whole / 60:.0f} processor minutes")
+    print(f"{whole / 60:.0f} processor minutes, and about {whole / 60 / slower:.0f} on an idle machine")
     print(line, end="")
     sys.exit(status)
 
