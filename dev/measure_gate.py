@@ -61,6 +61,7 @@ def kind(place, words):
 
 
 def loop_seconds():
+    """What a loop that uses no memory takes: on a processor that a neighbour shares, up to twice its least."""
     begun, total = time.process_time(), 0
     for number in range(60_000):
         total += number
@@ -77,13 +78,15 @@ def time_loops(path):
                 time.sleep(0.2)
 
 
-def slowdown(seconds):
-    """How often longer than on an idle machine the checks took, by what the loop took.
+def slowdown(loops):
+    """How many times longer than on an idle machine the checks took, from the seconds that the loops took beside them.
 
-    While neighbours kept the processors busy, 38 checks of `framing` took 4.3 + 19.0 s seconds, where s is the harmonic
-    mean of the loop's times over its least (1.1 to 2.1), with a mean error of 1.1 seconds."""
-    least = sorted(seconds)[len(seconds) // 100]
-    return (4.3 + 19 * statistics.harmonic_mean(seconds) / least) / 23.3
+    38 checks of one crate were timed while neighbours kept the processors more or less busy. Each took 4.3 seconds and
+    19 for each time that the loop took its least, by the harmonic mean (1.1 to 2.1 times), give or take one second."""
+    if not loops:
+        return 1
+    least = sorted(loops)[len(loops) // 100]
+    return (4.3 + 19 * statistics.harmonic_mean(loops) / least) / (4.3 + 19)
 
 
 def main():
@@ -97,6 +100,7 @@ def main():
         costs = pathlib.Path(folder, "costs")
         costs.touch()
         loops = pathlib.Path(folder, "loops")
+        loops.touch()
         multiprocessing.Process(target=time_loops, args=(loops,), daemon=True).start()
         ran = subprocess.Popen(
             command, cwd=TOP, stdout=subprocess.PIPE, stderr=subprocess.STDOUT, text=True, errors="replace",

@@ -28,6 +28,7 @@ fn main(rt: HostRuntime) -> io::Result<ExitCode> {
     }
 }
 
+/// Opens a client of a principal, and gets the ticket of a service with it.
 fn get_ticket(
     rt: &HostRuntime,
     name: &str,
