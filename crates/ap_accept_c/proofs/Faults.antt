@@ -6,7 +6,7 @@ use Rattle.cred_files.specs.declared.fault.CredFault.{CredFault}
 use Rattle.cred_files.specs.declared.fault.CredFault.TheVariants.{BadMagic, Truncated, BadEntry, TooLate, Absent, Memory}
 use Rattle.cred_files.specs.declared.keytab_entry.KeytabEntry.{KeytabEntry}
 use Rattle.ap_accept_c.specs.Service.{IsKeytabFault, IsOpenFault, IsRekeyed}
-use Rattle.ap_accept_c.specs.Status.{status_of_file}
+use Rattle.ap_accept_c.specs.Status.{status_of_keytab}
 use Rattle.ap_accept_c.specs.declared.service.Service.{Service}
 use Rattle.ap_accept_c.specs.declared.status.Status.{Status}
 use Rattle.ap_accept_c.specs.declared.status.Status.TheVariants as statuses
@@ -14,7 +14,7 @@ use Rattle.ap_accept_c.specs.declared.status.Status.TheVariants as statuses
 -- an error that is not the keytab's is out of memory
 pub not_read : (fault : CredFault) (octets : List ℕ)
     → ((keytab : List KeytabEntry) → IsKeytab keytab octets → IsReadUnlessMemory {X = List KeytabEntry} (Err fault) keytab)
-    → IsKeytabFault (status_of_file fault) octets
+    → IsKeytabFault (status_of_keytab fault) octets
 not_read BadMagic octets only = only
 not_read Truncated octets only = only
 not_read BadEntry octets only = only

@@ -28,10 +28,10 @@ status_of (faults.Refused refusal) = Refused refusal
 status_of faults.Memory = NoMemory
 
 -- why a keytab could not be read
-abbrev pub status_of_file : CredFault → Status
-status_of_file files.Memory = NoMemory
-status_of_file files.BadMagic = BadKeytab
-status_of_file files.Truncated = BadKeytab
-status_of_file files.BadEntry = BadKeytab
-status_of_file files.TooLate = BadKeytab
-status_of_file files.Absent = BadKeytab
+abbrev pub status_of_keytab : CredFault → Status
+status_of_keytab files.Memory = NoMemory
+status_of_keytab files.BadMagic = BadKeytab
+status_of_keytab files.Truncated = BadKeytab
+status_of_keytab files.BadEntry = BadKeytab
+status_of_keytab files.TooLate = BadKeytab
+status_of_keytab files.Absent = BadKeytab

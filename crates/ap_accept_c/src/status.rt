@@ -1,6 +1,6 @@
 //! The results of calls from C.
 ghost use Rattle.std.specs.Prelude.{◌≡◌};
-ghost use Rattle.ap_accept_c.specs.Status.{number_of, status_of, status_of_file};
+ghost use Rattle.ap_accept_c.specs.Status.{number_of, status_of, status_of_keytab};
 ghost use Rattle.ap_accept_c.specs.declared.status.Status.TheVariants as statuses;
 
 use ap_accept::{ApFault, ApRefusal};
@@ -61,7 +61,7 @@ impl Status {
 
     /// Returns the status for a keytab that could not be read.
     pub fn of_cred_fault(fault: CredFault) -> Status
-        ensures { result ≡ status_of_file fault }
+        ensures { result ≡ status_of_keytab fault }
     {
         match fault {
             CredFault::Memory => Status::NoMemory,

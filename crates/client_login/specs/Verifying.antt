@@ -65,8 +65,8 @@ if_of credential (Err doubt) = Err doubt
 abbrev pub opened : List KeytabEntry → Credential → Result EncTicketPart Doubt
 opened keytab credential = if_of credential (part_in keytab (ticket_in credential.ticket))
 
--- in its own terms: the bytes encode a ticket, the keytab's key for it decrypts it, and what is decrypted has the client
--- and the session key that the KDC's reply named
+-- in its own terms: the bytes encode a ticket, the keytab's key for it decrypts it, and what is decrypted has the
+-- client and the session key that the KDC's reply named
 pub record IsTicketOf (keytab : List KeytabEntry) (credential : Credential) : Type 0 where
   pub ticket : Ticket
   pub key : Key

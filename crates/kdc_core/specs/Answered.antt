@@ -32,8 +32,8 @@ pub record IsAnswered (before : State) (q : Incoming) (wants_account : Bool) (gi
       (issued (view before q.octets) q.at q.random (request_of q.octets)) (request_of q.octets)
   -- its bytes encode the message that the rules prescribe, or are a stored reply
   pub spelled : IsReply (view before q.octets) q.at q.random (request_of q.octets) given.reply
-  -- If a ticket is issued, the bytes encode its reply, or an error in its place. The reply key decrypts the reply to the
-  -- session key, flags and times that the service's key finds in the ticket.
+  -- If a ticket is issued, the bytes encode its reply, or an error in its place. The reply key decrypts the reply to
+  -- the session key, flags and times that the service's key finds in the ticket.
   pub keys : OneTicketTwoKeys (view before q.octets) q.at q.random (request_of q.octets) given.reply
   -- a ticket is issued only if its client and its service are in good standing
   pub standing : IfSome (issued (view before q.octets) q.at q.random (request_of q.octets))

@@ -13,11 +13,11 @@ use Rattle.kdc_hub.specs.Hub.{HubState}
 abbrev pub concerning : Components → Names → HubState → List Turn → List KdcEvent
 concerning c S start turns = strike c S start.issuing.kdc (events_in start turns)
 
--- Two histories, as two lives of a server, in which others send what they like, at any moments and in any pieces. In both
--- the requests of c are the same, each at its moment and with its draw, and the same replacements come between them.
--- Where a look finds new rows is by the polls between two looks, which the events of others use up too: so these may move
--- a replacement, but not what it is, nor, if none moves past a request of c, what c gets. Tidyings may be anywhere, if no
--- request of c is before the second of an earlier one. Then c's requests get the same replies, in order.
+-- Two histories, as two lives of a server, in which others send what they like, at any moments and in any pieces. In
+-- both the requests of c are the same, each at its moment and with its draw, and the same replacements come between
+-- them. Where a look finds new rows is by the polls between two looks, which the events of others use up too: so these
+-- may move a replacement, but not what it is, nor, if none moves past a request of c, what c gets. Tidyings may be
+-- anywhere, if no request of c is before the second of an earlier one. Then c gets the same replies, in order.
 abbrev pub MovesNothingElseFrom : HubState → List Turn → Type 0
 MovesNothingElseFrom start turns = (other : HubState) (others : List Turn) (c : Components) (S : Names)
     → IsTrue (S (tgs_principal start.issuing.kdc.database.realm))

@@ -148,8 +148,8 @@ abbrev pub actions_in : HubState → List Turn → List Action
 actions_in hub [] = []
 actions_in hub (turn ∷ turns) = turn_actions hub turn ++ actions_in (after_turn hub turn) turns
 
--- What is sent to these is what is due to them, in order: the replies of the one run to their own requests, and the ends
--- of their own connections. They get nothing of another's.
+-- What is sent to these is what is due to them, in order: the replies of the one run to their own requests, and the
+-- ends of their own connections. They get nothing of another's.
 abbrev pub GetsItsOwn : Type 0
 GetsItsOwn = (these : Parties) (start : HubState) (turns : List Turn)
     → gets these (actions_in start turns) ≡ due_in these start.issuing.kdc start turns

@@ -103,34 +103,34 @@ pub const HMAC_SHA384_192_AES256: i32 = 20;
 
 // ---- key usages (RFC 4120, section 7.5.1, which gives them no names)
 
-/// The PA-ENC-TIMESTAMP of an AS-REQ.
+/// The key usage for the PA-ENC-TIMESTAMP of an AS-REQ.
 pub const USAGE_PA_ENC_TIMESTAMP: u32 = 1;
 
-/// The encrypted part of a ticket.
+/// The key usage for the encrypted part of a ticket.
 pub const USAGE_TICKET: u32 = 2;
 
-/// The encrypted part of an AS-REP.
+/// The key usage for the encrypted part of an AS-REP.
 pub const USAGE_AS_REP_ENC_PART: u32 = 3;
 
-/// The checksum in the authenticator of a TGS-REQ.
+/// The key usage for the checksum in the authenticator of a TGS-REQ.
 pub const USAGE_TGS_REQ_AUTHENTICATOR_CHECKSUM: u32 = 6;
 
-/// The authenticator of a TGS-REQ.
+/// The key usage for the authenticator of a TGS-REQ.
 pub const USAGE_TGS_REQ_AUTHENTICATOR: u32 = 7;
 
-/// The encrypted part of a TGS-REP, under the ticket's session key.
+/// The key usage for the encrypted part of a TGS-REP, under the ticket's session key.
 pub const USAGE_TGS_REP_ENC_PART_SESSION_KEY: u32 = 8;
 
-/// The encrypted part of a TGS-REP, under the subkey of the authenticator.
+/// The key usage for the encrypted part of a TGS-REP, under the subkey of the authenticator.
 pub const USAGE_TGS_REP_ENC_PART_SUBKEY: u32 = 9;
 
-/// The checksum in the authenticator of an AP-REQ.
+/// The key usage for the checksum in the authenticator of an AP-REQ.
 pub const USAGE_AP_REQ_AUTHENTICATOR_CHECKSUM: u32 = 10;
 
-/// The authenticator of an AP-REQ.
+/// The key usage for the authenticator of an AP-REQ.
 pub const USAGE_AP_REQ_AUTHENTICATOR: u32 = 11;
 
-/// The encrypted part of an AP-REP.
+/// The key usage for the encrypted part of an AP-REP.
 pub const USAGE_AP_REP_ENC_PART: u32 = 12;
 
 // ---- error codes (RFC 4120, section 7.5.9)
