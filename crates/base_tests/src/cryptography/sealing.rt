@@ -100,7 +100,7 @@ const SEALED: &[(Etype, &str, usize, &str)] = &[
 ];
 
 #[test]
-fn sealed_texts_of_the_standards(rt: HostRuntime) {
+fn the_standards_texts_are_sealed_and_opened(rt: HostRuntime) {
     let alloc = rt.alloc();
     for (etype, confounder, len, digits) in SEALED {
         mark(alloc, BEGIN);
@@ -212,7 +212,7 @@ const CHECKSUMS: &[(Etype, &str)] = &[
 ];
 
 #[test]
-fn checksums_of_the_standards(rt: HostRuntime) {
+fn the_standards_checksums_are_made_and_checked(rt: HostRuntime) {
     for (etype, digits) in CHECKSUMS {
         let found = checksums(rt.alloc(), *etype, *digits);
         same(&rt, digits, &found, &[true, true, false, false, false]);

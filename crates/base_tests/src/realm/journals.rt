@@ -266,50 +266,54 @@ fn a_start_resumes_or_says_why_not(rt: HostRuntime) {
     holds(&rt, has_last_check(&whole), "the last check");
 }
 
-/// The whole journal, and what may stand in one of its two files.
-const FILES: usize = 6;
+/// What may be in one of a journal's two files.
+#[derive(Clone, Copy, Debug)]
+enum Content {
+    Nothing,
+    Broken,
+    /// The whole journal.
+    Whole,
+    /// The journal without its last entry.
+    Shorter,
+    /// A journal that links to the whole one.
+    Linked,
+    /// The same with a lower floor.
+    LinkedLower,
+}
 
-const NOTHING: usize = 0;
-
-const BROKEN: usize = 1;
-
-const WHOLE: usize = 2;
-
-const SHORTER: usize = 3;
-
-const LINKED: usize = 4;
-
-const LINKED_LOWER: usize = 5;
-
-fn all_files(alloc: Global) -> [Found; FILES] {
-    [
-        Found::Nothing,
-        Found::Broken,
-        found_of(alloc, &[BEGINNING, FIRST, SECOND]),
-        found_of(alloc, &[BEGINNING, FIRST]),
-        linked(alloc, T + 301),
-        linked(alloc, T + 300),
-    ]
+fn file_with(alloc: Global, content: Content) -> Found {
+    match content {
+        Content::Nothing => Found::Nothing,
+        Content::Broken => Found::Broken,
+        Content::Whole => found_of(alloc, &[BEGINNING, FIRST, SECOND]),
+        Content::Shorter => found_of(alloc, &[BEGINNING, FIRST]),
+        Content::Linked => linked(alloc, T + 301),
+        Content::LinkedLower => linked(alloc, T + 300),
+    }
 }
 
 /// What a start does with these in its older and its newer file.
-const PAIRS: &[(usize, usize, Made)] = &[
-    (WHOLE, NOTHING, Err(Doubt::Absent)),
-    (WHOLE, BROKEN, Err(Doubt::Damaged)),
-    (WHOLE, LINKED, Ok((T + 400, 2))),
-    (SHORTER, LINKED, Err(Doubt::Unlinked)),
-    (NOTHING, LINKED, Err(Doubt::Unlinked)),
-    (BROKEN, LINKED, Err(Doubt::Unlinked)),
-    (WHOLE, LINKED_LOWER, Err(Doubt::Unlinked)),
+const PAIRS: &[(Content, Content, Made)] = &[
+    (Content::Whole, Content::Nothing, Err(Doubt::Absent)),
+    (Content::Whole, Content::Broken, Err(Doubt::Damaged)),
+    (Content::Whole, Content::Linked, Ok((T + 400, 2))),
+    (Content::Shorter, Content::Linked, Err(Doubt::Unlinked)),
+    (Content::Nothing, Content::Linked, Err(Doubt::Unlinked)),
+    (Content::Broken, Content::Linked, Err(Doubt::Unlinked)),
+    (Content::Whole, Content::LinkedLower, Err(Doubt::Unlinked)),
 ];
 
 #[test]
 fn a_start_with_two_files_resumes_or_says_why_not(rt: HostRuntime) {
     const HERE: Where = (b"A.B", b"boot", b"", T + 700);
     let alloc = rt.alloc();
-    let files = all_files(alloc);
     for (older, newer, wanted) in PAIRS {
-        let found = made(alloc, &HERE, &files[*older], &files[*newer]);
+        let found = made(
+            alloc,
+            &HERE,
+            &file_with(alloc, *older),
+            &file_with(alloc, *newer),
+        );
         same(&rt, &(*older, *newer), &found, &Ok(*wanted));
     }
 }

@@ -128,7 +128,7 @@ const FROM_MIDNIGHT: &[(u32, &[u8; 15], u32, Option<Given>)] = &[
 ];
 
 #[test]
-fn times_of_the_as_exchange(rt: HostRuntime) {
+fn an_as_exchange_gives_these_times(rt: HostRuntime) {
     for (options, till, renewable, given) in FROM_MIDNIGHT {
         let found = granted(&body(*options, *till), *renewable);
         same(&rt, &(options, renewable), &found, &Ok(wanted(given)));
@@ -196,7 +196,7 @@ const LATER: &[(u32, Given, u32, Given)] = &[
 const RENEWABLE: Given = (0, 36_000, Some(86_400), 0x00c0_0000);
 
 #[test]
-fn times_of_the_tgs_exchange(rt: HostRuntime) {
+fn a_tgs_exchange_gives_these_times(rt: HostRuntime) {
     for (options, ticket, later, given) in LATER {
         let found = exchanged(*options, *ticket, *later);
         same(&rt, options, &found, &Ok(Some(times(*given))));
