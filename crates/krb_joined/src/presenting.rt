@@ -59,7 +59,7 @@ pub fn present(
         &client.presenting.confounder,
     )?;
     match acceptor.accept(alloc, accepting.at, &accepting.confounder, &octets) {
-        Ok(accepted) => hear(alloc, &key, client.presenting.at, accepted),
+        Ok(accepted) => check_ap_rep(alloc, &key, client.presenting.at, accepted),
         Err(fault) => Err(JoinedFault::NotAccepted(fault)),
     }
 }
@@ -74,7 +74,12 @@ fn look(key: Option<Key>)
 }
 
 /// Returns what was accepted, after the client has read the AP-REP that the service may have sent.
-fn hear(alloc: Global, key: &Key, sent: Moment, accepted: Accepted) -> Result<Accepted, JoinedFault>
+fn check_ap_rep(
+    alloc: Global,
+    key: &Key,
+    sent: Moment,
+    accepted: Accepted,
+) -> Result<Accepted, JoinedFault>
     ensures { IsHeard key.now sent accepted result }
 {
     if let Some(octets) = &accepted.ap_rep {
