@@ -3,7 +3,6 @@ use crate::faults::Cause;
 use client_login::{Doubt, LoginError};
 use cred_files::CredFault;
 use krb_fields::Second;
-use program::FileCause;
 use std::fmt;
 use text_fields::UtcDate;
 
@@ -25,7 +24,7 @@ impl Cause {
         match self {
             Cause::Usage(text) => ("", text),
             Cause::BadName => ("BadName", "it is not a valid name"),
-            Cause::File(cause) => ("", file_cause_text(cause)),
+            Cause::File(_) => ("", "the file can't be used"),
             Cause::LongPassword => ("LongPassword", "the password has more than 1024 bytes"),
             Cause::Cache(fault) => cache_words(fault),
             Cause::Keytab(fault) => keytab_words(fault),
@@ -72,20 +71,9 @@ impl Cause {
     }
 }
 
-fn file_cause_text(cause: FileCause) -> &'static str {
-    match cause {
-        FileCause::LongFile => "the file has more than 16777216 bytes",
-        FileCause::ShortSeed => "a seed needs 32 bytes, and the file has fewer",
-        FileCause::Failed(_) => "a call of the system failed",
-    }
-}
-
 fn cache_words(fault: CredFault) -> (&'static str, &'static str) {
     match fault {
-        CredFault::BadMagic => (
-            "BadMagic",
-            "the file is not a credential cache of version 4",
-        ),
+        CredFault::BadMagic => ("BadMagic", "this is not a credential cache of version 4"),
         CredFault::Truncated => ("Truncated", "the file ends too early"),
         CredFault::BadEntry => (
             "BadEntry",
@@ -105,7 +93,7 @@ fn cache_words(fault: CredFault) -> (&'static str, &'static str) {
 
 fn keytab_words(fault: CredFault) -> (&'static str, &'static str) {
     match fault {
-        CredFault::BadMagic => ("BadMagic", "the file is not a keytab of version 2"),
+        CredFault::BadMagic => ("BadMagic", "this is not a keytab of version 2"),
         CredFault::BadEntry => (
             "BadEntry",
             "the key of an entry has the wrong length for its encryption type",
@@ -142,7 +130,7 @@ fn doubt_name(doubt: Doubt) -> &'static str {
 impl fmt::Display for Cause {
     fn fmt<W: fmt::Write>(&self, f: &mut fmt::Formatter<W>) -> fmt::Result {
         match self {
-            Cause::File(FileCause::Failed(error)) => write!(f, "{error}"),
+            Cause::File(cause) => write!(f, "{cause}"),
             Cause::Ended(end) => write_end(f, *end),
             Cause::Login(why) => write!(f, "{why}"),
             Cause::Silent(error, failures) => {

@@ -1,6 +1,7 @@
 //! Why a command is refused, in one word and in a sentence.
 
 use crate::words::DB;
+use principals_text::ReadFault;
 
 /// Why a command is refused.
 #[derive(Clone, Copy)]
@@ -111,10 +112,10 @@ impl Reason {
                 "this is not the name of a realm; write one component of 1 to 255 bytes",
             Reason::Locked => "cannot lock it: another kadm is still running after ten seconds",
             Reason::FileExists => "this file already exists; name a new one",
-            Reason::NotJson => "this is not a database: its text is not a JSON object",
-            Reason::BadVersion => "this is not a database of a version that this program reads",
-            Reason::BadRow => "its realm or one of its rows is invalid",
-            Reason::NoTicketGranter => "it has no row for krbtgt/REALM",
+            Reason::NotJson => ReadFault::NotJson.text(),
+            Reason::BadVersion => ReadFault::BadVersion.text(),
+            Reason::BadRow => ReadFault::BadRow.text(),
+            Reason::NoTicketGranter => ReadFault::NoTicketGranter.text(),
             Reason::Mismatch => "the two passwords differ; nothing was changed",
             Reason::BadPassword => {
                 "the password is empty or ends in a carriage return; `--any-password` allows that"
@@ -145,8 +146,8 @@ impl Reason {
         }
     }
 
-    /// Returns the option whose value is refused. A report has it in place of a value that is empty or left out; a
-    /// password that is too long always has its file, or standard input, as its word.
+    /// Returns the option whose value is refused. A report has it in place of a value that is empty or left out. A
+    /// password that is too long always has its file, or standard input, as its word, and an import its keytab.
     pub fn option(self) -> &'static str {
         match self {
             Reason::BadRealm => "--realm",

@@ -66,7 +66,7 @@ pub(crate) fn get_tickets<T: ClientStore, X: AnyMessage>(
     fill_checked(context, defaults, &mut session, &services)
 }
 
-/// Does so for services whose realms the cache serves.
+/// Checks that the cache serves the realms of the services, then gets a ticket for each and puts it into the cache.
 #[tactic(auto, using(crate::proofs::Doing::added))]
 fn fill_checked<T: ClientStore, X: AnyMessage>(
     context: &mut Context<T, X>,

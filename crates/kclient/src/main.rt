@@ -40,7 +40,7 @@ impl fmt::Display for Fault {
     fn fmt<W: fmt::Write>(&self, f: &mut fmt::Formatter<W>) -> fmt::Result {
         match self {
             Fault::Clock(error) => write!(f, "the clock: {error}"),
-            Fault::Args(error) => write!(f, "the words of the command line: {error}"),
+            Fault::Args(error) => write!(f, "cannot read the command line: {error}"),
             Fault::NotUtf8 => f.write_str(NOT_UTF8),
             Fault::Memory => f.write_str("out of memory"),
         }

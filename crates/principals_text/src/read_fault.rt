@@ -35,17 +35,22 @@ impl ReadFault {
             ReadFault::Memory => None,
         }
     }
+
+    /// Returns what is wrong with the text, to stand after the name of its file.
+    pub fn text(self) -> &'static str {
+        match self {
+            ReadFault::NotJson => "this is not a database: its text is not a JSON object",
+            ReadFault::BadVersion => "this is not a database of a version that this program reads",
+            ReadFault::BadRow => "its realm or one of its rows is invalid",
+            ReadFault::NoTicketGranter => "it has no row for krbtgt/REALM",
+            ReadFault::Memory => "out of memory",
+        }
+    }
 }
 
 impl fmt::Display for ReadFault {
     fn fmt<W: fmt::Write>(&self, f: &mut fmt::Formatter<W>) -> fmt::Result {
-        f.write_str(match self {
-            ReadFault::NotJson => "the text is no JSON object",
-            ReadFault::BadVersion => "the database has another version",
-            ReadFault::BadRow => "the realm or a row is not valid",
-            ReadFault::NoTicketGranter => "the ticket-granting service has no row",
-            ReadFault::Memory => "out of memory",
-        })
+        f.write_str(self.text())
     }
 }
 
