@@ -48,10 +48,9 @@ pub(crate) fn report<W: Write, E: Write>(
     }
 }
 
-/// Returns the word of an option, if it is not empty. If the subcommand has no such option, returns that of the keytab
-/// to read.
+/// Returns the word of an option, if it is not empty.
 fn word_of<'a>(words: &[&'a str], option: &str) -> Option<&'a str> {
-    some_text(value_of(words, option).or(value_of(words, KEYTAB))?)
+    some_text(value_of(words, option)?)
 }
 
 /// Returns a text, if it is not empty.

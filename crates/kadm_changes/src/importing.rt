@@ -24,8 +24,10 @@ pub(crate) fn import<'p, T: Store>(
         draft.old.database draft.new.database) }
     ensures unchanged { T.world store.new ≡ T.world store.old }
 {
-    let versions = read_versions(store, draft, to, keytab)?;
-    Ok(add_imported(draft, to.who, versions)?)
+    match read_versions(store, draft, to, keytab) {
+        Ok(versions) => Ok(add_imported(draft, to.who, versions)?),
+        Err(stop) => Err(stop.about(keytab)),
+    }
 }
 
 /// Adds a principal with these versions of its keys.
