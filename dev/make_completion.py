@@ -17,7 +17,7 @@ TOP = pathlib.Path(__file__).resolve().parent.parent
 # Where each program has its tables.
 TABLES = {
     "kadm": [f"kadm/src/{name}.rt" for name in ("commands", "changing", "writing", "printing", "options")],
-    "kclient": ["kclient/src/options.rt"], "kdcd": ["kdcd_run/src/args.rt"],
+    "kclient": ["kclient/src/options.rt"], "kdcd": ["kdcd/src/args.rt"],
 }
 # The tables of a program whose commands are in several files, in the order of its help.
 PARTS = ("INIT", "CHANGES", "PRINTS", "LATER_CHANGES")

@@ -118,7 +118,7 @@ def no_journal(trial):
               "--no-journal to remove it\n"
     ran = trial.run(SERVE)
     trial.same("a start without the journal", (ran.status, ran.out, ran.err), (1, "refused Journal\n", refused))
-    trial.expect(f"{SERVE} --no-journal --journal", 2, "--journal and --no-journal exclude each other")
+    trial.expect(f"{SERVE} --no-journal --journal", 2, "--journal and --no-journal don't go together")
     trial.write("database.journal.new", "a file of somebody\n")
     trial.expect(f"{SERVE} --no-journal", 1, "refused NotJournal", what="--no-journal removes no file of somebody")
     (trial.folder / "database.journal.new").unlink()

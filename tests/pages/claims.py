@@ -158,7 +158,7 @@ def settings():
 
 def default(option):
     """The default of an option of `kdcd serve`."""
-    found = re.search(rf'\bargs,\s*"{option}",\s*([\d_]+),', read("crates/kdcd_run/src/args.rt"))
+    found = re.search(rf'\bargs,\s*"{option}",\s*([\d_]+),', read("crates/kdcd/src/args.rt"))
     return int(found[1].replace("_", ""))
 
 

@@ -1,6 +1,7 @@
 //! The system as the host of a server.
 ghost use Rattle.std.specs.Prelude.{None};
 
+use crate::args::journal_beside;
 use kdc_files::{
     FileJournal, JournalBeginning, JournalPlace, Journals, KeyFile, OpenedJournals, RowsFile,
     ServerFileFault, SystemJournal, begin_journal, open_journals, open_plain, read_up_to,
@@ -8,7 +9,7 @@ use kdc_files::{
 };
 use kdc_reports::{JournalNews, MetricsFile, MetricsPaths, Started};
 use kdc_sockets::{BindFault, SharedWriter, SocketWire};
-use kdcd_run::{Host, ServeOptions, StartNews, journal_beside};
+use kdcd_run::{Host, ServeOptions, StartNews};
 use krb_fields::Moment;
 use principal_rows::Limits;
 use principals::Database;

@@ -3,6 +3,7 @@
 #![tactic(auto)]
 
 mod answer;
+mod args;
 mod field;
 mod host;
 mod input;
@@ -12,11 +13,11 @@ mod run;
 mod sealing;
 mod serving;
 
+use crate::args::{path_beside, read_args, serve_options};
 use crate::run::run_script;
 use crate::sealing::seal;
 use crate::serving::serve_realm;
 use clap::error::ErrorKind;
-use kdcd_run::{path_beside, read_args, serve_options};
 use program::{NOT_UTF8, Status, read_words, report_end, report_failure, report_usage};
 use std::io;
 use std::process::ExitCode;

@@ -20,7 +20,7 @@ use Rattle.journal.specs.declared.decision.Start.TheVariants.{Resumes, Refuses}
 use Rattle.kdc_core.specs.NewlySeen.{opening_resumption}
 use Rattle.kdcd_run.specs.Starting.{BeganJournal, HasNoJournal, HostDid, Held, ReadJournals, ReadRows, Showed, opened_by, seed_by}
 use Rattle.kdcd_run.specs.Starting.{seeded, seeding}
-use Rattle.kdcd_run.specs.declared.args.ServeOptions.{ServeOptions}
+use Rattle.kdcd_run.specs.declared.options.ServeOptions.{ServeOptions}
 use Rattle.kdc_files.specs.declared.journals.JournalBeginning.{JournalBeginning}
 use Rattle.kdc_files.specs.declared.journals.Journals.{Journals}
 use Rattle.kdc_reports.specs.Started.{found_by}

@@ -12,7 +12,7 @@ use Rattle.kdc_reports.specs.Clocks.{refused_at_start}
 use Rattle.kdcd_run.specs.Resuming.{IsReady, began, found_at}
 use Rattle.kdc_files.specs.Recorded.{IsNew}
 use Rattle.kdcd_run.specs.Starting.{HostDid}
-use Rattle.kdcd_run.specs.declared.args.ServeOptions.{ServeOptions}
+use Rattle.kdcd_run.specs.declared.options.ServeOptions.{ServeOptions}
 use Rattle.kdc_files.specs.declared.journals.JournalBeginning.{JournalBeginning}
 use Rattle.kdcd_run.specs.declared.host.StartNews.{StartNews}
 

@@ -3,7 +3,7 @@ use Rattle.std.specs.Prelude.{◌≡◌, ℕ, Bool, true, false, List, [], ◌�
 use Rattle.std.specs.declared.net.socket_addr.SocketAddr.{SocketAddr}
 use Rattle.rand_core.specs.Stream.{Stream}
 use Rattle.rand_core.specs.Steps.{steps_u32, stream_of}
-use Rattle.rand_chacha.specs.ChaCha.{next_word, of_seed}
+use Rattle.rand_chacha.specs.ChaCha.{ChaCha, next_word, of_seed}
 use Rattle.krb_fields.specs.declared.moment.Moment.{Moment}
 use Rattle.principals.specs.Database.{Principals}
 use Rattle.replay.specs.declared.opening.Opening.{Opening}
@@ -47,6 +47,10 @@ abbrev pub opened_by : Bool → Moment → Opening
 opened_by true at = First
 opened_by false at = Restart at
 
--- what ChaCha20 gives under a seed: it has ten double rounds
+-- what ChaCha20 gives from one of its states on: it has ten double rounds
+abbrev pub chacha20 : ChaCha → Stream
+chacha20 = stream_of (steps_u32 (next_word 10))
+
+-- what it gives under a seed
 abbrev pub seeded : List ℕ → Stream
-seeded seed = stream_of (steps_u32 (next_word 10)) (of_seed seed)
+seeded seed = chacha20 (of_seed seed)

@@ -6,8 +6,8 @@ ghost use Rattle.kdcd_run.specs.Resuming.{AreAt, IsDecided, is_there, known_by, 
 ghost use Rattle.kdcd_run.specs.Resuming.{started_state};
 ghost use Rattle.journal.specs.declared.decision.Found.TheVariants.{Nothing};
 
-use crate::args::ServeOptions;
 use crate::host::Host;
+use crate::options::ServeOptions;
 use crate::starting::StartFault;
 use journal::{Found, Place, Start, start_of};
 use kdc_core::{Kdc, Opening};

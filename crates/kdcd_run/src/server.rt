@@ -3,16 +3,15 @@ ghost use Rattle.std.specs.Prelude.{◌≡◌, true, None, IfOk, is_some, option
 ghost use Rattle.kdc_hub.specs.Hub.{standing};
 ghost use Rattle.kdc_hub.specs.Wire.{Records};
 ghost use Rattle.kdc_hub.specs.Recorded.{recorded_by_any};
-ghost use Rattle.rand_core.specs.Steps.{steps_u32, stream_of};
-ghost use Rattle.rand_chacha.specs.ChaCha.{next_word};
+ghost use Rattle.kdcd_run.specs.Starting.{chacha20};
 ghost use Rattle.kdcd_run.specs.Quiet.{quiet_until};
 ghost use Rattle.kdcd_run.specs.Resuming.{began, found_at};
 ghost use Rattle.kdc_files.specs.Recorded.{IsNew};
 ghost use Rattle.kdcd_run.specs.Served.{Serves};
 ghost use Rattle.kdcd_run.specs.Server.{HasRun, IsStarted, rounds_of};
 
-use crate::args::ServeOptions;
 use crate::host::{Host, StartNews};
+use crate::options::ServeOptions;
 use crate::quiet::quiet_until;
 use crate::reporter::Reporter;
 use crate::server_wire::{Outlets, ServerWire, StartTimes};
@@ -62,7 +61,7 @@ pub fn run_server<'a, H: Host, L: LogWriter + LogNumbers + Drop, E: Write + Drop
     // It starts as the host's record says, and then lives over the hub and the wire of that start.
     ensures run { IfOk result (λ ran. HasRun options.now (H.recorded host.old) (H.recorded host.new) ran.server.news
         (T.recorded outlets.tally) (T.recorded ran.server.wire.tally) (recorded_by_any H.Rows.recorded ran.rows)
-        ran.totals (standing (stream_of (steps_u32 (next_word 10))) ran.server.hub)) }
+        ran.totals (standing chacha20 ran.server.hub)) }
     // The sockets, the journal and the log have recorded what was polled and tried in this life.
     ensures served { IfOk result (λ ran. ∥ Serves (T.recorded ran.server.wire.tally)
         (H.Sockets.recorded ran.server.wire.sockets) (H.Journal.handed ran.server.wire.journal)
@@ -100,7 +99,7 @@ pub fn start<'a, H: Host, L: LogWriter + Drop, E: Drop, T: Tally + Drop>(
     requires tally { IsNew (T.recorded outlets.tally) }
     requires log { IsNew (L.logged outlets.log) }
     ensures start { IfOk result (λ server. IsStarted options.now (H.recorded host.old) (H.recorded host.new)
-        (standing (stream_of (steps_u32 (next_word 10))) server.hub) server.wire.came.at server.wire.clock.floor
+        (standing chacha20 server.hub) server.wire.came.at server.wire.clock.floor
         server.news) }
     ensures quiet { IfOk result (λ server.
         server.wire.quiet_until ≡ quiet_until server.news.refused options.now.is_quiet) }

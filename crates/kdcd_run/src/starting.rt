@@ -5,14 +5,12 @@ ghost use Rattle.std.specs.Option.{option_copied};
 ghost use Rattle.kdc_hub.specs.Hub.{standing};
 ghost use Rattle.kdc_hub.specs.Wire.{Records};
 ghost use Rattle.kdc_files.specs.Recorded.{IsNew};
-ghost use Rattle.rand_core.specs.Steps.{steps_u32, stream_of};
-ghost use Rattle.rand_chacha.specs.ChaCha.{next_word};
 ghost use Rattle.kdcd_run.specs.Resuming.{AreAt, IsDecided, IsReady, known_by, may_be_first, reading, started_state};
-ghost use Rattle.kdcd_run.specs.Starting.{IsSeed, Showed, opened_by, seeded};
+ghost use Rattle.kdcd_run.specs.Starting.{IsSeed, Showed, chacha20, opened_by, seeded};
 
-use crate::args::ServeOptions;
 use crate::host::Host;
 use crate::key_places::placed;
+use crate::options::ServeOptions;
 use crate::resuming::{decide, floor_by, open, read_journals};
 use kdc_core::Opening;
 use kdc_files::{JournalBeginning, ServerFileFault, seed_in};
@@ -114,7 +112,7 @@ pub fn ready<'a, H: Host>(
     options: &ServeOptions<'a>,
 ) -> Result<ReadyServer<H::Sockets>, StartFault<'a, H::SocketFault>>
     ensures start { IfOk result (λ ready. IsReady options.now (H.recorded host.old) (H.recorded host.new)
-        (standing (stream_of (steps_u32 (next_word 10))) ready.hub) ready.beginning ready.row_count) }
+        (standing chacha20 ready.hub) ready.beginning ready.row_count) }
     ensures sockets { IfOk result (λ ready. IsNew (H.Sockets.recorded ready.sockets)) }
 {
     let rows = match host.read_rows(alloc) {
@@ -180,14 +178,12 @@ fn hub_of(
     seed: [u8; 32],
     beginning: &JournalBeginning,
 ) -> Result<Hub<ChaCha20Rng>, AllocError>
-    ensures kdc { IfOk result (λ hub. (standing (stream_of (steps_u32 (next_word 10))) hub).issuing.kdc
+    ensures kdc { IfOk result (λ hub. (standing chacha20 hub).issuing.kdc
         ≡ started_state rows options.now.limits (opened_by options.now.is_first beginning.now.at) beginning.now.start) }
-    ensures random { IfOk result (λ hub.
-        (standing (stream_of (steps_u32 (next_word 10))) hub).issuing.random ≡ seeded seed) }
-    ensures accounts { IfOk result (λ hub. (standing (stream_of (steps_u32 (next_word 10))) hub).issuing.accounts
+    ensures random { IfOk result (λ hub. (standing chacha20 hub).issuing.random ≡ seeded seed) }
+    ensures accounts { IfOk result (λ hub. (standing chacha20 hub).issuing.accounts
         ≡ (is_some options.now.log || options.now.is_quiet || is_some options.now.metrics)) }
-    ensures connections { IfOk result (λ hub.
-        (standing (stream_of (steps_u32 (next_word 10))) hub).connections ≡ map.empty) }
+    ensures connections { IfOk result (λ hub. (standing chacha20 hub).connections ≡ map.empty) }
 {
     let opening = opened_by(options.is_first, beginning.at);
     let kdc = open(alloc, rows, options.limits, opening, &beginning.start)?;

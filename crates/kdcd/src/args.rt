@@ -3,43 +3,12 @@ use clap::builder::ValueParser;
 use clap::error::Error;
 use clap::{Arg, ArgMatches, Command};
 use kdc_reports::LogFormat;
+use kdcd_run::ServeOptions;
 use principal_rows::Limits;
 use program::{FlagRow, OptionRow, SubcommandRow, Times, subcommand, with_subcommands};
 use std::alloc::{AllocError, Global};
 use std::net::SocketAddr;
 use text_fields::{lifetime, number_u32};
-
-/// The options of a server.
-#[derive(Debug, Drop)]
-pub struct ServeOptions<'a> {
-    /// The path of the database's file.
-    pub db: &'a str,
-    /// The addresses that accept datagrams.
-    pub udp: Vec<SocketAddr>,
-    /// The addresses that accept connections.
-    pub tcp: Vec<SocketAddr>,
-    /// The number of rounds, or `None` to serve until a signal ends the process.
-    pub rounds: Option<u32>,
-    /// The path of the seed's file, or `None` to draw a seed from the system.
-    pub seed: Option<&'a str>,
-    pub limits: Limits,
-    /// Whether no request was ever answered with this database.
-    pub is_first: bool,
-    /// Whether TGS-REQs get no reply while all of them are refused.
-    pub is_quiet: bool,
-    /// The path of the journal's file, if there is one.
-    pub journal: Option<&'a str>,
-    /// How many bytes a file of the journal has when it takes its turn.
-    pub journal_size: u64,
-    /// Whether a journal beside the database is removed.
-    pub removes_journal: bool,
-    /// The path of the file of the server's numbers, if there is to be one.
-    pub metrics: Option<&'a str>,
-    /// Whether the database's file is read only once.
-    pub is_fixed: bool,
-    /// The format of the log on standard error, if there is one.
-    pub log: Option<LogFormat>,
-}
 
 /// The greatest number of addresses of one server.
 const MOST_ADDRESSES: usize = 8;
@@ -227,7 +196,7 @@ const SCRIPT: SubcommandRow = SubcommandRow {
 
 /// Reads the words of a command line, which begin with the program's name. A server whose `--journal` has no value has
 /// its journal at the path `beside`.
-pub fn read_args<'a>(
+pub(crate) fn read_args<'a>(
     alloc: Global,
     args: &'a [String],
     beside: &'a str,
@@ -257,7 +226,7 @@ fn journal_option<'a>(alloc: Global, beside: &'a str) -> Arg<'a> {
 
 /// Returns the path of the journal beside the database of a server, by the words of its command line. It is empty if
 /// they are none of a server's.
-pub fn path_beside(alloc: Global, args: &[String]) -> Result<String, AllocError> {
+pub(crate) fn path_beside(alloc: Global, args: &[String]) -> Result<String, AllocError> {
     let Ok(matches) = read_args(alloc, args, "journal") else {
         return Ok(String::new(alloc));
     };
@@ -271,12 +240,12 @@ pub fn path_beside(alloc: Global, args: &[String]) -> Result<String, AllocError>
 }
 
 /// Returns the path of the journal beside a database.
-pub fn journal_beside(alloc: Global, db: &str) -> Result<String, AllocError> {
+pub(crate) fn journal_beside(alloc: Global, db: &str) -> Result<String, AllocError> {
     format!(in alloc; "{db}.journal")
 }
 
 /// Reads the options after `serve`. The inner error is a usage error, in words.
-pub fn serve_options<'a>(
+pub(crate) fn serve_options<'a>(
     alloc: Global,
     args: &ArgMatches<'a>,
 ) -> Result<Result<ServeOptions<'a>, &'static str>, AllocError> {
@@ -307,7 +276,7 @@ fn with_addresses<'a>(
         );
     }
     if args.get_flag("no-journal") && args.get_str("journal").is_some() {
-        return Err("--journal and --no-journal exclude each other");
+        return Err("--journal and --no-journal don't go together");
     }
     let log = log_format(args)?;
     Ok(ServeOptions {
