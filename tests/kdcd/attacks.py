@@ -1,4 +1,4 @@
-"""Attacks of a user, a keytab's holder and a stranger (docs/SECURITY.md): forged tickets that name another client,
+"""Attacks of a user, a keytab's holder and a stranger (SECURITY.md): forged tickets that name another client,
 requests that take all memory, and datagrams that fill the log."""
 
 import collections

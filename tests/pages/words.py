@@ -47,7 +47,7 @@ MOST_LINES = {
     "CHANGELOG.md": 65, "CONTRIBUTING.md": 275, "README.md": 100, "docs/ADMINISTRATION.md": 245, "docs/CLIENT.md": 170,
     "docs/CLIENT_LIBRARY.md": 125, "docs/DECISIONS.md": 195, "docs/FORMATS.md": 415, "docs/HOSTS.md": 95,
     "docs/MAP.md": 150, "docs/OPERATIONS.md": 390, "docs/PERFORMANCE.md": 140, "docs/PROMISES.md": 510,
-    "docs/PROTOCOL.md": 325, "docs/SECURITY.md": 80, "docs/SERVICES.md": 180,
+    "docs/PROTOCOL.md": 325, "SECURITY.md": 80, "docs/SERVICES.md": 180,
 }
 IN_ALL = 3400
 # How many lines a file of Python has at most.
