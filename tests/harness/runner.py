@@ -84,7 +84,7 @@ class Groups:
 
 
 @dataclasses.dataclass
-class Came:
+class Outcome:
     """The result of a test: how many checks passed and failed, and the lines about them."""
 
     test: Test
@@ -112,18 +112,18 @@ class Run:
     def __init__(self, machine, is_slow):
         self.machine, self.is_slow = machine, is_slow
 
-    def came_of(self, test):
+    def outcome_of(self, test):
         """Runs a test, and ends with it whatever it started."""
         if test.is_slow and not self.is_slow:
-            return Came(test, lines=["left  it takes minutes: --slow runs it"])
+            return Outcome(test, lines=["left  it takes minutes: --slow runs it"])
         begun = time.monotonic()
         try:
             self.machine.prepare(test.needs)
             return self.counted(test, *self.ran(test), time.monotonic() - begun)
         except Missing as missing:
-            return Came(test, lines=[f"left  it needs {missing}"])
+            return Outcome(test, lines=[f"left  it needs {missing}"])
         except (RuntimeError, OSError, subprocess.SubprocessError) as fault:
-            return Came(test, failed=1, lines=[f"WRONG {fault}"])
+            return Outcome(test, failed=1, lines=[f"WRONG {fault}"])
 
     def ran(self, test):
         """The lines of a test, and what is wrong with its end."""
@@ -152,16 +152,16 @@ class Run:
         if not fault and not counts:
             fault = "it ended without a count"
         if fault:
-            return Came(test, 0, 1, seconds, [*[f"WRONG {line}" for line in lines[-8:]], f"WRONG {fault}"])
+            return Outcome(test, 0, 1, seconds, [*[f"WRONG {line}" for line in lines[-8:]], f"WRONG {fault}"])
         if "services_in_c" in test.needs and self.machine.lacks_sanitizers:
             lines.insert(
                 0,
                 "left  the sanitizers of addresses and of undefined behavior, which cc has not, or which don't run here"
             )
-        came = Came(test, int(counts[1]), int(counts[2]), seconds, lines[:-1])
-        if not came.passed and not came.failed and not came.left():
-            return Came(test, 0, 1, seconds, [*lines[:-1], "WRONG it checks nothing"])
-        return came
+        outcome = Outcome(test, int(counts[1]), int(counts[2]), seconds, lines[:-1])
+        if not outcome.passed and not outcome.failed and not outcome.left():
+            return Outcome(test, 0, 1, seconds, [*lines[:-1], "WRONG it checks nothing"])
+        return outcome
 
 
 def side_by_side(run, chosen, shows_all):
@@ -169,7 +169,7 @@ def side_by_side(run, chosen, shows_all):
     found = []
     with ThreadPoolExecutor(LANES) as pool:
         for ran in as_completed(
-            [pool.submit(run.came_of, test) for test in sorted(chosen, key=lambda test: -test.seconds)]
+            [pool.submit(run.outcome_of, test) for test in sorted(chosen, key=lambda test: -test.seconds)]
         ):
             found.append(ran.result())
             found[-1].show(shows_all)
@@ -181,15 +181,15 @@ def go(run, chosen, shows_all):
     alone. If it passes then, it is flaky, and reported."""
     passed = failed = 0
     flaky, left = [], []
-    for came in side_by_side(run, chosen, shows_all):
-        if came.failed:
+    for outcome in side_by_side(run, chosen, shows_all):
+        if outcome.failed:
             print("once more, alone:")
             # In another thread, as before: this one handles signals.
             with ThreadPoolExecutor(1) as pool:
-                came = pool.submit(run.came_of, came.test).result()
-            came.show(shows_all)
-            flaky += [came.test.name] * (not came.failed)
-        passed, failed, left = passed + came.passed, failed + came.failed, left + came.left()
+                outcome = pool.submit(run.outcome_of, outcome.test).result()
+            outcome.show(shows_all)
+            flaky += [outcome.test.name] * (not outcome.failed)
+        passed, failed, left = passed + outcome.passed, failed + outcome.failed, left + outcome.left()
     listed("LEFT OUT, NOT TRIED HERE", sorted(left))
     listed(f"FLAKY: these failed beside others, and passed alone; more than {FLAKY} of them fail the run", flaky)
     return passed, failed + len(flaky) * (len(flaky) > FLAKY)
