@@ -5,7 +5,7 @@ use Rattle.std.specs.String.{string_bytes}
 use Rattle.std.specs.declared.net.socket_addr.SocketAddr.{SocketAddr}
 use Rattle.client_login.specs.declared.kdc_places.KdcPlace.{KdcPlace}
 
--- A KDC is at an address of its place. Before the place's host is looked up, it is one that the network finds for it.
+-- A KDC is at an address of its place. Before the place's host is looked up, it is at one that the network finds.
 abbrev pub is_at : (List ℕ → ℕ → SocketAddr → Type 0) → Bool → KdcPlace → SocketAddr → Type 0
 is_at finds true place kdc = Contains place.addresses.items kdc
 is_at finds false place kdc = finds (string_bytes place.host) place.port kdc

@@ -10,8 +10,8 @@
 //! let number = Code::KrbApErrSkew.number(); // 37
 //! ```
 //!
-//! A type whose name ends in `Ref` borrows from the bytes of a message. [`numbers`] has those that RFC 4120
-//! and IANA assign.
+//! A type whose name ends in `Ref` borrows from the bytes of a message. [`numbers`] has the numbers that RFC 4120 and
+//! IANA assign.
 //!
 //! It has no whole message: `krb_types` has them. It reads no clock: the caller supplies each moment.
 #![tactic(auto)]

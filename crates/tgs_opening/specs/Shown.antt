@@ -1,4 +1,4 @@
--- The ticket that a TGS-REQ presents: whom it is for, and the key that decrypts it (RFC 4120, 3.2.3 and 3.3.2).
+-- Whom the ticket of a TGS-REQ is for, and the key that decrypts it (RFC 4120, sections 3.2.3 and 3.3.2).
 use Rattle.std.specs.Prelude.{◌≡◌, ◌⊎◌, true, nat_eq, Option, Some}
 use Rattle.std.specs.Cmp.Lexicographic.{pointwise}
 use Rattle.enctypes.specs.KeyUsage.{usage_number}
