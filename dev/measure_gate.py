@@ -7,8 +7,8 @@ Python 3.
 
 It measures all crates unless some are named. The lines of `rt ci` come first; its last line and its status are also
 this script's. The seconds are those that the system counts for each process that `rt` waits for, so they grow with
-other work on the machine, and on that of its neighbours. So it also times a short loop, on each processor in turn,
-and says how many minutes an idle machine takes. With --anew `rt ci` proves again what a kit keeps of earlier runs.
+other work on the machine, and on that of its neighbours. So it also times a short loop, on each processor in turn, and
+says about how many minutes an idle machine takes. With --anew `rt ci` proves again what a kit keeps of earlier runs.
 SIGTERM ends it with what was measured by then."""
 
 import argparse

@@ -63,12 +63,13 @@ pub(crate) fn get_tickets<T: ClientStore, X: AnyMessage>(
     use_given_kdcs(context.alloc, &mut context.client.kdcs, options)?;
     let services = read_services(context, &names)?;
     let mut session = read_session(context, options, path, keytab)?;
-    fill_checked(context, defaults, &mut session, &services)
+    fill(context, defaults, &mut session, &services)
 }
 
-/// Checks that the cache serves the realms of the services, then gets a ticket for each and puts it into the cache.
+/// Gets a ticket for each service, until one fails, and writes the cache with those that came. Prints a line for each.
+/// Asks for none unless the cache serves the realms of all.
 #[tactic(auto, using(crate::proofs::Doing::added))]
-fn fill_checked<T: ClientStore, X: AnyMessage>(
+fn fill<T: ClientStore, X: AnyMessage>(
     context: &mut Context<T, X>,
     defaults: &Defaults<'_>,
     session: &mut CacheSession,
@@ -79,27 +80,12 @@ fn fill_checked<T: ClientStore, X: AnyMessage>(
         (T.world context.old.store) (T.world context.new.store) }
 {
     check_realms(context, services, &session.cache)?;
-    Ok(Printed::done(fill(context, defaults, session, services)?))
-}
-
-/// Gets a ticket for each service, until one fails, and writes the cache with those that came. Returns a line for each.
-#[tactic(auto, using(crate::proofs::Doing::added))]
-fn fill<T: ClientStore, X: AnyMessage>(
-    context: &mut Context<T, X>,
-    defaults: &Defaults<'_>,
-    session: &mut CacheSession,
-    services: &[Service],
-) -> Result<String, Fault>
-    ensures world { (T.world context.new.store ≡ T.world context.old.store)
-        ⊎ Added (CameFurther X.finds X.carries X.answers) (string_bytes session.old.path) session.old.cache
-        (T.world context.old.store) (T.world context.new.store) }
-{
     let lines = get_each(context, defaults, session, services);
     let written = write_changed(context.alloc, &mut context.store, session);
     // Why the command ends is what counts, not whether the tickets before can be written.
     let lines = lines?;
     written?;
-    Ok(lines)
+    Ok(Printed::done(lines))
 }
 
 /// Gets a ticket for each service, until one fails. Returns a line for each.

@@ -170,7 +170,7 @@ fn begin<'a, H: Host>(
     })
 }
 
-/// Returns the hub of a start that its journal begins with.
+/// Returns the hub of a server whose journal begins so: its KDC is opened or resumes as that says.
 fn hub_of(
     alloc: Global,
     options: &ServeOptions<'_>,
