@@ -14,7 +14,7 @@ use Rattle.kdc_hub.specs.declared.event.Event.TheVariants.{Bytes}
 use Rattle.kdc_hub.specs.declared.reply.Reply.{Reply}
 use Rattle.kdc_hub.specs.Issuing.{Issuing, after, reply_of}
 use Rattle.kdc_hub.specs.StreamStep.{StreamStep, reply_then, messages_step, stream_step, stream_room}
-use Rattle.kdc_hub.specs.Hub.{HubState, Step, brings, brought, kept, hub_step}
+use Rattle.kdc_hub.specs.Hub.{HubState, Step, brings, brought, with_stream, hub_step}
 use Rattle.kdc_hub.specs.Logged.{Entry, logged, step_of}
 use Rattle.kdc_hub.specs.Cutting.{SameRun, piece_at}
 use Rattle.kdc_hub.proofs.Streams.{before}
@@ -112,25 +112,25 @@ module _ (hub : HubState) (at : Moment) (conn : ℕ) (s : Splitting) (p q : List
       → hub_step (record { issuing = i; connections = table }) at (Bytes conn q) ≡ brings (record { issuing = i; connections = table }) at conn q o
   second table i o e = ap (brings (record { issuing = i; connections = table }) at conn q) e
 
-  kept_anew : (b : Bool) (x y z : Splitting) (i j : Issuing) → y ≡ z → kept b hub conn y i ≡ kept b (record { issuing = j; connections = map.insert hub.connections conn x }) conn z i
-  kept_anew true x y z i j e = ap (λ (m : map.FinMap nat_cmp Splitting). let h : HubState = record { issuing = i; connections = m } in h) (ap (map.insert hub.connections conn) e ∙ sym (set_anew hub.connections conn x z))
-  kept_anew false x y z i j e = ap (λ (m : map.FinMap nat_cmp Splitting). let h : HubState = record { issuing = i; connections = m } in h) (sym (taken_out hub.connections conn x))
+  with_stream_anew : (b : Bool) (x y z : Splitting) (i j : Issuing) → y ≡ z → with_stream b hub conn y i ≡ with_stream b (record { issuing = j; connections = map.insert hub.connections conn x }) conn z i
+  with_stream_anew true x y z i j e = ap (λ (m : map.FinMap nat_cmp Splitting). let h : HubState = record { issuing = i; connections = m } in h) (ap (map.insert hub.connections conn) e ∙ sym (set_anew hub.connections conn x z))
+  with_stream_anew false x y z i j e = ap (λ (m : map.FinMap nat_cmp Splitting). let h : HubState = record { issuing = i; connections = m } in h) (sym (taken_out hub.connections conn x))
 
-  by_stays : (b : Bool) → first.stays ≡ b → IsBoth b → Both (brought hub conn (fed s (p ++ q)) (stream_step hub.issuing at conn (fed s (p ++ q)))) (record { actions = first.actions; hub = kept b hub conn (left (fed s p)) first.issuing })
+  by_stays : (b : Bool) → first.stays ≡ b → IsBoth b → Both (brought hub conn (fed s (p ++ q)) (stream_step hub.issuing at conn (fed s (p ++ q)))) (record { actions = first.actions; hub = with_stream b hub conn (left (fed s p)) first.issuing })
   unfolding Both
   by_stays true stays both =
       let there = second (map.insert hub.connections conn (left (fed s p))) first.issuing (Some (left (fed s p))) (is_there hub.connections conn (left (fed s p))) in
       let others : StreamStep = stream_step first.issuing at conn (fed (left (fed s p)) q) in (
         ap (λ (r : StreamStep). r.actions) both.whole ∙ ap (λ (h : Step). first.actions ++ h.actions) (sym there),
-        ap (λ (r : StreamStep). kept r.stays hub conn (left (fed s (p ++ q))) r.issuing) both.whole
-            ∙ kept_anew others.stays (left (fed s p)) (left (fed s (p ++ q))) (left (fed (left (fed s p)) q)) others.issuing first.issuing (both.same_left refl)
+        ap (λ (r : StreamStep). with_stream r.stays hub conn (left (fed s (p ++ q))) r.issuing) both.whole
+            ∙ with_stream_anew others.stays (left (fed s p)) (left (fed s (p ++ q))) (left (fed (left (fed s p)) q)) others.issuing first.issuing (both.same_left refl)
             ∙ ap (λ (h : Step). h.hub) (sym there),
       )
   by_stays false stays both =
       let gone = second (map.remove hub.connections conn) first.issuing None (is_gone hub.connections conn) in (
         ap (λ (r : StreamStep). r.actions) both.whole ∙ sym (append-nil first.actions) ∙ ap (λ (h : Step). first.actions ++ h.actions) (sym gone),
-        ap (λ (r : StreamStep). kept r.stays hub conn (left (fed s (p ++ q))) r.issuing) both.whole
-            ∙ ap (λ b. kept b hub conn (left (fed s (p ++ q))) first.issuing) stays
+        ap (λ (r : StreamStep). with_stream r.stays hub conn (left (fed s (p ++ q))) r.issuing) both.whole
+            ∙ ap (λ b. with_stream b hub conn (left (fed s (p ++ q))) first.issuing) stays
             ∙ ap (λ (h : Step). h.hub) (sym gone),
       )
 

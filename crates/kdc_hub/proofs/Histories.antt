@@ -36,7 +36,7 @@ use Rattle.kdc_hub.specs.declared.event.Peer.{Peer}
 use Rattle.kdc_hub.specs.declared.reply.Reply.{Reply}
 use Rattle.kdc_hub.specs.Issuing.{Issuing, after, reply_by, reply_of, too_long}
 use Rattle.kdc_hub.specs.StreamStep.{StreamStep, action_for, after_reply, after_some, messages_step, reply_then, stream_room, stream_step}
-use Rattle.kdc_hub.specs.Hub.{HubState, Step, brings, datagram_room, greatest_request, hub_step, kept, most_connections, nothing, opened, messages_in, sent, stopped}
+use Rattle.kdc_hub.specs.Hub.{HubState, Step, brings, datagram_room, greatest_request, hub_step, with_stream, most_connections, nothing, opened, messages_in, sent, stopped}
 use Rattle.kdc_hub.specs.Logged.{Entry, Stop, logged, step_by, step_of}
 use Rattle.kdc_hub.specs.History.{AnswersWhoAsked, IsPrefix, CanBeResumed, IsOfOneProcess, IsOneRun, KeepsAccounts, account_in, accounts, event_accounts, octets_of, turn_accounts, OneTicketInProcess, OneTicketSent, ServesAlike, TidiesUnseen, Turn, Unaffected, Stepped, Replaced, Tidied, Reopened, Resumed, after_turn, all_seen_by, seen_by, turn_sees, after_turns, answers, asked, chosen, event_requests, events_in, others_after, piece_requests, newly_seen_in, replies_by, reply_of_action, requests_by, stopped_requests, stream_requests, tickets_among, turn_events, turn_replies}
 
@@ -245,16 +245,16 @@ module _ (hub : HubState) where
   opened_kdc conn false true = refl
   opened_kdc conn false false = refl
 
-  kept_kdc : (stays : Bool) (conn : ℕ) (s : Splitting) (i : Issuing) → (kept stays hub conn s i).issuing ≡ i
-  kept_kdc true conn s i = refl
-  kept_kdc false conn s i = refl
+  with_stream_kdc : (stays : Bool) (conn : ℕ) (s : Splitting) (i : Issuing) → (with_stream stays hub conn s i).issuing ≡ i
+  with_stream_kdc true conn s i = refl
+  with_stream_kdc false conn s i = refl
 
   module _ (at : Moment) where
     piece_stepped : (conn : ℕ) (piece : List ℕ) (o : Option Splitting) → IsStepped hub (piece_requests hub.issuing at piece o) (brings hub at conn piece o).actions (brings hub at conn piece o).hub.issuing
     piece_stepped conn piece (Some s) =
         let r = messages_stepped at conn (handed_out (fed s piece)).fault hub.issuing (handed_out (fed s piece)).messages in
         let step = stream_step hub.issuing at conn (fed s piece) in
-        let same = kept_kdc step.stays conn (left (fed s piece)) step.issuing in
+        let same = with_stream_kdc step.stays conn (left (fed s piece)) step.issuing in
         record { sent = r.sent; kdc = ap (λ (i : Issuing). i.kdc) same ∙ r.kdc; accounts = ap (λ (i : Issuing). i.accounts) same ∙ r.accounts }
     piece_stepped conn piece None = record { sent = no_reply []; kdc = refl; accounts = refl }
 

@@ -24,7 +24,7 @@ use Rattle.kdc_hub.specs.declared.event.CloseReason.TheVariants.{Full}
 use Rattle.kdc_hub.specs.declared.reply.Reply.{Reply}
 use Rattle.kdc_hub.specs.Issuing.{Issuing, after, reply_of}
 use Rattle.kdc_hub.specs.StreamStep.{StreamStep, messages_step, reply_then, stream_room, stream_step}
-use Rattle.kdc_hub.specs.Hub.{HubState, Step, brings, greatest_request, hub_step, kept, most_connections, nothing}
+use Rattle.kdc_hub.specs.Hub.{HubState, Step, brings, greatest_request, hub_step, with_stream, most_connections, nothing}
 use Rattle.kdc_hub.specs.Logged.{Entry, Stop, logged, step_by, step_of}
 use Rattle.kdc_hub.specs.History.{IsPrefix, asked, others_after, piece_requests, requests_by, requests_of, stream_requests}
 use Rattle.kdc_hub.specs.OwnBytes.{AsksItsOwn, IsNoOpening, asked_by, brought_on, bytes_on, is_on, requests_on}
@@ -116,12 +116,12 @@ module _ (conn : ℕ) where
     opening_other c false true other = insert_other hub.connections c (started greatest_request) other
     opening_other c false false other = refl
 
-    kept_other : (stays : Bool) (c : ℕ) (s : Splitting) (i : Issuing) → c ≢ conn → here (kept stays hub c s i) ≡ here hub
-    kept_other true c s i other = insert_other hub.connections c s other
-    kept_other false c s i other = remove_other hub.connections c other
+    with_stream_other : (stays : Bool) (c : ℕ) (s : Splitting) (i : Issuing) → c ≢ conn → here (with_stream stays hub c s i) ≡ here hub
+    with_stream_other true c s i other = insert_other hub.connections c s other
+    with_stream_other false c s i other = remove_other hub.connections c other
 
     piece_other : (c : ℕ) (piece : List ℕ) (o : Option Splitting) → c ≢ conn → here (brings hub at c piece o).hub ≡ here hub
-    piece_other c piece (Some s) other = kept_other (stream_step hub.issuing at c (fed s piece)).stays c _ _ other
+    piece_other c piece (Some s) other = with_stream_other (stream_step hub.issuing at c (fed s piece)).stays c _ _ other
     piece_other c piece None other = refl
 
     -- a step elsewhere
@@ -287,7 +287,7 @@ module _ (conn : ℕ) where
         asked_are : requests_by None hub at (Bytes conn piece) ≡ stream_requests hub.issuing at (handed_out (fed s piece)).messages
         asked_are = ap (piece_requests hub.issuing at piece) there
 
-        step_is : (hub_step hub at (Bytes conn piece)).hub ≡ kept r.stays hub conn (left (fed s piece)) r.issuing
+        step_is : (hub_step hub at (Bytes conn piece)).hub ≡ with_stream r.stays hub conn (left (fed s piece)) r.issuing
         unfolding r
         step_is = ap (λ o. (brings hub at conn piece o).hub) there
 
@@ -304,13 +304,13 @@ module _ (conn : ℕ) where
 
         by_stays : (b : Bool) → r.stays ≡ b → IsCut s hub (piece_entry None conn ∷ entries)
         by_stays true stays =
-            let after : (hub_step hub at (Bytes conn piece)).hub ≡ kept true hub conn (left (fed s piece)) r.issuing = step_is ∙ ap (λ b. kept b hub conn (left (fed s piece)) r.issuing) stays in
+            let after : (hub_step hub at (Bytes conn piece)).hub ≡ with_stream true hub conn (left (fed s piece)) r.issuing = step_is ∙ ap (λ b. with_stream b hub conn (left (fed s piece)) r.issuing) stays in
             let found : here (hub_step hub at (Bytes conn piece)).hub ≡ Some (left (fed s piece)) = ap here after ∙ is_there hub.connections conn (left (fed s piece)) in
             staying s hub (piece_entry None conn) entries
             (is_own None ∙ ap (flat_map asked_by) asked_are ∙ asks.all stays ∙ ap (λ p. (handed_out (fed s p)).messages) (sym is_brought))
             (subst (λ p. IsCut (left (fed s p)) (hub_step hub at (Bytes conn piece)).hub entries) (sym is_brought) (rest _ _ found (left_clean s piece)))
         by_stays false stays =
-            let after : (hub_step hub at (Bytes conn piece)).hub ≡ kept false hub conn (left (fed s piece)) r.issuing = step_is ∙ ap (λ b. kept b hub conn (left (fed s piece)) r.issuing) stays in
+            let after : (hub_step hub at (Bytes conn piece)).hub ≡ with_stream false hub conn (left (fed s piece)) r.issuing = step_is ∙ ap (λ b. with_stream b hub conn (left (fed s piece)) r.issuing) stays in
             ending s hub (piece_entry None conn) entries (own_begins None) (ends _ (ap here after ∙ is_gone hub.connections conn))
 
         own_piece : (stop : Option Stop) → IsCut s hub (piece_entry stop conn ∷ entries)

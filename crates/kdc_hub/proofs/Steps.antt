@@ -16,7 +16,7 @@ use Rattle.kdc_hub.specs.declared.event.HubFault.{HubFault}
 use Rattle.kdc_state.specs.declared.state.State.{State}
 use Rattle.kdc_hub.specs.Issuing.{Issuing}
 use Rattle.kdc_hub.specs.StreamStep.{StreamStep, after_some, drawn, stream_step}
-use Rattle.kdc_hub.specs.Hub.{HubState, Step, Steps, brings, kept, opened, messages_in, stopped_issuing, most_connections}
+use Rattle.kdc_hub.specs.Hub.{HubState, Step, Steps, brings, with_stream, opened, messages_in, stopped_issuing, most_connections}
 use Rattle.kdc_hub.proofs.Tables.{set_anew, taken_out}
 
 abbrev pub Table : Type 0
@@ -34,8 +34,8 @@ pub stopped_drawn : (n draws : ℕ) (i i' : Issuing) (at : Moment) (requests : L
 unfolding after_some drawn
 stopped_drawn n draws i i' at requests e d kdc random accounts = rw (e, d) (same_issuing i'.kdc i.kdc i'.random _ i'.accounts i.accounts kdc random accounts)
 
-pub same_standing : (i j : Issuing) (c d : Table) → i ≡ j → c ≡ d → (let s : HubState = record { issuing = i; connections = c } in s) ≡ record { issuing = j; connections = d }
-same_standing i j c d e h = rw (e, h) refl
+pub same_hub_state : (i j : Issuing) (c d : Table) → i ≡ j → c ≡ d → (let s : HubState = record { issuing = i; connections = c } in s) ≡ record { issuing = j; connections = d }
+same_hub_state i j c d e h = rw (e, h) refl
 
 module _ (hub : HubState) (at : Moment) (conn : ℕ) (piece : List ℕ) (o : Option Splitting) (s f : Splitting) (is : o ≡ Some s) (feed : f ≡ fed s piece) where
   full : Splitting → StreamStep
@@ -45,9 +45,9 @@ module _ (hub : HubState) (at : Moment) (conn : ℕ) (piece : List ℕ) (o : Opt
   unfolding full
   taken_actions = ap (λ x. (full x).actions) feed ∙ sym (ap (λ x. (brings hub at conn piece x).actions) is)
 
-  kept_hub : (b : Bool) → b ≡ (full f).stays → kept b hub conn (left f) (full f).issuing ≡ (brings hub at conn piece o).hub
+  with_stream_hub : (b : Bool) → b ≡ (full f).stays → with_stream b hub conn (left f) (full f).issuing ≡ (brings hub at conn piece o).hub
   unfolding full
-  kept_hub b e = ap (λ c. kept c hub conn (left f) (full f).issuing) e ∙ ap (λ x. kept (full x).stays hub conn (left x) (full x).issuing) feed ∙ sym (ap (λ x. (brings hub at conn piece x).hub) is)
+  with_stream_hub b e = ap (λ c. with_stream c hub conn (left f) (full f).issuing) e ∙ ap (λ x. with_stream (full x).stays hub conn (left x) (full x).issuing) feed ∙ sym (ap (λ x. (brings hub at conn piece x).hub) is)
 
   -- the connection stays open
   pub stays_there : (actions : List Action) (i : Issuing) (t place : Splitting) (table table' : Table) (stays : Bool)
@@ -57,8 +57,8 @@ module _ (hub : HubState) (at : Moment) (conn : ℕ) (piece : List ℕ) (o : Opt
   unfolding full
   stays_there actions i t place table table' stays acts issues e open_still same first then = (
     acts ∙ taken_actions,
-    same_standing i (full f).issuing table' (map.insert hub.connections conn (left f)) issues (then ∙ ap (λ m. map.insert m conn t) first ∙ set_anew hub.connections conn place t ∙ ap (map.insert hub.connections conn) same)
-        ∙ kept_hub true (sym open_still ∙ e),
+    same_hub_state i (full f).issuing table' (map.insert hub.connections conn (left f)) issues (then ∙ ap (λ m. map.insert m conn t) first ∙ set_anew hub.connections conn place t ∙ ap (map.insert hub.connections conn) same)
+        ∙ with_stream_hub true (sym open_still ∙ e),
   )
 
   -- it is closed
@@ -69,8 +69,8 @@ module _ (hub : HubState) (at : Moment) (conn : ℕ) (piece : List ℕ) (o : Opt
   unfolding full
   is_closed actions i place table table' stays acts issues e closed first then = (
     acts ∙ taken_actions,
-    same_standing i (full f).issuing table' (map.remove hub.connections conn) issues (then ∙ ap (λ m. map.remove m conn) first ∙ taken_out hub.connections conn place)
-        ∙ kept_hub false (sym closed ∙ e),
+    same_hub_state i (full f).issuing table' (map.remove hub.connections conn) issues (then ∙ ap (λ m. map.remove m conn) first ∙ taken_out hub.connections conn place)
+        ∙ with_stream_hub false (sym closed ∙ e),
   )
 
   -- memory ran out
@@ -82,7 +82,7 @@ module _ (hub : HubState) (at : Moment) (conn : ℕ) (piece : List ℕ) (o : Opt
   unfolding full
   is_stopped done i draws place table table' acts kdc random accounts first then = (
     acts ∙ ap (take (length done)) taken_actions,
-    same_standing i _ table' (map.remove hub.connections conn)
+    same_hub_state i _ table' (map.remove hub.connections conn)
         (same_issuing i.kdc _ i.random _ i.accounts hub.issuing.accounts kdc random accounts ∙ ap (λ x. stopped_issuing hub.issuing at (handed_out x).messages (length done) draws) feed ∙ sym (ap (λ x. stopped_issuing hub.issuing at (messages_in piece x) (length done) draws) is))
         (then ∙ ap (λ m. map.remove m conn) first ∙ taken_out hub.connections conn place),
   )
@@ -93,7 +93,7 @@ pub not_fed : (hub : HubState) (at : Moment) (conn : ℕ) (piece : List ℕ) (o 
     → (done ≡ take (length done) (brings hub at conn piece o).actions)
     × ((let x : HubState = record { issuing = hub.issuing; connections = table' } in x) ≡ record { issuing = stopped_issuing hub.issuing at (messages_in piece o) (length done) draws; connections = map.remove hub.connections conn })
 not_fed hub at conn piece o done draws place table table' e d first then =
-    (rw e refl, same_standing hub.issuing _ table' _ (stopped_before (length done) draws hub.issuing at (messages_in piece o) (ap length e) d) (then ∙ ap (λ m. map.remove m conn) first ∙ taken_out hub.connections conn place))
+    (rw e refl, same_hub_state hub.issuing _ table' _ (stopped_before (length done) draws hub.issuing at (messages_in piece o) (ap length e) d) (then ∙ ap (λ m. map.remove m conn) first ∙ taken_out hub.connections conn place))
 
 full_there : (hub : HubState) (conn : ℕ) → map.contains_key hub.connections conn ≡ false → nat_lt (map.len hub.connections) most_connections ≡ false → opened hub conn ≡ record { actions = Close conn Full ∷ []; hub = hub }
 full_there hub conn e h = rw (e, h) refl
@@ -107,4 +107,4 @@ table_full hub at conn there n (Ok actions) is no_one len le ok done at_conn dra
     let e = full_there hub conn (sym is ∙ no_one) (le-ltb (map.len hub.connections) most_connections (omega (arith, len, le))) in
     (ok ∙ sym (ap (λ (s : Step). s.actions) e), sym (ap (λ (s : Step). s.hub) e))
 table_full hub at conn there n (Err fault) is no_one len le ok done at_conn draws =
-    (done, same_standing _ _ _ _ (stopped_before _ _ hub.issuing at _ (ap length done) draws) refl, at_conn)
+    (done, same_hub_state _ _ _ _ (stopped_before _ _ hub.issuing at _ (ap length done) draws) refl, at_conn)

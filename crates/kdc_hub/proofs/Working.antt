@@ -19,10 +19,10 @@ use Rattle.kdc_hub.specs.declared.reply.Reply.{Reply}
 use Rattle.kdc_hub.specs.declared.event.CloseReason.TheVariants.{BadLength, Full}
 use Rattle.kdc_hub.specs.Issuing.{Issuing, after, reply_of, too_long}
 use Rattle.kdc_hub.specs.StreamStep.{StreamStep, reply_then, messages_step, stream_step, stream_room, action_for}
-use Rattle.kdc_hub.specs.Hub.{HubState, Step, brings, kept, hub_step, opened, sent, datagram_room, most_connections, greatest_request}
+use Rattle.kdc_hub.specs.Hub.{HubState, Step, brings, with_stream, hub_step, opened, sent, datagram_room, most_connections, greatest_request}
 use Rattle.kdc_hub.specs.Logged.{Log, logged}
 use Rattle.kdc_hub.specs.Cutting.{RepliesAreSame, SameOpen}
-use Rattle.kdc_hub.specs.Works.{Work, Asked, Requested, Faulted, Came, Went, Timed, Happening, all_works, entries, others_if, piece_works, stream_works, works}
+use Rattle.kdc_hub.specs.Works.{Work, Asked, Requested, Faulted, Begun, Ended, Timed, Happening, all_works, entries, others_if, piece_works, stream_works, works}
 
 abbrev pub Table : Type 0
 Table = map.FinMap nat_cmp Splitting
@@ -74,14 +74,14 @@ abbrev pub table_after : Option Reply → Table → ℕ → Table
 table_after (Some reply) table conn = table
 table_after None table conn = map.remove table conn
 
-abbrev pub come : Place → ℕ → Place
-come p conn =
+abbrev pub begin : Place → ℕ → Place
+begin p conn =
     if map.contains_key p.table conn then p
     else if nat_lt (map.len p.table) most_connections then record p { table = map.insert p.table conn (started greatest_request) }
     else p
 
-abbrev pub come_actions : Place → ℕ → List Action
-come_actions p conn =
+abbrev pub begin_actions : Place → ℕ → List Action
+begin_actions p conn =
     if map.contains_key p.table conn then []
     else if nat_lt (map.len p.table) most_connections then []
     else Close conn Full ∷ []
@@ -90,15 +90,15 @@ abbrev pub goes_to : Place → Moment → Work → Place
 goes_to p at (Asked peer request) = record p { issuing = after p.issuing at datagram_room request }
 goes_to p at (Requested conn request) = record { issuing = after p.issuing at stream_room request; table = table_after (reply_of p.issuing at stream_room request) p.table conn }
 goes_to p at (Faulted conn) = record p { table = map.remove p.table conn }
-goes_to p at (Came conn) = come p conn
-goes_to p at (Went conn) = record p { table = map.remove p.table conn }
+goes_to p at (Begun conn) = begin p conn
+goes_to p at (Ended conn) = record p { table = map.remove p.table conn }
 
 abbrev pub acts : Place → Moment → Work → List Action
 acts p at (Asked peer request) = sent peer (reply_of p.issuing at datagram_room request)
 acts p at (Requested conn request) = action_for conn (reply_of p.issuing at stream_room request) ∷ []
 acts p at (Faulted conn) = Write conn (too_long p.issuing.kdc at) ∷ Close conn BadLength ∷ []
-acts p at (Came conn) = come_actions p conn
-acts p at (Went conn) = []
+acts p at (Begun conn) = begin_actions p conn
+acts p at (Ended conn) = []
 
 abbrev pub all_acts : Place → List Timed → List Action
 all_acts p [] = []
@@ -172,13 +172,13 @@ opens hub at conn t true c e f g k h = record { actions = rw (e, f) refl; issuin
 opens hub at conn t false true e f g k h = record { actions = rw (e, f, g, k) refl; issuing = rw (e, f, g, k) refl; same = rw (e, f, g, k) (both_set hub.connections t conn (started greatest_request) (started greatest_request) h) }
 opens hub at conn t false false e f g k h = record { actions = rw (e, f, g, k) refl; issuing = rw (e, f, g, k) refl; same = rw (e, f, g, k) h }
 
-keeps : (hub : HubState) (conn : ℕ) (x : Splitting) (i : Issuing) (t : Table) (b : Bool) → map.contains_key hub.connections conn ≡ true → SameOpen hub.connections t → SameOpen (kept b hub conn x i).connections (table_if b t conn)
+keeps : (hub : HubState) (conn : ℕ) (x : Splitting) (i : Issuing) (t : Table) (b : Bool) → map.contains_key hub.connections conn ≡ true → SameOpen hub.connections t → SameOpen (with_stream b hub conn x i).connections (table_if b t conn)
 keeps hub conn x i t true there h = same_then (map.insert hub.connections conn x) hub.connections t (one_set hub.connections conn x there) h
 keeps hub conn x i t false there h = both_out hub.connections t conn h
 
-kept_issuing : (b : Bool) (hub : HubState) (conn : ℕ) (x : Splitting) (i : Issuing) → (kept b hub conn x i).issuing ≡ i
-kept_issuing true hub conn x i = refl
-kept_issuing false hub conn x i = refl
+with_stream_issuing : (b : Bool) (hub : HubState) (conn : ℕ) (x : Splitting) (i : Issuing) → (with_stream b hub conn x i).issuing ≡ i
+with_stream_issuing true hub conn x i = refl
+with_stream_issuing false hub conn x i = refl
 
 brings_worked : (hub : HubState) (at : Moment) (conn : ℕ) (piece : List ℕ) (t : Table) (o : Option Splitting) → map.get hub.connections conn ≡ o → SameOpen hub.connections t
     → IsWorked (brings hub at conn piece o) (place_of hub t) (piece_works hub.issuing at conn piece o)
@@ -188,8 +188,8 @@ brings_worked hub at conn piece t (Some s) e h =
     let is = stream_worked hub.issuing at conn (handed_out f).fault (handed_out f).messages t in
     let r : StreamStep = stream_step hub.issuing at conn f in record {
       actions = sym is.actions;
-      issuing = kept_issuing r.stays hub conn (left f) r.issuing ∙ sym (ap (λ (p : Place). p.issuing) is.place);
-      same = subst (λ (p : Place). SameOpen (kept r.stays hub conn (left f) r.issuing).connections p.table) (sym is.place) (keeps hub conn (left f) r.issuing t r.stays (ap is_some e) h);
+      issuing = with_stream_issuing r.stays hub conn (left f) r.issuing ∙ sym (ap (λ (p : Place). p.issuing) is.place);
+      same = subst (λ (p : Place). SameOpen (with_stream r.stays hub conn (left f) r.issuing).connections p.table) (sym is.place) (keeps hub conn (left f) r.issuing t r.stays (ap is_some e) h);
     }
 
 step_worked : (hub : HubState) (at : Moment) (event : Event) (t : Table) → SameOpen hub.connections t → IsWorked (hub_step hub at event) (place_of hub t) (works hub at event)

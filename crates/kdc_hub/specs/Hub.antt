@@ -24,8 +24,8 @@ pub record HubState : Type 0 where
   pub issuing : Issuing
   pub connections : map.FinMap nat_cmp Splitting
 
-abbrev pub standing : {R : Type 0} → (R → Stream) → Hub R → HubState
-standing stream hub = record { issuing = issuing stream hub.issuer; connections = hub.connections }
+abbrev pub hub_state : {R : Type 0} → (R → Stream) → Hub R → HubState
+hub_state stream hub = record { issuing = issuing stream hub.issuer; connections = hub.connections }
 
 -- the actions of one event, and the hub afterwards
 pub record Step : Type 0 where
@@ -62,13 +62,13 @@ opened hub conn =
     }
     else record { actions = Close conn Full ∷ []; hub = hub }
 
--- a connection that stays open keeps the rest of its stream
-abbrev pub kept : Bool → HubState → ℕ → Splitting → Issuing → HubState
-kept true hub conn s i = record { issuing = i; connections = map.insert hub.connections conn s }
-kept false hub conn s i = record { issuing = i; connections = map.remove hub.connections conn }
+-- a connection that stays open keeps the rest of its stream, and one that ends is removed
+abbrev pub with_stream : Bool → HubState → ℕ → Splitting → Issuing → HubState
+with_stream true hub conn s i = record { issuing = i; connections = map.insert hub.connections conn s }
+with_stream false hub conn s i = record { issuing = i; connections = map.remove hub.connections conn }
 
 abbrev pub brought : HubState → ℕ → Splitting → StreamStep → Step
-brought hub conn s r = record { actions = r.actions; hub = kept r.stays hub conn (left s) r.issuing }
+brought hub conn s r = record { actions = r.actions; hub = with_stream r.stays hub conn (left s) r.issuing }
 
 -- a piece goes to the end of its connection's stream
 abbrev pub brings : HubState → Moment → ℕ → List ℕ → Option Splitting → Step

@@ -18,8 +18,8 @@ pub data Work : Type 0 where
   Asked : Peer → List ℕ → Work
   Requested : ℕ → List ℕ → Work
   Faulted : ℕ → Work
-  Came : ℕ → Work
-  Went : ℕ → Work
+  Begun : ℕ → Work
+  Ended : ℕ → Work
 
 pub record Timed : Type 0 where
   pub at : Moment
@@ -49,9 +49,9 @@ piece_works i at conn piece None = []
 -- what an event completes
 abbrev pub works : HubState → Moment → Event → List Timed
 works hub at (Datagram peer request) = record { at = at; work = Asked peer request } ∷ []
-works hub at (Opened conn) = record { at = at; work = Came conn } ∷ []
+works hub at (Opened conn) = record { at = at; work = Begun conn } ∷ []
 works hub at (Bytes conn piece) = piece_works hub.issuing at conn piece (map.get hub.connections conn)
-works hub at (Closed conn) = record { at = at; work = Went conn } ∷ []
+works hub at (Closed conn) = record { at = at; work = Ended conn } ∷ []
 
 -- an event with enough memory
 pub record Happening : Type 0 where

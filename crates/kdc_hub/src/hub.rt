@@ -11,7 +11,7 @@ ghost use Rattle.principals.specs.Database.{Principals};
 ghost use Rattle.replay.specs.declared.opening.Opening.TheVariants.{Restart};
 ghost use Rattle.replay.specs.Sizes.{limited};
 ghost use Rattle.replay.specs.declared.seen.Resumption.{Resumption};
-ghost use Rattle.kdc_hub.specs.Hub.{AreDraws, HubState, Steps, standing};
+ghost use Rattle.kdc_hub.specs.Hub.{AreDraws, HubState, Steps, hub_state};
 ghost use Rattle.kdc_hub.specs.Logged.{Entry, LogsNext, logged};
 ghost use Rattle.kdc_hub.specs.Accounts.{AccountsHold};
 ghost use Rattle.kdc_hub.specs.declared.event.Action.TheVariants.{Close};
@@ -49,19 +49,19 @@ impl<R: Rng> Hub<R> {
     /// Returns a hub without connections. If it keeps accounts, its replies have the accounts of their requests. It
     /// allocates nothing yet.
     pub fn new(alloc: Global, kdc: Kdc, rng: R, keeps_accounts: bool) -> Hub<R>
-        ensures kdc { (standing R.stream result).issuing.kdc ≡ kdc }
-        ensures random { (standing R.stream result).issuing.random ≡ R.stream rng }
-        ensures accounts { (standing R.stream result).issuing.accounts ≡ keeps_accounts }
-        ensures connections { (standing R.stream result).connections ≡ map.empty }
+        ensures kdc { (hub_state R.stream result).issuing.kdc ≡ kdc }
+        ensures random { (hub_state R.stream result).issuing.random ≡ R.stream rng }
+        ensures accounts { (hub_state R.stream result).issuing.accounts ≡ keeps_accounts }
+        ensures connections { (hub_state R.stream result).connections ≡ map.empty }
         // Over a centre that reopens, it is the hub of a new process, whatever came before.
         ensures reopened { (before : HubState) (database : Principals) (limits : Limits) (at : moments.Moment)
             → kdc ≡ opened_state database limits (Restart at)
-            → standing R.stream result
+            → hub_state R.stream result
             ≡ after_turn before (Reopened database limits at (R.stream rng) keeps_accounts) }
         // The same over a centre that resumes.
         ensures resumed { (before : HubState) (database : Principals) (limits : Limits) (r : Resumption)
             → kdc ≡ resumed_state database limits r
-            → standing R.stream result
+            → hub_state R.stream result
             ≡ after_turn before (Resumed database limits r (R.stream rng) keeps_accounts) }
     {
         Hub {
@@ -77,9 +77,9 @@ impl<R: Rng> Hub<R> {
     /// Replaces the database by another of the same realm; all else is unchanged. One of another realm changes nothing.
     /// It allocates nothing.
     pub fn replace(&mut self, database: Database) -> Result<(), OtherRealm>
-        ensures realm { IsOk result ↔ (database.realm ≡ (standing R.stream self.old).issuing.kdc.database.realm) }
-        ensures turn { standing R.stream self.new ≡ after_turn (standing R.stream self.old) (Replaced database) }
-        ensures err { OnErr result (standing R.stream self.new ≡ standing R.stream self.old) }
+        ensures realm { IsOk result ↔ (database.realm ≡ (hub_state R.stream self.old).issuing.kdc.database.realm) }
+        ensures turn { hub_state R.stream self.new ≡ after_turn (hub_state R.stream self.old) (Replaced database) }
+        ensures err { OnErr result (hub_state R.stream self.new ≡ hub_state R.stream self.old) }
     {
         self.issuer.kdc.replace(database)
     }
@@ -87,7 +87,7 @@ impl<R: Rng> Hub<R> {
     /// Drops each client's authenticators that are too old to come again at this moment. Connections and generator
     /// are unchanged. It allocates nothing.
     pub fn tidy(&mut self, at: Moment)
-        ensures turn { standing R.stream self.new ≡ after_turn (standing R.stream self.old) (Tidied at) }
+        ensures turn { hub_state R.stream self.new ≡ after_turn (hub_state R.stream self.old) (Tidied at) }
     {
         self.issuer.kdc.tidy(at);
     }
@@ -95,25 +95,25 @@ impl<R: Rng> Hub<R> {
     /// Frees the memory of dropped authenticators, for this many clients from a place on. Returns the next place, if
     /// there is one.
     pub fn free_dropped(&mut self, from: usize, clients: usize) -> Option<usize>
-        ensures { standing R.stream self.new ≡ standing R.stream self.old }
+        ensures { hub_state R.stream self.new ≡ hub_state R.stream self.old }
     {
         self.issuer.kdc.free_dropped(from, clients)
     }
 
     /// Returns how many principals there are.
     pub fn row_count(&self) -> usize
-        ensures { result ≡ map.len (standing R.stream self.now).issuing.kdc.database.rows }
+        ensures { result ≡ map.len (hub_state R.stream self.now).issuing.kdc.database.rows }
     {
         self.issuer.kdc.row_count()
     }
 
     /// Returns how much the replay caches hold. It goes through all of them, and allocates nothing.
     pub fn cache_sizes(&self) -> CacheSizes
-        ensures clients { result.clients ≡ map.len (standing R.stream self.now).issuing.kdc.caches }
+        ensures clients { result.clients ≡ map.len (hub_state R.stream self.now).issuing.kdc.caches }
         ensures authenticators { result.authenticators
-            ≡ limited (pairs_of (map.entries (standing R.stream self.now).issuing.kdc.caches)) }
+            ≡ limited (pairs_of (map.entries (hub_state R.stream self.now).issuing.kdc.caches)) }
         ensures kept_bytes { result.kept_bytes
-            ≡ limited (bytes_of (map.entries (standing R.stream self.now).issuing.kdc.caches)) }
+            ≡ limited (bytes_of (map.entries (hub_state R.stream self.now).issuing.kdc.caches)) }
     {
         self.issuer.kdc.cache_sizes()
     }
@@ -124,12 +124,12 @@ impl<R: Rng> Hub<R> {
     pub fn step(&mut self, alloc: Global, at: Moment, event: Event) -> Result<Vec<Action>, HubFault>
         // What the step returns is the next entry of the log, and the hub afterwards is that of the log.
         ensures log { (start : HubState) (entries : List Entry)
-            → (logged start entries).hub ≡ standing R.stream self.old
-            → LogsNext start entries at event result (standing R.stream self.new) }
-        ensures step { Steps (standing R.stream self.old) at event result (standing R.stream self.new) }
+            → (logged start entries).hub ≡ hub_state R.stream self.old
+            → LogsNext start entries at event result (hub_state R.stream self.new) }
+        ensures step { Steps (hub_state R.stream self.old) at event result (hub_state R.stream self.new) }
         ensures draws { IfErr result AreDraws }
         // The account of each request that it answers is true of the reply, at the state before that request.
-        ensures accounts { AccountsHold (standing R.stream self.old) at event result }
+        ensures accounts { AccountsHold (hub_state R.stream self.old) at event result }
         // The end of a connection allocates nothing.
         ensures closed { (conn : ℕ) → event ≡ Closed conn → IsOk result }
     {
@@ -155,10 +155,10 @@ impl<R: Rng> Hub<R> {
         peer: Peer,
         request: &TimedRequest<'_>,
     ) -> Result<Vec<Action>, HubFault>
-        ensures step { Steps (standing R.stream self.old) request.now.at (Datagram peer request.now.octets.now) result
-            (standing R.stream self.new) }
+        ensures step { Steps (hub_state R.stream self.old) request.now.at (Datagram peer request.now.octets.now) result
+            (hub_state R.stream self.new) }
         ensures draws { IfErr result AreDraws }
-        ensures accounts { AccountsHold (standing R.stream self.old) request.now.at
+        ensures accounts { AccountsHold (hub_state R.stream self.old) request.now.at
             (Datagram peer request.now.octets.now) result }
     {
         let Ok(mut actions) = Vec::with_capacity(alloc, 1) else {
@@ -178,7 +178,7 @@ impl<R: Rng> Hub<R> {
     }
 
     fn open(&mut self, alloc: Global, at: Moment, conn: u64) -> Result<Vec<Action>, HubFault>
-        ensures step { Steps (standing R.stream self.old) at (Opened conn) result (standing R.stream self.new) }
+        ensures step { Steps (hub_state R.stream self.old) at (Opened conn) result (hub_state R.stream self.new) }
         ensures draws { IfErr result AreDraws }
     {
         if self.connections.contains(conn) {
@@ -202,10 +202,10 @@ impl<R: Rng> Hub<R> {
         timed: TimedConnection,
         piece: &[u8],
     ) -> Result<Vec<Action>, HubFault>
-        ensures step { Steps (standing R.stream self.old) timed.at (Bytes timed.conn piece.now) result
-            (standing R.stream self.new) }
+        ensures step { Steps (hub_state R.stream self.old) timed.at (Bytes timed.conn piece.now) result
+            (hub_state R.stream self.new) }
         ensures draws { IfErr result AreDraws }
-        ensures accounts { AccountsHold (standing R.stream self.old) timed.at (Bytes timed.conn piece.now) result }
+        ensures accounts { AccountsHold (hub_state R.stream self.old) timed.at (Bytes timed.conn piece.now) result }
     {
         let conn = timed.conn;
         let place = Splitter::new(alloc, GREATEST_STREAM_REQUEST);

@@ -1,6 +1,6 @@
 //! Serving a realm whose rows may change in the meantime.
 ghost use Rattle.std.specs.Prelude.{◌≡◌, ◌≤◌};
-ghost use Rattle.kdc_hub.specs.Hub.{standing};
+ghost use Rattle.kdc_hub.specs.Hub.{hub_state};
 ghost use Rattle.kdc_hub.specs.Wire.{IsCounted};
 ghost use Rattle.kdc_hub.specs.Life.{HasLooked, HasTidied, IsLife, IsPeriod, due, periods_of};
 
@@ -54,8 +54,8 @@ pub fn serve_life<W: Wire, S: RowSource, R: Rng, O: Onlooker<W, S, R>>(
     // The records of the Wire and of the source, and the hub at the end, are those of one history, which is one run of
     // the key distribution centre. No authenticator gets two different tickets in it. What others send changes nothing
     // for a client. What is dropped changes nothing either, if no request is before an earlier tidying.
-    ensures life { IsLife (W.recorded wire.old) (S.recorded source.old) (standing R.stream hub.old) (periods_of rounds) result
-        (W.recorded wire.new) (S.recorded source.new) (standing R.stream hub.new) }
+    ensures life { IsLife (W.recorded wire.old) (S.recorded source.old) (hub_state R.stream hub.old) (periods_of rounds) result
+        (W.recorded wire.new) (S.recorded source.new) (hub_state R.stream hub.new) }
     ensures counted { IsCounted (W.fault_count wire.old) result.faults (W.fault_count wire.new) }
 {
     one_run();
@@ -103,8 +103,8 @@ fn serve_period<W: Wire, S: RowSource, R: Rng>(
     tidied: &mut Tidyings,
     rounds: u32,
 ) -> Served
-    ensures period { IsPeriod (W.recorded wire.old) (S.recorded source.old) (standing R.stream hub.old) tidied.old.last rounds result
-        (W.recorded wire.new) (S.recorded source.new) (standing R.stream hub.new) tidied.new.last }
+    ensures period { IsPeriod (W.recorded wire.old) (S.recorded source.old) (hub_state R.stream hub.old) tidied.old.last rounds result
+        (W.recorded wire.new) (S.recorded source.new) (hub_state R.stream hub.new) tidied.new.last }
     ensures counted { IsCounted (W.fault_count wire.old) result.faults (W.fault_count wire.new) }
     ensures few_events { result.events ≤ rounds }
     ensures few_refused { result.refused ≤ rounds }
@@ -118,7 +118,7 @@ fn serve_period<W: Wire, S: RowSource, R: Rng>(
 /// Drops authenticators that can't come again, if the last poll returned at least a minute after the last tidying, or
 /// before it. If not, it frees the memory of some that were dropped.
 fn tidy_if_due<R: Rng>(hub: &mut Hub<R>, tidied: &mut Tidyings, last: &Option<Moment>)
-    ensures { HasTidied (standing R.stream hub.old) tidied.old.last last.now (standing R.stream hub.new) tidied.new.last }
+    ensures { HasTidied (hub_state R.stream hub.old) tidied.old.last last.now (hub_state R.stream hub.new) tidied.new.last }
 {
     match due(&tidied.last, last) {
         Some(at) => {
@@ -132,7 +132,7 @@ fn tidy_if_due<R: Rng>(hub: &mut Hub<R>, tidied: &mut Tidyings, last: &Option<Mo
 
 /// Frees the memory of the dropped authenticators of the clients whose turn it is.
 fn free_some<R: Rng>(hub: &mut Hub<R>, freeing: &mut Freeing)
-    ensures { standing R.stream hub.new ≡ standing R.stream hub.old }
+    ensures { hub_state R.stream hub.new ≡ hub_state R.stream hub.old }
 {
     if freeing.passes == 0 {
         return;
@@ -165,8 +165,8 @@ fn due(tidied: &Option<Moment>, last: &Option<Moment>) -> Option<Moment>
 
 /// Replaces the rows that are served by those of the source, if they changed.
 fn take_rows<S: RowSource, R: Rng>(alloc: Global, source: &mut S, hub: &mut Hub<R>)
-    ensures { HasLooked (S.recorded source.old) (standing R.stream hub.old) (S.recorded source.new)
-        (standing R.stream hub.new) }
+    ensures { HasLooked (S.recorded source.old) (hub_state R.stream hub.old) (S.recorded source.new)
+        (hub_state R.stream hub.new) }
 {
     match source.look(alloc) {
         Look::Changed(database) => {

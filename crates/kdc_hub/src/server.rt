@@ -1,7 +1,7 @@
 //! Serving the events of a Wire.
-ghost use Rattle.std.specs.Prelude.{◌≡◌, ◌≤◌, ◌<◌, ◌^◌, ◌∷◌, [], length, None};
+ghost use Rattle.std.specs.Prelude.{◌≡◌, ◌≤◌, ◌<◌, ◌^◌, length, None};
 ghost use Rattle.kdc_hub.specs.Acts.{AreActs, IsTaken};
-ghost use Rattle.kdc_hub.specs.Hub.{Steps, standing};
+ghost use Rattle.kdc_hub.specs.Hub.{hub_state};
 ghost use Rattle.kdc_hub.specs.Logged.{logged};
 ghost use Rattle.kdc_hub.specs.Rounds.{IsRun, close_of, ending};
 ghost use Rattle.kdc_hub.specs.Wire.{IsCounted};
@@ -58,8 +58,8 @@ fn nothing_served(faults: u64, last: Option<Moment>) -> Served
 /// Serves this many rounds, with one poll in each. A failed poll ends its round. It tries every action of an event,
 /// even after one that failed. A connection on which an action failed ends.
 pub fn serve<W: Wire, R: Rng>(alloc: Global, wire: &mut W, hub: &mut Hub<R>, rounds: u32) -> Served
-    ensures run { IsRun (W.recorded wire.old) (standing R.stream hub.old) rounds result (W.recorded wire.new)
-        (standing R.stream hub.new) }
+    ensures run { IsRun (W.recorded wire.old) (hub_state R.stream hub.old) rounds result (W.recorded wire.new)
+        (hub_state R.stream hub.new) }
     ensures counted { IsCounted (W.fault_count wire.old) result.faults (W.fault_count wire.new) }
     // A round takes one event at most.
     ensures few_events { result.events ≤ rounds }
@@ -79,8 +79,8 @@ pub fn serve<W: Wire, R: Rng>(alloc: Global, wire: &mut W, hub: &mut Hub<R>, rou
 }
 
 fn serve_round<W: Wire, R: Rng>(alloc: Global, wire: &mut W, hub: &mut Hub<R>) -> Served
-    ensures run { IsRun (W.recorded wire.old) (standing R.stream hub.old) 1 result (W.recorded wire.new)
-        (standing R.stream hub.new) }
+    ensures run { IsRun (W.recorded wire.old) (hub_state R.stream hub.old) 1 result (W.recorded wire.new)
+        (hub_state R.stream hub.new) }
     ensures counted { IsCounted (W.fault_count wire.old) result.faults (W.fault_count wire.new) }
     ensures one_event { result.events ≤ 1 }
     ensures one_refused { result.refused ≤ 1 }
@@ -99,8 +99,8 @@ fn take_event<W: Wire, R: Rng>(
     hub: &mut Hub<R>,
     timed: TimedEvent,
 ) -> Served
-    ensures taken { IsTaken (W.recorded wire.old) (standing R.stream hub.old) timed.at timed.event result
-        (W.recorded wire.new) (standing R.stream hub.new) }
+    ensures taken { IsTaken (W.recorded wire.old) (hub_state R.stream hub.old) timed.at timed.event result
+        (W.recorded wire.new) (hub_state R.stream hub.new) }
     ensures counted { IsCounted (W.fault_count wire.old) result.faults (W.fault_count wire.new) }
     ensures counts { result.faults < 2 ^ 64 }
 {
@@ -136,8 +136,8 @@ fn act_all<W: Wire, R: Rng>(
     hub: &mut Hub<R>,
     actions: &Actions<'_>,
 ) -> u64
-    ensures acts { AreActs (W.recorded wire.old) (standing R.stream hub.old) actions.now.at actions.now.all.now result
-        (W.recorded wire.new) (standing R.stream hub.new) }
+    ensures acts { AreActs (W.recorded wire.old) (hub_state R.stream hub.old) actions.now.at actions.now.all.now result
+        (W.recorded wire.new) (hub_state R.stream hub.new) }
     ensures counted { IsCounted (W.fault_count wire.old) result (W.fault_count wire.new) }
     ensures few { result ≤ length actions.now.all.now }
 {
@@ -165,8 +165,8 @@ fn close<W: Wire, R: Rng>(
     at: Moment,
     conn: Option<u64>,
 ) -> u64
-    ensures acts { AreActs (W.recorded wire.old) (standing R.stream hub.old) at (close_of conn) result (W.recorded wire.new)
-        (standing R.stream hub.new) }
+    ensures acts { AreActs (W.recorded wire.old) (hub_state R.stream hub.old) at (close_of conn) result (W.recorded wire.new)
+        (hub_state R.stream hub.new) }
     ensures counted { IsCounted (W.fault_count wire.old) result (W.fault_count wire.new) }
     ensures few { result ≤ 1 }
 {
@@ -182,7 +182,7 @@ fn close<W: Wire, R: Rng>(
 
 /// Ends a connection that was lost.
 fn end_lost<R: Rng>(alloc: Global, hub: &mut Hub<R>, at: Moment, lost: Option<u64>)
-    ensures { standing R.stream hub.new ≡ (logged (standing R.stream hub.old) (ending at lost)).hub }
+    ensures { hub_state R.stream hub.new ≡ (logged (hub_state R.stream hub.old) (ending at lost)).hub }
 {
     if let Some(conn) = lost {
         let _ = hub.step(alloc, at, Event::Closed { conn });

@@ -1,6 +1,6 @@
 //! A server: it starts as its options say, and serves.
 ghost use Rattle.std.specs.Prelude.{◌≡◌, true, None, IfOk, is_some, option_copied};
-ghost use Rattle.kdc_hub.specs.Hub.{standing};
+ghost use Rattle.kdc_hub.specs.Hub.{hub_state};
 ghost use Rattle.kdc_hub.specs.Wire.{Records};
 ghost use Rattle.kdc_hub.specs.Recorded.{recorded_by_any};
 ghost use Rattle.kdcd_run.specs.Starting.{chacha20};
@@ -61,7 +61,7 @@ pub fn run_server<'a, H: Host, L: LogWriter + LogNumbers + Drop, E: Write + Drop
     // It starts as the host's record says, and then lives over the hub and the wire of that start.
     ensures run { IfOk result (λ ran. HasRun options.now (H.recorded host.old) (H.recorded host.new) ran.server.news
         (T.recorded outlets.tally) (T.recorded ran.server.wire.tally) (recorded_by_any H.Rows.recorded ran.rows)
-        ran.totals (standing chacha20 ran.server.hub)) }
+        ran.totals (hub_state chacha20 ran.server.hub)) }
     // The sockets, the journal and the log have recorded what was polled and tried in this life.
     ensures served { IfOk result (λ ran. ∥ Serves (T.recorded ran.server.wire.tally)
         (H.Sockets.recorded ran.server.wire.sockets) (H.Journal.handed ran.server.wire.journal)
@@ -99,7 +99,7 @@ pub fn start<'a, H: Host, L: LogWriter + Drop, E: Drop, T: Tally + Drop>(
     requires tally { IsNew (T.recorded outlets.tally) }
     requires log { IsNew (L.logged outlets.log) }
     ensures start { IfOk result (λ server. IsStarted options.now (H.recorded host.old) (H.recorded host.new)
-        (standing chacha20 server.hub) server.wire.came.at server.wire.clock.floor
+        (hub_state chacha20 server.hub) server.wire.came.at server.wire.clock.floor
         server.news) }
     ensures quiet { IfOk result (λ server.
         server.wire.quiet_until ≡ quiet_until server.news.refused options.now.is_quiet) }

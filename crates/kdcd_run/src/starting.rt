@@ -2,7 +2,7 @@
 ghost use Rattle.std.specs.Prelude.{◌≡◌, ◌||◌, ◌++◌, ◌∷◌, [], true, IfOk, is_some};
 ghost use Rattle.std.specs.FinMap as map;
 ghost use Rattle.std.specs.Option.{option_copied};
-ghost use Rattle.kdc_hub.specs.Hub.{standing};
+ghost use Rattle.kdc_hub.specs.Hub.{hub_state};
 ghost use Rattle.kdc_hub.specs.Wire.{Records};
 ghost use Rattle.kdc_files.specs.Recorded.{IsNew};
 ghost use Rattle.kdcd_run.specs.Resuming.{AreAt, IsDecided, IsReady, known_by, may_be_first, reading, started_state};
@@ -112,7 +112,7 @@ pub fn ready<'a, H: Host>(
     options: &ServeOptions<'a>,
 ) -> Result<ReadyServer<H::Sockets>, StartFault<'a, H::SocketFault>>
     ensures start { IfOk result (λ ready. IsReady options.now (H.recorded host.old) (H.recorded host.new)
-        (standing chacha20 ready.hub) ready.beginning ready.row_count) }
+        (hub_state chacha20 ready.hub) ready.beginning ready.row_count) }
     ensures sockets { IfOk result (λ ready. IsNew (H.Sockets.recorded ready.sockets)) }
 {
     let rows = match host.read_rows(alloc) {
@@ -178,12 +178,12 @@ fn hub_of(
     seed: [u8; 32],
     beginning: &JournalBeginning,
 ) -> Result<Hub<ChaCha20Rng>, AllocError>
-    ensures kdc { IfOk result (λ hub. (standing chacha20 hub).issuing.kdc
+    ensures kdc { IfOk result (λ hub. (hub_state chacha20 hub).issuing.kdc
         ≡ started_state rows options.now.limits (opened_by options.now.is_first beginning.now.at) beginning.now.start) }
-    ensures random { IfOk result (λ hub. (standing chacha20 hub).issuing.random ≡ seeded seed) }
-    ensures accounts { IfOk result (λ hub. (standing chacha20 hub).issuing.accounts
+    ensures random { IfOk result (λ hub. (hub_state chacha20 hub).issuing.random ≡ seeded seed) }
+    ensures accounts { IfOk result (λ hub. (hub_state chacha20 hub).issuing.accounts
         ≡ (is_some options.now.log || options.now.is_quiet || is_some options.now.metrics)) }
-    ensures connections { IfOk result (λ hub. (standing chacha20 hub).connections ≡ map.empty) }
+    ensures connections { IfOk result (λ hub. (hub_state chacha20 hub).connections ≡ map.empty) }
 {
     let opening = opened_by(options.is_first, beginning.at);
     let kdc = open(alloc, rows, options.limits, opening, &beginning.start)?;

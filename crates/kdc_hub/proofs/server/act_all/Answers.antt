@@ -1,6 +1,6 @@
 use Rattle.std.proofs.Common.{arith, refl, sym, ap, subst, ◌∙◌}
 use Rattle.std.specs.Option.{option_or}
-use Rattle.kdc_hub.specs.Hub.{standing}
+use Rattle.kdc_hub.specs.Hub.{hub_state}
 use Rattle.kdc_hub.specs.Wire.{IsCounted}
 use Rattle.kdc_hub.proofs.Rounds.{counted_nothing, counted_on, none_tried, one_done, one_failed}
 use Rattle.kdc_hub.proofs.server.act_all.Goals as goal
@@ -8,7 +8,7 @@ use Rattle.kdc_hub.proofs.server.act_all.Goals.{in-Ok, in-Err}
 
 pub loop-action-init : goal.loop-action-init
 loop-action-init g c = record {
-  tried = none_tried (g.W.Wire.recorded c.args.wire.now) (standing g.R.Rng.stream c.args.hub.now);
+  tried = none_tried (g.W.Wire.recorded c.args.wire.now) (hub_state g.R.Rng.stream c.args.hub.now);
   counted = counted_nothing (g.W.Wire.fault_count c.args.wire.now);
   few = omega arith;
 }

@@ -1,5 +1,5 @@
 use Rattle.std.proofs.Common.{arith, refl, sym, subst}
-use Rattle.kdc_hub.specs.Hub.{standing}
+use Rattle.kdc_hub.specs.Hub.{hub_state}
 use Rattle.kdc_hub.specs.Wire.{IsCounted}
 use Rattle.kdc_hub.proofs.Rounds.{counted_less, counted_nothing, counted_on}
 use Rattle.kdc_hub.proofs.Runs.{goes_on, no_round}
@@ -7,7 +7,7 @@ use Rattle.kdc_hub.proofs.server.serve.Goals as goal
 
 pub loop-init : goal.loop-init
 loop-init g c = record {
-  run = no_round (g.W.Wire.recorded c.args.wire.now) (standing g.R.Rng.stream c.args.hub.now) _ c.nothing_served-served.ensures.events c.nothing_served-served.ensures.faults c.nothing_served-served.ensures.refused c.nothing_served-served.ensures.last;
+  run = no_round (g.W.Wire.recorded c.args.wire.now) (hub_state g.R.Rng.stream c.args.hub.now) _ c.nothing_served-served.ensures.events c.nothing_served-served.ensures.faults c.nothing_served-served.ensures.refused c.nothing_served-served.ensures.last;
   counted = subst (λ n. IsCounted (g.W.Wire.fault_count c.args.wire.now) n (g.W.Wire.fault_count c.args.wire.now)) (sym c.nothing_served-served.ensures.faults) (counted_nothing (g.W.Wire.fault_count c.args.wire.now));
   events = omega (arith, c.nothing_served-served.ensures.events);
   refused = omega (arith, c.nothing_served-served.ensures.refused);

@@ -1,5 +1,5 @@
 use Rattle.std.proofs.Common.{◌∙◌, subst, sym}
-use Rattle.kdc_hub.specs.Hub.{standing}
+use Rattle.kdc_hub.specs.Hub.{hub_state}
 use Rattle.kdc_hub.specs.Life.{IsLife, periods_of}
 use Rattle.kdc_hub.specs.Recorded.{recorded_by_any}
 use Rattle.kdcd_run.specs.Starting.{chacha20}
@@ -9,8 +9,8 @@ use Rattle.kdcd_run.proofs.server.run_server.Goals as goal
 pub returns-clause-run : goal.returns-clause-run
 returns-clause-run g c =
     let server = c.in_ok-server.server in
-    let begun = standing chacha20 server.hub in
-    let ended = standing chacha20 c.serve_life-totals.new.hub in
+    let begun = hub_state chacha20 server.hub in
+    let ended = hub_state chacha20 c.serve_life-totals.new.hub in
     let rows = recorded_by_any g.H.Rows.RowSource.recorded c.take_rows-rows.result in
     let rows_after = recorded_by_any g.H.Rows.RowSource.recorded c.serve_life-totals.new.source in
     let tally_after = g.T.Tally.recorded c.serve_life-totals.new.wire.tally in
