@@ -24,7 +24,7 @@ METHOD = re.compile(r"^    fn (\w+)")
 # What is public in a public enum and trait.
 INNER = {"enum": VARIANT, "trait": METHOD}
 # A crate that no other one uses: a program, or tests.
-PRIVATE = re.compile(r"_tests$|^(kdcd|kadm|kclient|example_service|example_login|krb_joined)$")
+PRIVATE = re.compile(r"_tests$|^(kdcd|kadm|kclient|example_service|example_login)$")
 
 
 class Item(typing.NamedTuple):

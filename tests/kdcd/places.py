@@ -81,6 +81,11 @@ def names(trial):
             f"what is no plain file ends the start: {words}", (ran.status, ran.out, ran.err),
             (3, "failed\n", f"kdcd: {path}: it is no file\n")
         )
+    (trial.folder / "l.lock").symlink_to("nowhere")
+    ran = trial.run(f"{serve} --journal l", seconds=10)
+    found = ran.status, ran.out, ran.err, (trial.folder / "nowhere").exists()
+    wanted = 3, "failed\n", "kdcd: l: the lock beside it: it is no file\n", False
+    trial.same("a lock that is a link makes no file elsewhere", found, wanted)
 
 
 @test("kdcd", trial=Staged)

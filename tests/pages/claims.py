@@ -19,12 +19,18 @@ WORDS = (
 )
 # The manual pages, and the files with the names of what a program refuses.
 REFUSALS = {
-    "kadm.8": ["kadm_changes/src/reason.rt", "kadm/src/reports.rt", "program/src/faults.rt"],
-    "kclient.1": ["client_files/src/words.rt"],
-    "kdcd.8": ["program/src/faults.rt", "kdc_files/src/files.rt", "kdc_files/src/sealing.rt"],
+    "kadm.8": [
+        "kadm/src/reasons.rt", "kadm/src/reports.rt", "program/src/faults.rt", "principals_text/src/read_fault.rt",
+        "principals/src/change.rt", "cred_files/src/fault.rt",
+    ],
+    "kclient.1": ["client_files/src/words.rt", "cred_files/src/fault.rt", "program/src/faults.rt"],
+    "kdcd.8": [
+        "program/src/faults.rt", "kdc_files/src/files.rt", "kdc_files/src/sealing.rt",
+        "principals_text/src/read_fault.rt",
+    ],
 }
-# Names there that the program never meets: those of a program over `client_files`.
-NEVER = {"kclient.1": {"NoLogin", "NotValid"}}
+# Names there that the program never prints: those of a program over `client_files`, of caches, of memory.
+NEVER = {"kclient.1": {"NoLogin", "NotValid"}, "kadm.8": {"Memory", "TooLate"}}
 # The manual page of each program, and the options that are plain words in its synopsis.
 MANUALS = {"kadm": ("kadm.8", set()), "kclient": ("kclient.1", {"--name"}), "kdcd": ("kdcd.8", set())}
 # Names in the tables of PROMISES.md that no source has.

@@ -1,4 +1,5 @@
-//! Tests of files: keytabs and credential caches, and the store over the system's files.
+//! Tests of files: keytabs and credential caches, and the stores of `program`.
 
 mod credentials;
+mod stores;
 mod system;

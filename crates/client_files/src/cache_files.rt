@@ -19,7 +19,7 @@ pub fn read_cache<T: ClientStore>(alloc: Global, store: &mut T, path: &str) -> R
     ensures read { IfOk result (λ cache. HasCache (T.world store.old) path.now cache) }
     ensures unchanged { T.world store.new ≡ T.world store.old }
 {
-    at(alloc, path, check_cache(store.standing(path)))?;
+    at(alloc, path, check_cache(store.path_kind(path)))?;
     let octets = match read_file(alloc, store, path) {
         Ok(octets) => octets,
         Err(fault) => return Err(Fault::of_file(alloc, fault)),
@@ -38,7 +38,7 @@ pub fn read_keytab<T: ClientStore>(
 ) -> Result<Keytab, Fault>
     ensures unchanged { T.world store.new ≡ T.world store.old }
 {
-    at(alloc, path, check_plain(store.standing(path)))?;
+    at(alloc, path, check_plain(store.path_kind(path)))?;
     let octets = at_file(alloc, read_file(alloc, store, path))?;
     at(
         alloc,
@@ -160,7 +160,7 @@ fn remove_ours<T: ClientStore>(alloc: Global, store: &mut T, path: &str) -> Resu
         T.world store.new ≡ option_map (without_file path.now) (T.world store.old)) }
     ensures unchanged { OnErr result (T.world store.new ≡ T.world store.old) }
 {
-    check_cache(store.standing(path))?;
+    check_cache(store.path_kind(path))?;
     match store.remove(alloc, path) {
         Ok(()) => Ok(()),
         Err(error) => Err(Cause::File(FileCause::Failed(error))),

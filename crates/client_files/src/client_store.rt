@@ -3,11 +3,10 @@
 ghost use Rattle.std.specs.Prelude.{◌≡◌, OnErr, OnOk, option_map};
 ghost use Rattle.program.specs.World.{without_file};
 
-use program::{FileStore, MemoryStore, Store};
+use program::{FileStore, MemoryStore, Store, is_own, own_user};
 use std::alloc::{AllocError, Global};
 use std::fs::File;
 use std::io::{Error, ErrorKind, IsTerminal};
-use std::os::unix::fs::MetadataExt;
 use std::random::RandomSource;
 use std::rt::{Clock, Files};
 use std::{fs, io};
@@ -28,7 +27,7 @@ pub enum PathKind {
 /// A store that knows who owns its files.
 pub trait ClientStore: Store {
     /// Checks what a path has, without opening it.
-    fn standing(&mut self, path: &str) -> io::Result<PathKind>
+    fn path_kind(&mut self, path: &str) -> io::Result<PathKind>
         ensures unchanged { Self.world self.new ≡ Self.world self.old };
 
     /// Returns the number of the user whose rights the program has.
@@ -46,12 +45,6 @@ pub trait ClientStore: Store {
         ensures unchanged { Self.world self.new ≡ Self.world self.old };
 }
 
-/// The group's and others' permissions to write a file.
-const OTHERS_WRITE: u32 = 0o022;
-
-/// A path that belongs to the user whose rights the program has, on Linux.
-const SELF: &str = "/proc/self";
-
 impl<
     'a,
     R: Files<File = File> + RandomSource + Clock + Input + Eprint + Alloc + Clone + Drop,
@@ -59,12 +52,12 @@ impl<
 where
     R::Reader: IsTerminal,
 {
-    fn standing(&mut self, path: &str) -> io::Result<PathKind> {
-        standing_of(self.files(), path)
+    fn path_kind(&mut self, path: &str) -> io::Result<PathKind> {
+        path_kind_of(self.files(), path)
     }
 
     fn user(&mut self) -> io::Result<u32> {
-        user_of(self.files())
+        own_user(self.files())
     }
 
     fn remove(&mut self, _alloc: Global, path: &str) -> io::Result<()> {
@@ -94,7 +87,7 @@ fn push_name(alloc: Global, names: &mut Vec<String>, name: &str) -> Result<(), A
     Ok(names.push(String::from_str(alloc, name)?)?)
 }
 
-fn standing_of(files: &impl Files, path: &str) -> io::Result<PathKind> {
+fn path_kind_of(files: &impl Files, path: &str) -> io::Result<PathKind> {
     let there = match fs::metadata(files, path) {
         Ok(there) => there,
         Err(error) if error.kind() == ErrorKind::NotFound => return Ok(PathKind::Free),
@@ -103,21 +96,17 @@ fn standing_of(files: &impl Files, path: &str) -> io::Result<PathKind> {
     if !there.is_file() {
         return Ok(PathKind::NoFile);
     }
-    if there.uid() == user_of(files)? && there.mode() & OTHERS_WRITE == 0 {
+    if is_own(files, &there)? {
         return Ok(PathKind::Ours);
     }
     Ok(PathKind::Others)
-}
-
-fn user_of(files: &impl Files) -> io::Result<u32> {
-    Ok(fs::metadata(files, SELF)?.uid())
 }
 
 /// The user of files in memory, who owns all of them.
 const MEMORY_USER: u32 = 1000;
 
 impl ClientStore for MemoryStore {
-    fn standing(&mut self, path: &str) -> io::Result<PathKind> {
+    fn path_kind(&mut self, path: &str) -> io::Result<PathKind> {
         match self.get(path) {
             Some(_) => Ok(PathKind::Ours),
             None => Ok(PathKind::Free),

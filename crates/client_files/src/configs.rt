@@ -72,7 +72,7 @@ impl Config {
         let Ok(path) = defaults.config_path() else {
             return Ok(None);
         };
-        if let Ok(PathKind::Free) = store.standing(path) {
+        if let Ok(PathKind::Free) = store.path_kind(path) {
             return Ok(None);
         }
         Ok(Some(Config::read(alloc, store, defaults)?))
@@ -269,7 +269,7 @@ fn push_file<T: ClientStore>(
 ) -> Result<(), Fault>
     ensures unchanged { T.world store.new ≡ T.world store.old }
 {
-    if let Ok(PathKind::NoFile) = store.standing(path) {
+    if let Ok(PathKind::NoFile) = store.path_kind(path) {
         let notes = &mut whole.notes;
         writeln!(
             notes,

@@ -5,9 +5,8 @@ use crate::client_store::ClientStore;
 use crate::configs::Config;
 use crate::faults::{Cause, Fault};
 use crate::file_names::{NameOf, path_in};
-use program::FileCause;
-use std::alloc::{AllocError, Global};
-use std::env::VarError;
+use program::{FileCause, Variable};
+use std::alloc::Global;
 use std::io;
 
 /// What the environment names.
@@ -19,17 +18,6 @@ pub struct Defaults<'a> {
     pub config: Variable<'a>,
     /// The value of `LOGNAME`: the name under which the user logged in to this computer.
     pub user: Variable<'a>,
-}
-
-/// The value of a variable of the environment.
-#[derive(Clone, Copy)]
-pub enum Variable<'a> {
-    /// It is not set, or empty.
-    Absent,
-    /// It is not UTF-8.
-    NotUtf8,
-    /// Its value.
-    Text(&'a str),
 }
 
 /// The file to read if `KRB5_CONFIG` names none.
@@ -76,19 +64,6 @@ impl<'a> Defaults<'a> {
             Variable::Absent => Ok(CONFIG),
             Variable::NotUtf8 => Err(Fault::usage(CONFIG_NOT_UTF8)),
             Variable::Text(path) => Ok(path),
-        }
-    }
-}
-
-impl<'a> Variable<'a> {
-    /// Returns the variable for the result of reading it.
-    pub fn new(read: &'a Result<String, VarError>) -> Result<Variable<'a>, AllocError> {
-        match read {
-            Ok(value) if value.is_empty() => Ok(Variable::Absent),
-            Ok(value) => Ok(Variable::Text(value.as_str())),
-            Err(VarError::NotPresent) => Ok(Variable::Absent),
-            Err(VarError::NotUnicode) => Ok(Variable::NotUtf8),
-            Err(VarError::OutOfMemory) => Err(AllocError),
         }
     }
 }

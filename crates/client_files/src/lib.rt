@@ -44,7 +44,7 @@ pub use cache_files::{
 };
 pub use client_store::{ClientStore, PathKind};
 pub use configs::Config;
-pub use environment::{Defaults, Variable};
+pub use environment::Defaults;
 pub use faults::{Cause, Fault, at, at_file, at_password, unknown_hosts};
 pub use file_names::{NameOf, path_in};
 pub use holding::{good_credential, granting_ticket};

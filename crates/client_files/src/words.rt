@@ -4,13 +4,15 @@ use client_login::{Doubt, LoginError};
 use cred_files::CredFault;
 use krb_fields::Second;
 use std::fmt;
-use text_fields::UtcDate;
+use text_fields::{UtcDate, keytab_text};
 
 impl Cause {
     /// Returns the word for it. `None` if something failed and nothing is refused, or if a KDC refuses with a code.
     pub fn name(self) -> Option<&'static str> {
         match self {
             Cause::File(cause) => cause.refusal(),
+            Cause::Cache(fault) => fault.refusal(),
+            Cause::Keytab(fault) => fault.refusal(),
             Cause::Login(why) => login_name(why),
             cause => match cause.words() {
                 ("", _) => None,
@@ -19,15 +21,13 @@ impl Cause {
         }
     }
 
-    /// Returns the word for it, and what it means. The word is empty if nothing is refused.
+    /// Returns the word for it, and what it means. The word is empty if nothing is refused. Both are empty if what it
+    /// holds has words of its own.
     fn words(self) -> (&'static str, &'static str) {
         match self {
             Cause::Usage(text) => ("", text),
             Cause::BadName => ("BadName", "it is not a valid name"),
-            Cause::File(_) => ("", "the file can't be used"),
             Cause::LongPassword => ("LongPassword", "the password has more than 1024 bytes"),
-            Cause::Cache(fault) => cache_words(fault),
-            Cause::Keytab(fault) => keytab_words(fault),
             Cause::NoCache => ("Absent", "there is no cache: kinit makes one"),
             Cause::OtherRealm => ("OtherRealm", "its realm is not that of the cache"),
             Cause::NotOurs => (
@@ -64,41 +64,25 @@ impl Cause {
                 "NotAnAddress",
                 "no address is known: correct the name, or name the address of a KDC",
             ),
-            Cause::Login(_) => ("", "the login got no ticket"),
-            Cause::Silent(..) => ("", "no KDC replied"),
             Cause::Memory => ("", "out of memory"),
+            Cause::File(_)
+            | Cause::Cache(_)
+            | Cause::Keytab(_)
+            | Cause::Login(_)
+            | Cause::Silent(..) => ("", ""),
         }
     }
 }
 
-fn cache_words(fault: CredFault) -> (&'static str, &'static str) {
+/// Returns what is wrong with a cache.
+fn cache_text(fault: CredFault) -> &'static str {
     match fault {
-        CredFault::BadMagic => ("BadMagic", "this is not a credential cache of version 4"),
-        CredFault::Truncated => ("Truncated", "the file ends too early"),
-        CredFault::BadEntry => (
-            "BadEntry",
-            "a part of the credential is too long for a cache",
-        ),
-        CredFault::TooLate => (
-            "TooLate",
+        CredFault::BadMagic => "this is not a credential cache of version 4",
+        CredFault::BadEntry => "a part of the credential is too long for a cache",
+        CredFault::TooLate =>
             "a cache has room for times from the year 1970 to 2106, and a time of the ticket is another",
-        ),
-        CredFault::Absent => (
-            "Absent",
-            "there is no usable ticket-granting ticket of the realm: run kinit",
-        ),
-        CredFault::Memory => ("", "out of memory"),
-    }
-}
-
-fn keytab_words(fault: CredFault) -> (&'static str, &'static str) {
-    match fault {
-        CredFault::BadMagic => ("BadMagic", "this is not a keytab of version 2"),
-        CredFault::BadEntry => (
-            "BadEntry",
-            "the key of an entry has the wrong length for its encryption type",
-        ),
-        fault => cache_words(fault),
+        CredFault::Absent => "there is no usable ticket-granting ticket of the realm: run kinit",
+        fault => fault.text(),
     }
 }
 
@@ -131,6 +115,8 @@ impl fmt::Display for Cause {
     fn fmt<W: fmt::Write>(&self, f: &mut fmt::Formatter<W>) -> fmt::Result {
         match self {
             Cause::File(cause) => write!(f, "{cause}"),
+            Cause::Cache(fault) => f.write_str(cache_text(*fault)),
+            Cause::Keytab(fault) => f.write_str(keytab_text(*fault)),
             Cause::Ended(end) => write_end(f, *end),
             Cause::Login(why) => write!(f, "{why}"),
             Cause::Silent(error, failures) => {

@@ -5,14 +5,15 @@ ghost use Rattle.client_login.specs.Verifying.{IsTicketOf};
 
 use crate::socket_network::SocketNetwork;
 use client_files::{
-    Cause, Config, Defaults, Fault, Variable, at_file, at_password, name_of, principal_text,
-    read_keytab,
+    Cause, Config, Defaults, Fault, at_file, at_password, name_of, principal_text, read_keytab,
 };
 use client_login::{KdcClient, Kdcs, Login, LoginFault, Password, Secret, Transports};
 use cred_files::{Credential, Keytab, Principal};
 use krb_elements::Octets;
 use krb_fields::{Moment, Name, component_to_text, tgs_name};
-use program::{FileCause, FileStore, STANDARD_INPUT, ask_password, draw_seed, now};
+use program::{
+    CLOCK, FileCause, FileStore, STANDARD_INPUT, Variable, ask_password, draw_seed, now,
+};
 use rand_chacha::ChaCha20Rng;
 use rand_core::SeedableRng;
 use std::alloc::Global;
@@ -211,7 +212,7 @@ fn clock(rt: &HostRuntime) -> Result<Moment, Fault> {
         Ok(at) => Ok(at),
         Err(error) => {
             let cause = Cause::File(FileCause::Failed(error));
-            Err(Fault::new(rt.alloc(), "the clock", cause))
+            Err(Fault::new(rt.alloc(), CLOCK, cause))
         }
     }
 }

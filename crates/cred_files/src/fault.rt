@@ -1,8 +1,9 @@
 //! Errors of reading, searching and changing files.
-ghost use Rattle.std.specs.Prelude.{◌≡◌};
+ghost use Rattle.std.specs.Prelude.{◌≡◌, option_map};
 ghost use Rattle.cred_files.specs.declared.fault.Cut.TheVariants as cuts;
 ghost use Rattle.cred_files.specs.declared.fault.CredFault.TheVariants.{Memory};
 ghost use Rattle.cred_files.specs.Reading.{fault_of};
+ghost use Rattle.cred_files.specs.RefusalWord.{cred_refusal};
 
 use std::alloc::{AllocError, AllocFailed};
 use std::error::Error;
@@ -26,16 +27,37 @@ pub enum CredFault {
     Memory,
 }
 
-impl fmt::Display for CredFault {
-    fn fmt<W: fmt::Write>(&self, f: &mut fmt::Formatter<W>) -> fmt::Result {
-        f.write_str(match self {
+impl CredFault {
+    /// Returns the word that commands print if a file is refused. Out of memory has none: it refuses nothing.
+    pub fn refusal(self) -> Option<&'static str>
+        ensures { option_map (λ word. word.now) result ≡ cred_refusal self }
+    {
+        match self {
+            CredFault::BadMagic => Some("BadMagic"),
+            CredFault::Truncated => Some("Truncated"),
+            CredFault::BadEntry => Some("BadEntry"),
+            CredFault::TooLate => Some("TooLate"),
+            CredFault::Absent => Some("Absent"),
+            CredFault::Memory => None,
+        }
+    }
+
+    /// Returns what is wrong, to stand after the name of the file.
+    pub fn text(self) -> &'static str {
+        match self {
             CredFault::BadMagic => "the file does not start with the bytes of its format",
             CredFault::Truncated => "the file ends too early",
             CredFault::BadEntry => "an entry is invalid, or too long for the file",
             CredFault::TooLate => "a time is out of the range of the file format",
             CredFault::Absent => "there is no such credential",
             CredFault::Memory => "out of memory",
-        })
+        }
+    }
+}
+
+impl fmt::Display for CredFault {
+    fn fmt<W: fmt::Write>(&self, f: &mut fmt::Formatter<W>) -> fmt::Result {
+        f.write_str(self.text())
     }
 }
 

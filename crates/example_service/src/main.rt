@@ -7,20 +7,16 @@ use cred_files::{Keytab, Principal};
 use hex::FromHexError;
 use krb_der::KTime;
 use krb_fields::component_to_text;
-use program::{Status, now};
+use program::{FileStamp, Status, now, read_words};
 use std::alloc::{AllocError, Global};
-use std::fs::Metadata;
 use std::io::{BufRead, Error, ErrorKind};
-use std::os::unix::fs::MetadataExt;
 use std::process::ExitCode;
 use std::random::RandomSource;
-use std::{env, fs, io};
+use std::{fs, io};
 
 fn main(rt: HostRuntime) -> io::Result<ExitCode> {
-    let args: Vec<String> = match env::args(&rt) {
-        Ok(args) => args.collect(rt.alloc())?,
-        Err(error) if error.kind() == ErrorKind::InvalidData => return usage(&rt),
-        Err(error) => return Err(error),
+    let Some(args) = read_words(&rt)? else {
+        return usage(&rt);
     };
     match args.as_slice() {
         // A service that ran before starts as after a restart.
@@ -49,37 +45,18 @@ fn serve(rt: &HostRuntime, keytab: &str, opening: Opening) -> io::Result<ExitCod
     }
 }
 
-/// The metadata by which a file differs from the one that was there before.
-#[derive(Clone, Copy, PartialEq, Eq)]
-struct Stamp {
-    node: u64,
-    /// The last change of its bytes, owner or mode: seconds since 1970, and nanoseconds.
-    changed: i64,
-    nanos: i64,
-    len: u64,
-}
-
-fn stamp_of(metadata: &Metadata) -> Stamp {
-    Stamp {
-        node: metadata.ino(),
-        changed: metadata.ctime(),
-        nanos: metadata.ctime_nsec(),
-        len: metadata.len(),
-    }
-}
-
 /// The file of a service's keys.
 #[derive(Drop)]
 struct KeytabFile<'a> {
     path: &'a str,
     /// The file that was read last.
-    seen: Option<Stamp>,
+    seen: Option<FileStamp>,
 }
 
 impl<'a> KeytabFile<'a> {
     /// Reads the keytab, unless the file is the one that was read last.
     fn read_new(&mut self, rt: &HostRuntime) -> io::Result<Option<Keytab>> {
-        let stamp = stamp_of(&fs::metadata(rt, self.path)?);
+        let stamp = FileStamp::of(&fs::metadata(rt, self.path)?);
         if self.seen == Some(stamp) {
             return Ok(None);
         }

@@ -2,7 +2,7 @@
 //! record. Its journal fails once.
 use journal::{Doubt, Start};
 use kdc_core::{Account, Bears, TgsOutcome};
-use kdc_files::{HandedOver, JournalBeginning, MemoryJournal, database_of};
+use kdc_files::{HandedOver, JournalBeginning, MemoryJournal};
 use kdc_hub::{Action, Event, Look, MemoryRows, Peer, Totals, WireCall};
 use kdc_reports::{CountedLog, LogFormat, MemoryEntry, MemoryLog, MemoryMetrics, MemoryTally};
 use kdcd_run::{
@@ -12,6 +12,7 @@ use krb_elements::Octets;
 use krb_fields::Moment;
 use principal_rows::Limits;
 use principals::Database;
+use principals_text::read_bytes;
 use request_log::Transport;
 use std::alloc::Global;
 use std::collections::VecDeque;
@@ -127,7 +128,7 @@ fn piece(alloc: Global) -> Result<Event, Fail> {
 
 fn rows(alloc: Global) -> Result<Database, Fail> {
     let text = ROWS.replace(alloc, "ROW", ROW)?;
-    match database_of(alloc, text.as_bytes()) {
+    match read_bytes(alloc, text.as_bytes()) {
         Ok(rows) => Ok(rows),
         Err(_) => Err(Fail::from("a database")),
     }

@@ -51,6 +51,9 @@ impl<T: Drop> From<AllocFailed<T>> for JournalFault {
     }
 }
 
+/// What is said of a name or a number that is too large for a journal.
+pub const UNFIT: &str = "a name or a number is too large";
+
 /// Why an authenticator could not be kept, a file could not be begun, or one could not be read.
 #[derive(Debug, Drop)]
 pub enum FilesFault<E> {
@@ -65,7 +68,7 @@ pub enum FilesFault<E> {
 impl<E: fmt::Display> fmt::Display for FilesFault<E> {
     fn fmt<W: fmt::Write>(&self, f: &mut fmt::Formatter<W>) -> fmt::Result {
         match self {
-            FilesFault::Unfit => f.write_str("a name or a number is too large"),
+            FilesFault::Unfit => f.write_str(UNFIT),
             FilesFault::Memory => f.write_str("out of memory"),
             FilesFault::Files(fault) => write!(f, "{fault}"),
         }

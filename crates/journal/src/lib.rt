@@ -39,7 +39,7 @@ mod writing;
 
 pub use decision::{Doubt, Found, Place, Start, start_of};
 pub use entry::{Entry, EntryRef};
-pub use fault::{FilesFault, JournalFault};
+pub use fault::{FilesFault, JournalFault, UNFIT};
 pub use files::{BeginFault, Begun, FileText, JournalFiles, News, Part};
 pub use head::{HEAD, may_be_journal};
 pub use header::{Header, HeaderRef};

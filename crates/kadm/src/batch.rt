@@ -15,7 +15,7 @@ use kadm_changes::{
     Context, Draft, Stop, Subject, Target, begin_line, lock_database, read_database,
     update_in_batch, write_database,
 };
-use program::{FileCause, FileFault, Status, Store};
+use program::{FileCause, FileFault, STANDARD_INPUT, Status, Store};
 use std::alloc::{AllocError, Global};
 use std::io::{ErrorKind, Write};
 use text_fields::line_words;
@@ -34,9 +34,6 @@ const NO_MODE: &str = "--keep-mode is an option of batch itself, and not of its 
 
 /// What a terminal shows before each line.
 const PROMPT: &str = "kadm> ";
-
-/// The name in place of a path if the lines can't be read.
-const STANDARD_INPUT: &str = "standard input";
 
 /// A line with a command.
 #[derive(Drop)]
@@ -113,10 +110,7 @@ fn next_line<T: Store>(alloc: Global, store: &mut T) -> Result<Option<Vec<u8>>, 
             cause: FileCause::LongFile,
         })),
         Err(error) if error.kind() == ErrorKind::UnexpectedEof => Ok(None),
-        Err(error) => Err(Stop::from(FileFault {
-            path: STANDARD_INPUT,
-            cause: FileCause::Failed(error),
-        })),
+        Err(error) => Err(Stop::from(FileFault::failed(STANDARD_INPUT, error))),
     }
 }
 

@@ -11,6 +11,7 @@ use clap::error::Error;
 use clap::{ArgMatches, Command as Parser};
 use enctypes::Etype;
 use kadm_changes::{DB, Target, value_of};
+use program::NewMode;
 use std::alloc::{AllocError, Global};
 use text_fields::{offered, read_etypes};
 
@@ -83,9 +84,18 @@ pub(crate) fn read_command<'a>(
     let target = Target {
         db,
         etypes,
-        keep_mode: has_flag(words, "--keep-mode"),
+        mode: mode_of(words),
     };
     Ok(Command { target, kind })
+}
+
+/// Returns the mode of a file that the command changes.
+fn mode_of(words: &[&str]) -> NewMode {
+    if has_flag(words, "--keep-mode") {
+        NewMode::Kept
+    } else {
+        NewMode::OwnerOnly
+    }
 }
 
 /// Returns the encryption types of the new keys: all four by default. Returns `None` if `--types` is no list of types.

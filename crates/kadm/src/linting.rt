@@ -6,14 +6,11 @@ use kadm_changes::{Context, Stop, read_database};
 use krb_fields::Name;
 use principal_rows::Row;
 use principals::Database;
-use program::{FileRights, Store, file_rights, read_clock};
+use program::{FileRights, RIGHTS_OF_OTHERS, Store, file_rights, read_clock};
 use std::alloc::{AllocError, Global};
 use std::io;
 use std::io::Write;
 use text_fields::{UtcDate, is_past, shell_word};
-
-/// The bits of a mode that give rights to the group and to others.
-const OTHERS: u32 = 0o077;
 
 /// The user who may work on any file.
 const ROOT: u32 = 0;
@@ -64,7 +61,7 @@ fn print_lines<W: Write>(lines: &[String], out: &mut W) -> io::Result<()> {
 /// Returns what is wrong with the rights on the database.
 fn file_findings(alloc: Global, db: &str, rights: FileRights) -> Result<Vec<String>, AllocError> {
     let mut lines = Vec::new(alloc);
-    if rights.mode & OTHERS != 0 {
+    if rights.mode & RIGHTS_OF_OTHERS != 0 {
         lines.push(format!(in alloc; "@database mode {:o} # chmod 600 {db}", rights.mode)?)?;
     }
     if let Some(user) = stranger_to(rights) {

@@ -10,6 +10,7 @@ mod listing;
 mod options;
 mod patterns;
 mod printing;
+mod reasons;
 mod reports;
 mod run;
 mod settings;
@@ -18,8 +19,7 @@ mod words;
 mod writing;
 
 use crate::run::{CommandLine, kadm_run};
-use program::{FileStore, Status, read_words, report_failure};
-use std::alloc::AllocError;
+use program::{FileStore, NOT_UTF8, Status, Variable, read_words, report_failure};
 use std::env::VarError;
 use std::io::IsTerminal;
 use std::process::ExitCode;
@@ -28,30 +28,43 @@ use std::{env, io};
 /// The variable of the environment with the database of a command line that names none.
 const KADM_DB: &str = "KADM_DB";
 
+/// What is wrong with that variable if it is not UTF-8.
+const DB_NOT_UTF8: &str = "KADM_DB is not UTF-8";
+
 /// What the command line and the environment give.
 #[derive(Drop)]
 struct Given<'a> {
     args: Vec<String>,
-    /// The path that `KADM_DB` has. An empty one is none.
+    /// The path that `KADM_DB` has.
     db: Option<&'a str>,
 }
 
+/// Why a command line can't be run.
+enum GivenFault {
+    /// A word, or the variable, is not UTF-8. The text says which.
+    NotUtf8(&'static str),
+    /// A call of the system failed.
+    System(io::Error),
+}
+
 impl<'a> Given<'a> {
-    /// Reads the command line. Returns `None` if a word, or the path in the environment, is not UTF-8.
     fn read(
         rt: &HostRuntime,
         named: &'a Result<String, VarError>,
-    ) -> io::Result<Option<Given<'a>>> {
-        let db = match named {
-            Ok(path) if path.is_empty() => None,
-            Ok(path) => Some(path.as_str()),
-            Err(VarError::NotPresent) => None,
-            Err(VarError::NotUnicode) => return Ok(None),
-            Err(VarError::OutOfMemory) => return Err(io::Error::from(AllocError)),
+    ) -> Result<Given<'a>, GivenFault> {
+        let args = match read_words(rt) {
+            Ok(Some(args)) => args,
+            Ok(None) => return Err(GivenFault::NotUtf8(NOT_UTF8)),
+            Err(error) => return Err(GivenFault::System(error)),
         };
-        match read_words(rt)? {
-            Some(args) => Ok(Some(Given { args, db })),
-            None => Ok(None),
+        match Variable::new(named) {
+            Ok(Variable::Absent) => Ok(Given { args, db: None }),
+            Ok(Variable::Text(path)) => Ok(Given {
+                args,
+                db: Some(path),
+            }),
+            Ok(Variable::NotUtf8) => Err(GivenFault::NotUtf8(DB_NOT_UTF8)),
+            Err(error) => Err(GivenFault::System(io::Error::from(error))),
         }
     }
 }
@@ -59,12 +72,8 @@ impl<'a> Given<'a> {
 fn main(rt: HostRuntime) -> ExitCode {
     let named = env::var(&rt, KADM_DB);
     let given = match Given::read(&rt, &named) {
-        Ok(Some(given)) => given,
-        Ok(None) => return ExitCode::from(report_not_utf8(&rt).code()),
-        Err(error) => {
-            let why = format_args!("cannot read the command line: {error}");
-            return ExitCode::from(report_failure(&rt, "kadm", &why).code());
-        }
+        Ok(given) => given,
+        Err(fault) => return ExitCode::from(report(&rt, fault).code()),
     };
     let mut store = FileStore::new(&rt);
     let errors = rt.stderr();
@@ -77,9 +86,19 @@ fn main(rt: HostRuntime) -> ExitCode {
     ExitCode::from(status.code())
 }
 
-/// Reports that a word, or the path in the environment, is not UTF-8. If that can't be written, there is nowhere to
-/// report it.
-fn report_not_utf8(rt: &HostRuntime) -> Status {
-    let _ = eprintln!(rt; "error: an argument or {KADM_DB} is not UTF-8");
-    Status::Usage
+/// Reports why a command line can't be run. If that can't be written, there is nowhere to report it.
+fn report(rt: &HostRuntime, fault: GivenFault) -> Status {
+    match fault {
+        GivenFault::NotUtf8(why) => {
+            let _ = eprintln!(rt; "error: {why}");
+            Status::Usage
+        }
+        GivenFault::System(error) => {
+            report_failure(
+                rt,
+                "kadm",
+                &format_args!("cannot read the command line: {error}"),
+            )
+        }
+    }
 }

@@ -1,11 +1,11 @@
 //! What a command that ends early prints.
-ghost use Rattle.std.specs.Prelude.{◌≡◌, IfOk};
+ghost use Rattle.std.specs.Prelude.{IfOk};
 ghost use Rattle.kadm.specs.Ends.{IsStatusOf};
-ghost use Rattle.program.specs.declared.status.Status.TheVariants.{Failed, Refused};
 
 use crate::changing::NOT_IN_BATCH;
+use crate::reasons::{reason_text, reason_word, refused_option};
 use kadm_changes::{Context, KEYTAB, Reason, Stop, Subject, begin_line, value_of};
-use program::{FileCause, Status};
+use program::{FileCause, Status, print_failure, print_refusal};
 use std::io;
 use std::io::Write;
 
@@ -25,16 +25,16 @@ pub(crate) fn report<W: Write, E: Write>(
         Stop::NotInBatch => {
             begin_line(&mut context.errors, subject);
             let _ = writeln!(context.errors, "{NOT_IN_BATCH}");
-            print_refusal(&mut context.out, "NotInBatch")
+            print_refusal(&mut context.out, &"NotInBatch")
         }
         Stop::Refused(reason) => {
-            let word = word_of(subject.words, reason.option());
+            let word = word_of(subject.words, refused_option(reason));
             report_reason(&mut context.errors, subject, reason, word);
-            print_refusal(&mut context.out, reason.name())
+            print_refusal(&mut context.out, &reason_word(reason))
         }
         Stop::RefusedOf { word, reason } => {
             report_reason(&mut context.errors, subject, reason, some_text(word));
-            print_refusal(&mut context.out, reason.name())
+            print_refusal(&mut context.out, &reason_word(reason))
         }
         Stop::File(fault) => {
             begin_line(&mut context.errors, subject);
@@ -42,7 +42,7 @@ pub(crate) fn report<W: Write, E: Write>(
             let _ = writeln!(context.errors, "{fault}");
             match (fault.cause, fault.cause.refusal()) {
                 (FileCause::Failed(_), _) | (_, None) => print_failure(&mut context.out),
-                (_, Some(name)) => print_refusal(&mut context.out, name),
+                (_, Some(name)) => print_refusal(&mut context.out, &name),
             }
         }
     }
@@ -75,7 +75,7 @@ fn report_reason<E: Write>(
     reason: Reason,
     word: Option<&str>,
 ) {
-    let (option, text) = (reason.option(), reason.text());
+    let (option, text) = (refused_option(reason), reason_text(reason));
     begin_line(errors, subject);
     let Some(word) = word else {
         let _ = writeln!(errors, "{option}: {text}");
@@ -101,18 +101,4 @@ fn explain_spelling<E: Write>(errors: &mut E, word: &str) -> io::Result<()> {
         }
     }
     Ok(())
-}
-
-fn print_refusal<W: Write>(out: &mut W, name: &str) -> io::Result<Status>
-    ensures { IfOk result (λ status. status ≡ Refused) }
-{
-    writeln!(out, "refused {name}")?;
-    Ok(Status::Refused)
-}
-
-fn print_failure<W: Write>(out: &mut W) -> io::Result<Status>
-    ensures { IfOk result (λ status. status ≡ Failed) }
-{
-    writeln!(out, "failed")?;
-    Ok(Status::Failed)
 }

@@ -5,6 +5,7 @@ ghost use Rattle.kadm_changes.specs.Words.{texts, value_of};
 use crate::settings::{accepted_by, invalid_setting};
 use clap::error::{Error, ErrorKind};
 use kadm_changes::{SettingWords, Stop, value_of};
+use program::print_usage_error;
 use std::alloc::AllocError;
 use std::io::Write;
 
@@ -61,19 +62,23 @@ pub(crate) fn report_command_fault<E: Write>(
     fault: CommandFault<'_>,
 ) -> Stop<'static> {
     let _ = match fault {
-        CommandFault::BadValue(fault) => writeln!(errors, "error: {fault}"),
-        CommandFault::NoField(setting) => writeln!(
+        CommandFault::BadValue(fault) => print_usage_error(errors, &fault),
+        CommandFault::NoField(setting) => print_usage_error(
             errors,
-            "error: {}: a policy has no field {}; 'kadm policy --help' lists the fields",
-            setting.form.field_option(),
-            setting.field
+            &format_args!(
+                "{}: a policy has no field {}; 'kadm policy --help' lists the fields",
+                setting.form.field_option(),
+                setting.field
+            ),
         ),
-        CommandFault::NoSetting(setting, accepted) => writeln!(
+        CommandFault::NoSetting(setting, accepted) => print_usage_error(
             errors,
-            "error: {}: {} takes {accepted}, not '{}'",
-            setting.form.value_option(),
-            setting.field,
-            setting.value
+            &format_args!(
+                "{}: {} takes {accepted}, not '{}'",
+                setting.form.value_option(),
+                setting.field,
+                setting.value
+            ),
         ),
         CommandFault::Memory => return Stop::from(AllocError),
     };

@@ -10,12 +10,11 @@ use crate::stop::Stop;
 use crate::target::Target;
 use krb_fields::Name;
 use principals::{Change, ChangeFault, Database, RowChange};
-use principals_text::{LONGEST_TEXT, ReadFault, fault_place};
-use program::{Store, lock_file, read_at_most, update_file};
+use principals_text::{DatabaseFault, LONGEST_TEXT, read_bytes};
+use program::{NewMode, Store, lock_file, read_at_most, update_file};
 use std::alloc::Global;
 use std::io::Write;
 use std::marker::Model;
-use std::str;
 
 /// How often a command checks again whether the lock is free, a tenth of a second apart.
 const LOOKS: u32 = 100;
@@ -27,8 +26,8 @@ const QUIET_LOOKS: u32 = 10;
 #[derive(Drop)]
 pub struct Locked<'p> {
     path: &'p str,
-    /// Whether the file keeps its mode.
-    keep_mode: bool,
+    /// The mode of the changed file.
+    mode: NewMode,
 }
 
 /// A database that is locked is the path of its file.
@@ -51,7 +50,7 @@ pub fn lock_database<'p, T: Store, W: Write, E: Write>(
 {
     let locked = Locked {
         path: target.db,
-        keep_mode: target.keep_mode,
+        mode: target.mode,
     };
     for looks in 0..LOOKS {
         if lock_file(context.alloc, store, target.db)? {
@@ -85,28 +84,19 @@ pub fn read_database<'p, T: Store, W: Write, E: Write>(
     ensures unchanged { T.world store.new ≡ T.world store.old }
 {
     let octets = read_at_most(context.alloc, store, db, LONGEST_TEXT)?;
-    let Ok(text) = str::from_utf8(&octets) else {
-        return Err(Stop::Refused(Reason::NotJson));
-    };
-    match principals_text::read(context.alloc, text) {
+    match read_bytes(context.alloc, &octets) {
         Ok(database) => Ok(database),
         Err(fault) => {
-            report_place(context, db, text, fault);
-            Err(Stop::from(fault))
+            report_place(&mut context.errors, db, &fault);
+            Err(Stop::from(fault.cause))
         }
     }
 }
 
-/// Reports where a text is wrong, if that can be found. Ignores a failed write.
-fn report_place<W, E: Write>(context: &mut Context<W, E>, db: &str, text: &str, fault: ReadFault) {
-    if !matches!(fault, ReadFault::NotJson | ReadFault::BadRow) {
-        return;
-    }
-    let Ok(place) = fault_place(context.alloc, text) else {
-        return;
-    };
-    if !place.is_empty() {
-        let _ = writeln!(context.errors, "kadm: {db}: {place}");
+/// Reports where a text is wrong, if that was found. Ignores a failed write.
+fn report_place<E: Write>(errors: &mut E, db: &str, fault: &DatabaseFault) {
+    if let Some(place) = &fault.place {
+        let _ = writeln!(errors, "kadm: {db}: {place}");
     }
 }
 
@@ -121,7 +111,7 @@ pub fn write_database<'p, T: Store>(
     ensures unchanged { OnErr result (T.world store.new ≡ T.world store.old) }
 {
     let text = principals_text::write(alloc, database)?;
-    update_file(alloc, store, locked.path, text.as_bytes(), locked.keep_mode)?;
+    update_file(alloc, store, locked.path, text.as_bytes(), locked.mode)?;
     Ok(())
 }
 

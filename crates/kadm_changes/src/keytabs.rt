@@ -16,13 +16,10 @@ use krb_fields::Name;
 use principal_rows::KeyVersion;
 use principals::{ChangeFault, Database};
 use program::{
-    FileCause, FileFault, Store, first_octet, has_file, read_file, update_file, write_file,
+    FileFault, LOCK_END, Store, first_octet, has_file, read_file, update_file, write_file,
 };
 use std::alloc::{AllocError, Global};
 use std::io::Write;
-
-/// The end of a lock's path.
-const LOCK_END: &str = ".lock";
 
 /// The first byte of a keytab. No text of a database begins with it.
 const KEYTAB_START: u8 = 5;
@@ -69,7 +66,7 @@ fn check_path<'p, T: Store>(alloc: Global, store: &mut T, path: &'p str) -> Resu
     }
     let first = first_octet(alloc, store, path)?;
     if is_other_file(first) {
-        return Err(Stop::Refused(Reason::BadMagic));
+        return Err(Stop::from(CredFault::BadMagic));
     }
     Ok(())
 }
@@ -92,10 +89,7 @@ fn has_lock<'p, T: Store>(alloc: Global, store: &mut T, path: &'p str) -> Result
     let beside = format!(in alloc; "{path}{LOCK_END}")?;
     match store.exists(&beside) {
         Ok(found) => Ok(found),
-        Err(error) => Err(Stop::from(FileFault {
-            path,
-            cause: FileCause::Failed(error),
-        })),
+        Err(error) => Err(Stop::from(FileFault::failed(path, error))),
     }
 }
 
@@ -127,7 +121,7 @@ fn put_octets<'p, T: Store>(
     ensures unchanged { OnErr result (T.world store.new ≡ T.world store.old) }
 {
     if to.append {
-        update_file(alloc, store, to.out, octets, target.keep_mode)?;
+        update_file(alloc, store, to.out, octets, target.mode)?;
         return Ok(());
     }
     write_file(alloc, store, to.out, octets)?;

@@ -7,7 +7,7 @@ use krb_fields::NameFault;
 use principal_rows::KeyListFault;
 use principals::ChangeFault;
 use principals_text::ReadFault;
-use program::{FileCause, FileFault};
+use program::FileFault;
 use std::alloc::{AllocError, AllocFailed};
 use std::io;
 
@@ -40,10 +40,7 @@ impl Stop<'_> {
     fn failed(path: &'static str, error: io::Error) -> Stop<'static>
         ensures { IsFailed result }
     {
-        Stop::File(FileFault {
-            path,
-            cause: FileCause::Failed(error),
-        })
+        Stop::File(FileFault::failed(path, error))
     }
 }
 
@@ -93,11 +90,8 @@ impl From<NameFault> for Stop<'_> {
 impl From<ReadFault> for Stop<'_> {
     fn from(fault: ReadFault) -> Self {
         match fault {
-            ReadFault::NotJson => Stop::Refused(Reason::NotJson),
-            ReadFault::BadVersion => Stop::Refused(Reason::BadVersion),
-            ReadFault::BadRow => Stop::Refused(Reason::BadRow),
-            ReadFault::NoTicketGranter => Stop::Refused(Reason::NoTicketGranter),
             ReadFault::Memory => Stop::from(AllocError),
+            fault => Stop::Refused(Reason::Database(fault)),
         }
     }
 }
@@ -105,23 +99,20 @@ impl From<ReadFault> for Stop<'_> {
 impl From<ChangeFault> for Stop<'_> {
     fn from(fault: ChangeFault) -> Self {
         match fault {
-            ChangeFault::BadName => Stop::Refused(Reason::BadName),
-            ChangeFault::Exists => Stop::Refused(Reason::Exists),
-            ChangeFault::Protected => Stop::Refused(Reason::Protected),
-            ChangeFault::Absent => Stop::Refused(Reason::Absent),
-            ChangeFault::LastVersion => Stop::Refused(Reason::LastVersion),
-            ChangeFault::CurrentKeys => Stop::Refused(Reason::CurrentKeys),
             ChangeFault::Memory => Stop::from(AllocError),
+            ChangeFault::BadName => Stop::Refused(Reason::BadName),
+            fault => Stop::Refused(Reason::Change(fault)),
         }
     }
 }
 
+/// Converts what is wrong with a keytab.
 impl From<CredFault> for Stop<'_> {
     fn from(fault: CredFault) -> Self {
         match fault {
-            CredFault::BadMagic => Stop::Refused(Reason::BadMagic),
-            CredFault::Truncated => Stop::Refused(Reason::Truncated),
-            CredFault::BadEntry => Stop::Refused(Reason::BadEntry),
+            CredFault::BadMagic | CredFault::Truncated | CredFault::BadEntry => {
+                Stop::Refused(Reason::Keytab(fault))
+            }
             // the others concern caches
             _ => Stop::from(AllocError),
         }

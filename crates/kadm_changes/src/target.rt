@@ -1,6 +1,7 @@
 //! The database that a command works on.
 
 use enctypes::Etype;
+use program::NewMode;
 
 /// The database that a command works on, and what the command line says of what it writes there.
 #[derive(Drop)]
@@ -9,6 +10,6 @@ pub struct Target<'a> {
     pub db: &'a str,
     /// The encryption types of new keys.
     pub etypes: Vec<Etype>,
-    /// Whether a changed file keeps its mode. Otherwise only its owner may read and write it.
-    pub keep_mode: bool,
+    /// The mode of a changed file.
+    pub mode: NewMode,
 }

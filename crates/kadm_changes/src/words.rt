@@ -5,6 +5,9 @@ ghost use Rattle.kadm_changes.specs.Words.{texts, value_at, value_of};
 /// The option that names the database.
 pub const DB: &str = "--db";
 
+/// The option that names a keytab to read.
+pub const KEYTAB: &str = "--keytab";
+
 /// Returns the value of an option such as `--db`: the word after it, or what follows it and an equals sign.
 pub fn value_of<'a>(words: &[&'a str], option: &str) -> Option<&'a str>
     ensures { option_map (λ value. value.now) result ≡ value_of (texts words.now) option.now }

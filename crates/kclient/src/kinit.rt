@@ -14,14 +14,14 @@ use crate::words::{
 };
 use clap::ArgMatches;
 use client_files::{
-    Cause, ClientStore, Defaults, Fault, Variable, at_file, at_password, read_cache, read_keytab,
+    Cause, ClientStore, Defaults, Fault, at_file, at_password, read_cache, read_keytab,
     write_new_cache,
 };
 use client_login::{AnyMessage, Login, Password, Secret, TicketRequest};
 use cred_files::{Credential, Principal};
 use krb_elements::{KerberosString, Octets};
 use krb_fields::{Name, component_to_text, tgs_name};
-use program::{STANDARD_INPUT, ask_password, read_or_draw_seed, read_password};
+use program::{STANDARD_INPUT, Variable, ask_password, read_or_draw_seed, read_password};
 use rand_chacha::ChaCha20Rng;
 use rand_core::SeedableRng;
 use std::alloc::Global;

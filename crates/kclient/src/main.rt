@@ -15,11 +15,13 @@ mod words;
 
 use crate::context::Context;
 use crate::run::kclient_run;
-use client_files::{Defaults, Variable};
+use client_files::Defaults;
 use client_login::{KdcClient, Kdcs, Transports};
 use client_sockets::SocketNetwork;
 use krb_fields::Moment;
-use program::{FileStore, NOT_UTF8, Status, now, read_words, report_failure, report_usage};
+use program::{
+    CLOCK, FileStore, NOT_UTF8, Status, Variable, now, read_words, report_failure, report_usage,
+};
 use std::alloc::AllocError;
 use std::env::VarError;
 use std::process::ExitCode;
@@ -39,7 +41,7 @@ enum Fault {
 impl fmt::Display for Fault {
     fn fmt<W: fmt::Write>(&self, f: &mut fmt::Formatter<W>) -> fmt::Result {
         match self {
-            Fault::Clock(error) => write!(f, "the clock: {error}"),
+            Fault::Clock(error) => write!(f, "{CLOCK}: {error}"),
             Fault::Args(error) => write!(f, "cannot read the command line: {error}"),
             Fault::NotUtf8 => f.write_str(NOT_UTF8),
             Fault::Memory => f.write_str("out of memory"),

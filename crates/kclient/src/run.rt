@@ -13,7 +13,7 @@ use clap::ArgMatches;
 use clap::error::{Error, ErrorKind};
 use client_files::{Cause, ClientStore, Defaults, Fault};
 use client_login::{AnyMessage, LoginError};
-use program::Status;
+use program::{Status, parse_status, print_failure, print_refusal, print_usage_error};
 use std::alloc::{AllocError, Global};
 use std::convert::AsStr;
 use std::io;
@@ -138,14 +138,9 @@ fn words_ended(alloc: Global, error: &Error) -> Result<Printed, Fault> {
     if error.kind() == ErrorKind::OutOfMemory {
         return Err(Fault::from(AllocError));
     }
-    let status = if error.exit_code() == 0 {
-        Status::Done
-    } else {
-        Status::Usage
-    };
     Ok(Printed {
         text: format!(in alloc; "{error}")?,
-        status,
+        status: parse_status(error),
     })
 }
 
@@ -179,8 +174,7 @@ fn print_fault<W: Write, E: Write>(
     fault: &Fault,
 ) -> io::Result<Status> {
     if matches!(fault.cause, Cause::Usage(_)) {
-        writeln!(out, "error: {fault}")?;
-        return Ok(Status::Usage);
+        return print_usage_error(out, fault);
     }
     let status = print_word(out, fault.cause)?;
     writeln!(errors, "kclient: {fault}")?;
@@ -189,14 +183,10 @@ fn print_fault<W: Write, E: Write>(
 
 fn print_word<W: Write>(out: &mut W, cause: Cause) -> io::Result<Status> {
     match (cause, cause.name()) {
-        (Cause::Login(LoginError::Refused(error)), _) => writeln!(out, "refused {}", error.code)?,
-        (_, Some(name)) => writeln!(out, "refused {name}")?,
-        (_, None) => {
-            writeln!(out, "failed")?;
-            return Ok(Status::Failed);
-        }
+        (Cause::Login(LoginError::Refused(error)), _) => print_refusal(out, &error.code),
+        (_, Some(name)) => print_refusal(out, &name),
+        (_, None) => print_failure(out),
     }
-    Ok(Status::Refused)
 }
 
 /// Reports on standard error that standard output can't be written. If that fails too, there is nowhere to report it.

@@ -6,6 +6,7 @@ use client_files::{Cause, Fault, NameOf, path_in};
 use client_login::{Renewal, TicketRequest};
 use krb_elements::KerberosString;
 use krb_fields::{Name, component_from_text};
+use program::STANDARD_INPUT;
 use std::alloc::{AllocError, Global};
 use text_fields::{lifetime, number_u32};
 
@@ -52,7 +53,7 @@ impl<'a> SecretWords<'a> {
     pub(crate) fn source(self) -> &'a str {
         match self {
             SecretWords::PasswordFile(path) | SecretWords::Keytab(path) => path,
-            SecretWords::Asked => "standard input",
+            SecretWords::Asked => STANDARD_INPUT,
         }
     }
 }

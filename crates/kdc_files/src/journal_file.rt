@@ -8,6 +8,7 @@ ghost use Rattle.journal.specs.Appending.{kept_by};
 ghost use Rattle.journal.specs.Holding.{HasKept, IsStart, is_whole, known_by, with_one};
 ghost use Rattle.kdc_files.specs.Unrecorded.{none_handed};
 
+use crate::files::ServerFileCause;
 use crate::journal_store::SystemJournal;
 use crate::journals::JournalBeginning;
 use crate::keeping::JournalWriter;
@@ -16,8 +17,7 @@ use kdc_core::Seen;
 use krb_fields::Moment;
 use std::alloc::Global;
 use std::fs::File;
-use std::io;
-use std::io::{Error, ErrorKind, Write};
+use std::io::Write;
 use std::rt::Files;
 
 /// The journal of a server in the system's files.
@@ -30,12 +30,9 @@ pub fn begin_journal<'a, F: Files<File = File>, W: Write + Drop>(
     files: SystemJournal<'a, F, W>,
     beginning: JournalBeginning,
     most: u64,
-) -> io::Result<FileJournal<'a, F, W>> {
+) -> Result<FileJournal<'a, F, W>, ServerFileCause> {
     let len = files.len();
-    match begun(alloc, files, beginning, len, most) {
-        Ok(journal) => Ok(journal),
-        Err(fault) => Err(io_error(fault)),
-    }
+    Ok(begun(alloc, files, beginning, len, most)?)
 }
 
 /// Begins the journal of a server, or goes on with what was read of its files. The newer one has `len` octets, and
@@ -96,13 +93,5 @@ impl<F: JournalFiles> JournalWriter for JournalFile<F> {
             → HasKept F.world low (kept_by result kept all) all self.new.files self.new.tail self.new.floor }
     {
         JournalFile::mend(self, alloc, at)
-    }
-}
-
-fn io_error(fault: FilesFault<Error>) -> Error {
-    match fault {
-        FilesFault::Unfit => Error::new(ErrorKind::InvalidData, "a name or a number is too large"),
-        FilesFault::Memory => Error::from(ErrorKind::OutOfMemory),
-        FilesFault::Files(error) => error,
     }
 }

@@ -1,23 +1,15 @@
 //! The files of a journal: which process holds them, and what is found in them.
-use crate::files::{ServerFileFault, read_up_to, read_whole};
+use crate::files::{ServerFileCause, read_up_to, read_whole};
 use crate::journal_store::{JournalPlace, SystemJournal};
 use crate::journals::Journals;
-use crate::plain_files::{open_plain, open_plain_with, own_user};
-use journal::{FileText, FilesFault, Found, JournalFiles, Part, read_part};
+use journal::{FileText, JournalFiles, Part, read_part};
 use krb_elements::Octets;
-use program::FileCause;
-use std::alloc::{AllocError, Global};
-use std::fs::{File, OpenOptions, TryLockError};
+use program::{FileCause, hold_lock, is_own, open_plain, open_plain_with};
+use std::alloc::Global;
+use std::fs::{File, OpenOptions};
 use std::io;
 use std::io::{Error, ErrorKind, Write};
-use std::os::unix::fs::{MetadataExt, OpenOptionsExt};
 use std::rt::Files;
-
-/// The mode of a journal's files: only their owner reads and writes them.
-pub(crate) const OWNER_ONLY: u32 = 0o600;
-
-/// The bits of a mode that let others write.
-const OTHERS_WRITE: u32 = 0o022;
 
 /// The file in which the system names its current boot.
 const BOOT_ID: &str = "/proc/sys/kernel/random/boot_id";
@@ -36,12 +28,12 @@ pub struct OpenedJournals<'a, F, W> {
 pub fn open_journals<'a, F: Files<File = File>, W: Write + Drop>(
     alloc: Global,
     place: JournalPlace<'a, '_, F, W>,
-) -> Result<OpenedJournals<'a, F, W>, ServerFileFault> {
+) -> Result<OpenedJournals<'a, F, W>, ServerFileCause> {
     let files = place.files;
     let mut held = SystemJournal::open(alloc, place)?;
     let boot = boot_id(alloc, files)?;
-    let older = found(alloc, &mut held, Part::Older)?;
-    let newer = found(alloc, &mut held, Part::Newer)?;
+    let older = read_part(alloc, &mut held, Part::Older)?;
+    let newer = read_part(alloc, &mut held, Part::Newer)?;
     let seal = Octets::new(held.read_seal(alloc)?);
     Ok(OpenedJournals {
         journals: Journals {
@@ -54,32 +46,19 @@ pub fn open_journals<'a, F: Files<File = File>, W: Write + Drop>(
     })
 }
 
-/// Reads a file of a journal.
-fn found<F: Files<File = File>, W: Write + Drop>(
+/// Locks `PATH.lock`. The journal's own files are renamed and replaced, so a lock of theirs would leave a gap between
+/// two of them.
+pub(crate) fn open_locked<F: Files<File = File>>(
     alloc: Global,
-    held: &mut SystemJournal<'_, F, W>,
-    part: Part,
-) -> Result<Found, ServerFileFault> {
-    match read_part(alloc, held, part) {
-        Ok(found) => Ok(found),
-        Err(FilesFault::Files(error)) => Err(ServerFileFault::from(error)),
-        Err(FilesFault::Memory | FilesFault::Unfit) => Err(ServerFileFault::from(AllocError)),
-    }
-}
-
-/// Locks `PATH.lock`, which stays there. The system releases the lock when the process ends, however it ends. The
-/// journal's own files are renamed and replaced, so a lock of theirs would leave a gap between two of them.
-pub(crate) fn open_locked<F: Files<File = File>>(files: &F, path: &str) -> io::Result<File> {
-    let mut how = OpenOptions::new();
-    how.write(true).create(true).mode(OWNER_ONLY);
-    let file = how.open(files, path)?;
-    match file.try_lock() {
-        Ok(()) => Ok(file),
-        Err(TryLockError::WouldBlock) => Err(Error::new(
+    files: &F,
+    path: &str,
+) -> io::Result<File> {
+    match hold_lock(alloc, files, path)? {
+        Some(lock) => Ok(lock),
+        None => Err(Error::new(
             ErrorKind::WouldBlock,
             "another server appends to it; each server needs a journal of its own",
         )),
-        Err(TryLockError::Error(error)) => Err(error),
     }
 }
 
@@ -112,7 +91,7 @@ fn if_there(opened: io::Result<File>) -> io::Result<Option<File>> {
 }
 
 /// Reads the system's name for its current boot.
-fn boot_id<F: Files<File = File>>(alloc: Global, files: &F) -> Result<Octets, ServerFileFault> {
+fn boot_id<F: Files<File = File>>(alloc: Global, files: &F) -> Result<Octets, ServerFileCause> {
     let octets = read_up_to(alloc, File::open(files, BOOT_ID)?, LONGEST_BOOT_ID)?;
     Ok(Octets::from_slice(alloc, octets.trim_ascii())?)
 }
@@ -137,18 +116,12 @@ pub(crate) fn text_in<F: Files<File = File>>(
     let Some(file) = file else {
         return Ok(FileText::Nothing);
     };
-    if !is_ours(files, file)? {
+    if !is_own(files, &file.metadata()?)? {
         return Ok(FileText::Unusable);
     }
     match read_whole(alloc, file) {
         Ok(text) => Ok(FileText::Octets(text)),
-        Err(ServerFileFault::File(FileCause::Failed(error))) => Err(error),
+        Err(ServerFileCause::File(FileCause::Failed(error))) => Err(error),
         Err(_) => Ok(FileText::Unusable),
     }
-}
-
-/// Checks whether a file belongs to the user of this process, and nobody else may write it.
-fn is_ours<F: Files>(files: &F, file: &File) -> io::Result<bool> {
-    let file = file.metadata()?;
-    Ok(file.uid() == own_user(files)? && file.mode() & OTHERS_WRITE == 0)
 }

@@ -1,8 +1,7 @@
 //! The files beside one another that make up a journal, and whether what has their names is a journal's.
-use crate::files::ServerFileFault;
-use crate::plain_files::open_plain;
+use crate::files::ServerFileCause;
 use journal::{HEAD, may_be_journal};
-use program::FileCause;
+use program::{FileCause, LOCK_END, open_plain};
 use std::alloc::{AllocError, Global};
 use std::io::{Error, ErrorKind, Read};
 use std::rt::Files;
@@ -54,7 +53,7 @@ impl Paths {
             newer: format!(in alloc; "{path}")?,
             older: format!(in alloc; "{path}.old")?,
             beside: format!(in alloc; "{path}.new")?,
-            lock: format!(in alloc; "{path}.lock")?,
+            lock: format!(in alloc; "{path}{LOCK_END}")?,
             seal: format!(in alloc; "{path}.sealed")?,
         })
     }
@@ -65,7 +64,7 @@ impl Paths {
     }
 
     /// Refuses names that something else than a journal has. Nothing is changed by that.
-    pub(crate) fn check<F: Files>(&self, alloc: Global, files: &F) -> Result<(), ServerFileFault> {
+    pub(crate) fn check<F: Files>(&self, alloc: Global, files: &F) -> Result<(), ServerFileCause> {
         check_part(alloc, files, self.newer.as_str(), JournalPart::Newer)?;
         check_part(alloc, files, self.older.as_str(), JournalPart::Older)?;
         check_part(alloc, files, self.beside.as_str(), JournalPart::Beside)?;
@@ -87,11 +86,11 @@ fn check_part<F: Files>(
     files: &F,
     path: &str,
     part: JournalPart,
-) -> Result<(), ServerFileFault> {
+) -> Result<(), ServerFileCause> {
     if may_be_replaced(alloc, files, path)? {
         return Ok(());
     }
-    Err(ServerFileFault::NotJournal(part))
+    Err(ServerFileCause::NotJournal(part))
 }
 
 /// Refuses a path that has something else than a plain file of at most this many bytes.
@@ -100,12 +99,12 @@ fn check_short<F: Files>(
     path: &str,
     most: u64,
     part: JournalPart,
-) -> Result<(), ServerFileFault> {
+) -> Result<(), ServerFileCause> {
     match fs::metadata(files, path) {
         Ok(file) if file.is_file() && file.len() <= most => Ok(()),
-        Ok(_) => Err(ServerFileFault::NotJournal(part)),
+        Ok(_) => Err(ServerFileCause::NotJournal(part)),
         Err(error) if error.kind() == ErrorKind::NotFound => Ok(()),
-        Err(error) => Err(ServerFileFault::from(error)),
+        Err(error) => Err(ServerFileCause::from(error)),
     }
 }
 
@@ -121,7 +120,7 @@ pub(crate) fn require_replaceable<F: Files>(
             ErrorKind::AlreadyExists,
             "a file that is no journal has the name of one of its files",
         )),
-        Err(ServerFileFault::File(FileCause::Failed(error))) => Err(error),
+        Err(ServerFileCause::File(FileCause::Failed(error))) => Err(error),
         Err(_) => Err(Error::from(ErrorKind::InvalidData)),
     }
 }
@@ -131,12 +130,12 @@ fn may_be_replaced<F: Files>(
     alloc: Global,
     files: &F,
     path: &str,
-) -> Result<bool, ServerFileFault> {
+) -> Result<bool, ServerFileCause> {
     match fs::metadata(files, path) {
         Ok(file) if file.is_file() => begins_as_journal(alloc, files, path),
         Ok(_) => Ok(false),
         Err(error) if error.kind() == ErrorKind::NotFound => Ok(true),
-        Err(error) => Err(ServerFileFault::from(error)),
+        Err(error) => Err(ServerFileCause::from(error)),
     }
 }
 
@@ -144,7 +143,7 @@ fn begins_as_journal<F: Files>(
     alloc: Global,
     files: &F,
     path: &str,
-) -> Result<bool, ServerFileFault> {
+) -> Result<bool, ServerFileCause> {
     let mut head = Vec::new(alloc);
     open_plain(files, path)?
         .take(HEAD as u64)

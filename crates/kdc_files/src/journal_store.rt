@@ -2,10 +2,11 @@
 ghost use Rattle.std.specs.Prelude.{◌≡◌};
 ghost use Rattle.kdc_files.specs.Unrecorded.{no_world};
 
-use crate::files::ServerFileFault;
-use crate::journal_files::{OWNER_ONLY, open_locked, open_newer, seal_at, text_at, text_in};
+use crate::files::ServerFileCause;
+use crate::journal_files::{open_locked, open_newer, seal_at, text_at, text_in};
 use crate::journal_parts::{Paths, require_replaceable};
 use journal::{BeginFault, Begun, FileText, JournalFiles, News, Part};
+use program::OWNER_ONLY;
 use std::alloc::Global;
 use std::fs::{File, OpenFile, OpenOptions};
 use std::io::{Error, ErrorKind, Write};
@@ -41,11 +42,11 @@ impl<'a, F: Files<File = File>, W: Write + Drop> SystemJournal<'a, F, W> {
     pub fn open(
         alloc: Global,
         place: JournalPlace<'a, '_, F, W>,
-    ) -> Result<SystemJournal<'a, F, W>, ServerFileFault> {
+    ) -> Result<SystemJournal<'a, F, W>, ServerFileCause> {
         let JournalPlace { files, path, lines } = place;
         let paths = Paths::new(alloc, path)?;
         paths.check(alloc, files)?;
-        let lock = open_locked(files, paths.lock.as_str())?;
+        let lock = open_locked(alloc, files, path)?;
         let newer = open_newer(files, path)?;
         Ok(SystemJournal {
             files,

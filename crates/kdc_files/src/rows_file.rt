@@ -1,15 +1,15 @@
 //! The rows of a realm from a file, which may be replaced while they are served.
 ghost use Rattle.std.specs.Prelude.{None};
 
-use crate::files::{ServerFileFault, database_of, place_of, read_whole};
-use crate::plain_files::{KeyFile, open_plain, say_rights};
+use crate::files::{ServerFileCause, read_whole};
+use crate::key_files::{KeyFile, say_rights};
 use kdc_hub::{Look, OtherRealm, RowSource, RowsState};
 use principals::Database;
-use program::now;
+use principals_text::read_bytes;
+use program::{FileStamp, now, open_plain};
 use std::alloc::Global;
-use std::fs::{Metadata, OpenFile};
+use std::fs::OpenFile;
 use std::io::Write;
-use std::os::unix::fs::MetadataExt;
 use std::rt::{Clock, Files};
 use std::time::Instant;
 use std::{fmt, fs, io};
@@ -17,23 +17,13 @@ use std::{fmt, fs, io};
 /// How many seconds after a read that failed the file is read again.
 const BETWEEN_READS: u64 = 5;
 
-/// The metadata by which a file differs from the one that was there before.
-#[derive(Clone, Copy, PartialEq, Eq)]
-struct Stamp {
-    node: u64,
-    /// The last change of its octets, owner or mode: seconds since 1970, and nanoseconds.
-    changed: i64,
-    nanos: i64,
-    len: u64,
-}
-
 /// The outcome of the file's last change.
 #[derive(Drop)]
 enum News {
     /// Its rows are served: this many.
     Taken(usize),
     /// It can't be read, or is refused.
-    Faulty(ServerFileFault),
+    Faulty(ServerFileCause),
     OtherRealm,
 }
 
@@ -45,11 +35,9 @@ pub struct RowsFile<'a, F, W> {
     /// Where it is logged.
     lines: W,
     /// The file at the last look, if there was one.
-    seen: Option<Stamp>,
+    seen: Option<FileStamp>,
     /// When the system failed to read the file, if it did.
     failed_at: Option<Instant>,
-    /// Where the text that was read last is wrong, if it is and the place was found.
-    place: Option<String>,
     /// The number of rows that the last look found.
     row_count: usize,
     /// What is still to be logged.
@@ -61,7 +49,7 @@ impl<'a, F: Files + Clock, W: Write + Drop> RowsFile<'a, F, W> {
     /// Looks at the file at a path. It is read only later, so that no change is missed.
     pub fn new(files: &'a F, path: &'a str, lines: W) -> RowsFile<'a, F, W> {
         let seen = match fs::metadata(files, path) {
-            Ok(metadata) => Some(stamp_of(&metadata)),
+            Ok(metadata) => Some(FileStamp::of(&metadata)),
             Err(_) => None,
         };
         RowsFile {
@@ -70,7 +58,6 @@ impl<'a, F: Files + Clock, W: Write + Drop> RowsFile<'a, F, W> {
             lines,
             seen,
             failed_at: None,
-            place: None,
             row_count: 0,
             unsaid: None,
             state: RowsState::first(),
@@ -78,43 +65,41 @@ impl<'a, F: Files + Clock, W: Write + Drop> RowsFile<'a, F, W> {
     }
 
     /// Reads the rows of the file. Logs if others have rights on it.
-    pub fn read(&mut self, alloc: Global) -> Result<Database, ServerFileFault> {
-        self.place = None;
+    pub fn read(&mut self, alloc: Global) -> Result<Database, ServerFileCause> {
         let file = open_plain(self.files, self.path)?;
-        let standing = file.metadata()?;
+        let there = file.metadata()?;
         let octets = read_whole(alloc, file)?;
-        let read = database_of(alloc, &octets);
-        match &read {
-            Ok(_) => {
+        match read_bytes(alloc, &octets) {
+            Ok(database) => {
                 let file = KeyFile {
                     what: "database",
                     path: self.path,
-                    metadata: &standing,
+                    metadata: &there,
                 };
-                say_rights(self.files, &mut self.lines, file)
+                say_rights(self.files, &mut self.lines, file);
+                Ok(database)
             }
-            Err(fault) => self.place = place_of(alloc, &octets, fault),
+            Err(fault) => Err(ServerFileCause::Database(fault)),
         }
-        read
     }
 
-    /// Logs where the text that was read last is wrong, if that is known.
-    pub fn say_place(&mut self) {
-        if let Some(place) = &self.place {
+    /// Logs where the file is wrong, if that was found.
+    pub fn say_place(&mut self, fault: &ServerFileCause) {
+        if let Some(place) = fault.place() {
             let _ = writeln!(self.lines, "kdcd: {}: {place}", self.path);
         }
     }
 
     /// Reads the rows if the file changed since the last look, or could not be read then.
-    fn changed_rows(&mut self, alloc: Global) -> Result<Option<Database>, ServerFileFault> {
+    fn changed_rows(&mut self, alloc: Global) -> Result<Option<Database>, ServerFileCause> {
         let seen = self.seen.take();
         let metadata = match fs::metadata(self.files, self.path) {
             Ok(metadata) => metadata,
             // That there is no file is said once.
             Err(_) if seen.is_none() => return Ok(None),
-            Err(error) => return Err(ServerFileFault::from(error)),
+            Err(error) => return Err(ServerFileCause::from(error)),
         };
-        let stamp = stamp_of(&metadata);
+        let stamp = FileStamp::of(&metadata);
         self.seen = Some(stamp);
         if seen == Some(stamp) {
             return self.retried_rows(alloc);
@@ -124,7 +109,7 @@ impl<'a, F: Files + Clock, W: Write + Drop> RowsFile<'a, F, W> {
     }
 
     /// Reads the rows again, some seconds after the system failed to. Another such failure is not said.
-    fn retried_rows(&mut self, alloc: Global) -> Result<Option<Database>, ServerFileFault> {
+    fn retried_rows(&mut self, alloc: Global) -> Result<Option<Database>, ServerFileCause> {
         if !self.is_retry_due() {
             return Ok(None);
         }
@@ -146,7 +131,7 @@ impl<'a, F: Files + Clock, W: Write + Drop> RowsFile<'a, F, W> {
     }
 
     /// Reads the rows, and notes when the system fails to.
-    fn read_or_note(&mut self, alloc: Global) -> Result<Database, ServerFileFault> {
+    fn read_or_note(&mut self, alloc: Global) -> Result<Database, ServerFileCause> {
         let read = self.read(alloc);
         self.failed_at = match &read {
             Err(fault) if is_of_system(fault) => Instant::now(self.files).ok(),
@@ -165,8 +150,7 @@ impl<'a, F: Files + Clock, W: Write + Drop> RowsFile<'a, F, W> {
     /// Logs what is still to be logged. A lost line comes again at the next look.
     fn say(&mut self) {
         if let Some(news) = self.unsaid.take() {
-            let place = self.place.as_deref();
-            if write_news(&mut self.lines, self.path, &news, place).is_err() {
+            if write_news(&mut self.lines, self.path, &news).is_err() {
                 self.unsaid = Some(news);
             }
         }
@@ -227,19 +211,14 @@ fn second_at(clock: &impl Clock) -> Option<i64> {
 }
 
 /// Checks whether the system failed, and the file itself may be good.
-fn is_of_system(fault: &ServerFileFault) -> bool {
+fn is_of_system(fault: &ServerFileCause) -> bool {
     fault.refusal().is_none()
 }
 
-fn write_news(
-    lines: &mut impl Write,
-    path: &str,
-    news: &News,
-    place: Option<&str>,
-) -> io::Result<()> {
+fn write_news(lines: &mut impl Write, path: &str, news: &News) -> io::Result<()> {
     match news {
         News::Taken(rows) => writeln!(lines, "kdcd: database {path} with {rows} rows"),
-        News::Faulty(fault) => match (fault.refusal(), place) {
+        News::Faulty(fault) => match (fault.refusal(), fault.place()) {
             (Some(word), Some(place)) => write_kept(lines, &format_args!("{word} ({place})")),
             (Some(word), None) => write_kept(lines, &word),
             (None, _) => write_kept(lines, fault),
@@ -251,13 +230,4 @@ fn write_news(
 /// Writes why the old rows stay.
 fn write_kept(lines: &mut impl Write, why: &impl fmt::Display) -> io::Result<()> {
     writeln!(lines, "kdcd: database: {why}; the rows before it stay")
-}
-
-fn stamp_of(metadata: &Metadata) -> Stamp {
-    Stamp {
-        node: metadata.ino(),
-        changed: metadata.ctime(),
-        nanos: metadata.ctime_nsec(),
-        len: metadata.len(),
-    }
 }

@@ -1,5 +1,5 @@
 //! Sealing a journal, and removing one.
-use crate::files::ServerFileFault;
+use crate::files::ServerFileCause;
 use crate::journal_files::{OpenedJournals, open_journals};
 use crate::journal_parts::Paths;
 use crate::journal_store::{JournalPlace, SystemJournal};
@@ -26,7 +26,7 @@ pub fn seal_at_path<F: Files<File = File>, W: Write + Drop>(
     alloc: Global,
     journal: JournalPlace<'_, '_, F, W>,
     at: Moment,
-) -> Result<SealOutcome, ServerFileFault> {
+) -> Result<SealOutcome, ServerFileCause> {
     let OpenedJournals {
         journals,
         mut files,
@@ -53,12 +53,12 @@ pub fn refuse_journal<F: Files<File = File>, W: Write + Drop>(
     alloc: Global,
     place: JournalPlace<'_, '_, F, W>,
     removes: bool,
-) -> Result<(), ServerFileFault> {
+) -> Result<(), ServerFileCause> {
     if !Paths::new(alloc, place.path)?.are_there(place.files)? {
         return Ok(());
     }
     if !removes {
-        return Err(ServerFileFault::Journal);
+        return Err(ServerFileCause::Journal);
     }
     let mut journal = SystemJournal::open(alloc, place)?;
     journal.remove(alloc)?;

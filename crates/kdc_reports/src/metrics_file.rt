@@ -1,6 +1,6 @@
 //! The file of a server's numbers.
 use crate::metrics::MetricsWriter;
-use kdc_files::open_plain;
+use program::open_plain;
 use std::alloc::{AllocError, Global};
 use std::fs::{File, OpenFile, OpenOptions, Permissions};
 use std::io::{Error, ErrorKind, Read, Write};

@@ -4,8 +4,8 @@ ghost use Rattle.std.specs.Prelude.{None};
 use crate::args::journal_beside;
 use kdc_files::{
     FileJournal, JournalBeginning, JournalPlace, Journals, KeyFile, OpenedJournals, RowsFile,
-    ServerFileFault, SystemJournal, begin_journal, open_journals, open_plain, read_up_to,
-    refuse_journal, say_rights,
+    ServerFileCause, SystemJournal, begin_journal, open_journals, read_up_to, refuse_journal,
+    say_rights,
 };
 use kdc_reports::{JournalNews, MetricsFile, MetricsPaths, Started};
 use kdc_sockets::{BindFault, SharedWriter, SocketWire};
@@ -13,7 +13,7 @@ use kdcd_run::{Host, ServeOptions, StartNews};
 use krb_fields::Moment;
 use principal_rows::Limits;
 use principals::Database;
-use program::{LONGEST_FILE, now, random_octets};
+use program::{LONGEST_FILE, now, open_plain, random_octets};
 use std::alloc::{AllocError, Global};
 use std::io;
 use std::io::{Error, ErrorKind, Stderr, Write};
@@ -89,18 +89,18 @@ impl<'a> Host for SystemHost<'a> {
 
     ghost recorded = { λ _. None };
 
-    fn read_rows(&mut self, alloc: Global) -> Result<Database, ServerFileFault> {
+    fn read_rows(&mut self, alloc: Global) -> Result<Database, ServerFileCause> {
         let Some(rows) = &mut self.rows else {
-            return Err(ServerFileFault::from(Error::from(ErrorKind::NotFound)));
+            return Err(ServerFileCause::from(Error::from(ErrorKind::NotFound)));
         };
         let read = rows.read(alloc);
-        if read.is_err() {
-            rows.say_place();
+        if let Err(fault) = &read {
+            rows.say_place(fault);
         }
         read
     }
 
-    fn read_seed(&mut self, alloc: Global, path: &str) -> Result<Vec<u8>, ServerFileFault> {
+    fn read_seed(&mut self, alloc: Global, path: &str) -> Result<Vec<u8>, ServerFileCause> {
         let file = open_plain(self.rt, path)?;
         let seed = KeyFile {
             what: "seed",
@@ -128,7 +128,7 @@ impl<'a> Host for SystemHost<'a> {
         Ok(sockets)
     }
 
-    fn read_journals(&mut self, alloc: Global, path: &str) -> Result<Journals, ServerFileFault> {
+    fn read_journals(&mut self, alloc: Global, path: &str) -> Result<Journals, ServerFileCause> {
         let place = JournalPlace {
             files: self.rt,
             path,
@@ -139,7 +139,7 @@ impl<'a> Host for SystemHost<'a> {
         Ok(journals)
     }
 
-    fn refuse_journal(&mut self, alloc: Global) -> Result<(), ServerFileFault> {
+    fn refuse_journal(&mut self, alloc: Global) -> Result<(), ServerFileCause> {
         let path = journal_beside(alloc, self.db)?;
         let place = JournalPlace {
             files: self.rt,
@@ -154,10 +154,10 @@ impl<'a> Host for SystemHost<'a> {
         alloc: Global,
         path: &str,
         beginning: JournalBeginning,
-    ) -> io::Result<Option<FileJournal<'a, HostRuntime, Errors>>> {
+    ) -> Result<Option<FileJournal<'a, HostRuntime, Errors>>, ServerFileCause> {
         let _ = path;
         let Some(files) = self.held.take() else {
-            return Err(Error::from(ErrorKind::NotFound));
+            return Err(ServerFileCause::from(Error::from(ErrorKind::NotFound)));
         };
         Ok(Some(begin_journal(alloc, files, beginning, self.journal_size)?))
     }

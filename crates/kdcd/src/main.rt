@@ -18,7 +18,9 @@ use crate::run::run_script;
 use crate::sealing::seal;
 use crate::serving::serve_realm;
 use clap::error::ErrorKind;
-use program::{NOT_UTF8, Status, read_words, report_end, report_failure, report_usage};
+use program::{
+    NOT_UTF8, Status, parse_status, read_words, report_end, report_failure, report_usage,
+};
 use std::io;
 use std::process::ExitCode;
 
@@ -36,8 +38,13 @@ fn main(rt: HostRuntime) -> ExitCode {
 /// Runs the program and returns its status. Fails if a write fails or memory runs out.
 fn run_words(rt: &HostRuntime) -> io::Result<Status> {
     let alloc = rt.alloc();
-    let Some(args) = read_words(rt)? else {
-        return report_usage(rt, &NOT_UTF8);
+    let args = match read_words(rt) {
+        Ok(Some(args)) => args,
+        Ok(None) => return report_usage(rt, &NOT_UTF8),
+        Err(error) => {
+            let why = format_args!("cannot read the command line: {error}");
+            return Ok(report_failure(rt, PROGRAM, &why));
+        }
     };
     let beside = path_beside(alloc, &args)?;
     let matches = match read_args(alloc, &args, &beside) {
@@ -47,11 +54,7 @@ fn run_words(rt: &HostRuntime) -> io::Result<Status> {
         }
         Err(error) => {
             print!(rt; "{error}")?;
-            return Ok(if error.exit_code() == 0 {
-                Status::Done
-            } else {
-                Status::Usage
-            });
+            return Ok(parse_status(&error));
         }
     };
     match matches.subcommand() {

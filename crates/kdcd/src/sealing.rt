@@ -2,7 +2,7 @@
 use crate::PROGRAM;
 use journal::SealOutcome;
 use kdc_files::{JournalPlace, doubt_word, seal_at_path};
-use program::{Status, now, report_end};
+use program::{CLOCK, Status, now, report_end};
 use std::io;
 
 /// Seals the journal at a path, and gives the status. An error is a failed write.
@@ -15,7 +15,11 @@ pub fn seal(rt: &HostRuntime, path: Option<&str>) -> io::Result<Status> {
         path,
         lines: rt.stderr(),
     };
-    match seal_at_path(rt.alloc(), place, now(rt)?) {
+    let at = match now(rt) {
+        Ok(at) => at,
+        Err(error) => return report_end(rt, PROGRAM, &format_args!("{CLOCK}: {error}"), None),
+    };
+    match seal_at_path(rt.alloc(), place, at) {
         Ok(SealOutcome::Sealed) => {
             println!(rt; "ok")?;
             Ok(Status::Done)

@@ -6,7 +6,7 @@ ghost use Rattle.kdc_files.specs.Recorded.{IsNew};
 ghost use Rattle.kdcd_run.specs.Starting.{HostDid, ReadRows, ReadSeed, Drew, Held, HasNoJournal, ReadJournals, Showed, BeganJournal};
 
 use crate::sockets::Sockets;
-use kdc_files::{JournalBeginning, JournalWriter, Journals, ServerFileFault};
+use kdc_files::{JournalBeginning, JournalWriter, Journals, ServerFileCause};
 use kdc_hub::RowSource;
 use kdc_reports::{JournalFound, MetricsWriter, Refused};
 use krb_fields::Moment;
@@ -47,11 +47,11 @@ pub trait Host {
     ghost recorded: { Self → Option (List HostDid) };
 
     /// Reads the rows of the database.
-    fn read_rows(&mut self, alloc: Global) -> Result<Database, ServerFileFault>
+    fn read_rows(&mut self, alloc: Global) -> Result<Database, ServerFileCause>
         ensures { IfOk result (λ rows. Records (recorded self.old) (ReadRows rows ∷ []) (recorded self.new)) };
 
     /// Reads the file of a seed.
-    fn read_seed(&mut self, alloc: Global, path: &str) -> Result<Vec<u8>, ServerFileFault>
+    fn read_seed(&mut self, alloc: Global, path: &str) -> Result<Vec<u8>, ServerFileCause>
         ensures { IfOk result (λ octets.
             Records (recorded self.old) (ReadSeed path.now octets.items ∷ []) (recorded self.new)) };
 
@@ -71,13 +71,13 @@ pub trait Host {
 
     /// Holds the journal at a path, and reads it with the one that went before it. From then on no other process
     /// appends to it.
-    fn read_journals(&mut self, alloc: Global, path: &str) -> Result<Journals, ServerFileFault>
+    fn read_journals(&mut self, alloc: Global, path: &str) -> Result<Journals, ServerFileCause>
         ensures { IfOk result (λ journals.
             Records (recorded self.old) (ReadJournals path.now journals ∷ []) (recorded self.new)) };
 
     /// Makes sure that no journal is beside the database, for a server that has none. One that is there refuses the
     /// start, or is removed, as the options say.
-    fn refuse_journal(&mut self, alloc: Global) -> Result<(), ServerFileFault>
+    fn refuse_journal(&mut self, alloc: Global) -> Result<(), ServerFileCause>
         ensures { IfOk result (λ _. Records (recorded self.old) (HasNoJournal ∷ []) (recorded self.new)) };
 
     /// Begins the journal at a path, or goes on with the one that was read.
@@ -86,7 +86,7 @@ pub trait Host {
         alloc: Global,
         path: &str,
         beginning: JournalBeginning,
-    ) -> io::Result<Self::Journal>
+    ) -> Result<Self::Journal, ServerFileCause>
         ensures began { IfOk result (λ _.
             Records (recorded self.old) (BeganJournal path.now beginning ∷ []) (recorded self.new)) }
         ensures new { IfOk result (λ journal. IsNew (Self.Journal.handed journal)) }

@@ -9,7 +9,7 @@ ghost use Rattle.kdcd_run.specs.Starting.{BeganJournal, HasNoJournal, Held, Host
 use crate::host::{Host, StartNews};
 use crate::memory_sockets::MemorySockets;
 use journal::Found;
-use kdc_files::{JournalBeginning, Journals, MemoryJournal, Record, ServerFileFault};
+use kdc_files::{JournalBeginning, Journals, MemoryJournal, Record, ServerFileCause};
 use kdc_hub::{Event, Look, MemoryRows};
 use kdc_reports::MemoryMetrics;
 use krb_elements::Octets;
@@ -144,15 +144,15 @@ impl Host for MemoryHost {
 
     ghost recorded = { λ h. seen_as did_by h.calls };
 
-    fn read_rows(&mut self, alloc: Global) -> Result<Database, ServerFileFault> {
+    fn read_rows(&mut self, alloc: Global) -> Result<Database, ServerFileCause> {
         let Some(rows) = self.rows.take() else {
-            return Err(ServerFileFault::from(Error::from(ErrorKind::NotFound)));
+            return Err(ServerFileCause::from(Error::from(ErrorKind::NotFound)));
         };
         self.note(rows_read(alloc, &rows));
         Ok(rows)
     }
 
-    fn read_seed(&mut self, alloc: Global, path: &str) -> Result<Vec<u8>, ServerFileFault> {
+    fn read_seed(&mut self, alloc: Global, path: &str) -> Result<Vec<u8>, ServerFileCause> {
         let octets = Vec::from_slice(alloc, self.seed.as_slice())?;
         self.note(seed_read(alloc, path, &octets));
         Ok(octets)
@@ -177,13 +177,13 @@ impl Host for MemoryHost {
         Ok(MemorySockets::new(alloc, coming))
     }
 
-    fn read_journals(&mut self, alloc: Global, path: &str) -> Result<Journals, ServerFileFault> {
+    fn read_journals(&mut self, alloc: Global, path: &str) -> Result<Journals, ServerFileCause> {
         let journals = no_journals(alloc)?;
         self.note(journals_read(alloc, path));
         Ok(journals)
     }
 
-    fn refuse_journal(&mut self, _alloc: Global) -> Result<(), ServerFileFault> {
+    fn refuse_journal(&mut self, _alloc: Global) -> Result<(), ServerFileCause> {
         self.note(Ok(HostCall::HasNoJournal));
         Ok(())
     }
@@ -193,7 +193,7 @@ impl Host for MemoryHost {
         alloc: Global,
         path: &str,
         beginning: JournalBeginning,
-    ) -> io::Result<MemoryJournal> {
+    ) -> Result<MemoryJournal, ServerFileCause> {
         let keeps_before_fault = self.keeps_before_fault;
         self.note(journal_begun(alloc, path, beginning));
         Ok(MemoryJournal::new(alloc, keeps_before_fault))

@@ -17,7 +17,7 @@ use crate::reporter::Reporter;
 use crate::server_wire::{Outlets, ServerWire, StartTimes};
 use crate::starting::{ReadyServer, StartFault, ready};
 use journal::Start;
-use kdc_files::{JournalBeginning, JournalWriter, ServerFileFault};
+use kdc_files::{JournalBeginning, JournalWriter};
 use kdc_hub::{Hub, Totals, Wire, serve_life};
 use kdc_reports::{JournalFound, LogNumbers, LogWriter, Tally, refused_at_start};
 use rand_chacha::ChaCha20Rng;
@@ -151,7 +151,7 @@ fn begin_journal<'a, H: Host>(
     };
     match host.begin_journal(alloc, path, beginning) {
         Ok(journal) => Ok(journal),
-        Err(error) => Err(StartFault::File(path, ServerFileFault::from(error))),
+        Err(fault) => Err(StartFault::File(path, fault)),
     }
 }
 

@@ -13,11 +13,12 @@ use crate::key_places::placed;
 use crate::options::ServeOptions;
 use crate::resuming::{decide, floor_by, open, read_journals};
 use kdc_core::Opening;
-use kdc_files::{JournalBeginning, ServerFileFault, seed_in};
+use kdc_files::{JournalBeginning, ServerFileCause, seed_in};
 use kdc_hub::Hub;
 use krb_elements::Octets;
 use krb_fields::Moment;
 use principals::Database;
+use program::{CLOCK, RANDOM_OCTETS};
 use rand_chacha::ChaCha20Rng;
 use rand_core::SeedableRng;
 use std::alloc::{AllocError, Global};
@@ -27,7 +28,7 @@ use std::{fmt, io};
 #[derive(Debug, Drop)]
 pub enum StartFault<'a, S> {
     /// The file at this path.
-    File(&'a str, ServerFileFault),
+    File(&'a str, ServerFileCause),
     /// A call of the system failed.
     System(SystemPart, io::Error),
     /// A socket was not opened.
@@ -52,8 +53,8 @@ pub enum SystemPart {
 impl fmt::Display for SystemPart {
     fn fmt<W: fmt::Write>(&self, f: &mut fmt::Formatter<W>) -> fmt::Result {
         f.write_str(match self {
-            SystemPart::Clock => "the clock",
-            SystemPart::RandomOctets => "random octets",
+            SystemPart::Clock => CLOCK,
+            SystemPart::RandomOctets => RANDOM_OCTETS,
             SystemPart::StandardError => "standard error",
         })
     }
@@ -218,7 +219,7 @@ fn take_seed<'a, H: Host>(
     }
 }
 
-fn read_seed<H: Host>(alloc: Global, host: &mut H, path: &str) -> Result<[u8; 32], ServerFileFault>
+fn read_seed<H: Host>(alloc: Global, host: &mut H, path: &str) -> Result<[u8; 32], ServerFileCause>
     ensures { IfOk result (λ seed. IsSeed (Some path.now) (H.recorded host.old) (H.recorded host.new) seed) }
 {
     let octets = host.read_seed(alloc, path)?;

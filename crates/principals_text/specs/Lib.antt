@@ -4,6 +4,7 @@ pub mod NameOf
 pub mod ReadBack
 pub mod ReadFault
 pub mod RefusalWord
+pub mod RefusedBytes
 pub mod RowValue
 pub mod RowWritten
 pub mod Taken

@@ -4,16 +4,22 @@
 //! let text = write(alloc, &database)?;
 //! let database = read(alloc, text.as_str())?;
 //!
-//! let place = fault_place(alloc, refused_text)?; // the line and column, or the principal and the member of its row
+//! if let Err(fault) = read_bytes(alloc, file) {
+//!     if let Some(place) = &fault.place {
+//!         println!(rt; "{place}")?; // the line and column, or the principal and the member of its row
+//!     }
+//!     println!(rt; "{fault}")?;
+//! }
 //! ```
 //!
 //! [`write`] writes the newest version of the text; [`read`] also reads the older ones.
 //!
-//! [`read`] and [`write`] work on the text alone: nothing here opens a file. `kdc_files` does for a server, and
+//! These and [`read_bytes`] work on the text alone: nothing here opens a file. `kdc_files` does for a server, and
 //! `kadm_changes` for an administrator. Changes of a database are in `principals`.
 #![tactic(auto)]
 
 mod by_rows;
+mod bytes;
 mod format;
 mod next_value;
 mod places;
@@ -24,6 +30,6 @@ mod row_tokens;
 mod row_value;
 mod text;
 
-pub use places::fault_place;
+pub use bytes::{DatabaseFault, read_bytes};
 pub use read_fault::ReadFault;
 pub use text::{LONGEST_TEXT, read, write};

@@ -11,7 +11,7 @@ use text_fields::Setting;
 /// Returns where a text is wrong that `read` refuses: the line and column where it is not JSON, the member of
 /// the database, or the principal and the member of its row. The text is empty if nothing is found. It never contains a
 /// key.
-pub fn fault_place(alloc: Global, text: &str) -> Result<String, AllocError> {
+pub(crate) fn fault_place(alloc: Global, text: &str) -> Result<String, AllocError> {
     match Value::from_str(alloc, text) {
         Ok(value) => place_in(alloc, &value),
         Err(error) if error.is_memory() => Err(AllocError),

@@ -1,7 +1,9 @@
 //! The subcommands of a program's command line and their options, as tables.
 #![tactic(auto)]
 
+use crate::status::Status;
 use clap::builder::ValueParser;
+use clap::error::Error;
 use clap::{Arg, ArgAction, Command};
 use std::alloc::{AllocError, Global};
 
@@ -67,6 +69,16 @@ pub struct SubcommandRow {
     pub about: &'static str,
     pub options: &'static [OptionRow],
     pub flags: &'static [FlagRow],
+}
+
+/// Returns the status of a program whose command line `clap` does not accept. One that asks for help or for the version
+/// is no error.
+pub fn parse_status(error: &Error) -> Status {
+    if error.exit_code() == 0 {
+        Status::Done
+    } else {
+        Status::Usage
+    }
 }
 
 /// Returns the command with its version and these subcommands, one of which is required.

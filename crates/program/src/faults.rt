@@ -1,6 +1,7 @@
 //! What is wrong with a file.
 ghost use Rattle.std.specs.Prelude.{◌≡◌, option_map};
 ghost use Rattle.program.specs.Refusal.{cause_refusal};
+ghost use Rattle.program.specs.declared.faults.FileCause.TheVariants.{Failed};
 
 use std::error::Error;
 use std::{fmt, io};
@@ -22,6 +23,19 @@ pub enum FileCause {
     ShortSeed,
     /// A call of the store failed, or memory ran out.
     Failed(io::Error),
+}
+
+impl<'p> FileFault<'p> {
+    /// Returns the fault of a call that failed.
+    pub fn failed(path: &'p str, error: io::Error) -> FileFault<'p>
+        ensures path { result.path.now ≡ path.now }
+        ensures cause { result.cause ≡ Failed error }
+    {
+        FileFault {
+            path,
+            cause: FileCause::Failed(error),
+        }
+    }
 }
 
 impl FileCause {

@@ -3,13 +3,13 @@
 ghost use Rattle.std.specs.Prelude.{◌≡◌, ◌≤◌, ◌<◌, IfErr, IfOk, IfNone, IfSome, length, take, vec_len};
 ghost use Rattle.std.specs.Prelude.{◌==◌, Option, OnOk, OnErr, Some, codes, option_map};
 ghost use Rattle.std.specs.List.{position};
-ghost use Rattle.program.specs.Counting.{IsCounted, IsShown};
+ghost use Rattle.program.specs.Counting.{IsShown};
 ghost use Rattle.program.specs.Inputs.{first_line};
-ghost use Rattle.program.specs.World.{World, with_file, HasFirstLine, HasLongFirstLine, HasSeed, IsDrawn, IsFirst, IsNow};
+ghost use Rattle.program.specs.World.{with_file, HasFirstLine, HasLongFirstLine, HasSeed, IsDrawn, IsFirst, IsNow};
 ghost use Rattle.program.specs.World.{IsRead, IsThere};
 
 use crate::faults::{FileCause, FileFault};
-use crate::store::{FileRights, LONGEST_FILE, Store};
+use crate::store::{FileRights, LONGEST_FILE, NewMode, Store};
 use std::alloc::Global;
 use std::io;
 
@@ -19,11 +19,11 @@ const SEED_LEN: usize = 32;
 /// The greatest size of a password, in bytes.
 const LONGEST_PASSWORD: usize = 1_024;
 
-/// The name in place of a path if a seed is the system's.
-const SYSTEM_SOURCE: &str = "the system's random octets";
+/// The name in place of a path if random bytes are the system's.
+pub const RANDOM_OCTETS: &str = "the system's random octets";
 
 /// The name in place of a path if a moment is the system's.
-const SYSTEM_CLOCK: &str = "the system's clock";
+pub const CLOCK: &str = "the clock";
 
 /// The name in place of a path if a password is not in a file.
 pub const STANDARD_INPUT: &str = "standard input";
@@ -37,10 +37,7 @@ pub fn has_file<'p, S: Store>(store: &mut S, path: &'p str) -> Result<bool, File
 {
     match store.exists(path) {
         Ok(found) => Ok(found),
-        Err(error) => Err(FileFault {
-            path,
-            cause: FileCause::Failed(error),
-        }),
+        Err(error) => Err(FileFault::failed(path, error)),
     }
 }
 
@@ -78,10 +75,7 @@ pub fn read_at_most<'p, S: Store>(
             path,
             cause: FileCause::LongFile,
         }),
-        Err(error) => Err(FileFault {
-            path,
-            cause: FileCause::Failed(error),
-        }),
+        Err(error) => Err(FileFault::failed(path, error)),
     }
 }
 
@@ -104,10 +98,7 @@ pub fn read_stream<'p, S: Store>(
             path,
             cause: FileCause::LongFile,
         }),
-        Err(error) => Err(FileFault {
-            path,
-            cause: FileCause::Failed(error),
-        }),
+        Err(error) => Err(FileFault::failed(path, error)),
     }
 }
 
@@ -119,10 +110,7 @@ pub fn file_rights<'p, S: Store>(store: &mut S, path: &'p str) -> Result<FileRig
 {
     match store.rights(path) {
         Ok(rights) => Ok(rights),
-        Err(error) => Err(FileFault {
-            path,
-            cause: FileCause::Failed(error),
-        }),
+        Err(error) => Err(FileFault::failed(path, error)),
     }
 }
 
@@ -139,10 +127,7 @@ pub fn first_octet<'p, S: Store>(
 {
     match store.first_octet(alloc, path) {
         Ok(octet) => Ok(octet),
-        Err(error) => Err(FileFault {
-            path,
-            cause: FileCause::Failed(error),
-        }),
+        Err(error) => Err(FileFault::failed(path, error)),
     }
 }
 
@@ -161,51 +146,27 @@ pub fn write_file<'p, S: Store>(
 {
     match store.write(alloc, path, octets) {
         Ok(()) => Ok(()),
-        Err(error) => Err(FileFault {
-            path,
-            cause: FileCause::Failed(error),
-        }),
+        Err(error) => Err(FileFault::failed(path, error)),
     }
 }
 
-/// Writes a file, and keeps the owner and the group of the one there, and its mode if `keep_mode` says so. Otherwise
-/// the mode is 600. After an `Err` the path is unchanged.
+/// Writes a file with the owner and the group of the one there, and with this mode. After an `Err` the path is
+/// unchanged.
 pub fn update_file<'p, S: Store>(
     alloc: Global,
     store: &mut S,
     path: &'p str,
     octets: &[u8],
-    keep_mode: bool,
+    mode: NewMode,
 ) -> Result<(), FileFault<'p>>
     ensures written { OnOk result (S.world store.new ≡ option_map (with_file path.now octets.now) (S.world store.old)) }
     ensures unchanged { OnErr result (S.world store.new ≡ S.world store.old) }
     ensures named { IfErr result (λ fault. fault.path.now ≡ path.now) }
     ensures shown { IsShown (S.fault_count store.old) result (S.fault_count store.new) }
 {
-    match update_with_mode(alloc, store, path, octets, keep_mode) {
+    match store.update(alloc, path, octets, mode) {
         Ok(()) => Ok(()),
-        Err(error) => Err(FileFault {
-            path,
-            cause: FileCause::Failed(error),
-        }),
-    }
-}
-
-fn update_with_mode<S: Store>(
-    alloc: Global,
-    store: &mut S,
-    path: &str,
-    octets: &[u8],
-    keep_mode: bool,
-) -> io::Result<()>
-    ensures written { OnOk result (S.world store.new ≡ option_map (with_file path.now octets.now) (S.world store.old)) }
-    ensures unchanged { OnErr result (S.world store.new ≡ S.world store.old) }
-    ensures counted { IsCounted (S.fault_count store.old) result (S.fault_count store.new) }
-{
-    if keep_mode {
-        store.update(alloc, path, octets)
-    } else {
-        store.update_private(alloc, path, octets)
+        Err(error) => Err(FileFault::failed(path, error)),
     }
 }
 
@@ -221,10 +182,7 @@ pub fn lock_file<'p, S: Store>(
 {
     match store.lock(alloc, path) {
         Ok(locked) => Ok(locked),
-        Err(error) => Err(FileFault {
-            path,
-            cause: FileCause::Failed(error),
-        }),
+        Err(error) => Err(FileFault::failed(path, error)),
     }
 }
 
@@ -236,10 +194,7 @@ pub fn read_clock<S: Store>(store: &mut S) -> Result<u64, FileFault<'static>>
 {
     match store.seconds() {
         Ok(seconds) => Ok(seconds),
-        Err(error) => Err(FileFault {
-            path: SYSTEM_CLOCK,
-            cause: FileCause::Failed(error),
-        }),
+        Err(error) => Err(FileFault::failed(CLOCK, error)),
     }
 }
 
@@ -288,10 +243,7 @@ pub fn draw_seed<S: Store>(store: &mut S) -> Result<[u8; 32], FileFault<'static>
 {
     match store.random() {
         Ok(seed) => Ok(seed),
-        Err(error) => Err(FileFault {
-            path: SYSTEM_SOURCE,
-            cause: FileCause::Failed(error),
-        }),
+        Err(error) => Err(FileFault::failed(RANDOM_OCTETS, error)),
     }
 }
 
@@ -343,10 +295,7 @@ pub fn ask_password<S: Store>(
 {
     match ask_line(alloc, store, name, realm) {
         Ok(found) => Ok(found),
-        Err(error) => Err(FileFault {
-            path: STANDARD_INPUT,
-            cause: FileCause::Failed(error),
-        }),
+        Err(error) => Err(FileFault::failed(STANDARD_INPUT, error)),
     }
 }
 

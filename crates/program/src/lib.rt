@@ -1,5 +1,5 @@
-//! What each program of this repository is made of, whatever it does: its options, its files, its clock,
-//! its standard error, and its status.
+//! What each program of this repository is made of, whatever it does: its options, its variables of the environment,
+//! its files and their locks, its clock, what it prints at its end, and its status.
 //!
 //! ```
 //! let Some(args) = read_words(rt)? else {
@@ -16,36 +16,49 @@
 //! [`MemoryStore`] keeps its files in memory, for a test. A fault says which file it concerns.
 //!
 //! It does not parse a command line (the toolchain's `clap` does) or open sockets (`kdc_sockets` and `client_sockets`
-//! do). A server reads its own files with `kdc_files`.
+//! do). The files of a server's database, seed and journal are in `kdc_files`.
 #![tactic(auto)]
 
 mod command_options;
 mod counting;
 mod faults;
 mod inputs;
+mod locks;
 mod memory_store;
 mod moment;
+mod plain_files;
 mod reading;
 mod shell;
+mod stamp;
 mod status;
 mod store;
 mod system_store;
+mod variable;
 
 pub use crate::command_options::{
-    FlagRow, OptionRow, SubcommandRow, Times, VERSION, subcommand, with_flags, with_options,
-    with_subcommands,
+    FlagRow, OptionRow, SubcommandRow, Times, VERSION, parse_status, subcommand, with_flags,
+    with_options, with_subcommands,
 };
 pub use crate::counting::counted;
 pub use crate::faults::{FileCause, FileFault};
 pub use crate::inputs::{
-    STANDARD_INPUT, ask_password, draw_seed, file_rights, first_octet, has_file, lock_file,
-    password_of, read_at_most, read_clock, read_file, read_or_draw_seed, read_password, read_seed,
-    read_stream, seed_of, update_file, write_file,
+    CLOCK, RANDOM_OCTETS, STANDARD_INPUT, ask_password, draw_seed, file_rights, first_octet,
+    has_file, lock_file, password_of, read_at_most, read_clock, read_file, read_or_draw_seed,
+    read_password, read_seed, read_stream, seed_of, update_file, write_file,
 };
+pub use crate::locks::{LOCK_END, hold_lock};
 pub use crate::memory_store::MemoryStore;
 pub use crate::moment::now;
+pub use crate::plain_files::{
+    OWNER_ONLY, RIGHTS, RIGHTS_OF_OTHERS, is_own, open_plain, open_plain_with, own_user,
+};
 pub use crate::reading::read_within;
-pub use crate::shell::{NOT_UTF8, read_words, report_end, report_failure, report_usage};
+pub use crate::shell::{
+    NOT_UTF8, print_failure, print_refusal, print_usage_error, read_words, report_end,
+    report_failure, report_usage,
+};
+pub use crate::stamp::FileStamp;
 pub use crate::status::Status;
-pub use crate::store::{FileRights, LONGEST_FILE, Store};
+pub use crate::store::{FileRights, LONGEST_FILE, NewMode, Store};
 pub use crate::system_store::{FileStore, random_octets};
+pub use crate::variable::Variable;

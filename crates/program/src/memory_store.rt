@@ -5,13 +5,11 @@ ghost use Rattle.program.specs.World.{first_octet, with_file, without_file};
 
 use crate::counting::counted;
 use crate::inputs::line_of;
-use crate::store::{FileRights, Store};
+use crate::plain_files::OWNER_ONLY;
+use crate::store::{FileRights, NewMode, Store};
 use std::alloc::{AllocError, Global};
 use std::io;
 use std::io::{Error, ErrorKind};
-
-/// The mode of each file in memory.
-const OWNER_ONLY: u32 = 0o600;
 
 /// What a path has in memory.
 #[derive(Drop)]
@@ -194,11 +192,13 @@ impl Store for MemoryStore {
         written
     }
 
-    fn update(&mut self, alloc: Global, path: &str, octets: &[u8]) -> io::Result<()> {
-        self.write(alloc, path, octets)
-    }
-
-    fn update_private(&mut self, alloc: Global, path: &str, octets: &[u8]) -> io::Result<()> {
+    fn update(
+        &mut self,
+        alloc: Global,
+        path: &str,
+        octets: &[u8],
+        _mode: NewMode,
+    ) -> io::Result<()> {
         self.write(alloc, path, octets)
     }
 

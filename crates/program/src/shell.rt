@@ -1,6 +1,10 @@
 //! The shell of a program's `main`: the words of its command line, and how it says why it ends.
+ghost use Rattle.std.specs.Prelude.{◌≡◌, IfOk};
+ghost use Rattle.program.specs.declared.status.Status.TheVariants.{Failed, Refused, Usage};
+
 use crate::status::Status;
 use std::fmt::Display;
+use std::io::Write;
 use std::{env, io};
 
 /// What is wrong with a command line that `read_words` does not return.
@@ -13,6 +17,30 @@ pub fn read_words(rt: &HostRuntime) -> io::Result<Option<Vec<String>>> {
         Err(error) if error.kind() == io::ErrorKind::InvalidData => Ok(None),
         Err(error) => Err(error),
     }
+}
+
+/// Prints a usage error. The error is that of the output.
+pub fn print_usage_error<W: Write>(out: &mut W, why: &impl Display) -> io::Result<Status>
+    ensures { IfOk result (λ status. status ≡ Usage) }
+{
+    writeln!(out, "error: {why}")?;
+    Ok(Status::Usage)
+}
+
+/// Prints `refused WORD`. The error is that of the output.
+pub fn print_refusal<W: Write>(out: &mut W, word: &impl Display) -> io::Result<Status>
+    ensures { IfOk result (λ status. status ≡ Refused) }
+{
+    writeln!(out, "refused {word}")?;
+    Ok(Status::Refused)
+}
+
+/// Prints `failed`. The error is that of the output.
+pub fn print_failure<W: Write>(out: &mut W) -> io::Result<Status>
+    ensures { IfOk result (λ status. status ≡ Failed) }
+{
+    writeln!(out, "failed")?;
+    Ok(Status::Failed)
 }
 
 /// Prints a usage error on standard output.

@@ -19,6 +19,15 @@ pub struct FileRights {
     pub user: Option<u32>,
 }
 
+/// The mode of a file that replaces another one.
+#[derive(Clone, Copy)]
+pub enum NewMode {
+    /// That of the file that is there.
+    Kept,
+    /// 600: only its owner may read and write it.
+    OwnerOnly,
+}
+
 /// The files, the random bytes, the clock and the standard input of a program. A store counts failed calls.
 pub trait Store {
     // How often a call has failed.
@@ -63,15 +72,9 @@ pub trait Store {
         ensures unchanged { OnErr result (world self.new ≡ world self.old) }
         ensures counted { IsCounted (fault_count self.old) result (fault_count self.new) };
 
-    /// Writes a file, and keeps the owner, the group and the mode of the one there. Fails if it can't keep them.
-    /// Without a file there it does what `write` does. After an `Err` the path is unchanged.
-    fn update(&mut self, alloc: Global, path: &str, octets: &[u8]) -> io::Result<()>
-        ensures written { OnOk result (world self.new ≡ option_map (with_file path.now octets.now) (world self.old)) }
-        ensures unchanged { OnErr result (world self.new ≡ world self.old) }
-        ensures counted { IsCounted (fault_count self.old) result (fault_count self.new) };
-
-    /// Does what `update` does, but gives the file the mode 600, so that only its owner may read and write it.
-    fn update_private(&mut self, alloc: Global, path: &str, octets: &[u8]) -> io::Result<()>
+    /// Writes a file with the owner and the group of the one there, and with this mode. Fails if it can't set them.
+    /// Without a file there it does what `write` does, whatever the mode. After an `Err` the path is unchanged.
+    fn update(&mut self, alloc: Global, path: &str, octets: &[u8], mode: NewMode) -> io::Result<()>
         ensures written { OnOk result (world self.new ≡ option_map (with_file path.now octets.now) (world self.old)) }
         ensures unchanged { OnErr result (world self.new ≡ world self.old) }
         ensures counted { IsCounted (fault_count self.old) result (fault_count self.new) };

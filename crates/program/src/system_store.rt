@@ -2,28 +2,22 @@
 ghost use Rattle.std.specs.Prelude.{◌≤◌, None, IfOk, IfSome, vec_len};
 
 use crate::counting::counted;
+use crate::locks::hold_lock;
+use crate::moment::seconds_since_1970;
+use crate::plain_files::{OWNER_ONLY, RIGHTS, no_file, open_plain, own_user};
 use crate::reading::read_within;
-use crate::store::{FileRights, Store};
+use crate::store::{FileRights, NewMode, Store};
 use std::alloc::Global;
-use std::fs::{File, Metadata, OpenFile, OpenOptions, Permissions, TryLockError};
+use std::fs::{File, Metadata, OpenFile, OpenOptions, Permissions};
 use std::io::{BufRead, Error, ErrorKind, IsTerminal, Read, Write};
 use std::os::unix::fs::{MetadataExt, OpenOptionsExt, PermissionsExt, fchown};
 use std::random::RandomSource;
 use std::rt::{Clock, Files};
-use std::time::{Duration, SystemTime, UNIX_EPOCH};
+use std::time::Duration;
 use std::{fs, io, thread};
-
-/// The mode of a new file: only its owner reads and writes it, because it contains keys.
-const OWNER_ONLY: u32 = 0o600;
-
-/// The bits of a mode that say who may read, write and run a file.
-const RIGHTS: u32 = 0o777;
 
 /// How many milliseconds a pause takes.
 const PAUSE: u64 = 100;
-
-/// What says which user runs the program, on Linux: it is this user's.
-const OWN_PROCESS: &str = "/proc/self";
 
 /// Who owns a file, and who may read and write it.
 #[derive(Clone, Copy)]
@@ -42,11 +36,14 @@ impl Rights {
         }
     }
 
-    /// Returns these rights with another mode, if there is one.
-    fn with_mode(self, mode: Option<u32>) -> Rights {
+    /// Returns these rights with the mode of a new file.
+    fn with_mode(self, mode: NewMode) -> Rights {
         match mode {
-            Some(mode) => Rights { mode, ..self },
-            None => self,
+            NewMode::Kept => self,
+            NewMode::OwnerOnly => Rights {
+                mode: OWNER_ONLY,
+                ..self
+            },
         }
     }
 
@@ -64,24 +61,10 @@ impl Rights {
     }
 }
 
-/// Refuses a folder, a FIFO or a device, before it is opened: to open a FIFO would wait for its other end. Who may
-/// write in the folder can still put one there before it is opened, since no option of `OpenOptions` keeps a link out.
-fn check_is_file(files: &impl Files, path: &str) -> io::Result<()> {
-    if fs::metadata(files, path)?.is_file() {
-        Ok(())
-    } else {
-        Err(no_file())
-    }
-}
-
-fn no_file() -> Error {
-    Error::new(ErrorKind::InvalidInput, "it is no file")
-}
-
 /// Returns the user who runs the program, if the system says so.
-fn own_user(files: &impl Files) -> io::Result<Option<u32>> {
-    match fs::metadata(files, OWN_PROCESS) {
-        Ok(process) => Ok(Some(process.uid())),
+fn known_user(files: &impl Files) -> io::Result<Option<u32>> {
+    match own_user(files) {
+        Ok(user) => Ok(Some(user)),
         Err(error) if error.kind() == ErrorKind::NotFound => Ok(None),
         Err(error) => Err(error),
     }
@@ -122,15 +105,15 @@ impl<'a, R: Files> FileStore<'a, R> {
         }
     }
 
-    /// Reads the first byte of a file, if it has one.
+    /// Reads the first byte of a file, if there is one and it has one.
     fn read_first(&self, alloc: Global, path: &str) -> io::Result<Option<u8>> {
-        if self.there(path)?.is_none() {
-            return Ok(None);
-        }
+        let file = match open_plain(self.files, path) {
+            Ok(file) => file,
+            Err(error) if error.kind() == ErrorKind::NotFound => return Ok(None),
+            Err(error) => return Err(error),
+        };
         let mut octets = Vec::new(alloc);
-        File::open(self.files, path)?
-            .take(1)
-            .read_to_end(&mut octets)?;
+        file.take(1).read_to_end(&mut octets)?;
         Ok(octets.first().copied())
     }
 
@@ -140,32 +123,51 @@ impl<'a, R: Files> FileStore<'a, R> {
         Ok(FileRights {
             mode: there.mode() & RIGHTS,
             owner: there.uid(),
-            user: own_user(self.files)?,
+            user: known_user(self.files)?,
         })
     }
+}
 
-    /// Reads a whole file, and no folder, FIFO or device. `None` if it has more than this many bytes.
-    fn read_file(&self, alloc: Global, path: &str, most: usize) -> io::Result<Option<Vec<u8>>>
-        ensures { IfOk result (λ found. IfSome found (λ octets. vec_len octets ≤ most)) }
-    {
-        check_is_file(self.files, path)?;
-        self.read_whole(alloc, path, most)
-    }
+/// Reads a whole file, and no folder, FIFO or device. `None` if it has more than this many bytes.
+fn read_plain<R: Files>(
+    alloc: Global,
+    files: &R,
+    path: &str,
+    most: usize,
+) -> io::Result<Option<Vec<u8>>>
+    ensures { IfOk result (λ found. IfSome found (λ octets. vec_len octets ≤ most)) }
+{
+    read_open(alloc, open_plain(files, path)?, most)
+}
 
-    /// Reads a whole file, or a FIFO or a device to its end, and no folder. `None` if it has more than this many bytes.
-    fn read_whole(&self, alloc: Global, path: &str, most: usize) -> io::Result<Option<Vec<u8>>>
-        ensures { IfOk result (λ found. IfSome found (λ octets. vec_len octets ≤ most)) }
-    {
-        let file = File::open(self.files, path)?;
-        let there = file.metadata()?;
-        if there.is_dir() {
-            return Err(no_file());
-        }
-        if there.len() > most as u64 {
-            return Ok(None);
-        }
-        read_within(alloc, file, most)
+/// Reads a whole file, or a FIFO or a device to its end, and no folder. `None` if it has more than this many bytes.
+fn read_any<R: Files<File = File>>(
+    alloc: Global,
+    files: &R,
+    path: &str,
+    most: usize,
+) -> io::Result<Option<Vec<u8>>>
+    ensures { IfOk result (λ found. IfSome found (λ octets. vec_len octets ≤ most)) }
+{
+    let file = File::open(files, path)?;
+    if file.metadata()?.is_dir() {
+        return Err(no_file());
     }
+    read_open(alloc, file, most)
+}
+
+/// Reads a whole open file, or a FIFO or a device to its end. `None` if it has more than this many bytes.
+fn read_open<F: OpenFile + Read + Drop>(
+    alloc: Global,
+    file: F,
+    most: usize,
+) -> io::Result<Option<Vec<u8>>>
+    ensures { IfOk result (λ found. IfSome found (λ octets. vec_len octets ≤ most)) }
+{
+    if file.metadata()?.len() > most as u64 {
+        return Ok(None);
+    }
+    read_within(alloc, file, most)
 }
 
 impl<'a, R: Files<File = File> + RandomSource> FileStore<'a, R> {
@@ -175,14 +177,13 @@ impl<'a, R: Files<File = File> + RandomSource> FileStore<'a, R> {
         self.replace(alloc, path, octets, None)
     }
 
-    /// Writes a file with the owner and the group of the one there. Its mode is this one, if there is one, or else that
-    /// of the file there.
+    /// Writes a file with the owner and the group of the one there, and this mode.
     fn write_over(
         &self,
         alloc: Global,
         path: &str,
         octets: &[u8],
-        mode: Option<u32>,
+        mode: NewMode,
     ) -> io::Result<()> {
         let rights = match self.there(path)? {
             Some(there) => Some(Rights::of(&there).with_mode(mode)),
@@ -231,80 +232,6 @@ fn name_beside(alloc: Global, source: &impl RandomSource, path: &str) -> io::Res
     source.fill_bytes(&mut octets)?;
     let number = u64::from_be_bytes(octets);
     Ok(format!(in alloc; "{path}.{number:016x}.new")?)
-}
-
-/// Locks `PATH.lock`. The file stays when the lock is released: if it were removed and made again, a waiting command
-/// could hold the lock of a file that is gone. The system releases a lock when its program ends, however it ends.
-fn open_locked<R: Files<File = File>>(
-    alloc: Global,
-    files: &R,
-    path: &str,
-) -> io::Result<Option<File>> {
-    let beside = format!(in alloc; "{path}.lock")?;
-    let file = open_lock(files, beside.as_str(), path)?;
-    match file.try_lock() {
-        Ok(()) => Ok(Some(file)),
-        Err(TryLockError::WouldBlock) => Ok(None),
-        Err(TryLockError::Error(error)) => Err(error),
-    }
-}
-
-/// Opens the file of a lock. An existing file keeps its owner, because the folder's owner may have put a link to
-/// another file there.
-fn open_lock<R: Files<File = File>>(files: &R, beside: &str, path: &str) -> io::Result<File> {
-    match make_lock(files, beside) {
-        Ok(made) => {
-            hand_over(files, &made, path);
-            Ok(made)
-        }
-        Err(error) if error.kind() == ErrorKind::AlreadyExists => open_old_lock(files, beside),
-        Err(error) => Err(error),
-    }
-}
-
-/// Opens the file of a lock that is there already.
-fn open_old_lock<R: Files<File = File>>(files: &R, beside: &str) -> io::Result<File> {
-    if !fs::metadata(files, beside)?.is_file() {
-        return Err(no_lock());
-    }
-    let mut how = OpenOptions::new();
-    how.write(true);
-    let file = how.open(files, beside)?;
-    if file.metadata()?.is_file() {
-        Ok(file)
-    } else {
-        Err(no_lock())
-    }
-}
-
-fn no_lock() -> Error {
-    Error::new(ErrorKind::InvalidInput, "the lock beside it: it is no file")
-}
-
-/// Makes the file of a lock, if nothing is there, not even a link.
-fn make_lock<R: Files<File = File>>(files: &R, beside: &str) -> io::Result<File> {
-    let mut how = OpenOptions::new();
-    how.write(true).create_new(true).mode(OWNER_ONLY);
-    how.open(files, beside)
-}
-
-/// Gives a new lock to the owner of the file beside it. Otherwise a lock that a superuser's command made would keep the
-/// owner's commands out.
-fn hand_over(files: &impl Files, lock: &File, path: &str) {
-    let (Ok(there), Ok(made)) = (fs::metadata(files, path), lock.metadata()) else {
-        return;
-    };
-    if there.uid() != made.uid() {
-        // only a superuser may do this: the lock that another user made stays that user's
-        let _ = fchown(lock, Some(there.uid()), Some(there.gid()));
-    }
-}
-
-fn seconds_of(clock: &impl Clock) -> io::Result<u64> {
-    match SystemTime::now(clock)?.duration_since(UNIX_EPOCH) {
-        Ok(since) => Ok(since.as_secs()),
-        Err(_) => Err(Error::new(ErrorKind::InvalidData, "the clock stands before 1970")),
-    }
 }
 
 /// Draws 32 bytes from the system's own source.
@@ -370,7 +297,7 @@ where
     }
 
     fn read(&mut self, alloc: Global, path: &str, most: usize) -> io::Result<Option<Vec<u8>>> {
-        let read = self.read_file(alloc, path, most);
+        let read = read_plain(alloc, self.files, path, most);
         self.faults = counted(self.faults, &read);
         read
     }
@@ -381,7 +308,7 @@ where
         path: &str,
         most: usize,
     ) -> io::Result<Option<Vec<u8>>> {
-        let read = self.read_whole(alloc, path, most);
+        let read = read_any(alloc, self.files, path, most);
         self.faults = counted(self.faults, &read);
         read
     }
@@ -398,14 +325,14 @@ where
         written
     }
 
-    fn update(&mut self, alloc: Global, path: &str, octets: &[u8]) -> io::Result<()> {
-        let written = self.write_over(alloc, path, octets, None);
-        self.faults = counted(self.faults, &written);
-        written
-    }
-
-    fn update_private(&mut self, alloc: Global, path: &str, octets: &[u8]) -> io::Result<()> {
-        let written = self.write_over(alloc, path, octets, Some(OWNER_ONLY));
+    fn update(
+        &mut self,
+        alloc: Global,
+        path: &str,
+        octets: &[u8],
+        mode: NewMode,
+    ) -> io::Result<()> {
+        let written = self.write_over(alloc, path, octets, mode);
         self.faults = counted(self.faults, &written);
         written
     }
@@ -418,7 +345,7 @@ where
 
     fn lock(&mut self, alloc: Global, path: &str) -> io::Result<bool> {
         self.lock = None;
-        let locked = open_locked(alloc, self.files, path);
+        let locked = hold_lock(alloc, self.files, path);
         self.faults = counted(self.faults, &locked);
         self.lock = locked?;
         Ok(self.lock.is_some())
@@ -429,7 +356,7 @@ where
     }
 
     fn seconds(&mut self) -> io::Result<u64> {
-        let read = seconds_of(self.files);
+        let read = seconds_since_1970(self.files);
         self.faults = counted(self.faults, &read);
         read
     }

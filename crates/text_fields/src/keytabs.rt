@@ -5,11 +5,22 @@ ghost use Rattle.principal_rows.specs.KeyList.{has_type_twice};
 ghost use Rattle.text_fields.specs.Keytabs.{AreOrdered, AreTaken, AreVersionsOf, HasKeyOfZero, HasNoKeys, IsDoubled};
 ghost use Rattle.text_fields.specs.Keytabs.{greater, is_below, key_at, keys_at, next_number, with_version};
 
-use cred_files::{Keytab, KeytabEntry};
+use cred_files::{CredFault, Keytab, KeytabEntry};
 use enctypes::{Etype, Key};
 use krb_fields::Name;
 use principal_rows::{KeyList, KeyListFault, KeyVersion, Versions};
 use std::alloc::{AllocError, Global};
+
+/// Returns what is wrong with a keytab, to stand after the name of its file.
+pub fn keytab_text(fault: CredFault) -> &'static str {
+    match fault {
+        CredFault::BadMagic => "this is not a keytab of version 2",
+        CredFault::Truncated => "the keytab ends too early",
+        CredFault::BadEntry => "an entry is invalid, or too long for a keytab",
+        // the others concern caches
+        fault => fault.text(),
+    }
+}
 
 /// The keys of a principal in a keytab.
 #[derive(Clone, Copy)]

@@ -31,7 +31,7 @@ mod values;
 pub use dates::UtcDate;
 pub use etypes::{offered, read_etypes};
 pub use keys::{password_keys, random_keys};
-pub use keytabs::{KeytabKeys, keytab_versions};
+pub use keytabs::{KeytabKeys, keytab_text, keytab_versions};
 pub use lines::line_words;
 pub use numbers::{number, number_u32};
 pub use settings::{

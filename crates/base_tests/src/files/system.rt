@@ -1,6 +1,6 @@
 //! Tests of the store over the system's files (`program`). Each removes its files at the end.
 use crate::expect::same;
-use program::{FileStore, Store};
+use program::{FileStore, NewMode, Store};
 use std::fs::Permissions;
 use std::os::unix::fs::{MetadataExt, PermissionsExt};
 use std::{fs, io};
@@ -32,14 +32,18 @@ fn written_twice(rt: &HostRuntime, store: &mut Files<'_>) -> io::Result<(bool, u
     })
 }
 
-/// Returns the mode of a file that others may read, after it is updated, and after it is written anew.
-fn modes_after(rt: &HostRuntime, store: &mut Files<'_>) -> io::Result<[u32; 2]> {
-    store.update(rt.alloc(), UPDATED, b"first")?;
+/// Returns the mode of a file that others may read, after it is updated with its mode, after it is written anew, and
+/// after it is updated for its owner alone.
+fn modes_after(rt: &HostRuntime, store: &mut Files<'_>) -> io::Result<[u32; 3]> {
+    store.update(rt.alloc(), UPDATED, b"first", NewMode::Kept)?;
     fs::set_permissions(rt, UPDATED, Permissions::from_mode(0o644))?;
-    store.update(rt.alloc(), UPDATED, b"second")?;
-    let updated = mode(rt, UPDATED)?;
+    store.update(rt.alloc(), UPDATED, b"second", NewMode::Kept)?;
+    let kept = mode(rt, UPDATED)?;
     store.write(rt.alloc(), UPDATED, b"third")?;
-    Ok([updated, mode(rt, UPDATED)?])
+    let written = mode(rt, UPDATED)?;
+    fs::set_permissions(rt, UPDATED, Permissions::from_mode(0o644))?;
+    store.update(rt.alloc(), UPDATED, b"fourth", NewMode::OwnerOnly)?;
+    Ok([kept, written, mode(rt, UPDATED)?])
 }
 
 /// Returns the first byte of an absent file, of an empty one, and of one with three bytes.
@@ -85,7 +89,7 @@ fn locks_beside(rt: &HostRuntime, store: &mut Files<'_>) -> io::Result<(bool, bo
 /// What these functions return, with a limit of six bytes and one of five.
 type Seen = (
     (bool, u32),
-    [u32; 2],
+    [u32; 3],
     [Option<u8>; 3],
     [bool; 3],
     (bool, bool),
@@ -103,7 +107,7 @@ fn seen(rt: &HostRuntime, store: &mut Files<'_>) -> io::Result<Seen> {
 
 const SEEN: Seen = (
     (true, 0o600),
-    [0o644, 0o600],
+    [0o644, 0o600, 0o600],
     [None, None, Some(5)],
     [false, false, false],
     (true, false),

@@ -1,0 +1,77 @@
+//! Tests of what the two stores of `program` show alike: that of the system's files, and the one in memory.
+use crate::expect::same;
+use program::{FileStore, MemoryStore, NewMode, Store};
+use std::alloc::Global;
+use std::{fs, io};
+
+const STORED: &str = "tested.stored";
+
+const ABSENT: &str = "tested.absent";
+
+/// Returns whether there is a file before it is written, and its first byte then and while it is empty.
+fn before<S: Store>(alloc: Global, store: &mut S) -> io::Result<(bool, [Option<u8>; 2])> {
+    let is_there = store.exists(STORED)?;
+    let absent = store.first_octet(alloc, STORED)?;
+    store.write(alloc, STORED, b"")?;
+    Ok((is_there, [absent, store.first_octet(alloc, STORED)?]))
+}
+
+/// Returns whether there is a file after it was written and then updated, its first byte, and its mode.
+fn after<S: Store>(alloc: Global, store: &mut S) -> io::Result<(bool, Option<u8>, u32)> {
+    store.write(alloc, STORED, b"first, and longer")?;
+    store.update(alloc, STORED, b"second", NewMode::OwnerOnly)?;
+    let first = store.first_octet(alloc, STORED)?;
+    Ok((store.exists(STORED)?, first, store.rights(STORED)?.mode))
+}
+
+/// Returns whether the file has the second content, and whether it is read under a limit of one byte less.
+fn contents<S: Store>(alloc: Global, store: &mut S) -> io::Result<(bool, bool)> {
+    let is_second = match store.read(alloc, STORED, 6)? {
+        Some(octets) => octets.as_slice() == b"second".as_slice(),
+        None => false,
+    };
+    Ok((is_second, store.read_stream(alloc, STORED, 5)?.is_some()))
+}
+
+/// Returns whether a file that is not there is read, and whether it has rights; and how many calls have failed.
+fn failures<S: Store>(alloc: Global, store: &mut S) -> ([bool; 2], u64) {
+    let is_read = store.read(alloc, ABSENT, 6).is_ok();
+    let has_rights = store.rights(ABSENT).is_ok();
+    ([is_read, has_rights], store.faults())
+}
+
+/// What these functions return.
+type Shown = (
+    (bool, [Option<u8>; 2]),
+    (bool, Option<u8>, u32),
+    (bool, bool),
+    ([bool; 2], u64),
+);
+
+fn shown<S: Store>(alloc: Global, store: &mut S) -> io::Result<Shown> {
+    let before = before(alloc, store)?;
+    let after = after(alloc, store)?;
+    let contents = contents(alloc, store)?;
+    Ok((before, after, contents, failures(alloc, store)))
+}
+
+const SHOWN: Shown = (
+    (false, [None, None]),
+    (true, Some(b's'), 0o600),
+    (true, false),
+    ([false, false], 2),
+);
+
+#[test]
+fn files_in_memory_are_as_those_of_the_system(rt: HostRuntime) {
+    let alloc = rt.alloc();
+    match shown(alloc, &mut FileStore::new(&rt)) {
+        Ok(shown) => same(&rt, &"the system's files", &shown, &SHOWN),
+        Err(fault) => panic!(rt; "{fault:?}"),
+    }
+    match shown(alloc, &mut MemoryStore::new(alloc)) {
+        Ok(shown) => same(&rt, &"files in memory", &shown, &SHOWN),
+        Err(fault) => panic!(rt; "{fault:?}"),
+    }
+    same(&rt, &STORED, &fs::remove_file(&rt, STORED).is_ok(), &true);
+}
