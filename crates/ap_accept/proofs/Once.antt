@@ -23,10 +23,10 @@ use Rattle.ap_accept.specs.StageLaws.{recorded_staged, request_staged}
 use Rattle.ap_accept.specs.Stages.{cache_refusal, if_presented, refusal_by, seen_by, seen_if, unless_seen}
 use Rattle.ap_accept.specs.Run.{AcceptedOnce, Call, Event, Accept, Replace, accepted_at, accepted_in, after_call, after_event, is_party, stamp_if}
 use Rattle.ap_accept.specs.State.{cache_of}
-use Rattle.ap_opening.specs.Validity.{ticket_terms}
+use Rattle.ap_presented.specs.Validity.{ticket_terms}
 use Rattle.ap_accept.specs.Validity.{validity_rules}
 use Rattle.ap_accept.specs.declared.presented.Presented.{Presented}
-use Rattle.ap_opening.specs.declared.refusal.ApRefusal.{ApRefusal}
+use Rattle.ap_presented.specs.declared.refusal.ApRefusal.{ApRefusal}
 use Rattle.ap_accept.specs.declared.state.State.{State}
 use Rattle.ap_accept.proofs.Frame.{accepts_keeps, next_cache, recording_keeps}
 use Rattle.ap_accept.proofs.DroppingExpired.{both, still_settled}

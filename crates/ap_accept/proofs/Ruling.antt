@@ -19,7 +19,7 @@ use Rattle.ap_accept.specs.declared.accepted.Accepted.{Accepted}
 use Rattle.ap_accept.specs.declared.fault.ApFault.{ApFault}
 use Rattle.ap_accept.specs.declared.fault.ApFault.TheVariants.{NotAnApReq, Refused, Memory}
 use Rattle.ap_accept.specs.declared.presented.Presented.{Presented}
-use Rattle.ap_opening.specs.declared.refusal.ApRefusal.{ApRefusal}
+use Rattle.ap_presented.specs.declared.refusal.ApRefusal.{ApRefusal}
 use Rattle.ap_accept.specs.declared.state.State.{State}
 
 staged_ruled : (state : State) (at : Moment) (confounder octets : List ℕ) (ap : ApReq) (wanted : Bool) (p : Presented) → request_of octets ≡ Some ap → wanted ≡ asks_reply ap → presented state.keytab ap ≡ Ok p

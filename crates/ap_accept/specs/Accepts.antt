@@ -24,8 +24,8 @@ use Rattle.ap_accept.specs.declared.fault.ApFault.{ApFault}
 use Rattle.ap_accept.specs.declared.fault.ApFault.TheVariants.{NotAnApReq, Refused, Memory as NoMemory}
 use Rattle.ap_accept.specs.declared.presented.Presented.{Presented}
 use Rattle.ap_accept.specs.declared.state.State.{State}
-use Rattle.ap_opening.specs.Refusal.{code_of}
-use Rattle.ap_opening.specs.declared.refusal.ApRefusal.{ApRefusal}
+use Rattle.ap_presented.specs.Refusal.{code_of}
+use Rattle.ap_presented.specs.declared.refusal.ApRefusal.{ApRefusal}
 
 -- ---- what the table says of a request
 

@@ -5,17 +5,17 @@ use Rattle.std.specs.Prelude.{⊤, IfSome, IfErr, if◌then◌else◌, drop, map
 use Rattle.std.specs.List.{AllByRecursion}
 use Rattle.lists.specs.Refusals.{Rule, decided, first_holding, unless_found, unless_refused}
 use Rattle.lists.specs.Stages.{◌>>=◌}
-use Rattle.ap_opening.specs.Authenticators.{subkey_in}
-use Rattle.ap_opening.specs.Keytab.{held_in}
-use Rattle.ap_opening.specs.Refusal.{code_of}
-use Rattle.ap_opening.specs.Tickets.{opened_with, shown_ticket}
-use Rattle.ap_opening.specs.Validity.{ticket_terms}
-use Rattle.ap_opening.specs.declared.refusal.ApRefusal.{ApRefusal}
-use Rattle.ap_opening.specs.declared.refusal.ApRefusal.TheVariants.{BadVersion, BadMessageType, SessionKeyAsked}
-use Rattle.ap_opening.specs.declared.refusal.ApRefusal.TheVariants.{NotForUs, NoKey, BadKeyVersion, TicketNotOpened}
-use Rattle.ap_opening.specs.declared.refusal.ApRefusal.TheVariants.{ForeignClient, BoundAddress, BadSessionKey}
-use Rattle.ap_opening.specs.declared.refusal.ApRefusal.TheVariants.{AuthenticatorNotOpened, BadMatch, BadSubkey}
-use Rattle.ap_opening.specs.declared.refusal.ApRefusal.TheVariants.{NotYetValid, TicketExpired}
+use Rattle.ap_presented.specs.Authenticators.{subkey_in}
+use Rattle.ap_presented.specs.Keytab.{held_in}
+use Rattle.ap_presented.specs.Refusal.{code_of}
+use Rattle.ap_presented.specs.Tickets.{opened_with, shown_ticket}
+use Rattle.ap_presented.specs.Validity.{ticket_terms}
+use Rattle.ap_presented.specs.declared.refusal.ApRefusal.{ApRefusal}
+use Rattle.ap_presented.specs.declared.refusal.ApRefusal.TheVariants.{BadVersion, BadMessageType, SessionKeyAsked}
+use Rattle.ap_presented.specs.declared.refusal.ApRefusal.TheVariants.{NotForUs, NoKey, BadKeyVersion, TicketNotOpened}
+use Rattle.ap_presented.specs.declared.refusal.ApRefusal.TheVariants.{ForeignClient, BoundAddress, BadSessionKey}
+use Rattle.ap_presented.specs.declared.refusal.ApRefusal.TheVariants.{AuthenticatorNotOpened, BadMatch, BadSubkey}
+use Rattle.ap_presented.specs.declared.refusal.ApRefusal.TheVariants.{NotYetValid, TicketExpired}
 use Rattle.cred_files.specs.Keytab.{entry_for, newest, passes}
 use Rattle.cred_files.specs.declared.keytab_entry.KeytabEntry.{KeytabEntry}
 use Rattle.enctypes.specs.KeyUsage.{usage_number}

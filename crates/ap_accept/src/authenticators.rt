@@ -2,7 +2,7 @@
 ghost use Rattle.std.specs.Prelude.{◌≡◌};
 ghost use Rattle.ap_accept.specs.Authenticators.{authenticator_rules, subkey_of};
 
-use ap_opening::{ApRefusal, is_mismatched, subkey_in};
+use ap_presented::{ApRefusal, is_mismatched, subkey_in};
 use enctypes::Key;
 use krb_types::{Authenticator, EncTicketPart};
 use lists::decide;

@@ -2,7 +2,7 @@
 ghost use Rattle.std.specs.Prelude.{◌≡◌};
 ghost use Rattle.ap_accept.specs.declared.fault.ApFault.TheVariants.{Refused, Memory};
 
-use ap_opening::ApRefusal;
+use ap_presented::ApRefusal;
 use std::alloc::AllocError;
 use std::error::Error;
 use std::fmt;

@@ -37,7 +37,7 @@ mod validity;
 
 pub use accepted::Accepted;
 pub use acceptor::Acceptor;
-pub use ap_opening::ApRefusal;
+pub use ap_presented::ApRefusal;
 pub use fault::ApFault;
 pub use laws::{accepted_once, drops_unseen};
 pub use options::AcceptorOptions;

@@ -1,13 +1,13 @@
 //! What an AP-REQ presents: its ticket and its authenticator, decrypted (RFC 4120, section 3.2.3).
 ghost use Rattle.std.specs.Prelude.{◌≡◌, IfOk};
-ghost use Rattle.ap_opening.specs.Keytab.{held_in};
-ghost use Rattle.ap_opening.specs.Tickets.{shown_ticket};
+ghost use Rattle.ap_presented.specs.Keytab.{held_in};
+ghost use Rattle.ap_presented.specs.Tickets.{shown_ticket};
 ghost use Rattle.ap_accept.specs.Fault.{Gives};
 ghost use Rattle.ap_accept.specs.Presented.{authenticated, full_name, presented};
 
 use crate::authenticators::subkey_of;
 use crate::fault::ApFault;
-use ap_opening::{ApRefusal, Authenticated, authenticator_of, held_in, session_key_of};
+use ap_presented::{ApRefusal, Authenticated, authenticator_of, held_in, session_key_of};
 use cred_files::Keytab;
 use enctypes::{Key, KeyUsage};
 use krb_elements::{KerberosString, Seq};
@@ -64,7 +64,7 @@ fn shown_ticket(
 {
     let service = request.ticket.sname.to_name(alloc)?;
     let held = held_in(keytab, &request.ticket, &service);
-    ap_opening::shown_ticket(alloc, None, &held, request)
+    ap_presented::shown_ticket(alloc, None, &held, request)
 }
 
 /// Checks that the sender of the ticket has its session key, and reads the subkey.

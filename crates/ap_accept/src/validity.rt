@@ -3,7 +3,7 @@ ghost use Rattle.std.specs.Prelude.{◌≡◌};
 ghost use Rattle.lists.specs.Refusals.{first_holding};
 ghost use Rattle.ap_accept.specs.Validity.{is_not_yet_valid, validity_rules};
 
-use ap_opening::{ApRefusal, has_ended, has_not_started};
+use ap_presented::{ApRefusal, has_ended, has_not_started};
 use krb_fields::{Moment, TicketFlag};
 use lists::first_holding;
 use ticket_times::TicketTerms;

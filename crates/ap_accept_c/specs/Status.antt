@@ -1,7 +1,7 @@
 -- The numbers by which C knows the results of calls.
 use Rattle.std.specs.Prelude.{ℤ, pos, negsuc}
 use Rattle.krb_fields.specs.Code as codes
-use Rattle.ap_opening.specs.Refusal.{code_of}
+use Rattle.ap_presented.specs.Refusal.{code_of}
 use Rattle.ap_accept.specs.declared.fault.ApFault.{ApFault}
 use Rattle.ap_accept.specs.declared.fault.ApFault.TheVariants as faults
 use Rattle.cred_files.specs.declared.fault.CredFault.{CredFault}

@@ -6,7 +6,7 @@ use Rattle.std.specs.Cmp.Lexicographic.{pointwise, bytes_decides}
 use Rattle.std.specs.Ordering.{int_eq, eq_by_cmp}
 use Rattle.std.specs.declared.net.socket_addr.SocketAddr.{SocketAddr}
 use Rattle.std.proofs.lemmas.Bool.Decides.{Decides-int_eq}
-use Rattle.ap_opening.specs.Keytab.{ticket_key}
+use Rattle.ap_presented.specs.Keytab.{ticket_key}
 use Rattle.client_core.specs.Replies.{is_principal}
 use Rattle.client_core.specs.Sessions.{ticket_in}
 use Rattle.client_core.specs.Taken.{AreSame}

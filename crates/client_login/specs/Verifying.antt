@@ -5,8 +5,8 @@ use Rattle.std.specs.Prelude.{Result, Ok, Err}
 use Rattle.std.specs.Cmp.Lexicographic.{pointwise}
 use Rattle.std.specs.Ordering.{int_eq}
 use Rattle.std.specs.declared.net.socket_addr.SocketAddr.{SocketAddr}
-use Rattle.ap_opening.specs.Keytab.{ticket_key}
-use Rattle.ap_opening.specs.Validity.{has_ended, has_not_started, ticket_terms}
+use Rattle.ap_presented.specs.Keytab.{ticket_key}
+use Rattle.ap_presented.specs.Validity.{has_ended, has_not_started, ticket_terms}
 use Rattle.client_core.specs.Replies.{is_principal}
 use Rattle.client_core.specs.Sessions.{ticket_in}
 use Rattle.client_core.specs.Taken.{AreSame}

@@ -15,7 +15,7 @@ ghost use Rattle.client_login.specs.Verifying.{is_valid, opened, part_by, part_i
 use crate::client::KdcClient;
 use crate::faults::{Doubt, LoginError, LoginFault};
 use crate::network::Network;
-use ap_opening::{has_ended, has_not_started, keytab_key, ticket_terms};
+use ap_presented::{has_ended, has_not_started, keytab_key, ticket_terms};
 use cred_files::{Credential, Keytab, Principal, SessionKey};
 use enctypes::{Key, KeyUsage};
 use krb_elements::read;

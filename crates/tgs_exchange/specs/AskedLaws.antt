@@ -16,7 +16,7 @@ use Rattle.tgs_opening.specs.declared.presented.Presented.{Presented}
 use Rattle.tgs_opening.specs.declared.refusal.TgsRefusal.{TgsRefusal}
 use Rattle.tgs_opening.specs.declared.refusal.TgsRefusal.TheVariants.{NeverValid}
 use Rattle.tgs_exchange.specs.View.{TgsView}
-use Rattle.ap_opening.specs.Validity.{ticket_terms}
+use Rattle.ap_presented.specs.Validity.{ticket_terms}
 use Rattle.tgs_exchange.specs.Terms.{admission_of, terms, terms_if, terms_by, times_of}
 use Rattle.tgs_exchange.specs.Rules.{admitted, client_rules, rules_by}
 use Rattle.tgs_exchange.specs.NamedLaws.{admitted_terms, found_by}

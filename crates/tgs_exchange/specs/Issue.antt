@@ -13,7 +13,7 @@ use Rattle.krb_types.specs.ReqBody.{ReqBody}
 use Rattle.ticket_times.specs.Flags.{tgs_flags}
 use Rattle.tgs_opening.specs.declared.presented.Presented.{Presented}
 use Rattle.tgs_exchange.specs.View.{TgsView}
-use Rattle.ap_opening.specs.Validity.{ticket_terms}
+use Rattle.ap_presented.specs.Validity.{ticket_terms}
 use Rattle.tgs_exchange.specs.declared.terms.Admission.{Admission}
 
 -- the client, its authtime and the authorization data are those of the presented ticket

@@ -6,11 +6,11 @@ use Rattle.std.specs.Ordering.{int_eq}
 use Rattle.std.specs.Cmp.Lexicographic.{pointwise}
 use Rattle.lists.specs.Optional.{holds_of}
 use Rattle.lists.specs.Refusals.{Rule, first_holding}
-use Rattle.ap_opening.specs.Authenticators.{authenticator_in, is_mismatched, subkey_in}
-use Rattle.ap_opening.specs.HeldKey.{HeldKey, lacks_key, lacks_version}
-use Rattle.ap_opening.specs.Tickets.{is_other_version, part_of}
-use Rattle.ap_opening.specs.Validity.{has_ended, ticket_terms}
-use Rattle.ap_opening.specs.declared.refusal.ApRefusal.TheVariants as ap_refusals
+use Rattle.ap_presented.specs.Authenticators.{authenticator_in, is_mismatched, subkey_in}
+use Rattle.ap_presented.specs.HeldKey.{HeldKey, lacks_key, lacks_version}
+use Rattle.ap_presented.specs.Tickets.{is_other_version, part_of}
+use Rattle.ap_presented.specs.Validity.{has_ended, ticket_terms}
+use Rattle.ap_presented.specs.declared.refusal.ApRefusal.TheVariants as ap_refusals
 use Rattle.enctypes.specs.declared.key.Key.{Key}
 use Rattle.enctypes.specs.declared.key_usage.KeyUsage.TheVariants.{TgsReqAuthenticator}
 use Rattle.kdc_replies.specs.Standing.{is_disabled, is_expired}

@@ -5,12 +5,12 @@ use Rattle.lists.specs.ClearLaws.{decided_clear}
 use Rattle.lists.specs.ConditionLaws.{clear_of}
 use Rattle.lists.specs.Refusals.{Rule, decided, first_holding, unless_refused}
 use Rattle.lists.specs.Stages.{◌>>=◌}
-use Rattle.ap_opening.specs.Authenticators.{authenticator_in, authenticator_of, part_rules, session_key_of, subkey_in}
-use Rattle.ap_opening.specs.HeldKey.{HeldKey}
-use Rattle.ap_opening.specs.Tickets.{part_of, shown_ticket as shown_by, ticket_rules}
-use Rattle.ap_opening.specs.declared.authenticated.Authenticated.{Authenticated}
-use Rattle.ap_opening.specs.declared.refusal.ApRefusal.{ApRefusal}
-use Rattle.ap_opening.specs.declared.refusal.ApRefusal.TheVariants as ap_refusals
+use Rattle.ap_presented.specs.Authenticators.{authenticator_in, authenticator_of, part_rules, session_key_of, subkey_in}
+use Rattle.ap_presented.specs.HeldKey.{HeldKey}
+use Rattle.ap_presented.specs.Tickets.{part_of, shown_ticket as shown_by, ticket_rules}
+use Rattle.ap_presented.specs.declared.authenticated.Authenticated.{Authenticated}
+use Rattle.ap_presented.specs.declared.refusal.ApRefusal.{ApRefusal}
+use Rattle.ap_presented.specs.declared.refusal.ApRefusal.TheVariants as ap_refusals
 use Rattle.enctypes.specs.declared.key.Key.{Key}
 use Rattle.enctypes.specs.declared.key_usage.KeyUsage.TheVariants.{TgsReqAuthenticator}
 use Rattle.krb_types.specs.ApReq.{ApReq}
@@ -33,7 +33,7 @@ use Rattle.tgs_opening.specs.declared.refusal.TgsRefusal.{TgsRefusal}
 use Rattle.tgs_opening.specs.declared.refusal.TgsRefusal.TheVariants as tgs
 use Rattle.tgs_opening.specs.declared.rejection.Rejection.{Rejection}
 use Rattle.ticket_times.specs.declared.times.Times.{Times}
-use Rattle.ap_opening.specs.Validity.{ticket_terms}
+use Rattle.ap_presented.specs.Validity.{ticket_terms}
 use Rattle.tgs_exchange.specs.Decision.{by_admission, by_client, by_verdict, decision, verdict_on}
 use Rattle.tgs_exchange.specs.Refusals.{Proved, Shown, TgsFacts, facts_by, facts_of, facts_shown, key_shown, part_shown}
 use Rattle.tgs_exchange.specs.Refusals.{proved_by, refusals, ruling, shown_in}

@@ -24,8 +24,8 @@ use Rattle.tgs_opening.specs.declared.presented.Presented.{Presented}
 use Rattle.tgs_opening.specs.declared.refusal.TgsRefusal.{TgsRefusal}
 use Rattle.tgs_opening.specs.declared.refusal.TgsRefusal.TheVariants.{ClientUnknown, ClientDisabled, ClientExpired}
 use Rattle.tgs_opening.specs.declared.refusal.TgsRefusal.TheVariants.{TicketRevoked}
-use Rattle.ap_opening.specs.Validity.{has_ended, has_not_started, ticket_terms}
-use Rattle.ap_opening.specs.declared.refusal.ApRefusal.TheVariants.{NotYetValid, TicketExpired}
+use Rattle.ap_presented.specs.Validity.{has_ended, has_not_started, ticket_terms}
+use Rattle.ap_presented.specs.declared.refusal.ApRefusal.TheVariants.{NotYetValid, TicketExpired}
 use Rattle.tgs_opening.specs.declared.refusal.TgsRefusal.TheVariants.{Ap, ServiceUnknown}
 use Rattle.tgs_opening.specs.declared.refusal.TgsRefusal.TheVariants.{ServiceDenied, ServiceRevoked, ServiceExpired}
 use Rattle.tgs_opening.specs.declared.refusal.TgsRefusal.TheVariants.{OtherService, AuthorizationData}

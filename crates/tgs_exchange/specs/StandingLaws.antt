@@ -22,7 +22,7 @@ use Rattle.tgs_opening.specs.declared.refusal.TgsRefusal.TheVariants.{ClientDisa
 use Rattle.tgs_opening.specs.declared.refusal.TgsRefusal.TheVariants.{NeverValid, ServiceDenied, ServiceExpired}
 use Rattle.tgs_opening.specs.declared.refusal.TgsRefusal.TheVariants.{ServiceRevoked, ServiceUnknown}
 use Rattle.tgs_exchange.specs.View.{TgsView}
-use Rattle.ap_opening.specs.Validity.{ticket_terms}
+use Rattle.ap_presented.specs.Validity.{ticket_terms}
 use Rattle.tgs_exchange.specs.Terms.{admission_of, terms, times_of}
 use Rattle.tgs_exchange.specs.Rules.{admitted, client_rules, rules_by}
 use Rattle.tgs_exchange.specs.Decision.{by_admission, by_client, by_verdict, verdict_on}

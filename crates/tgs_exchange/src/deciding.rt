@@ -10,7 +10,7 @@ use crate::decision::Decision;
 use crate::rules::{admitted, client_rules};
 use crate::terms::{Admission, terms_for};
 use crate::view::TgsView;
-use ap_opening::ApRefusal;
+use ap_presented::ApRefusal;
 use krb_fields::Moment;
 use krb_types::ReqBodyRef;
 use lists::first_holding;

@@ -9,11 +9,11 @@ ghost use Rattle.tgs_exchange.specs.Outcome.{granted_by};
 ghost use Rattle.ticket_times.specs.Flags.{tgs_flags};
 ghost use Rattle.tgs_exchange.specs.Known.{IsKnown};
 ghost use Rattle.tgs_exchange.specs.NamedLaws.{IsNamed};
-ghost use Rattle.ap_opening.specs.Validity.{ticket_terms};
+ghost use Rattle.ap_presented.specs.Validity.{ticket_terms};
 
 use crate::terms::Admission;
 use crate::view::TgsView;
-use ap_opening::ticket_terms;
+use ap_presented::ticket_terms;
 use enctypes::KeyUsage;
 use kdc_replies::{Grant, Granted, Incoming, ReplyInputs, session_key, ticket_reply};
 use krb_elements::{KerberosStringRef, Lent, Seq};

@@ -9,7 +9,7 @@ ghost use Rattle.tgs_exchange.specs.Rules.{is_service_denied, starts_late};
 
 use crate::terms::{Admission, Terms, admission_of, times_of};
 use crate::view::TgsView;
-use ap_opening::{ApRefusal, has_ended, has_not_started, ticket_terms};
+use ap_presented::{ApRefusal, has_ended, has_not_started, ticket_terms};
 use kdc_replies::{denies_tickets, is_disabled, is_expired};
 use krb_fields::{KdcOption, Moment, Name, Second, TicketFlag};
 use krb_types::ReqBodyRef;

@@ -9,7 +9,7 @@ use Rattle.krb_types.specs.Authenticator.{Authenticator}
 use Rattle.krb_types.specs.EncTicketPart.{EncTicketPart, enc_ticket_part}
 use Rattle.krb_types.specs.KdcReq.{Received}
 use Rattle.sealed_parts.specs.Parts.{IsSpelledWithin}
-use Rattle.ap_opening.specs.Authenticators.{authenticator_of, session_key_of}
+use Rattle.ap_presented.specs.Authenticators.{authenticator_of, session_key_of}
 use Rattle.tgs_opening.specs.Authenticators.{subkey_of}
 use Rattle.tgs_opening.specs.Opening.{authenticated}
 use Rattle.tgs_opening.specs.PartLaws.{AreFew, few_data}

@@ -13,8 +13,8 @@ use Rattle.enctypes.specs.declared.key_usage.KeyUsage.TheVariants.{TgsReqAuthent
 use Rattle.krb_fields.specs.Typed.{Typed}
 use Rattle.krb_types.specs.Authenticator.{Authenticator}
 use Rattle.krb_types.specs.EncTicketPart.{EncTicketPart}
-use Rattle.ap_opening.specs.Authenticators.{is_mismatched, subkey_in}
-use Rattle.ap_opening.specs.declared.refusal.ApRefusal.TheVariants.{BadMatch, BadSubkey}
+use Rattle.ap_presented.specs.Authenticators.{is_mismatched, subkey_in}
+use Rattle.ap_presented.specs.declared.refusal.ApRefusal.TheVariants.{BadMatch, BadSubkey}
 use Rattle.tgs_opening.specs.declared.refusal.TgsRefusal.{TgsRefusal}
 use Rattle.tgs_opening.specs.declared.refusal.TgsRefusal.TheVariants.{Ap, NoChecksum, BadChecksumType, Modified}
 

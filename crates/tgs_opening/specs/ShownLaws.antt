@@ -20,10 +20,10 @@ use Rattle.krb_types.specs.EncTicketPart.{EncTicketPart, enc_ticket_part}
 use Rattle.preauth.specs.Keys.{key_named}
 use Rattle.principal_rows.specs.declared.row.Row.{Row}
 use Rattle.sealed_parts.specs.Parts.{opened_as}
-use Rattle.ap_opening.specs.Refusal.{place_of}
-use Rattle.ap_opening.specs.Tickets.{opened_with, part_of, shown_ticket as shown, ticket_rules}
-use Rattle.ap_opening.specs.declared.refusal.ApRefusal.{ApRefusal}
-use Rattle.ap_opening.specs.declared.refusal.ApRefusal.TheVariants.{NotForUs, TicketNotOpened}
+use Rattle.ap_presented.specs.Refusal.{place_of}
+use Rattle.ap_presented.specs.Tickets.{opened_with, part_of, shown_ticket as shown, ticket_rules}
+use Rattle.ap_presented.specs.declared.refusal.ApRefusal.{ApRefusal}
+use Rattle.ap_presented.specs.declared.refusal.ApRefusal.TheVariants.{NotForUs, TicketNotOpened}
 use Rattle.tgs_opening.specs.Opening.{opened_ticket, presented}
 use Rattle.tgs_opening.specs.OpeningLaws.{ticket_opened}
 use Rattle.tgs_opening.specs.Refusal.{by_ap}

@@ -25,9 +25,9 @@ use Rattle.principal_rows.specs.declared.row.KeyVersion.{KeyVersion}
 use Rattle.principal_rows.specs.declared.row.Row.{Row}
 use Rattle.krb_fields.specs.Granting.{tgs_principal}
 use Rattle.ticket_times.specs.Asked.{keeps_ticket}
-use Rattle.ap_opening.specs.Authenticators.{is_same}
-use Rattle.ap_opening.specs.HeldKey.{HeldKey}
-use Rattle.ap_opening.specs.Tickets.{shown_ticket as shown}
+use Rattle.ap_presented.specs.Authenticators.{is_same}
+use Rattle.ap_presented.specs.HeldKey.{HeldKey}
+use Rattle.ap_presented.specs.Tickets.{shown_ticket as shown}
 use Rattle.tgs_opening.specs.Refusal.{by_ap}
 use Rattle.tgs_opening.specs.View.{TicketView}
 use Rattle.tgs_opening.specs.declared.refusal.TgsRefusal.{TgsRefusal}

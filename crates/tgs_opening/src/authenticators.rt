@@ -6,7 +6,7 @@ ghost use Rattle.enctypes.specs.Sealing.{mac};
 ghost use Rattle.tgs_opening.specs.Authenticators.{authenticator_rules, is_modified, is_other_type, subkey_of};
 
 use crate::refusal::TgsRefusal;
-use ap_opening::{ApRefusal, is_mismatched, subkey_in};
+use ap_presented::{ApRefusal, is_mismatched, subkey_in};
 use enctypes::{Key, KeyUsage};
 use krb_fields::Typed;
 use krb_types::{Authenticator, EncTicketPart};

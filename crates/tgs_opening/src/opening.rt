@@ -15,7 +15,7 @@ use crate::refusal::TgsRefusal;
 use crate::rejection::Rejection;
 use crate::tickets::{ap_req_of, shown_ticket};
 use crate::view::TicketView;
-use ap_opening::{Authenticated, authenticator_of, session_key_of};
+use ap_presented::{Authenticated, authenticator_of, session_key_of};
 use enctypes::KeyUsage;
 use krb_types::KdcReqRef;
 use lists::Attempt;

@@ -14,10 +14,10 @@ use Rattle.enctypes.specs.KeyUsage.{usage_number}
 use Rattle.enctypes.specs.declared.key.Key.{Key}
 use Rattle.enctypes.specs.declared.key_usage.KeyUsage.TheVariants.{Ticket as TicketUsage}
 use Rattle.sealed_parts.specs.Parts.{opened_as}
-use Rattle.ap_opening.specs.HeldKey.{HeldKey, lacks_key, lacks_version}
-use Rattle.ap_opening.specs.declared.refusal.ApRefusal.{ApRefusal}
-use Rattle.ap_opening.specs.declared.refusal.ApRefusal.TheVariants.{BadVersion, BadMessageType, SessionKeyAsked}
-use Rattle.ap_opening.specs.declared.refusal.ApRefusal.TheVariants.{NotForUs, NoKey, BadKeyVersion, TicketNotOpened}
+use Rattle.ap_presented.specs.HeldKey.{HeldKey, lacks_key, lacks_version}
+use Rattle.ap_presented.specs.declared.refusal.ApRefusal.{ApRefusal}
+use Rattle.ap_presented.specs.declared.refusal.ApRefusal.TheVariants.{BadVersion, BadMessageType, SessionKeyAsked}
+use Rattle.ap_presented.specs.declared.refusal.ApRefusal.TheVariants.{NotForUs, NoKey, BadKeyVersion, TicketNotOpened}
 
 abbrev pub is_other_version : ApReq → Bool
 is_other_version ap = not (int_eq ap.pvno PVNO) || not (int_eq ap.ticket.tkt_vno PVNO)

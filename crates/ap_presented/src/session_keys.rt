@@ -1,6 +1,6 @@
 //! The session key of a presented ticket (RFC 4120, section 3.2.3).
 ghost use Rattle.std.specs.Prelude.{◌≡◌};
-ghost use Rattle.ap_opening.specs.Authenticators.{part_rules, session_key_of};
+ghost use Rattle.ap_presented.specs.Authenticators.{part_rules, session_key_of};
 
 use crate::refusal::ApRefusal;
 use enctypes::Key;

@@ -2,12 +2,12 @@
 use Rattle.std.specs.Prelude.{ℕ, List, [], ◌∷◌, codes as octets}
 use Rattle.krb_fields.specs.declared.code.Code.{Code}
 use Rattle.krb_fields.specs.declared.code.Code as codes
-use Rattle.ap_opening.specs.declared.refusal.ApRefusal.{ApRefusal}
-use Rattle.ap_opening.specs.declared.refusal.ApRefusal.TheVariants.{BadVersion, BadMessageType, SessionKeyAsked}
-use Rattle.ap_opening.specs.declared.refusal.ApRefusal.TheVariants.{NotForUs, NoKey, BadKeyVersion, TicketNotOpened}
-use Rattle.ap_opening.specs.declared.refusal.ApRefusal.TheVariants.{ForeignClient, BoundAddress, BadSessionKey}
-use Rattle.ap_opening.specs.declared.refusal.ApRefusal.TheVariants.{AuthenticatorNotOpened, BadMatch, BadSubkey}
-use Rattle.ap_opening.specs.declared.refusal.ApRefusal.TheVariants.{Skewed, Repeated, Full, NotYetValid, TicketExpired}
+use Rattle.ap_presented.specs.declared.refusal.ApRefusal.{ApRefusal}
+use Rattle.ap_presented.specs.declared.refusal.ApRefusal.TheVariants.{BadVersion, BadMessageType, SessionKeyAsked}
+use Rattle.ap_presented.specs.declared.refusal.ApRefusal.TheVariants.{NotForUs, NoKey, BadKeyVersion, TicketNotOpened}
+use Rattle.ap_presented.specs.declared.refusal.ApRefusal.TheVariants.{ForeignClient, BoundAddress, BadSessionKey}
+use Rattle.ap_presented.specs.declared.refusal.ApRefusal.TheVariants.{AuthenticatorNotOpened, BadMatch, BadSubkey}
+use Rattle.ap_presented.specs.declared.refusal.ApRefusal.TheVariants.{Skewed, Repeated, Full, NotYetValid, TicketExpired}
 
 -- the code that a server answers with, given its code for a foreign client
 abbrev pub code_by : Code → ApRefusal → Code

@@ -2,7 +2,7 @@
 ghost use Rattle.std.specs.Prelude.{◌≡◌, is_some, None, option_copied};
 ghost use Rattle.cred_files.specs.Keytab.{entry_for};
 ghost use Rattle.sealed_parts.specs.Keys.{type_numbered};
-ghost use Rattle.ap_opening.specs.Keytab.{held_in, service_of, ticket_key};
+ghost use Rattle.ap_presented.specs.Keytab.{held_in, service_of, ticket_key};
 
 use crate::held_key::HeldKey;
 use cred_files::Keytab;

@@ -1,6 +1,6 @@
 //! The key that decrypts a ticket.
 ghost use Rattle.std.specs.Prelude.{◌≡◌, not, option_copied};
-ghost use Rattle.ap_opening.specs.HeldKey.{lacks_key, lacks_version};
+ghost use Rattle.ap_presented.specs.HeldKey.{lacks_key, lacks_version};
 
 use enctypes::Key;
 use krb_fields::EncryptedDataRef;
@@ -19,7 +19,7 @@ pub struct HeldKey<'k> {
 
 impl<'k> Model for HeldKey<'k> {
     ghost use Rattle.std.specs.Prelude.{option_copied};
-    ghost use Rattle.ap_opening.specs.HeldKey as trees;
+    ghost use Rattle.ap_presented.specs.HeldKey as trees;
 
     ghost Value = { trees.HeldKey };
 

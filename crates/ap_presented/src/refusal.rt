@@ -1,6 +1,6 @@
 //! The reasons to refuse an AP-REQ.
 ghost use Rattle.std.specs.Prelude.{◌≡◌, ◌<◌};
-ghost use Rattle.ap_opening.specs.Refusal.{code_by, code_of, place_of, refusal_count, word_of};
+ghost use Rattle.ap_presented.specs.Refusal.{code_by, code_of, place_of, refusal_count, word_of};
 
 use krb_fields::Code;
 

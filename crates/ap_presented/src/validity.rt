@@ -1,6 +1,6 @@
 //! Whether a ticket is valid at a moment, by its times (RFC 4120, section 3.2.3).
 ghost use Rattle.std.specs.Prelude.{◌≡◌};
-ghost use Rattle.ap_opening.specs.Validity.{has_ended, has_not_started, ticket_terms};
+ghost use Rattle.ap_presented.specs.Validity.{has_ended, has_not_started, ticket_terms};
 
 use krb_fields::{Moment, SKEW};
 use krb_types::EncTicketPart;

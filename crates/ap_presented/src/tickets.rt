@@ -3,7 +3,7 @@ ghost use Rattle.std.specs.Prelude.{◌≡◌, IfOk, IfSome, option_copied};
 ghost use Rattle.enctypes.specs.KeyUsage.{usage_number};
 ghost use Rattle.krb_types.specs.EncTicketPart.{enc_ticket_part};
 ghost use Rattle.sealed_parts.specs.Parts.{IsSpelledWithin};
-ghost use Rattle.ap_opening.specs.Tickets.{is_other_version, opened_with, shown_ticket, ticket_rules};
+ghost use Rattle.ap_presented.specs.Tickets.{is_other_version, opened_with, shown_ticket, ticket_rules};
 
 use crate::decryption::open_by;
 use crate::held_key::{HeldKey, lacks_key, lacks_version};

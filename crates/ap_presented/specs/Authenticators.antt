@@ -17,9 +17,9 @@ use Rattle.krb_types.specs.Authenticator.{Authenticator, authenticator}
 use Rattle.krb_types.specs.EncTicketPart.{EncTicketPart}
 use Rattle.sealed_parts.specs.Keys.{key_of}
 use Rattle.sealed_parts.specs.Parts.{opened_as}
-use Rattle.ap_opening.specs.declared.refusal.ApRefusal.{ApRefusal}
-use Rattle.ap_opening.specs.declared.refusal.ApRefusal.TheVariants.{ForeignClient, BoundAddress, BadSessionKey}
-use Rattle.ap_opening.specs.declared.refusal.ApRefusal.TheVariants.{AuthenticatorNotOpened}
+use Rattle.ap_presented.specs.declared.refusal.ApRefusal.{ApRefusal}
+use Rattle.ap_presented.specs.declared.refusal.ApRefusal.TheVariants.{ForeignClient, BoundAddress, BadSessionKey}
+use Rattle.ap_presented.specs.declared.refusal.ApRefusal.TheVariants.{AuthenticatorNotOpened}
 
 -- ---- the session key
 

@@ -6,7 +6,7 @@ use Rattle.enctypes.specs.declared.key.Key.{Key}
 use Rattle.krb_fields.specs.Name.{Components}
 use Rattle.krb_types.specs.Ticket.{Ticket}
 use Rattle.sealed_parts.specs.Keys.{type_numbered}
-use Rattle.ap_opening.specs.HeldKey.{HeldKey}
+use Rattle.ap_presented.specs.HeldKey.{HeldKey}
 
 -- a service is known by its realm and the components of its name
 abbrev pub service_of : Ticket → Components

@@ -1,7 +1,7 @@
 use Rattle.std.proofs.Common.{IfOk, IfSome, subst}
 use Rattle.krb_types.specs.EncTicketPart.{enc_ticket_part}
 use Rattle.sealed_parts.specs.Parts.{IsSpelledWithin}
-use Rattle.ap_opening.proofs.tickets.part_of.Goals as goal
+use Rattle.ap_presented.proofs.tickets.part_of.Goals as goal
 
 pub returns-in-Some-clause-within : goal.returns-in-Some-clause-within
 returns-in-Some-clause-within c =

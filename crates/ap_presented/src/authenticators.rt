@@ -1,6 +1,6 @@
 //! The authenticator of an AP-REQ (RFC 4120, sections 3.2.3 and 5.5.1).
 ghost use Rattle.std.specs.Prelude.{◌≡◌, IfOk, option_copied};
-ghost use Rattle.ap_opening.specs.Authenticators.{authenticator_in, authenticator_of, is_mismatched, subkey_in};
+ghost use Rattle.ap_presented.specs.Authenticators.{authenticator_in, authenticator_of, is_mismatched, subkey_in};
 
 use crate::decryption::open_by;
 use crate::refusal::ApRefusal;
