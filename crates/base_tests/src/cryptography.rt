@@ -3,6 +3,7 @@
 
 mod aes;
 mod derivations;
+mod digit_vectors;
 pub mod fixtures;
 mod parts;
 mod sealing;

@@ -4,6 +4,7 @@ mod changes;
 mod database_texts;
 mod databases;
 mod fixtures;
+mod journal_files;
 mod journals;
 mod replays;
 mod rows;

@@ -4,8 +4,8 @@ use crate::fixtures::{BEGIN, END, JUDGED, holds, mark, octets};
 use crate::kdcs::{opened, with_one};
 use crate::messages::message;
 use kdc_hub::{
-    Action, CloseReason, Event, Hub, HubFault, Look, MemoryRows, MemoryWire, Peer, Served, Wire,
-    WireCall, serve, serve_life,
+    Action, CloseReason, Event, Hub, Look, MemoryRows, MemoryWire, Peer, Served, Wire, WireCall,
+    serve, serve_life,
 };
 use krb_elements::Octets;
 use krb_fields::Moment;
@@ -25,7 +25,7 @@ const CODE: usize = 42;
 
 /// An event.
 #[derive(Clone, Copy)]
-enum Come {
+pub(crate) enum Come {
     /// The stream's first request comes in a datagram from this port.
     Datagram(u16),
     /// Connections with these numbers are opened, the last one included.
@@ -38,12 +38,12 @@ enum Come {
 /// What is done to a port or a connection. `s` and `w` send and write the reply whose service ends with this letter;
 /// `l` is the reply with code 61 (KRB_ERR_FIELD_TOOLONG). Any other message counts as `?`. `c` closes, for a full table
 /// (`f`), for a length (`l`), or since memory ran out (`m`).
-type Done = (u8, u64, u8);
+pub(crate) type Done = (u8, u64, u8);
 
 /// The length of a request of the stream, with its prefix. A length with its first bit set follows two requests.
-const ONE: usize = 111;
+pub(crate) const ONE: usize = 111;
 
-const TWO: usize = 2 * ONE;
+pub(crate) const TWO: usize = 2 * ONE;
 
 /// Requests from two peers and on two connections, one of them in two pieces.
 const FOUR: &[Come] = &[
@@ -66,7 +66,7 @@ const FOUR_DONE: &[&[Done]] = &[
     &[TO_1001, TO_2, TO_1002],
 ];
 
-const TO_1001: Done = (b's', 1001, b't');
+pub(crate) const TO_1001: Done = (b's', 1001, b't');
 
 const TO_1002: Done = (b's', 1002, b't');
 
@@ -83,51 +83,26 @@ const FULL: &[Come] = &[
     Come::Opened(256, 256),
 ];
 
-/// Two requests in one piece, another one, and a datagram.
-const STEPS: &[Come] = &[
-    Come::Opened(7, 7),
-    Come::Bytes(7, 0, TWO),
-    Come::Bytes(7, 0, ONE),
-    Come::Datagram(1001),
-];
-
-/// What is done then. The connection ends if memory runs out while it opens, with its first piece, before or after a
-/// reply, or with its second piece, and its later pieces get nothing. If memory runs out later, the datagram has no
-/// reply.
-const STEPS_DONE: &[&[Done]] = &[
-    &[TO_7, OTHER_TO_7, TO_7, TO_1001],
-    &[END_OF_7, TO_1001],
-    &[TO_7, END_OF_7, TO_1001],
-    &[TO_7, OTHER_TO_7, END_OF_7, TO_1001],
-    &[TO_7, OTHER_TO_7, TO_7],
-];
-
-const TO_7: Done = (b'w', 7, b't');
-
-const OTHER_TO_7: Done = (b'w', 7, b'u');
-
-const END_OF_7: Done = (b'c', 7, b'm');
-
 /// A run over a wire.
 #[derive(Clone, Copy)]
-struct Case {
-    what: &'static str,
-    comes: &'static [Come],
+pub(crate) struct Case {
+    pub(crate) what: &'static str,
+    pub(crate) comes: &'static [Come],
     /// A call of the wire fails after this many calls, if it is given.
-    calls: Option<u64>,
-    rounds: u32,
-    events: u32,
+    pub(crate) calls: Option<u64>,
+    pub(crate) rounds: u32,
+    pub(crate) events: u32,
     /// How many calls fail.
-    faults: u64,
+    pub(crate) faults: u64,
     /// How many calls the wire gets, if memory does not run out.
-    all_calls: usize,
+    pub(crate) all_calls: usize,
     /// What is done, and then what may be done if a call fails or memory runs out.
-    ways: &'static [&'static [Done]],
+    pub(crate) ways: &'static [&'static [Done]],
     /// Whether the run is a marked call.
-    is_marked: bool,
+    pub(crate) is_marked: bool,
 }
 
-const EACH: Case = Case {
+pub(crate) const EACH: Case = Case {
     what: "each gets its own reply",
     comes: FOUR,
     calls: None,
@@ -188,17 +163,6 @@ const CASES: &[Case] = &[
     },
 ];
 
-const OUT_OF_MEMORY: &[Case] = &[Case {
-    what: "a step out of memory ends only its connection",
-    comes: STEPS,
-    rounds: 4,
-    events: 4,
-    all_calls: 8,
-    ways: STEPS_DONE,
-    is_marked: true,
-    ..EACH
-}];
-
 fn now() -> Result<Moment, Fail> {
     Ok(Moment::new(1_704_067_200, 0).ok_or("a moment")?)
 }
@@ -251,7 +215,7 @@ fn push_come(
     }
 }
 
-fn push_all(
+pub(crate) fn push_all(
     alloc: Global,
     coming: &mut VecDeque<(Moment, Event)>,
     comes: &[Come],
@@ -284,7 +248,7 @@ fn letter(message: &[u8], wanted: &[u8]) -> u8 {
     }
 }
 
-fn done(action: &Action, wanted: &[u8]) -> Done {
+pub(crate) fn done(action: &Action, wanted: &[u8]) -> Done {
     match action {
         Action::SendTo { peer, reply } => {
             let port = u64::from(peer.address.port());
@@ -341,8 +305,8 @@ fn serve_with(
     served
 }
 
-/// Serves the events that come. Only this function and `step_through` drop a hub: each place with a drop takes long to
-/// prove.
+/// Serves the events that come. Only this function and `hub_steps::step_through` drop a hub: each place with a drop
+/// takes long to prove.
 fn serve_wire(alloc: Global, wire: &mut MemoryWire, case: &Case) -> Result<Served, Fail> {
     let kdc = opened(alloc, (0, 0), 0)?;
     let mut hub = Hub::new(alloc, kdc, ChaCha20Rng::from_seed([0; 32]), true);
@@ -372,7 +336,7 @@ fn run(alloc: Global, case: &Case) -> Result<Option<Seen>, Fail> {
 }
 
 /// Checks whether one of these ways was taken: the first one, unless something failed.
-fn is_done(done: &[Done], ways: &[&[Done]], has_failed: bool) -> bool {
+pub(crate) fn is_done(done: &[Done], ways: &[&[Done]], has_failed: bool) -> bool {
     for (place, way) in ways.iter().enumerate() {
         if done == *way {
             return place == 0 || has_failed;
@@ -407,7 +371,7 @@ fn is_right(alloc: Global, case: &Case) -> Result<bool, Fail> {
     Ok(is_as_in_record(&run(alloc, case)?, case))
 }
 
-fn expect(rt: &(impl AllocGlobal + Abort), cases: &[Case]) -> Result<(), Fail> {
+pub(crate) fn expect(rt: &(impl AllocGlobal + Abort), cases: &[Case]) -> Result<(), Fail> {
     for case in cases {
         let is_right = is_right(rt.alloc(), case)?;
         holds(rt, is_right, case.what);
@@ -416,82 +380,9 @@ fn expect(rt: &(impl AllocGlobal + Abort), cases: &[Case]) -> Result<(), Fail> {
     Ok(())
 }
 
-fn push_done(all: &mut Vec<Done>, actions: &[Action], wanted: &[u8]) -> Result<(), Fail> {
-    for action in actions {
-        all.push(done(action, wanted))?;
-    }
-    Ok(())
-}
-
-/// Appends what a step does. A connection that a fault names counts as closed. Returns whether memory ran out.
-fn push_step(
-    all: &mut Vec<Done>,
-    step: Result<Vec<Action>, HubFault>,
-    wanted: &[u8],
-) -> Result<bool, Fail> {
-    match step {
-        Ok(actions) => {
-            push_done(all, &actions, wanted)?;
-            Ok(false)
-        }
-        Err(fault) => {
-            push_done(all, &fault.done, wanted)?;
-            if let Some(conn) = fault.conn {
-                all.push((b'c', conn, b'm'))?;
-            }
-            Ok(true)
-        }
-    }
-}
-
-/// Takes a step for each event, as a marked call. Returns whether memory ran out.
-fn steps(
-    alloc: Global,
-    hub: &mut Hub<ChaCha20Rng>,
-    coming: &mut VecDeque<(Moment, Event)>,
-    all: &mut Vec<Done>,
-) -> Result<bool, Fail> {
-    let wanted = octets(alloc, message("CLIENT_UNKNOWN"))?;
-    let mut has_failed = false;
-    for _ in 0..coming.len() {
-        let Some((at, event)) = coming.pop_front() else {
-            break;
-        };
-        mark(alloc, BEGIN);
-        let step = hub.step(alloc, at, event);
-        mark(alloc, END);
-        if push_step(all, step, &wanted)? {
-            has_failed = true;
-        }
-    }
-    Ok(has_failed)
-}
-
-/// Takes the steps of `STEPS` with a new hub. Returns whether memory ran out.
-fn step_through(alloc: Global, all: &mut Vec<Done>) -> Result<bool, Fail> {
-    let mut coming = VecDeque::new(alloc);
-    push_all(alloc, &mut coming, STEPS)?;
-    let kdc = opened(alloc, (0, 0), 0)?;
-    let mut hub = Hub::new(alloc, kdc, ChaCha20Rng::from_seed([0; 32]), true);
-    steps(alloc, &mut hub, &mut coming, all)
-}
-
-#[test]
-fn a_fault_has_what_was_done_and_the_connection(rt: HostRuntime) -> Result<(), Fail> {
-    let mut all = Vec::new(rt.alloc());
-    let has_failed = step_through(rt.alloc(), &mut all)?;
-    holds(&rt, is_done(&all, STEPS_DONE, has_failed), "the steps");
-    Ok(())
-}
-
 #[test]
 fn events_are_served(rt: HostRuntime) -> Result<(), Fail> {
     expect(&rt, CASES)
-}
-
-#[test]
-fn a_step_out_of_memory_ends_only_its_connection(rt: HostRuntime) -> Result<(), Fail> {
-    expect(&rt, OUT_OF_MEMORY)
 }
 
 #[test]

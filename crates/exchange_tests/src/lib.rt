@@ -2,8 +2,10 @@
 //!
 //! | modules | what they test |
 //! |---|---|
-//! | `kdcs`, `streams`, `hubs` | runs of events of a KDC; streams cut into messages; the hub |
-//! | `runs`, `lines` | a server over a host in memory; the lines of its log |
+//! | `kdcs`, `streams` | runs of events of a KDC (`kdc_runs`); streams cut into messages |
+//! | `hubs`, `hub_steps` | the hub; its steps that run out of memory |
+//! | `runs` | a server over a host in memory |
+//! | `lines`, `outcome_lines` | the lines of its log; those for each rule and each outcome |
 //! | `client`, `acceptor`, `paths` | a client; a service; the whole path between a KDC and both |
 //! | `logins`, `conf_realms` | what no command line of `kclient` shows of `client_login` and of a `krb5.conf` |
 //!
@@ -32,7 +34,11 @@ mod contents;
 #[cfg(test)]
 mod fixtures;
 #[cfg(test)]
+mod hub_steps;
+#[cfg(test)]
 mod hubs;
+#[cfg(test)]
+mod kdc_runs;
 #[cfg(test)]
 mod kdcs;
 #[cfg(test)]
@@ -43,6 +49,8 @@ mod logins;
 mod messages;
 #[cfg(test)]
 mod network;
+#[cfg(test)]
+mod outcome_lines;
 #[cfg(test)]
 mod outcomes;
 #[cfg(test)]

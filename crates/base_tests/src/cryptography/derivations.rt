@@ -2,7 +2,8 @@
 //! (`enctypes`).
 ghost use Rattle.std.specs.Prelude.{◌<◌};
 
-use crate::cryptography::vectors::{DIGITS, Function, Row, TEXTS};
+use crate::cryptography::digit_vectors::DIGITS;
+use crate::cryptography::vectors::{Function, Row, TEXTS};
 use crate::expect::{BEGIN, END, JUDGED, are, bytes, mark, same};
 use enctypes::{Etype, string_to_key};
 use prf_kdf::{
