@@ -26,9 +26,9 @@ PARTS = ("INIT", "CHANGES", "PRINTS", "LATER_CHANGES")
 ADDED = {"kinit": ("KINIT_OPTIONS", "KINIT_FLAGS"), "serve": ("journal_option",)}
 # The words that may stand for a placeholder; `FIELD` has those of a policy besides.
 WORDS = {"FORMAT": "text json", "TYPES": "18,17,20,19 20,19", "VALUE": "true false never"}
-# Where the fields of a policy are, and the texts about them that a table names; and a field there.
+# Where the fields of a policy are, and the texts about them that a table names; and the row of a field there.
 SETTINGS = TOP / "crates/text_fields/src/settings.rt"
-FIELD = re.compile(r'^\s+\w+Field::\w+ => "([a-z_]+)",$', re.M)
+FIELD = re.compile(r'FieldRow::new\("(\w+)", \d+\)')
 # What proposes names of files in bash.
 BASH_FILES = "compopt -o filenames 2>/dev/null; mapfile -t COMPREPLY < <(compgen -f -- \"$word\")"
 HELP, VERSION = ("help", "Prints the options"), ("version", "Prints the version")

@@ -1,12 +1,28 @@
--- Settings made in order.
-use Rattle.std.proofs.Common.{◌≡◌, ℕ, zero, suc, ◌+◌, List, [], ◌∷◌, ◌++◌, length, map, take, set, refl, sym, ap, ◌∙◌}
+-- A field is found by its name; settings made in order.
+use Rattle.std.proofs.Common.{◌≡◌, ℕ, zero, suc, ◌+◌, List, [], ◌∷◌, ◌++◌, length, map, take, set, refl, sym, ap, ◌∙◌, Some}
 use Rattle.std.proofs.Common.{append_assoc, append-nil, arith}
 use Rattle.std.specs.List.{fold}
 use Rattle.std.proofs.lemmas.List.{take_all, length-map, length-set}
 use Rattle.std.proofs.lemmas.Grind.{take-set_at}
 use Rattle.principal_rows.specs.declared.policy.Policy.{Policy}
+use Rattle.text_fields.specs.declared.settings.FlagField.{FlagField}
+use Rattle.text_fields.specs.declared.settings.LifeField.{LifeField}
 use Rattle.text_fields.specs.declared.settings.Setting.{Setting}
+use Rattle.text_fields.specs.declared.settings.TimeField.{TimeField}
 use Rattle.text_fields.specs.Settings.{settings_of, place, with_setting, with_settings}
+use Rattle.text_fields.specs.Settings.{field_named, flag_name, flag_of, life_name, life_of, time_name, time_of}
+
+pub flag_found : (field : FlagField) → flag_of (flag_name field) ≡ Some field
+unfolding field_named
+flag_found field = grind arith
+
+pub life_found : (field : LifeField) → life_of (life_name field) ≡ Some field
+unfolding field_named
+life_found field = grind arith
+
+pub time_found : (field : TimeField) → time_of (time_name field) ≡ Some field
+unfolding field_named
+time_found field = grind arith
 
 -- setting one field replaces its value and leaves all others unchanged
 placed : (s : Setting) (p : Policy) → settings_of (with_setting s p) ≡ set (settings_of p) (place s) s

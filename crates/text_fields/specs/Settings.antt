@@ -1,9 +1,10 @@
 -- Settings of a policy, and the texts that spell them.
 use Rattle.std.specs.Prelude.{◌≡◌, ◌==◌, ℕ, ℤ, pos, ◌<◌, Bool, true, false, List, [], ◌∷◌, length, Option, Some, None}
-use Rattle.std.specs.Prelude.{codes, bytes_eq, is_some, if◌then◌else◌}
+use Rattle.std.specs.Prelude.{codes, bytes_eq, find, option_and_then, option_map}
 use Rattle.std.specs.List.{before_first, after_first, position_or_len, fold}
 use Rattle.std.specs.Str.Parse.{IsNumeral, digits_value}
 use Rattle.krb_fields.specs.Moment.{IsSecond}
+use Rattle.principal_rows.specs.Policy.{default_policy}
 use Rattle.principal_rows.specs.declared.policy.Policy.{Policy}
 use Rattle.text_fields.specs.declared.settings.FieldKind.{FieldKind}
 use Rattle.text_fields.specs.declared.settings.FieldKind.TheVariants as kinds
@@ -19,62 +20,98 @@ use Rattle.text_fields.specs.declared.settings.Setting.TheVariants.{Flag, Life, 
 use Rattle.text_fields.specs.Dates.{IsDateText}
 use Rattle.text_fields.specs.Numbers.{IsU32Text}
 
--- the names of the fields
+-- ---- the fields
+
+-- the name of each, and the version of the database's text that brought it
+abbrev pub flag_row : FlagField → List ℕ × ℕ
+flag_row Disabled = (codes "disabled", 1)
+flag_row Preauth = (codes "preauth", 1)
+flag_row Forwardable = (codes "forwardable", 1)
+flag_row Proxiable = (codes "proxiable", 1)
+flag_row Postdate = (codes "postdate", 1)
+flag_row OkAsDelegate = (codes "ok_as_delegate", 1)
+flag_row Service = (codes "service", 3)
+
+abbrev pub life_row : LifeField → List ℕ × ℕ
+life_row GreatestLife = (codes "greatest_life", 1)
+life_row GreatestRenewable = (codes "greatest_renewable", 1)
+
+abbrev pub time_row : TimeField → List ℕ × ℕ
+time_row Expires = (codes "expires", 1)
+time_row PasswordExpires = (codes "password_expires", 1)
+time_row RevokedBefore = (codes "revoked_before", 2)
+
 abbrev pub flag_name : FlagField → List ℕ
-flag_name Disabled = codes "disabled"
-flag_name Preauth = codes "preauth"
-flag_name Forwardable = codes "forwardable"
-flag_name Proxiable = codes "proxiable"
-flag_name Postdate = codes "postdate"
-flag_name OkAsDelegate = codes "ok_as_delegate"
-flag_name Service = codes "service"
+flag_name field = (flag_row field).0
 
 abbrev pub life_name : LifeField → List ℕ
-life_name GreatestLife = codes "greatest_life"
-life_name GreatestRenewable = codes "greatest_renewable"
+life_name field = (life_row field).0
 
 abbrev pub time_name : TimeField → List ℕ
-time_name Expires = codes "expires"
-time_name PasswordExpires = codes "password_expires"
-time_name RevokedBefore = codes "revoked_before"
+time_name field = (time_row field).0
 
 abbrev pub setting_name : Setting → List ℕ
 setting_name (Flag field on) = flag_name field
 setting_name (Life field life) = life_name field
 setting_name (Time field time) = time_name field
 
--- the field with this name
+abbrev pub since : Setting → ℕ
+since (Flag field on) = (flag_row field).1
+since (Life field life) = (life_row field).1
+since (Time field time) = (time_row field).1
+
+-- the settings of a policy, in the order of their names
+abbrev pub settings_of : Policy → List Setting
+settings_of policy =
+    Flag Disabled policy.disabled
+    ∷ Time Expires policy.expires
+    ∷ Flag Forwardable policy.forwardable
+    ∷ Life GreatestLife policy.greatest_life
+    ∷ Life GreatestRenewable policy.greatest_renewable
+    ∷ Flag OkAsDelegate policy.ok_as_delegate
+    ∷ Time PasswordExpires policy.password_expires
+    ∷ Flag Postdate policy.postdate
+    ∷ Flag Preauth policy.preauth
+    ∷ Flag Proxiable policy.proxiable
+    ∷ Time RevokedBefore policy.revoked_before
+    ∷ Flag Service policy.service
+    ∷ []
+
+-- the field with this name, and its value for a new principal
+unfoldable pub field_named : List ℕ → Option Setting
+field_named name = find (λ setting. bytes_eq (setting_name setting) name) (settings_of default_policy)
+
+abbrev pub as_flag : Setting → Option FlagField
+as_flag (Flag field on) = Some field
+as_flag _ = None
+
 abbrev pub flag_of : List ℕ → Option FlagField
-flag_of name =
-    if bytes_eq name (codes "disabled") then Some Disabled
-    else if bytes_eq name (codes "preauth") then Some Preauth
-    else if bytes_eq name (codes "forwardable") then Some Forwardable
-    else if bytes_eq name (codes "proxiable") then Some Proxiable
-    else if bytes_eq name (codes "postdate") then Some Postdate
-    else if bytes_eq name (codes "ok_as_delegate") then Some OkAsDelegate
-    else if bytes_eq name (codes "service") then Some Service
-    else None
+flag_of name = option_and_then as_flag (field_named name)
+
+abbrev pub as_life : Setting → Option LifeField
+as_life (Life field life) = Some field
+as_life _ = None
 
 abbrev pub life_of : List ℕ → Option LifeField
-life_of name =
-    if bytes_eq name (codes "greatest_life") then Some GreatestLife
-    else if bytes_eq name (codes "greatest_renewable") then Some GreatestRenewable
-    else None
+life_of name = option_and_then as_life (field_named name)
+
+abbrev pub as_time : Setting → Option TimeField
+as_time (Time field time) = Some field
+as_time _ = None
 
 abbrev pub time_of : List ℕ → Option TimeField
-time_of name =
-    if bytes_eq name (codes "expires") then Some Expires
-    else if bytes_eq name (codes "password_expires") then Some PasswordExpires
-    else if bytes_eq name (codes "revoked_before") then Some RevokedBefore
-    else None
+time_of name = option_and_then as_time (field_named name)
 
--- what the value of the field with this name is
+-- what the value of a field is
+abbrev pub kind : Setting → FieldKind
+kind (Flag field on) = kinds.Flag
+kind (Life field life) = kinds.Life
+kind (Time field time) = kinds.Time
+
 abbrev pub field_kind : List ℕ → Option FieldKind
-field_kind name =
-    if is_some (flag_of name) then Some kinds.Flag
-    else if is_some (life_of name) then Some kinds.Life
-    else if is_some (time_of name) then Some kinds.Time
-    else None
+field_kind name = option_map kind (field_named name)
+
+-- ---- their values, as texts
 
 abbrev pub IsFlagText : Bool → List ℕ → Type 0
 IsFlagText true text = text ≡ codes "true"
@@ -126,30 +163,7 @@ newest_version = 3
 abbrev pub newest_version_text : List ℕ
 newest_version_text = codes "3"
 
--- the version that brought a field
-abbrev pub since : Setting → ℕ
-since (Time RevokedBefore time) = 2
-since (Flag Service on) = 3
-since _ = 1
-
--- ---- all settings of a policy
-
--- in the order of their names
-abbrev pub settings_of : Policy → List Setting
-settings_of policy =
-    Flag Disabled policy.disabled
-    ∷ Time Expires policy.expires
-    ∷ Flag Forwardable policy.forwardable
-    ∷ Life GreatestLife policy.greatest_life
-    ∷ Life GreatestRenewable policy.greatest_renewable
-    ∷ Flag OkAsDelegate policy.ok_as_delegate
-    ∷ Time PasswordExpires policy.password_expires
-    ∷ Flag Postdate policy.postdate
-    ∷ Flag Preauth policy.preauth
-    ∷ Flag Proxiable policy.proxiable
-    ∷ Time RevokedBefore policy.revoked_before
-    ∷ Flag Service policy.service
-    ∷ []
+-- ---- setting them in order
 
 -- how many come before the member `keys` of a row
 abbrev pub before_keys : ℕ

@@ -25,6 +25,7 @@ pub fn keytab_text(fault: CredFault) -> &'static str {
 /// The keys of a principal in a keytab.
 #[derive(Clone, Copy)]
 pub struct KeytabKeys<'a> {
+    /// The keytab, which may have keys of others, too.
     pub keytab: &'a Keytab,
     /// The principal's realm.
     pub realm: &'a [u8],

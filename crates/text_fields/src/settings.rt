@@ -1,12 +1,15 @@
 //! Settings: a field of a policy and its new value. Names and values are those of the database's text, with `never` for
 //! null. Here stand also the versions of that text, which a new field changes, and what the help says of fields.
-ghost use Rattle.std.specs.Prelude.{◌≡◌, ℤ, ℕ, Bool, Option, Some, IfSome, IfNone};
+ghost use Rattle.std.specs.Prelude.{◌≡◌, ℤ, ℕ, Bool, Option, Some, IfSome, IfNone, bytes_eq, find};
 ghost use Rattle.std.specs.List.{fold};
+ghost use Rattle.std.specs.Option.{option_copied};
 ghost use Rattle.principal_rows.specs.declared.policy.Policy as policies;
-ghost use Rattle.text_fields.specs.Settings.{flag_name, life_name, time_name, setting_name, flag_of, life_of, time_of};
+ghost use Rattle.text_fields.specs.Settings.{flag_name, life_name, time_name, setting_name, field_named};
+ghost use Rattle.text_fields.specs.Settings.{flag_row, life_row, time_row, since};
+ghost use Rattle.text_fields.specs.Settings.{flag_of, life_of, time_of};
 ghost use Rattle.text_fields.specs.Settings.{IsFlagText, IsTimeText, IsSettingOf, IsSettingText, IsDateOf};
 ghost use Rattle.text_fields.specs.Settings.{with_setting};
-ghost use Rattle.text_fields.specs.Settings.{field_kind, settings_of, since};
+ghost use Rattle.text_fields.specs.Settings.{field_kind, settings_of};
 ghost use Rattle.text_fields.specs.declared.settings.FlagField as flags;
 ghost use Rattle.text_fields.specs.declared.settings.LifeField as lives;
 ghost use Rattle.text_fields.specs.declared.settings.TimeField as times;
@@ -100,47 +103,86 @@ pub enum Setting {
     Time(TimeField, Option<Second>),
 }
 
+/// What the database's text and commands call a field, and the version of that text which brought it.
+#[derive(Clone, Copy)]
+struct FieldRow {
+    name: &'static str,
+    since: u64,
+}
+
+impl FieldRow {
+    fn new(name: &'static str, since: u64) -> FieldRow
+        ensures { (result.name.now ≡ name.now) × (result.since ≡ since) }
+    {
+        FieldRow { name, since }
+    }
+}
+
 impl FlagField {
     /// Returns the field's name in the database's text and in commands.
+    #[tactic(auto, using(crate::specs::SettingLaws::flag_found))]
     pub fn name(self) -> &'static str
         ensures name { result.now ≡ flag_name self }
         ensures found { flag_of result.now ≡ Some self }
     {
+        self.row().name
+    }
+
+    fn row(self) -> FieldRow
+        ensures name { result.name.now ≡ flag_name self }
+        ensures since { result.since ≡ (flag_row self).1 }
+    {
         match self {
-            FlagField::Disabled => "disabled",
-            FlagField::Preauth => "preauth",
-            FlagField::Forwardable => "forwardable",
-            FlagField::Proxiable => "proxiable",
-            FlagField::Postdate => "postdate",
-            FlagField::OkAsDelegate => "ok_as_delegate",
-            FlagField::Service => "service",
+            FlagField::Disabled => FieldRow::new("disabled", 1),
+            FlagField::Preauth => FieldRow::new("preauth", 1),
+            FlagField::Forwardable => FieldRow::new("forwardable", 1),
+            FlagField::Proxiable => FieldRow::new("proxiable", 1),
+            FlagField::Postdate => FieldRow::new("postdate", 1),
+            FlagField::OkAsDelegate => FieldRow::new("ok_as_delegate", 1),
+            FlagField::Service => FieldRow::new("service", 3),
         }
     }
 }
 
 impl LifeField {
     /// Returns the field's name in the database's text and in commands.
+    #[tactic(auto, using(crate::specs::SettingLaws::life_found))]
     pub fn name(self) -> &'static str
         ensures name { result.now ≡ life_name self }
         ensures found { life_of result.now ≡ Some self }
     {
+        self.row().name
+    }
+
+    fn row(self) -> FieldRow
+        ensures name { result.name.now ≡ life_name self }
+        ensures since { result.since ≡ (life_row self).1 }
+    {
         match self {
-            LifeField::GreatestLife => "greatest_life",
-            LifeField::GreatestRenewable => "greatest_renewable",
+            LifeField::GreatestLife => FieldRow::new("greatest_life", 1),
+            LifeField::GreatestRenewable => FieldRow::new("greatest_renewable", 1),
         }
     }
 }
 
 impl TimeField {
     /// Returns the field's name in the database's text and in commands.
+    #[tactic(auto, using(crate::specs::SettingLaws::time_found))]
     pub fn name(self) -> &'static str
         ensures name { result.now ≡ time_name self }
         ensures found { time_of result.now ≡ Some self }
     {
+        self.row().name
+    }
+
+    fn row(self) -> FieldRow
+        ensures name { result.name.now ≡ time_name self }
+        ensures since { result.since ≡ (time_row self).1 }
+    {
         match self {
-            TimeField::Expires => "expires",
-            TimeField::PasswordExpires => "password_expires",
-            TimeField::RevokedBefore => "revoked_before",
+            TimeField::Expires => FieldRow::new("expires", 1),
+            TimeField::PasswordExpires => FieldRow::new("password_expires", 1),
+            TimeField::RevokedBefore => FieldRow::new("revoked_before", 2),
         }
     }
 }
@@ -161,13 +203,11 @@ impl Setting {
         ensures read { IfSome result (λ setting. IsSettingOf setting name.now value.now) }
         ensures none { IfNone result ((setting : settings.Setting) → ¬ IsSettingOf setting name.now value.now) }
     {
-        if let Some(setting) = flag_setting(name, value) {
-            return Some(setting);
+        match field_named(name)? {
+            Setting::Flag(field, _) => Some(Setting::Flag(field, flag(value)?)),
+            Setting::Life(field, _) => Some(Setting::Life(field, number_u32(value)?)),
+            Setting::Time(field, _) => Some(Setting::Time(field, time(value)?)),
         }
-        if let Some(setting) = life_setting(name, value) {
-            return Some(setting);
-        }
-        time_setting(name, value)
     }
 
     /// Reads a date as the value of the field with this name. Returns `None` if there is no such field, its value is
@@ -179,25 +219,28 @@ impl Setting {
         Some(Setting::Time(time_field(name)?, Some(date(value)?)))
     }
 
-    /// Returns the name of the field.
+    /// Returns the field's name in the database's text and in commands.
     pub fn name(self) -> &'static str
         ensures { result.now ≡ setting_name self }
     {
-        match self {
-            Setting::Flag(field, _) => field.name(),
-            Setting::Life(field, _) => field.name(),
-            Setting::Time(field, _) => field.name(),
-        }
+        self.row().name
     }
 
     /// Returns the number of the version of the database's text that brought the field.
     pub fn since(self) -> u64
         ensures { result ≡ since self }
     {
+        self.row().since
+    }
+
+    fn row(self) -> FieldRow
+        ensures name { result.name.now ≡ setting_name self }
+        ensures since { result.since ≡ since self }
+    {
         match self {
-            Setting::Time(TimeField::RevokedBefore, _) => 2,
-            Setting::Flag(FlagField::Service, _) => 3,
-            _ => 1,
+            Setting::Flag(field, _) => field.row(),
+            Setting::Life(field, _) => field.row(),
+            Setting::Time(field, _) => field.row(),
         }
     }
 
@@ -249,75 +292,27 @@ impl Setting {
 /// The field's name and its value, with a space between them. A second is followed by its date.
 impl fmt::Display for Setting {
     fn fmt<W: fmt::Write>(&self, f: &mut fmt::Formatter<W>) -> fmt::Result {
+        let name = self.name();
         match self {
-            Setting::Flag(field, on) => write!(f, "{} {on}", field.name()),
-            Setting::Life(field, life) => write!(f, "{} {life}", field.name()),
-            Setting::Time(field, None) => write!(f, "{} never", field.name()),
-            Setting::Time(field, Some(second)) => {
-                write!(f, "{} {} {}", field.name(), second.get(), UtcDate(*second))
+            Setting::Flag(_, on) => write!(f, "{name} {on}"),
+            Setting::Life(_, life) => write!(f, "{name} {life}"),
+            Setting::Time(_, None) => write!(f, "{name} never"),
+            Setting::Time(_, Some(second)) => {
+                write!(f, "{name} {} {}", second.get(), UtcDate(*second))
             }
         }
     }
-}
-
-fn flag_setting(name: &str, value: &str) -> Option<Setting>
-    ensures read { IfSome result (λ setting. IsSettingOf setting name.now value.now) }
-    ensures none { IfNone result ((field : flags.FlagField) (on : Bool)
-        → ¬ IsSettingOf (kinds.Flag field on) name.now value.now) }
-{
-    Some(Setting::Flag(flag_field(name)?, flag(value)?))
-}
-
-fn life_setting(name: &str, value: &str) -> Option<Setting>
-    ensures read { IfSome result (λ setting. IsSettingOf setting name.now value.now) }
-    ensures none { IfNone result ((field : lives.LifeField) (life : ℕ)
-        → ¬ IsSettingOf (kinds.Life field life) name.now value.now) }
-{
-    Some(Setting::Life(life_field(name)?, number_u32(value)?))
-}
-
-fn time_setting(name: &str, value: &str) -> Option<Setting>
-    ensures read { IfSome result (λ setting. IsSettingOf setting name.now value.now) }
-    ensures none { IfNone result ((field : times.TimeField) (time : Option ℤ)
-        → ¬ IsSettingOf (kinds.Time field time) name.now value.now) }
-{
-    Some(Setting::Time(time_field(name)?, time(value)?))
 }
 
 /// Returns what the value of the field with this name is. `None` if a policy has no such field.
 pub fn field_kind(name: &str) -> Option<FieldKind>
     ensures { result ≡ field_kind name.now }
 {
-    if flag_field(name).is_some() {
-        Some(FieldKind::Flag)
-    } else if life_field(name).is_some() {
-        Some(FieldKind::Life)
-    } else if time_field(name).is_some() {
-        Some(FieldKind::Time)
-    } else {
-        None
-    }
-}
-
-fn flag_field(name: &str) -> Option<FlagField>
-    ensures { result ≡ flag_of name.now }
-{
-    if name == "disabled" {
-        Some(FlagField::Disabled)
-    } else if name == "preauth" {
-        Some(FlagField::Preauth)
-    } else if name == "forwardable" {
-        Some(FlagField::Forwardable)
-    } else if name == "proxiable" {
-        Some(FlagField::Proxiable)
-    } else if name == "postdate" {
-        Some(FlagField::Postdate)
-    } else if name == "ok_as_delegate" {
-        Some(FlagField::OkAsDelegate)
-    } else if name == "service" {
-        Some(FlagField::Service)
-    } else {
-        None
+    match field_named(name) {
+        Some(Setting::Flag(..)) => Some(FieldKind::Flag),
+        Some(Setting::Life(..)) => Some(FieldKind::Life),
+        Some(Setting::Time(..)) => Some(FieldKind::Time),
+        None => None,
     }
 }
 
@@ -325,12 +320,9 @@ fn flag_field(name: &str) -> Option<FlagField>
 pub(crate) fn life_field(name: &str) -> Option<LifeField>
     ensures { result ≡ life_of name.now }
 {
-    if name == "greatest_life" {
-        Some(LifeField::GreatestLife)
-    } else if name == "greatest_renewable" {
-        Some(LifeField::GreatestRenewable)
-    } else {
-        None
+    match field_named(name) {
+        Some(Setting::Life(field, _)) => Some(field),
+        _ => None,
     }
 }
 
@@ -338,15 +330,25 @@ pub(crate) fn life_field(name: &str) -> Option<LifeField>
 pub(crate) fn time_field(name: &str) -> Option<TimeField>
     ensures { result ≡ time_of name.now }
 {
-    if name == "expires" {
-        Some(TimeField::Expires)
-    } else if name == "password_expires" {
-        Some(TimeField::PasswordExpires)
-    } else if name == "revoked_before" {
-        Some(TimeField::RevokedBefore)
-    } else {
-        None
+    match field_named(name) {
+        Some(Setting::Time(field, _)) => Some(field),
+        _ => None,
     }
+}
+
+/// Returns the field with this name, and its value for a new principal.
+#[tactic(auto, unfolding(crate::specs::Settings::field_named))]
+fn field_named(name: &str) -> Option<Setting>
+    ensures { result ≡ field_named name.now }
+{
+    named(&Setting::all(Policy::default()), name).copied()
+}
+
+/// Returns the first of the settings whose field has this name.
+fn named<'a>(settings: &'a [Setting], name: &str) -> Option<&'a Setting>
+    ensures { option_copied result ≡ find (λ setting. bytes_eq (setting_name setting) name.now) settings.now }
+{
+    settings.iter().find(|setting| setting.name() == name)
 }
 
 fn flag(text: &str) -> Option<bool>
