@@ -106,8 +106,7 @@ other stops.Usage status is = subst IsOther (sym is) tt
 other stops.LineRefused status is = subst IsOther (sym is) tt
 other stops.LineFailed status is = subst IsOther (sym is) tt
 other stops.NotInBatch status is = subst IsOther (sym is) tt
-other (stops.Refused reason) status is = subst IsOther (sym is) tt
-other (stops.RefusedOf word reason) status is = subst IsOther (sym is) tt
+other (stops.Refused refusal) status is = subst IsOther (sym is) tt
 other (stops.File fault) status is = cause_other fault.cause status is
 
 same_end : (words : List Text) (before : Option World) (status : Status) (after : Option World) → IsOther status → after ≡ before
@@ -127,8 +126,7 @@ failed_status stops.Usage status failed is = absurd failed
 failed_status stops.LineRefused status failed is = absurd failed
 failed_status stops.LineFailed status failed is = absurd failed
 failed_status stops.NotInBatch status failed is = absurd failed
-failed_status (stops.Refused reason) status failed is = absurd failed
-failed_status (stops.RefusedOf word reason) status failed is = absurd failed
+failed_status (stops.Refused refusal) status failed is = absurd failed
 failed_status (stops.File fault) status failed is = failed_cause fault.cause status failed is
 
 -- a command that stopped early, with the status of what stopped it

@@ -18,7 +18,7 @@ use Rattle.kadm.specs.declared.writing.WriteCommand.TheVariants as writes
 use Rattle.program.specs.declared.status.Status.{Status}
 use Rattle.program.specs.declared.status.Status.TheVariants as statuses
 use Rattle.kadm_changes.specs.declared.stop.Stop.{Stop}
-use Rattle.kadm_changes.specs.declared.stop.Stop.TheVariants.{Usage, LineRefused, LineFailed, NotInBatch, Refused, RefusedOf, File}
+use Rattle.kadm_changes.specs.declared.stop.Stop.TheVariants.{Usage, LineRefused, LineFailed, NotInBatch, Refused, File}
 
 -- refused or failed
 abbrev pub IsNotDone : Status → Type 0
@@ -37,8 +37,7 @@ IsStatusOf Usage status = status ≡ statuses.Usage
 IsStatusOf LineRefused status = status ≡ statuses.Refused
 IsStatusOf LineFailed status = status ≡ statuses.Failed
 IsStatusOf NotInBatch status = status ≡ statuses.Refused
-IsStatusOf (Refused reason) status = status ≡ statuses.Refused
-IsStatusOf (RefusedOf word reason) status = status ≡ statuses.Refused
+IsStatusOf (Refused refusal) status = status ≡ statuses.Refused
 IsStatusOf (File fault) status = IsFileCauseStatus fault.cause status
 
 -- ---- what is done

@@ -1,10 +1,7 @@
-//! Why a command is refused, in one word and in a sentence, and which option's value is to blame.
-use kadm_changes::{DB, KEYTAB, Reason};
+//! Why a command is refused, in one word and in a sentence.
+use kadm_changes::Reason;
 use principals::ChangeFault;
 use text_fields::keytab_text;
-
-/// The option that names a dump of MIT's database.
-const DUMP: &str = "--dump";
 
 /// The explanation of a text that is not a name.
 const BAD_NAME: &str = "this is not the name of a principal; write it without @REALM";
@@ -67,28 +64,6 @@ pub(crate) fn reason_text(reason: Reason) -> &'static str {
         Reason::BadDump => "this is not a dump that MIT's kdb5_util writes, of version 5 to 8",
         Reason::BadStash => "this is not MIT's stash file with the master key of the dump",
         Reason::NoPlace => "what is listed has no place in a database; `--skip` leaves it out",
-    }
-}
-
-/// Returns the option whose value is refused. A report has it in place of a value that is empty or left out. A
-/// password that is too long always has its file, or standard input, as its word, and an import its keytab.
-pub(crate) fn refused_option(reason: Reason) -> &'static str {
-    match reason {
-        Reason::BadRealm => "--realm",
-        Reason::BadTime => "--value",
-        Reason::Locked | Reason::FileExists | Reason::Database(_) => DB,
-        Reason::IsDatabase | Reason::IsLock | Reason::Keytab(_) => "--out",
-        Reason::NoKeys => KEYTAB,
-        Reason::BadDump | Reason::NoPlace => DUMP,
-        Reason::BadStash => "--stash",
-        Reason::LongPassword => "--password-file",
-        Reason::BadName
-        | Reason::Change(_)
-        | Reason::Mismatch
-        | Reason::BadPassword
-        | Reason::NoPassword
-        | Reason::ServesAll
-        | Reason::NoVersion => "--name",
     }
 }
 

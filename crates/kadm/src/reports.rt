@@ -3,8 +3,8 @@ ghost use Rattle.std.specs.Prelude.{IfOk};
 ghost use Rattle.kadm.specs.Ends.{IsStatusOf};
 
 use crate::changing::NOT_IN_BATCH;
-use crate::reasons::{reason_text, reason_word, refused_option};
-use kadm_changes::{Context, KEYTAB, Reason, Stop, Subject, begin_line, value_of};
+use crate::reasons::{reason_text, reason_word};
+use kadm_changes::{Context, KEYTAB, NAME, Reason, Refusal, Stop, Subject, begin_line, value_of};
 use program::{FileCause, Status, print_failure, print_refusal};
 use std::io;
 use std::io::Write;
@@ -27,14 +27,9 @@ pub(crate) fn report<W: Write, E: Write>(
             let _ = writeln!(context.errors, "{NOT_IN_BATCH}");
             print_refusal(&mut context.out, &"NotInBatch")
         }
-        Stop::Refused(reason) => {
-            let word = word_of(subject.words, refused_option(reason));
-            report_reason(&mut context.errors, subject, reason, word);
-            print_refusal(&mut context.out, &reason_word(reason))
-        }
-        Stop::RefusedOf { word, reason } => {
-            report_reason(&mut context.errors, subject, reason, some_text(word));
-            print_refusal(&mut context.out, &reason_word(reason))
+        Stop::Refused(refusal) => {
+            report_refusal(&mut context.errors, subject, refusal);
+            print_refusal(&mut context.out, &reason_word(refusal.reason))
         }
         Stop::File(fault) => {
             begin_line(&mut context.errors, subject);
@@ -48,43 +43,39 @@ pub(crate) fn report<W: Write, E: Write>(
     }
 }
 
-/// Returns the word of an option, if it is not empty.
-fn word_of<'a>(words: &[&'a str], option: &str) -> Option<&'a str> {
-    some_text(value_of(words, option)?)
-}
-
-/// Returns a text, if it is not empty.
-fn some_text(text: &str) -> Option<&str> {
-    if text.is_empty() { None } else { Some(text) }
+/// Returns the value that is refused, if it is not empty.
+fn refused_value<'a>(words: &[&'a str], refusal: Refusal<'a>) -> Option<&'a str> {
+    let value = match refusal.value {
+        Some(value) => value,
+        None => value_of(words, refusal.option)?,
+    };
+    if value.is_empty() { None } else { Some(value) }
 }
 
 /// Names the principal that is imported, if the word is the keytab with its keys: it may be that of many. Ignores a
 /// failed write.
 fn name_imported<E: Write>(errors: &mut E, subject: &Subject<'_>, word: &str) {
     if value_of(subject.words, KEYTAB) == Some(word)
-        && let Some(name) = value_of(subject.words, "--name")
+        && let Some(name) = value_of(subject.words, NAME)
     {
         let _ = write!(errors, "{name}: ");
     }
 }
 
-/// Reports the word that is refused, or else the option that has it, and the reason. Ignores a failed write.
-fn report_reason<E: Write>(
-    errors: &mut E,
-    subject: &Subject<'_>,
-    reason: Reason,
-    word: Option<&str>,
-) {
-    let (option, text) = (refused_option(reason), reason_text(reason));
+/// Reports the value that is refused, or else its option, and the reason. Ignores a failed write.
+fn report_refusal<E: Write>(errors: &mut E, subject: &Subject<'_>, refusal: Refusal<'_>) {
+    let text = reason_text(refusal.reason);
     begin_line(errors, subject);
-    let Some(word) = word else {
-        let _ = writeln!(errors, "{option}: {text}");
+    let Some(value) = refused_value(subject.words, refusal) else {
+        let _ = writeln!(errors, "{}: {text}", refusal.option);
         return;
     };
-    name_imported(errors, subject, word);
-    let _ = writeln!(errors, "{word}: {text}");
-    if let Reason::BadName | Reason::BadRealm = reason {
-        let _ = explain_spelling(errors, word);
+    if refusal.option == KEYTAB {
+        name_imported(errors, subject, value);
+    }
+    let _ = writeln!(errors, "{value}: {text}");
+    if let Reason::BadName | Reason::BadRealm = refusal.reason {
+        let _ = explain_spelling(errors, value);
     }
 }
 

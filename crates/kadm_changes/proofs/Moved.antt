@@ -15,7 +15,7 @@ use Rattle.principal_rows.specs.declared.name_map.Entry.{Entry}
 use Rattle.principal_rows.specs.declared.row.Row.{Row}
 use Rattle.principals.specs.Database.{Principals}
 use Rattle.principals.specs.NamesLaws.{AllNamesFit, names_fit-insert}
-use Rattle.kadm_changes.specs.Dumps.{AreRowsOf, HasRealm, IsDatabaseOf, IsKept, IsPushedRow}
+use Rattle.kadm_changes.specs.Dumps.{AreRowsOf, HasRealm, IsDatabaseOf, LosesNothing, IsPushedRow}
 use Rattle.kadm_changes.specs.Worlds.{MadeFromDump, with_database}
 use Rattle.kadm_changes.specs.declared.dump_import.DumpArgs.{DumpArgs}
 
@@ -77,18 +77,18 @@ none_left (e ∷ es) (suc i) le = none_left es i (omega (arith, le))
 
 -- one more principal, and nothing of it is lost
 pub kept_here : (realm : List ℕ) (ps : List DumpedPrincipal) (i : ℕ) (p : DumpedPrincipal) → p ≡ get_or ps i p → i < length ps
-    → All (IsKept realm) (take i ps) → IsKept realm p → All (IsKept realm) (take (i + 1) ps)
+    → All (LosesNothing realm) (take i ps) → LosesNothing realm p → All (LosesNothing realm) (take (i + 1) ps)
 kept_here realm ps i p is lt so_far here =
-    subst (All (IsKept realm)) (sym (take_more ps i p lt ∙ ap (λ (q : DumpedPrincipal). take i ps ++ q ∷ []) (sym is)))
-    (All-push (IsKept realm) (take i ps) p so_far here)
+    subst (All (LosesNothing realm)) (sym (take_more ps i p lt ∙ ap (λ (q : DumpedPrincipal). take i ps ++ q ∷ []) (sym is)))
+    (All-push (LosesNothing realm) (take i ps) p so_far here)
 
-pub kept_all : (realm : List ℕ) (ps : List DumpedPrincipal) (i : ℕ) → length ps ≤ i → All (IsKept realm) (take i ps) → All (IsKept realm) ps
-kept_all realm ps i le kept = subst (All (IsKept realm)) (take_all i ps le) kept
+pub kept_all : (realm : List ℕ) (ps : List DumpedPrincipal) (i : ℕ) → length ps ≤ i → All (LosesNothing realm) (take i ps) → All (LosesNothing realm) ps
+kept_all realm ps i le kept = subst (All (LosesNothing realm)) (take_all i ps le) kept
 
 -- ---- the database
 
 pub database_made : (realm : List ℕ) (stash : List KeytabEntry) (found : List DumpedPrincipal) (skip : Bool) (entries : List (Entry Row)) (new : Principals)
-    → IsRealmOf found realm → (skip ≡ true) ⊎ All (IsKept realm) found → AreRowsOf realm stash found entries
+    → IsRealmOf found realm → (skip ≡ true) ⊎ All (LosesNothing realm) found → AreRowsOf realm stash found entries
     → new ≡ record { realm = realm; rows = from_entries (pairs entries) } → IsDatabaseOf found stash skip new
 database_made realm stash found skip made new of kept rows is =
     subst (IsDatabaseOf found stash skip) (sym is) (record { realm = of; kept = kept; entries = made; rows = rows; mapped = refl })

@@ -40,14 +40,14 @@ AreRowsOf realm stash (p ∷ ps) rows =
 
 -- ---- the database
 
--- nothing of the principals is lost, but for MIT's own ones
-abbrev pub IsKept : List ℕ → DumpedPrincipal → Type 0
-IsKept realm p = (is_own p.name.components ≡ true) ⊎ (losses realm p ≡ [])
+-- nothing of the principal is lost, unless it is one of MIT's own
+abbrev pub LosesNothing : List ℕ → DumpedPrincipal → Type 0
+LosesNothing realm p = (is_own p.name.components ≡ true) ⊎ (losses realm p ≡ [])
 
 -- the database of the principals of a dump
 pub record IsDatabaseOf (found : List DumpedPrincipal) (stash : List KeytabEntry) (skip : Bool) (new : Principals) : Type 0 where
   pub realm : IsRealmOf found new.realm
-  pub kept : (skip ≡ true) ⊎ All (IsKept new.realm) found
+  pub kept : (skip ≡ true) ⊎ All (LosesNothing new.realm) found
   pub entries : List (Entry Row)
   pub rows : AreRowsOf new.realm stash found entries
   pub mapped : new.rows ≡ from_entries (pairs entries)

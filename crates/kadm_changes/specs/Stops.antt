@@ -2,7 +2,7 @@
 use Rattle.program.specs.declared.faults.FileCause.{FileCause}
 use Rattle.program.specs.declared.faults.FileCause.TheVariants.{LongFile, ShortSeed, Failed}
 use Rattle.kadm_changes.specs.declared.stop.Stop.{Stop}
-use Rattle.kadm_changes.specs.declared.stop.Stop.TheVariants.{Usage, LineRefused, LineFailed, NotInBatch, Refused, RefusedOf, File}
+use Rattle.kadm_changes.specs.declared.stop.Stop.TheVariants.{Usage, LineRefused, LineFailed, NotInBatch, Refused, File}
 
 abbrev pub IsFailure : FileCause → Type 0
 IsFailure LongFile = ⊥
@@ -15,6 +15,5 @@ IsFailed Usage = ⊥
 IsFailed LineRefused = ⊥
 IsFailed LineFailed = ⊥
 IsFailed NotInBatch = ⊥
-IsFailed (Refused reason) = ⊥
-IsFailed (RefusedOf word reason) = ⊥
+IsFailed (Refused refusal) = ⊥
 IsFailed (File fault) = IsFailure fault.cause

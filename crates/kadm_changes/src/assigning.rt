@@ -40,8 +40,11 @@ impl SettingForm {
 /// A field of a policy and its new value, as words.
 #[derive(Clone, Copy)]
 pub struct SettingWords<'a> {
+    /// The options that it comes from.
     pub form: SettingForm,
+    /// The name of the field, such as `greatest_life`. It is not checked yet.
     pub field: &'a str,
+    /// The value, not read yet. It is `true` for `--disabled`, and empty if a value is missing.
     pub value: &'a str,
 }
 

@@ -17,7 +17,7 @@ use crate::granting::drop_older;
 use crate::reason::Reason;
 use crate::stop::{Stop, of_realm};
 use crate::target::Target;
-use crate::words::value_at;
+use crate::words::{DB, NAME, value_at};
 use krb_elements::KerberosString;
 use krb_fields::{Name, component_from_text, tgs_name};
 use principals::{ChangeFault, Database, RowChange};
@@ -26,20 +26,21 @@ use std::alloc::{AllocError, Global};
 use std::io::Write;
 use text_fields::{FlagField, Setting, random_keys, setting_from, setting_of};
 
-/// The option that names a principal.
-const NAME: &str = "--name";
-
-/// The new realm, and the file with the seed of its keys. If no file has it, the system draws it.
+/// What a new realm is made from.
 #[derive(Clone, Copy)]
 pub struct InitArgs<'a> {
+    /// The text of the realm's name.
     pub realm: &'a str,
+    /// The path of the file with the seed of its keys, or `None` to draw a seed from the system.
     pub seed: Option<&'a str>,
 }
 
-/// The words that name principals, and how each is changed.
+/// Which principals are changed, and how; they get no new keys.
 #[derive(Clone, Copy)]
 pub struct Changes<'a> {
+    /// The words of the command line. Each `--name` in them names a principal.
     pub words: &'a [&'a str],
+    /// How each of them is changed.
     pub how: ChangeArgs,
 }
 
@@ -87,7 +88,7 @@ fn make_new_realm<'p, T: Store, W: Write, E: Write>(
     let alloc = context.alloc;
     let locked = lock_database(context, store, target)?;
     if has_file(store, target.db)? {
-        return Err(Stop::Refused(Reason::FileExists));
+        return Err(Stop::refused(DB, Reason::FileExists));
     }
     let keys = random_keys(
         alloc,
@@ -106,7 +107,7 @@ pub(crate) fn check_names<'p>(alloc: Global, words: &'p [&'p str]) -> Result<(),
     while let [word, others @ ..] = rest {
         if let Some(name) = value_at(NAME, word, others) {
             if let Err(fault) = Name::from_text(alloc, name) {
-                return Err(Stop::from(fault).about(name));
+                return Err(Stop::from(fault).about(NAME, name));
             }
         }
         rest = others;
@@ -161,7 +162,7 @@ fn change_named<'p, T: Store>(
 {
     match change_text(store, draft, changes, name) {
         Ok(()) => Ok(()),
-        Err(stop) => Err(stop.about(name)),
+        Err(stop) => Err(stop.about(NAME, name)),
     }
 }
 
@@ -239,7 +240,7 @@ fn drop_keys(draft: &mut Draft, who: &Name, version: u32) -> Result<(), Stop<'st
     ensures { OnOk result (Makes draft.old.database who.now.components (row_changes.DropKeys version) draft.new.database) }
 {
     if lacks_version(&draft.database, who, version) {
-        return Err(Stop::Refused(Reason::NoVersion));
+        return Err(Stop::refused(NAME, Reason::NoVersion));
     }
     Ok(apply(draft, who, RowChange::DropKeys(version))?)
 }
@@ -267,10 +268,10 @@ fn set_policy<'p, T: Store>(
         return Err(Stop::from(ChangeFault::Absent));
     };
     let policy = row.policy;
-    let setting = setting(store, words.field, words.value)?;
+    let setting = setting(store, words)?;
     let is_tgs = is_tgs(draft.alloc, &draft.database, who)?;
     if shuts_realm(is_tgs, setting) {
-        return Err(Stop::Refused(Reason::ServesAll));
+        return Err(Stop::refused(NAME, Reason::ServesAll));
     }
     let policy = setting.on(policy);
     Ok(apply(draft, who, RowChange::SetPolicy(policy))?)
@@ -301,19 +302,16 @@ fn denies_tickets(setting: Setting) -> bool
 }
 
 /// Returns a field with its value. It reads the clock if the value is a time from now.
-fn setting<'p, T: Store>(store: &mut T, field: &str, value: &'p str) -> Result<Setting, Stop<'p>>
-    ensures setting { IfOk result (λ setting. IsValueOf (T.world store.old) setting field.now value.entry.now) }
+fn setting<'p, T: Store>(store: &mut T, words: SettingWords<'p>) -> Result<Setting, Stop<'p>>
+    ensures setting { IfOk result (λ setting. IsValueOf (T.world store.old) setting words.entry.field.now words.entry.value.now) }
     ensures unchanged { T.world store.new ≡ T.world store.old }
 {
-    if let Some(setting) = setting_of(field, value) {
+    if let Some(setting) = setting_of(words.field, words.value) {
         return Ok(setting);
     }
-    match setting_from(field, value, read_clock(store)?) {
+    match setting_from(words.field, words.value, read_clock(store)?) {
         Some(setting) => Ok(setting),
-        None => Err(Stop::RefusedOf {
-            word: value,
-            reason: Reason::BadTime,
-        }),
+        None => Err(Stop::refused_value(words.form.value_option(), words.value, Reason::BadTime)),
     }
 }
 

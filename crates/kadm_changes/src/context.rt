@@ -5,11 +5,13 @@ use std::alloc::Global;
 /// What a command uses besides its words and the files: memory, and what it prints to.
 #[derive(Drop)]
 pub struct Context<W, E> {
+    /// What it takes its memory from.
     pub alloc: Global,
     /// Takes what the command prints.
     pub out: W,
     /// Takes the reasons of what is not done, and what an administrator may not expect.
     pub errors: E,
+    /// For the progress reports of a batch.
     pub progress: Progress,
 }
 

@@ -8,6 +8,7 @@ use crate::draft::Draft;
 use crate::reason::Reason;
 use crate::stop::Stop;
 use crate::target::Target;
+use crate::words::DB;
 use krb_fields::Name;
 use principals::{Change, ChangeFault, Database, RowChange};
 use principals_text::{DatabaseFault, LONGEST_TEXT, read_bytes};
@@ -64,7 +65,7 @@ pub fn lock_database<'p, T: Store, W: Write, E: Write>(
     if lock_file(context.alloc, store, target.db)? {
         Ok(locked)
     } else {
-        Err(Stop::Refused(Reason::Locked))
+        Err(Stop::refused(DB, Reason::Locked))
     }
 }
 

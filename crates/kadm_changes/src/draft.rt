@@ -3,9 +3,11 @@
 use principals::Database;
 use std::alloc::Global;
 
-/// A database that a command changes in memory before it writes it, and the memory for what is new.
+/// A database that a command changes in memory before it writes it.
 #[derive(Drop)]
 pub struct Draft {
+    /// What new rows take their memory from.
     pub alloc: Global,
+    /// The database as it is changed so far. Its file is as it was.
     pub database: Database,
 }

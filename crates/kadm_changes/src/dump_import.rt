@@ -19,6 +19,7 @@ use crate::dump_reports::{
 use crate::reason::Reason;
 use crate::stop::Stop;
 use crate::target::Target;
+use crate::words::{DB, DUMP, STASH};
 use cred_files::{CredFault, Keytab, KeytabEntry};
 use krb_elements::KerberosString;
 use mit_dump::{DumpedPrincipal, dump_realm, read_dump};
@@ -30,11 +31,14 @@ use std::alloc::{AllocError, Global};
 use std::io::Write;
 use text_fields::{KeytabKeys, keytab_versions};
 
-/// The dump of MIT's database, its stash file, and whether what has no place is left out.
+/// Which dump is imported, and how.
 #[derive(Clone, Copy)]
 pub struct DumpArgs<'a> {
+    /// The path of the dump of MIT's database.
     pub dump: &'a str,
+    /// The path of MIT's stash file, a keytab with the master key.
     pub stash: &'a str,
+    /// Whether to leave out what has no place in a database. If not, and there is any, the import is refused.
     pub skip: bool,
 }
 
@@ -50,7 +54,7 @@ pub fn import_dump<'p, T: Store, W: Write, E: Write>(
 {
     let locked = lock_database(context, store, target)?;
     if has_file(store, target.db)? {
-        return Err(Stop::Refused(Reason::FileExists));
+        return Err(Stop::refused(DB, Reason::FileExists));
     }
     let database = read_realm(context, store, from)?;
     write_database(context.alloc, store, &locked, &database)
@@ -83,7 +87,7 @@ fn read_stash<'p, T: Store>(alloc: Global, store: &mut T, path: &'p str) -> Resu
     match Keytab::read(alloc, &octets) {
         Ok(stash) => Ok(stash),
         Err(CredFault::Memory) => Err(Stop::from(AllocError)),
-        Err(_) => Err(Stop::Refused(Reason::BadStash)),
+        Err(_) => Err(Stop::refused(STASH, Reason::BadStash)),
     }
 }
 
@@ -101,7 +105,7 @@ fn database_of<W, E: Write>(
     };
     let is_whole = report_losses(context.alloc, &mut context.errors, found, realm)?;
     if !is_whole && !skip {
-        return Err(Stop::Refused(Reason::NoPlace));
+        return Err(Stop::refused(DUMP, Reason::NoPlace));
     }
     let rows = rows_of(context, found, realm, stash)?;
     report_taken(context.alloc, &mut context.errors, found, rows.len())?;

@@ -1,9 +1,10 @@
 //! What the import of a dump says of its principals. All ignore a failed write.
 ghost use Rattle.std.specs.Prelude.{◌≡◌, All, IfOk, true};
-ghost use Rattle.kadm_changes.specs.Dumps.{IsKept};
+ghost use Rattle.kadm_changes.specs.Dumps.{LosesNothing};
 
 use crate::reason::Reason;
 use crate::stop::Stop;
+use crate::words::{DUMP, STASH};
 use krb_fields::component_to_text;
 use mit_dump::{DumpFault, DumpedPrincipal, KeyFault, LineFault};
 use std::alloc::{AllocError, Global};
@@ -19,7 +20,7 @@ pub(crate) fn report_fault<E: Write>(
         return Stop::from(AllocError);
     }
     let _ = writeln!(errors, "kadm: {dump}: line {}: {}", fault.line, fault.cause);
-    Stop::Refused(Reason::BadDump)
+    Stop::refused(DUMP, Reason::BadDump)
 }
 
 /// Reports that the principals of a dump make no database. Returns how the command ends.
@@ -28,7 +29,7 @@ pub(crate) fn report_no_database<E: Write>(errors: &mut E) -> Stop<'static> {
         errors,
         "kadm: no principal with a key is krbtgt/REALM@REALM, or one is there twice"
     );
-    Stop::Refused(Reason::BadDump)
+    Stop::refused(DUMP, Reason::BadDump)
 }
 
 /// Reports that the keys of a principal can't be decrypted. Returns how the command ends.
@@ -45,7 +46,7 @@ pub(crate) fn report_key_fault<E: Write>(
         return Stop::from(error);
     }
     let _ = writeln!(errors, "{fault}");
-    Stop::Refused(Reason::BadStash)
+    Stop::refused(STASH, Reason::BadStash)
 }
 
 /// Reports what has no place in a database of this realm, a line each. Returns whether there is nothing.
@@ -55,7 +56,7 @@ pub(crate) fn report_losses<E: Write>(
     found: &[DumpedPrincipal],
     realm: &[u8],
 ) -> Result<bool, AllocError>
-    ensures { IfOk result (λ whole. whole ≡ true → All (IsKept realm.now) found.now) }
+    ensures { IfOk result (λ whole. whole ≡ true → All (LosesNothing realm.now) found.now) }
 {
     let mut is_whole = true;
     for principal in found {
@@ -72,7 +73,7 @@ fn report_lost<E: Write>(
     principal: &DumpedPrincipal,
     realm: &[u8],
 ) -> Result<bool, AllocError>
-    ensures { IfOk result (λ kept. kept ≡ true → IsKept realm.now principal.now) }
+    ensures { IfOk result (λ kept. kept ≡ true → LosesNothing realm.now principal.now) }
 {
     if principal.is_own() {
         return Ok(true);

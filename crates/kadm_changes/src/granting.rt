@@ -62,15 +62,20 @@ impl Grant {
 /// Random keys, and who gets them.
 #[derive(Clone, Copy)]
 pub struct RandomGrant<'a> {
+    /// The path of the file with the seed of the keys, or `None` to draw a seed from the system.
     pub seed: Option<&'a str>,
+    /// Whether the principal is new, and what becomes of its older keys.
     pub grant: Grant,
 }
 
-/// The principal that gets keys, their encryption types, and the password for those that are made from one.
+/// The principal that gets keys, and what they are made from.
 #[derive(Clone, Copy)]
 pub(crate) struct Recipient<'a> {
+    /// The principal's name.
     pub who: &'a Name,
+    /// The encryption types of the keys.
     pub etypes: &'a [Etype],
+    /// The password. It is empty if the keys are random, or from a keytab.
     pub pass: &'a [u8],
 }
 

@@ -6,6 +6,7 @@ ghost use Rattle.kadm_changes.specs.Updates.{IsImported};
 use crate::draft::Draft;
 use crate::granting::Recipient;
 use crate::stop::Stop;
+use crate::words::KEYTAB;
 use cred_files::Keytab;
 use krb_fields::Name;
 use principal_rows::Versions;
@@ -26,7 +27,7 @@ pub(crate) fn import<'p, T: Store>(
 {
     match read_versions(store, draft, to, keytab) {
         Ok(versions) => Ok(add_imported(draft, to.who, versions)?),
-        Err(stop) => Err(stop.about(keytab)),
+        Err(stop) => Err(stop.about(KEYTAB, keytab)),
     }
 }
 

@@ -10,6 +10,7 @@ use crate::joining::joined;
 use crate::reason::Reason;
 use crate::stop::Stop;
 use crate::target::Target;
+use crate::words::OUT;
 use cred_files::{CredFault, Keytab, KeytabEntry};
 use krb_elements::KerberosString;
 use krb_fields::Name;
@@ -24,11 +25,14 @@ use std::io::Write;
 /// The first byte of a keytab. No text of a database begins with it.
 const KEYTAB_START: u8 = 5;
 
-/// The principal whose current keys are written, the keytab for them, and whether it keeps its content.
+/// The keytab that is written, and for whom.
 #[derive(Clone, Copy)]
 pub struct KeytabArgs<'a> {
+    /// The principal whose current keys are written, as text.
     pub name: &'a str,
+    /// The path of the keytab.
     pub out: &'a str,
+    /// Whether the new entries follow what the keytab has already.
     pub append: bool,
 }
 
@@ -59,10 +63,10 @@ fn check_path<'p, T: Store>(alloc: Global, store: &mut T, path: &'p str) -> Resu
     ensures unchanged { T.world store.new ≡ T.world store.old }
 {
     if path.ends_with(LOCK_END) {
-        return Err(Stop::Refused(Reason::IsLock));
+        return Err(Stop::refused(OUT, Reason::IsLock));
     }
     if has_lock(alloc, store, path)? {
-        return Err(Stop::Refused(Reason::IsDatabase));
+        return Err(Stop::refused(OUT, Reason::IsDatabase));
     }
     let first = first_octet(alloc, store, path)?;
     if is_other_file(first) {

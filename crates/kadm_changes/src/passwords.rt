@@ -10,6 +10,7 @@ use crate::granting::Grant;
 use crate::reason::Reason;
 use crate::stop::Stop;
 use crate::updates::{RowArgs, RowUpdate};
+use crate::words::{NAME, PASSWORD_FILE};
 use krb_fields::component_to_text;
 use program::{STANDARD_INPUT, Store, ask_password, read_password};
 use std::alloc::Global;
@@ -27,7 +28,9 @@ pub struct PasswordArgs<'a> {
 /// The keys of a password, and who gets them.
 #[derive(Clone, Copy)]
 pub struct PasswordGrant<'a> {
+    /// Where the password comes from.
     pub password: PasswordArgs<'a>,
+    /// Whether the principal is new, and what becomes of its older keys.
     pub grant: Grant,
 }
 
@@ -102,7 +105,7 @@ fn file_password<'p, T: Store>(
     ensures unchanged { T.world store.new ≡ T.world store.old }
 {
     let Some(path) = args.file else {
-        return Err(Stop::Refused(Reason::NoPassword));
+        return Err(Stop::refused(NAME, Reason::NoPassword));
     };
     likely(password_at(alloc, store, path)?, args.any)
 }
@@ -124,10 +127,7 @@ fn password_at<'p, T: Store>(
 
 /// Returns the stop for a source with too long a password.
 fn too_long(source: &str) -> Stop<'_> {
-    Stop::RefusedOf {
-        word: source,
-        reason: Reason::LongPassword,
-    }
+    Stop::refused_value(PASSWORD_FILE, source, Reason::LongPassword)
 }
 
 /// Returns the password, unless it is unlikely and only likely ones are accepted.
@@ -135,7 +135,7 @@ fn likely(pass: Vec<u8>, any: bool) -> Result<Vec<u8>, Stop<'static>>
     ensures { IfOk result (λ likely. likely.items ≡ pass.items) }
 {
     if !any && is_unlikely(&pass) {
-        return Err(Stop::Refused(Reason::BadPassword));
+        return Err(Stop::refused(NAME, Reason::BadPassword));
     }
     Ok(pass)
 }
@@ -188,7 +188,7 @@ fn ask_twice<T: Store>(
     }
     let again = ask_once(alloc, store, name, realm)?;
     if again != pass {
-        return Err(Stop::Refused(Reason::Mismatch));
+        return Err(Stop::refused(NAME, Reason::Mismatch));
     }
     Ok(pass)
 }

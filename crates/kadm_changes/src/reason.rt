@@ -1,7 +1,18 @@
-//! Why a command is refused.
+//! Why a command is refused, and for which value.
 use cred_files::CredFault;
 use principals::ChangeFault;
 use principals_text::ReadFault;
+
+/// What is refused, and why.
+#[derive(Clone, Copy)]
+pub struct Refusal<'p> {
+    /// The option whose value a report begins with. If that is empty or left out, the report begins with the option.
+    pub option: &'p str,
+    /// The value; `None` if it is the first that the command line has for the option.
+    pub value: Option<&'p str>,
+    /// Why it is refused.
+    pub reason: Reason,
+}
 
 /// Why a command is refused.
 #[derive(Clone, Copy)]

@@ -1,7 +1,8 @@
 //! Why a command ends early.
 ghost use Rattle.kadm_changes.specs.Stops.{IsFailed};
 
-use crate::reason::Reason;
+use crate::reason::{Reason, Refusal};
+use crate::words::{DB, KEYTAB, NAME, OUT, REALM};
 use cred_files::CredFault;
 use krb_fields::NameFault;
 use principal_rows::KeyListFault;
@@ -28,15 +29,22 @@ pub enum Stop<'p> {
     LineFailed,
     /// A line of a batch has a command that is not for a batch.
     NotInBatch,
-    /// The command is refused. The report begins with the word of the option that the reason names.
-    Refused(Reason),
-    /// The command is refused for this word.
-    RefusedOf { word: &'p str, reason: Reason },
+    /// The command is refused.
+    Refused(Refusal<'p>),
     /// A file, a standard stream or an allocation is refused or failed.
     File(FileFault<'p>),
 }
 
 impl Stop<'_> {
+    /// Returns the refusal of the value that the command line has for an option.
+    pub(crate) fn refused(option: &'static str, reason: Reason) -> Stop<'static> {
+        Stop::Refused(Refusal {
+            option,
+            value: None,
+            reason,
+        })
+    }
+
     fn failed(path: &'static str, error: io::Error) -> Stop<'static>
         ensures { IsFailed result }
     {
@@ -45,10 +53,21 @@ impl Stop<'_> {
 }
 
 impl<'p> Stop<'p> {
-    /// Returns the same, with this word as that of a refusal that has none.
-    pub(crate) fn about(self, word: &'p str) -> Stop<'p> {
+    /// Returns the refusal of this value of an option.
+    pub(crate) fn refused_value(option: &'static str, value: &'p str, reason: Reason) -> Stop<'p> {
+        Stop::Refused(Refusal {
+            option,
+            value: Some(value),
+            reason,
+        })
+    }
+
+    /// Returns the same; a refusal without a value now has this value of this option.
+    pub(crate) fn about(self, option: &'static str, value: &'p str) -> Stop<'p> {
         match self {
-            Stop::Refused(reason) => Stop::RefusedOf { word, reason },
+            Stop::Refused(refusal) if refusal.value.is_none() => {
+                Stop::refused_value(option, value, refusal.reason)
+            }
             stop => stop,
         }
     }
@@ -81,7 +100,7 @@ impl From<io::Error> for Stop<'_> {
 impl From<NameFault> for Stop<'_> {
     fn from(fault: NameFault) -> Self {
         match fault {
-            NameFault::BadName => Stop::Refused(Reason::BadName),
+            NameFault::BadName => Stop::refused(NAME, Reason::BadName),
             NameFault::Memory => Stop::from(AllocError),
         }
     }
@@ -91,7 +110,7 @@ impl From<ReadFault> for Stop<'_> {
     fn from(fault: ReadFault) -> Self {
         match fault {
             ReadFault::Memory => Stop::from(AllocError),
-            fault => Stop::Refused(Reason::Database(fault)),
+            fault => Stop::refused(DB, Reason::Database(fault)),
         }
     }
 }
@@ -100,18 +119,18 @@ impl From<ChangeFault> for Stop<'_> {
     fn from(fault: ChangeFault) -> Self {
         match fault {
             ChangeFault::Memory => Stop::from(AllocError),
-            ChangeFault::BadName => Stop::Refused(Reason::BadName),
-            fault => Stop::Refused(Reason::Change(fault)),
+            ChangeFault::BadName => Stop::refused(NAME, Reason::BadName),
+            fault => Stop::refused(NAME, Reason::Change(fault)),
         }
     }
 }
 
-/// Converts what is wrong with a keytab.
+/// Converts what is wrong with the keytab that a command writes. An import names its own.
 impl From<CredFault> for Stop<'_> {
     fn from(fault: CredFault) -> Self {
         match fault {
             CredFault::BadMagic | CredFault::Truncated | CredFault::BadEntry => {
-                Stop::Refused(Reason::Keytab(fault))
+                Stop::refused(OUT, Reason::Keytab(fault))
             }
             // the others concern caches
             _ => Stop::from(AllocError),
@@ -123,7 +142,7 @@ impl From<CredFault> for Stop<'_> {
 impl From<KeyListFault> for Stop<'_> {
     fn from(fault: KeyListFault) -> Self {
         match fault {
-            KeyListFault::Empty | KeyListFault::Doubled => Stop::Refused(Reason::NoKeys),
+            KeyListFault::Empty | KeyListFault::Doubled => Stop::refused(KEYTAB, Reason::NoKeys),
             KeyListFault::Memory => Stop::from(AllocError),
         }
     }
@@ -138,7 +157,7 @@ impl<'p> From<FileFault<'p>> for Stop<'p> {
 /// Returns what is wrong with a realm.
 pub(crate) fn of_realm(fault: NameFault) -> Stop<'static> {
     match fault {
-        NameFault::BadName => Stop::Refused(Reason::BadRealm),
+        NameFault::BadName => Stop::refused(REALM, Reason::BadRealm),
         NameFault::Memory => Stop::from(AllocError),
     }
 }

@@ -2,10 +2,12 @@
 
 use std::io::Write;
 
-/// The command that a report is about: its words, and the number of its line in a batch.
+/// The command that a report is about.
 #[derive(Clone, Copy)]
 pub struct Subject<'a> {
+    /// Its words: the program's name, the command's, and the options. There may be none outside a batch.
     pub words: &'a [&'a str],
+    /// The number of its line in a batch, from 1. `None` outside a batch.
     pub line: Option<usize>,
 }
 

@@ -37,8 +37,11 @@ pub enum Update<'a> {
 /// A principal that gets keys, and then the settings of the command line with these words.
 #[derive(Clone, Copy)]
 pub struct RowArgs<'a> {
+    /// The text of its name.
     pub name: &'a str,
+    /// The keys that it gets.
     pub how: RowUpdate<'a>,
+    /// The words of the command line, which may ask for settings.
     pub words: &'a [&'a str],
 }
 

@@ -8,6 +8,24 @@ pub const DB: &str = "--db";
 /// The option that names a keytab to read.
 pub const KEYTAB: &str = "--keytab";
 
+/// The option that names a principal.
+pub const NAME: &str = "--name";
+
+/// The option that names a new realm.
+pub(crate) const REALM: &str = "--realm";
+
+/// The option that names the file of a password.
+pub(crate) const PASSWORD_FILE: &str = "--password-file";
+
+/// The option that names a keytab to write.
+pub(crate) const OUT: &str = "--out";
+
+/// The option that names a dump of MIT's database.
+pub(crate) const DUMP: &str = "--dump";
+
+/// The option that names the stash file of a dump.
+pub(crate) const STASH: &str = "--stash";
+
 /// Returns the value of an option such as `--db`: the word after it, or what follows it and an equals sign.
 pub fn value_of<'a>(words: &[&'a str], option: &str) -> Option<&'a str>
     ensures { option_map (λ value. value.now) result ≡ value_of (texts words.now) option.now }

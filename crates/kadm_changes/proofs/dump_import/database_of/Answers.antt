@@ -1,5 +1,5 @@
 use Rattle.std.proofs.Common.{rules, ◌≡◌, ◌⊎◌, All, inl, inr, true}
-use Rattle.kadm_changes.specs.Dumps.{IsKept}
+use Rattle.kadm_changes.specs.Dumps.{LosesNothing}
 use Rattle.kadm_changes.proofs.Moved.{database_made, names_are, rows_are}
 use Rattle.kadm_changes.proofs.dump_import.database_of.Goals as goal
 use Rattle.kadm_changes.proofs.dump_import.database_of.Goals.{else-not-is_whole-via-then-not-is_whole+else-not-skip, else-not-is_whole-via-else-not-is_whole}
@@ -14,7 +14,7 @@ with_rows-requires-clause-names g c =
 
 pub returns-in-Some-2 : goal.returns-in-Some-2
 returns-in-Some-2 g c =
-    let kept : (c.args.skip ≡ true) ⊎ All (IsKept c.in-Some.realm.now) c.args.found.now =
+    let kept : (c.args.skip ≡ true) ⊎ All (LosesNothing c.in-Some.realm.now) c.args.found.now =
     elim c.else-not-is_whole.branch [
       | else-not-is_whole-via-then-not-is_whole+else-not-skip w ↦ let skips : c.args.skip ≡ true = search rules in inl skips
       | else-not-is_whole-via-else-not-is_whole w ↦
