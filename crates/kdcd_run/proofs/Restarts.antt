@@ -27,7 +27,7 @@ use Rattle.journal.specs.declared.decision.Start.{Start}
 use Rattle.journal.specs.declared.decision.Start.TheVariants.{Resumes, Refuses}
 use Rattle.kdcd_run.specs.Handing.{HandsAllInLife}
 use Rattle.kdcd_run.specs.Processes.{AreProcesses, FindsAll, IsLate, MayStart, OneTicketThroughRestarts, Process, beginning, beginning_by, history, known_after, known_at}
-use Rattle.kdcd_run.specs.Resuming.{known_by}
+use Rattle.kdcd_run.specs.Resuming.{known_before}
 
 -- ---- within one process nothing resumes
 
@@ -149,7 +149,7 @@ module _ (one_run : (start : HubState) (turns : List Turn) → IsOneRun start tu
     next_with_all (Resumes found check) may late = (covers_next found check may late, tt)
 
   -- what the next process begins with covers its state
-  next_covers : (hub : HubState) (p : Process) (start : Start) → Covers (after_turn hub (beginning_by p start)).issuing.kdc (known_by (RestartAt p.at) start)
+  next_covers : (hub : HubState) (p : Process) (start : Start) → Covers (after_turn hub (beginning_by p start)).issuing.kdc (known_before (RestartAt p.at) start)
   next_covers hub p (Refuses doubt) = begins.opened p.database p.limits (RestartAt p.at)
   next_covers hub p (Resumes found check) = begins.resumed p.database p.limits found
 

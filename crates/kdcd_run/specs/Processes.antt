@@ -26,7 +26,7 @@ use Rattle.journal.specs.declared.decision.Found.{Found}
 use Rattle.journal.specs.declared.decision.Start.{Start}
 use Rattle.journal.specs.declared.decision.Start.TheVariants.{Resumes, Refuses}
 use Rattle.kdcd_run.specs.Handing.{all_seen}
-use Rattle.kdcd_run.specs.Resuming.{known_by}
+use Rattle.kdcd_run.specs.Resuming.{known_before}
 use Rattle.kdcd_run.specs.Served.{handed_in}
 
 -- A process that follows others: its rows, its limits, the moment of its start, what it made of the journals, its
@@ -50,7 +50,7 @@ beginning p = beginning_by p p.start
 
 -- what it begins with
 abbrev pub known_at : Process → Resumption
-known_at p = known_by (Restart p.at) p.start
+known_at p = known_before (Restart p.at) p.start
 
 -- what a process that started at this moment began with, and every authenticator that its journal was handed in its
 -- life
@@ -66,7 +66,7 @@ pub record FindsAll (r : Resumption) (at : Moment) (start : Start) : Type 0 wher
   pub world : World
   pub low : ℤ
   pub safe : IsSafe low r world
-  pub late : low ≤ℤ (known_by (Restart at) start).floor
+  pub late : low ≤ℤ (known_before (Restart at) start).floor
   pub place : Place
   pub moment : place.at ≡ at
   pub older : Found

@@ -32,9 +32,9 @@ is_there Broken = true
 is_there (Whole journal) = true
 
 -- what a start knows of the authenticators before it: what it resumes with, or only how it opens
-abbrev pub known_by : Opening → Start → Resumption
-known_by opening (Resumes resumption check) = resumption
-known_by opening (Refuses doubt) = opening_resumption opening
+abbrev pub known_before : Opening → Start → Resumption
+known_before opening (Resumes resumption check) = resumption
+known_before opening (Refuses doubt) = opening_resumption opening
 
 -- the state that a start begins with
 abbrev pub started_state : Principals → Limits → Opening → Start → State
@@ -92,7 +92,7 @@ pub record IsReady (options : ServeOptions) (before after : Option (List HostDid
   pub decided : IsDecided rows beginning.journals beginning.at beginning.start
   pub kdc : hub.issuing.kdc ≡ started_state rows options.limits (opened_by options.is_first beginning.at) beginning.start
   pub realm : beginning.realm ≡ rows.realm
-  pub floor : beginning.floor ≡ (known_by (opened_by options.is_first beginning.at) beginning.start).floor
+  pub floor : beginning.floor ≡ (known_before (opened_by options.is_first beginning.at) beginning.start).floor
   pub random : hub.issuing.random ≡ seeded (seed_by (option_copied options.seed) octets)
   pub accounts : hub.issuing.accounts ≡ (is_some options.log || options.is_quiet || is_some options.metrics)
   pub connections : hub.connections ≡ map.empty

@@ -61,7 +61,9 @@ pub struct AlreadyHeld;
 /// What a host in memory gives.
 #[derive(Drop)]
 pub struct Given {
+    /// The rows of its database, which can be read once.
     pub rows: Database,
+    /// The seed that it reads from any path, and that it draws.
     pub seed: [u8; 32],
     /// The moment that its clock shows.
     pub at: Moment,

@@ -16,6 +16,7 @@ pub struct ServeOptions<'a> {
     pub rounds: Option<u32>,
     /// The path of the seed's file, or `None` to draw a seed from the system.
     pub seed: Option<&'a str>,
+    /// The limits on what the KDC records and grants.
     pub limits: Limits,
     /// Whether no request was ever answered with this database.
     pub is_first: bool,

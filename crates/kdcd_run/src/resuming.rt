@@ -2,7 +2,7 @@
 ghost use Rattle.std.specs.Prelude.{◌≡◌, ◌∷◌, [], IfOk, true, false, option_copied};
 ghost use Rattle.kdc_hub.specs.Wire.{Records};
 ghost use Rattle.kdcd_run.specs.Starting.{HasNoJournal};
-ghost use Rattle.kdcd_run.specs.Resuming.{AreAt, IsDecided, is_there, known_by, may_be_first, reading};
+ghost use Rattle.kdcd_run.specs.Resuming.{AreAt, IsDecided, is_there, known_before, may_be_first, reading};
 ghost use Rattle.kdcd_run.specs.Resuming.{started_state};
 ghost use Rattle.journal.specs.declared.decision.Found.TheVariants.{Nothing};
 
@@ -124,7 +124,7 @@ pub(crate) fn open(
 
 /// Returns the floor of a start.
 pub(crate) fn floor_by(opening: Opening, start: &Start) -> i64
-    ensures { result ≡ (known_by opening start.now).floor }
+    ensures { result ≡ (known_before opening start.now).floor }
 {
     match start {
         Start::Resumes { resumption, .. } => resumption.floor,

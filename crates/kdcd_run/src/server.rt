@@ -30,17 +30,22 @@ const ENDLESS: u64 = u64::MAX;
 /// A server that has started.
 #[derive(Drop)]
 pub struct Server<S: Wire, J: JournalWriter, L: LogWriter, E, T: Tally> {
+    /// The hub, with the KDC and the connections.
     pub hub: Hub<ChaCha20Rng>,
+    /// Its sockets, with its journal and its log.
     pub wire: ServerWire<S, J, L, E, T>,
+    /// What is announced of the start.
     pub news: StartNews,
 }
 
 /// A server that has served all its rounds.
 #[derive(Drop)]
 pub struct Ran<S: Wire, J: JournalWriter, L: LogWriter, E, T: Tally, R, M> {
+    /// The server after its last round.
     pub server: Server<S, J, L, E, T>,
     /// Where its rows came from, unless they were fixed.
     pub rows: Option<R>,
+    /// What it counted in all its rounds.
     pub totals: Totals,
     /// What took the text of its numbers, if anything did.
     pub metrics: Option<M>,

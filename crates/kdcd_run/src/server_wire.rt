@@ -28,17 +28,22 @@ use std::io::Write;
 /// What a server writes to, and what counts its failed calls.
 #[derive(Drop)]
 pub struct Outlets<L, E, T> {
+    /// Takes an entry for each request.
     pub log: L,
     /// Where it is said that the clock went back, and that memory ran out.
     pub errors: E,
+    /// Counts the polls and acts that failed.
     pub tally: T,
 }
 
-/// When a server started, with which floor, and the second before which it is quiet, if the start is.
+/// The times of a server's start.
 #[derive(Clone, Copy)]
 pub struct StartTimes {
+    /// When the server started.
     pub at: Moment,
+    /// The floor of the start, in seconds since 1970.
     pub floor: i64,
+    /// The second before which a TGS-REQ gets no KRB_AP_ERR_SKEW. `None` if none is withheld.
     pub quiet_until: Option<i64>,
 }
 

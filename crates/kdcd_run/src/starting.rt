@@ -5,7 +5,7 @@ ghost use Rattle.std.specs.Option.{option_copied};
 ghost use Rattle.kdc_hub.specs.Hub.{hub_state};
 ghost use Rattle.kdc_hub.specs.Wire.{Records};
 ghost use Rattle.kdc_files.specs.Recorded.{IsNew};
-ghost use Rattle.kdcd_run.specs.Resuming.{AreAt, IsDecided, IsReady, known_by, may_be_first, reading, started_state};
+ghost use Rattle.kdcd_run.specs.Resuming.{AreAt, IsDecided, IsReady, known_before, may_be_first, reading, started_state};
 ghost use Rattle.kdcd_run.specs.Starting.{IsSeed, Showed, chacha20, opened_by, seeded};
 
 use crate::host::Host;
@@ -96,7 +96,9 @@ impl<S> StartFault<'_, S> {
 /// A server that has its sockets, before its first round, and what its journal is to begin with, if it has one.
 #[derive(Drop)]
 pub struct ReadyServer<S> {
+    /// The hub, whose KDC was opened or has resumed.
     pub hub: Hub<ChaCha20Rng>,
+    /// The sockets, which were opened before the journals were read.
     pub sockets: S,
     /// The moment and the floor of the start are those in it.
     pub beginning: JournalBeginning,
@@ -152,7 +154,7 @@ fn begin<'a, H: Host>(
         IsDecided rows.now beginning.journals beginning.at beginning.start) }
     ensures realm { IfOk result (λ beginning. beginning.realm ≡ rows.now.realm) }
     ensures floor { IfOk result (λ beginning.
-        beginning.floor ≡ (known_by (opened_by options.now.is_first beginning.at) beginning.start).floor) }
+        beginning.floor ≡ (known_before (opened_by options.now.is_first beginning.at) beginning.start).floor) }
 {
     let journals = read_journals(alloc, host, options)?;
     let at = match host.now() {

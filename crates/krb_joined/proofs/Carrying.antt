@@ -5,7 +5,7 @@ use Rattle.std.specs.Result.{result_ok}
 use Rattle.kdc_state.specs.declared.state.State as kdc_states
 use Rattle.ap_accept.specs.Accepts.{Answer}
 use Rattle.enctypes.specs.declared.key.Key.{Key}
-use Rattle.krb_joined.specs.Joined.{IsKept, IsKeptOn, IsRuled, IsServed, IsUnpresentable, key_of, ruled, taken_of}
+use Rattle.krb_joined.specs.Joined.{IsNextState, IsNextStateOn, IsRuled, IsServed, IsUnpresentable, key_of, ruled, taken_of}
 use Rattle.krb_joined.specs.declared.presenting.Sealing.{Sealing}
 use Rattle.cred_files.specs.declared.credential.Credential.{Credential}
 use Rattle.krb_fields.specs.declared.moment.Moment.{Moment}
@@ -121,7 +121,7 @@ module _ (key : Option Key) (sent : Moment) (state : State) (ruling : Option Ans
 -- ---- the KDC's state
 
 module _ (old new ruling : kdc_states.State) where
-  pub kept_on : (credential : Credential) (result : Result Accepted JoinedFault) → IsKept old new ruling (Ok credential) → IsKeptOn old new ruling result
+  pub kept_on : (credential : Credential) (result : Result Accepted JoinedFault) → IsNextState old new ruling (Ok credential) → IsNextStateOn old new ruling result
   kept_on credential (Ok accepted) is = is
   kept_on credential (Err NoReply) is = is
   kept_on credential (Err (NotTaken fault)) is = is
@@ -130,7 +130,7 @@ module _ (old new ruling : kdc_states.State) where
   kept_on credential (Err (NotAnswered fault)) is = is
   kept_on credential (Err Memory) is = inr is
 
-  pub kept_before : (fault : JoinedFault) → IsKept old new ruling (Err fault) → IsKeptOn old new ruling (Err fault)
+  pub kept_before : (fault : JoinedFault) → IsNextState old new ruling (Err fault) → IsNextStateOn old new ruling (Err fault)
   kept_before NoReply is = is
   kept_before (NotTaken fault) is = is
   kept_before NotPresentable is = is

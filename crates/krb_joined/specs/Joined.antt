@@ -205,21 +205,21 @@ IsServed old new ruling (Err Memory) = new ≡ old
 -- ---- the KDC's state
 
 -- it is the one that the KDC's rules prescribe, or the old one if memory ran out
-abbrev pub IsKept : kdc_states.State → kdc_states.State → kdc_states.State → Result Credential JoinedFault → Type 0
-IsKept old new ruling (Ok credential) = new ≡ ruling
-IsKept old new ruling (Err NoReply) = new ≡ ruling
-IsKept old new ruling (Err (NotTaken fault)) = new ≡ ruling
-IsKept old new ruling (Err NotPresentable) = new ≡ ruling
-IsKept old new ruling (Err (NotAccepted fault)) = new ≡ ruling
-IsKept old new ruling (Err (NotAnswered fault)) = new ≡ ruling
-IsKept old new ruling (Err Memory) = new ≡ old
+abbrev pub IsNextState : kdc_states.State → kdc_states.State → kdc_states.State → Result Credential JoinedFault → Type 0
+IsNextState old new ruling (Ok credential) = new ≡ ruling
+IsNextState old new ruling (Err NoReply) = new ≡ ruling
+IsNextState old new ruling (Err (NotTaken fault)) = new ≡ ruling
+IsNextState old new ruling (Err NotPresentable) = new ≡ ruling
+IsNextState old new ruling (Err (NotAccepted fault)) = new ≡ ruling
+IsNextState old new ruling (Err (NotAnswered fault)) = new ≡ ruling
+IsNextState old new ruling (Err Memory) = new ≡ old
 
 -- the same for a whole path, on which the client may have run out of memory
-abbrev pub IsKeptOn : kdc_states.State → kdc_states.State → kdc_states.State → Result Accepted JoinedFault → Type 0
-IsKeptOn old new ruling (Ok accepted) = new ≡ ruling
-IsKeptOn old new ruling (Err NoReply) = new ≡ ruling
-IsKeptOn old new ruling (Err (NotTaken fault)) = new ≡ ruling
-IsKeptOn old new ruling (Err NotPresentable) = new ≡ ruling
-IsKeptOn old new ruling (Err (NotAccepted fault)) = new ≡ ruling
-IsKeptOn old new ruling (Err (NotAnswered fault)) = new ≡ ruling
-IsKeptOn old new ruling (Err Memory) = (new ≡ old) ⊎ (new ≡ ruling)
+abbrev pub IsNextStateOn : kdc_states.State → kdc_states.State → kdc_states.State → Result Accepted JoinedFault → Type 0
+IsNextStateOn old new ruling (Ok accepted) = new ≡ ruling
+IsNextStateOn old new ruling (Err NoReply) = new ≡ ruling
+IsNextStateOn old new ruling (Err (NotTaken fault)) = new ≡ ruling
+IsNextStateOn old new ruling (Err NotPresentable) = new ≡ ruling
+IsNextStateOn old new ruling (Err (NotAccepted fault)) = new ≡ ruling
+IsNextStateOn old new ruling (Err (NotAnswered fault)) = new ≡ ruling
+IsNextStateOn old new ruling (Err Memory) = (new ≡ old) ⊎ (new ≡ ruling)

@@ -2,7 +2,7 @@
 ghost use Rattle.std.specs.Prelude.{◌≡◌, ℕ, List, Some, IfErr, IfOk, IfSome};
 ghost use Rattle.client_core.specs.Presenting.{IsShortChecksum};
 ghost use Rattle.kdc_replies.specs.Issue.{Issue, IsIssued};
-ghost use Rattle.krb_joined.specs.Joined.{IsEnded, IsJoined, IsKeptOn, IsPresented, IsRuled, IsServed, MayBeAccepted};
+ghost use Rattle.krb_joined.specs.Joined.{IsEnded, IsJoined, IsNextStateOn, IsPresented, IsRuled, IsServed, MayBeAccepted};
 ghost use Rattle.krb_joined.specs.Joined.{key_of, ruled, taken_of};
 ghost use Rattle.krb_joined.specs.Obtaining.{issue_for, reply_to, state_after};
 ghost use Rattle.krb_joined.specs.Reading.{IsReader, reads_reply};
@@ -18,7 +18,9 @@ use std::alloc::Global;
 /// When a KDC and a service answer, and their random bytes.
 #[derive(Clone, Copy)]
 pub struct Answering {
+    /// When the KDC answers, with what random bytes.
     pub issuing: Issuing,
+    /// When the service answers, with what random bytes.
     pub accepting: Sealing,
 }
 
@@ -68,7 +70,7 @@ pub fn end_to_end(
         (ruled acceptor.old client.now.wanted client.now.presenting answering.now.accepting
         (taken_of (reply_to kdc.old answering.now.issuing request.now) client.now.asked client.now.reader)) result }
     // The KDC's state is the one after this request, or the old one if the KDC ran out of memory.
-    ensures kept { IsKeptOn kdc.old kdc.new (state_after kdc.old answering.now.issuing request.now) result }
+    ensures kept { IsNextStateOn kdc.old kdc.new (state_after kdc.old answering.now.issuing request.now) result }
 {
     match obtain(alloc, kdc, &answering.issuing, request, client) {
         Ok(credential) => present(alloc, &credential, client, acceptor, &answering.accepting),

@@ -6,7 +6,7 @@ ghost use Rattle.kdc_core.specs.View.{view};
 ghost use Rattle.kdc_replies.specs.Issue.{Issue, IsIssued};
 ghost use Rattle.krb_joined.specs.Credential.{IsCredentialOf};
 ghost use Rattle.krb_der.specs.Spelling.{IsBytes};
-ghost use Rattle.krb_joined.specs.Joined.{IsBefore, IsEnded, IsKept, IsRead};
+ghost use Rattle.krb_joined.specs.Joined.{IsBefore, IsEnded, IsNextState, IsRead};
 ghost use Rattle.krb_joined.specs.Obtaining.{issue_for, reply_to, state_after};
 ghost use Rattle.krb_joined.specs.Reading.{IsReader};
 
@@ -18,11 +18,14 @@ use kdc_core::Kdc;
 use krb_fields::Moment;
 use std::alloc::{AllocError, Global};
 
-/// When a KDC answers, its random bytes, and how many bytes a reply with a ticket may have.
+/// What a KDC's answer depends on, besides its state and the request.
 #[derive(Clone, Copy)]
 pub struct Issuing {
+    /// When the request comes in.
     pub at: Moment,
+    /// The random bytes for its answer: 32 for the session key, and 16 each for the confounders of ticket and reply.
     pub random: [u8; 64],
+    /// The maximum length of a reply with a ticket, in bytes.
     pub room: u32,
 }
 
@@ -49,7 +52,7 @@ pub fn obtain(
     ensures ended { IfErr result
         (IsEnded (reply_to kdc.old issuing.now request.now) client.now.asked client.now.reader) }
     // The KDC's state is the one after this request, or the old one if the KDC ran out of memory.
-    ensures kept { IsKept kdc.old kdc.new (state_after kdc.old issuing.now request.now) result }
+    ensures kept { IsNextState kdc.old kdc.new (state_after kdc.old issuing.now request.now) result }
 {
     let reply = replied(alloc, kdc, issuing, request)?;
     let Some(octets) = reply else {

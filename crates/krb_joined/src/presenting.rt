@@ -17,10 +17,12 @@ use enctypes::Key;
 use krb_fields::Moment;
 use std::alloc::Global;
 
-/// When a client encrypts its authenticator, or a service its AP-REP, and the 16 random bytes for that.
+/// What a client needs to encrypt its authenticator, or a service its AP-REP.
 #[derive(Clone, Copy)]
 pub struct Sealing {
+    /// The time on the client's clock, which its authenticator has; or when the AP-REQ comes to the service.
     pub at: Moment,
+    /// 16 random bytes, which are encrypted ahead of the plaintext.
     pub confounder: [u8; 16],
 }
 

@@ -11,12 +11,14 @@ use enctypes::Key;
 use krb_fields::Moment;
 use std::alloc::Global;
 
-/// The key with which a client reads a reply, and when. The client's own key is for an AS-REP, the others for a
-/// TGS-REP.
+/// How a client reads a reply. The client's own key is for an AS-REP, the others for a TGS-REP.
 #[derive(Clone, Copy)]
 pub struct Reader {
+    /// What the key is: the client's own, the request's subkey, or the session key of the presented ticket.
     pub role: KeyRole,
+    /// The key that decrypts the encrypted part of the reply.
     pub key: Key,
+    /// When the client reads the reply.
     pub at: Moment,
 }
 

@@ -8,7 +8,7 @@ use Rattle.serde_json.specs.Data.{Data, null, boolean, number, string, array, ob
 use Rattle.serde_json.specs.Read.{of_items, of_members}
 use Rattle.serde_json.specs.View.{items_of}
 use Rattle.serde_json.specs.Written.{outline, items_outline, members_outline}
-use Rattle.principals_text.specs.Tokens.{IsKept}
+use Rattle.principals_text.specs.Tokens.{ReadsBack}
 
 -- ---- depth
 
@@ -31,8 +31,8 @@ mutual
 
 -- ---- items
 
-pub items_kept : {A : Type 0} (f : A → Data) (xs : List A) → ((x : A) → IsKept (f x)) → of_items (items_outline (items_of (map f xs))) ≡ Some (items_of (map f xs))
-unfolding IsKept
+pub items_kept : {A : Type 0} (f : A → Data) (xs : List A) → ((x : A) → ReadsBack (f x)) → of_items (items_outline (items_of (map f xs))) ≡ Some (items_of (map f xs))
+unfolding ReadsBack
 items_kept f [] each = refl
 items_kept f (x ∷ xs) each = rw (each x, items_kept f xs each) refl
 
@@ -76,7 +76,7 @@ rising_if (member k d ms) h =
 
 abbrev pub AreKept : Members → Type 0
 AreKept no_members = Unit {0}
-AreKept (member k d ms) = IsKept d × AreKept ms
+AreKept (member k d ms) = ReadsBack d × AreKept ms
 
 turned : (k l : List ℕ) (o : Ordering) → slice_cmp nat_cmp k l ≡ o → slice_cmp nat_cmp l k ≡ ordering_reverse o
 turned k l o e = nat_list_cmp_total.antisymm l k ∙ ap ordering_reverse e
@@ -99,7 +99,7 @@ rising-put k d (member l e ms) r = at (slice_cmp nat_cmp k l) refl (rising-put k
     at Equal c later = r
     at Greater c later = (next-put l k d ms r.0 (turned k l Greater c), later)
 
-pub kept-put : (k : List ℕ) (d : Data) (ms : Members) → IsKept d → AreKept ms → AreKept (put k d ms)
+pub kept-put : (k : List ℕ) (d : Data) (ms : Members) → ReadsBack d → AreKept ms → AreKept (put k d ms)
 kept-put k d no_members h r = (h, tt)
 kept-put k d (member l e ms) h r = at (slice_cmp nat_cmp k l) (kept-put k d ms h r.1)
   where
@@ -148,7 +148,7 @@ next_before done k d no_members b n = tt
 next_before done k d (member l e ms) b n = before_join done k d l (before_later done k l b n) n
 
 read_on : (done ms : Members) → StandBefore done ms → AreRising ms → AreKept ms → of_members (members_outline ms) done ≡ Some (join done ms)
-unfolding IsKept
+unfolding ReadsBack
 read_on done no_members b r a = ap Some (join-none done)
 read_on done (member k d ms) b r a =
     ap (option_and_then (λ x. of_members (members_outline ms) (put k x done))) a.0
@@ -160,6 +160,6 @@ none_before : (ms : Members) → StandBefore no_members ms
 none_before no_members = tt
 none_before (member k d ms) = tt
 
-pub object_kept : (ms : Members) → AreRising ms → AreKept ms → IsKept (object ms)
-unfolding IsKept
+pub object_kept : (ms : Members) → AreRising ms → AreKept ms → ReadsBack (object ms)
+unfolding ReadsBack
 object_kept ms r a = ap (option_map object) (read_on no_members ms (none_before ms) r a)

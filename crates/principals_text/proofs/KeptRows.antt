@@ -25,7 +25,7 @@ use Rattle.text_fields.specs.Settings.{before_keys, newest_version, settings_of}
 use Rattle.principals_text.specs.ReadBack.{IsTime, IsFitting}
 use Rattle.principals_text.specs.RowWritten.{time_value, key_value, keys_value, version_value, versions_value}
 use Rattle.principals_text.specs.RowWritten.{setting_value, setting_members, row_members, row_value}
-use Rattle.principals_text.specs.Tokens.{IsKept, data_tokens}
+use Rattle.principals_text.specs.Tokens.{ReadsBack, data_tokens}
 use Rattle.principals_text.specs.Written.{with_rows, database_value}
 use Rattle.serde_json.specs.Written.{outline, items_outline}
 use Rattle.serde_json.specs.View.{items_of}
@@ -33,50 +33,50 @@ use Rattle.principals_text.proofs.NextMembers.{read-tokens}
 use Rattle.principals_text.proofs.Kept.{depth-outline, items_kept, object_kept, AreRising, AreKept, rising_if, rising-put, kept-put}
 
 -- a text with the tokens that are written for a value is read as the value
-pub kept_text : (d : Data) (text : List ℕ) → IsKept d → depth d ≤ 127 → tokens text ≡ data_tokens d → read text ≡ Some d
-unfolding IsKept
+pub kept_text : (d : Data) (text : List ℕ) → ReadsBack d → depth d ≤ 127 → tokens text ≡ data_tokens d → read text ≡ Some d
+unfolding ReadsBack
 kept_text d text kept shallow is = read-tokens (outline d) text (omega (arith, depth-outline d, shallow)) is ∙ kept
 
-number_kept : (n : ℕ) → n < 2 ^ 64 → IsKept (number (unsigned n))
-unfolding IsKept
+number_kept : (n : ℕ) → n < 2 ^ 64 → ReadsBack (number (unsigned n))
+unfolding ReadsBack
 number_kept n h = ap (option_map number) (number_of-decimal n h)
 
-time_kept : (time : Option ℤ) → IsTime time → IsKept (time_value time)
-unfolding IsKept
+time_kept : (time : Option ℤ) → IsTime time → ReadsBack (time_value time)
+unfolding ReadsBack
 time_kept None is = refl
 time_kept (Some (pos n)) is = number_kept n (grind (arith, is))
 time_kept (Some (negsuc n)) is = absurd (grind (arith, is))
 
-etype_kept : (e : Etype) → IsKept (number (of_integer (etypes.number e)))
+etype_kept : (e : Etype) → ReadsBack (number (of_integer (etypes.number e)))
 etype_kept Aes128CtsHmacSha1_96 = number_kept 17 (omega arith)
 etype_kept Aes256CtsHmacSha1_96 = number_kept 18 (omega arith)
 etype_kept Aes128CtsHmacSha256_128 = number_kept 19 (omega arith)
 etype_kept Aes256CtsHmacSha384_192 = number_kept 20 (omega arith)
 
-key_kept : (key : Key) → IsKept (key_value key)
-unfolding IsKept
+key_kept : (key : Key) → ReadsBack (key_value key)
+unfolding ReadsBack
 key_kept key = object_kept _ (refl, (tt, tt)) (etype_kept key.etype, (refl, tt))
 
-keys_kept : (keys : List Key) → IsKept (keys_value keys)
-unfolding IsKept
+keys_kept : (keys : List Key) → ReadsBack (keys_value keys)
+unfolding ReadsBack
 keys_kept keys = ap (option_map array) (items_kept key_value keys key_kept)
 
-version_kept : (v : KeyVersion) → v.number ≤ 4294967295 → IsKept (version_value v)
-unfolding IsKept
+version_kept : (v : KeyVersion) → v.number ≤ 4294967295 → ReadsBack (version_value v)
+unfolding ReadsBack
 version_kept v h = object_kept _ (refl, (tt, tt)) (keys_kept v.keys, (number_kept v.number (omega (arith, h)), tt))
 
 versions_items : (vs : List KeyVersion) → All (λ v. v.number ≤ 4294967295) vs → of_items (items_outline (items_of (map version_value vs))) ≡ Some (items_of (map version_value vs))
-unfolding IsKept
+unfolding ReadsBack
 versions_items [] all = refl
 versions_items (v ∷ vs) all =
     rw (version_kept v (All-head (λ (w : KeyVersion). w.number ≤ 4294967295) v vs all), versions_items vs (All-tail (λ (w : KeyVersion). w.number ≤ 4294967295) v vs all)) refl
 
-versions_kept : (vs : List KeyVersion) → IsVersions vs → IsKept (versions_value vs)
-unfolding IsKept
+versions_kept : (vs : List KeyVersion) → IsVersions vs → ReadsBack (versions_value vs)
+unfolding ReadsBack
 versions_kept vs is = ap (option_map array) (versions_items vs is.bounded)
 
-setting_kept : (s : Setting) → IsFitting s → IsKept (setting_value s)
-unfolding IsKept
+setting_kept : (s : Setting) → IsFitting s → ReadsBack (setting_value s)
+unfolding ReadsBack
 setting_kept (Flag field on) fits = refl
 setting_kept (Life field life) fits = number_kept life (omega (arith, fits))
 setting_kept (Time field time) fits = time_kept time fits
@@ -86,7 +86,7 @@ settings_kept [] more fits kept = kept
 settings_kept (s ∷ ss) more fits kept =
     (setting_kept s (All-head IsFitting s ss fits), settings_kept ss more (All-tail IsFitting s ss fits) kept)
 
-pub row_kept : (row : Row) → IsVersions row.versions → All IsFitting (settings_of row.policy) → IsKept (row_value row)
+pub row_kept : (row : Row) → IsVersions row.versions → All IsFitting (settings_of row.policy) → ReadsBack (row_value row)
 row_kept row versions fits =
     let settings = settings_of row.policy in
     let after = setting_members (drop before_keys settings) no_members in
@@ -101,21 +101,21 @@ row_kept row versions fits =
 
 abbrev AreRowsKept : List (Components × Row) → Type 0
 AreRowsKept [] = Unit {0}
-AreRowsKept (e ∷ es) = IsKept (row_value e.1) × AreRowsKept es
+AreRowsKept (e ∷ es) = ReadsBack (row_value e.1) × AreRowsKept es
 
 rows_kept : (ms : Members) (es : List (Components × Row)) → AreRising ms → AreKept ms → AreRowsKept es → AreRising (with_rows ms es) × AreKept (with_rows ms es)
 rows_kept ms [] r a h = (r, a)
 rows_kept ms (e ∷ es) r a h = rows_kept (put (text_of e.0) (row_value e.1) ms) es (rising-put (text_of e.0) (row_value e.1) ms r) (kept-put (text_of e.0) (row_value e.1) ms h.0 a) h.1
 
-each_kept : (es : List (Entry Row)) → All (λ e. IsKept (row_value e.value)) es → AreRowsKept (pairs es)
+each_kept : (es : List (Entry Row)) → All (λ e. ReadsBack (row_value e.value)) es → AreRowsKept (pairs es)
 each_kept [] all = tt
 each_kept (e ∷ es) all = (
-  All-head (λ (x : Entry Row). IsKept (row_value x.value)) e es all,
-  each_kept es (All-tail (λ (x : Entry Row). IsKept (row_value x.value)) e es all),
+  All-head (λ (x : Entry Row). ReadsBack (row_value x.value)) e es all,
+  each_kept es (All-tail (λ (x : Entry Row). ReadsBack (row_value x.value)) e es all),
 )
 
-pub database_kept : (p : Principals) (es : List (Entry Row)) → pairs es ≡ entries p.rows → All (λ e. IsKept (row_value e.value)) es → IsKept (database_value p)
-unfolding IsKept
+pub database_kept : (p : Principals) (es : List (Entry Row)) → pairs es ≡ entries p.rows → All (λ e. ReadsBack (row_value e.value)) es → ReadsBack (database_value p)
+unfolding ReadsBack
 database_kept p es are all =
     let rows = rows_kept no_members (entries p.rows) tt tt (subst AreRowsKept are (each_kept es all)) in
     object_kept _ (refl, (refl, (tt, tt))) (object_kept (with_rows no_members (entries p.rows)) rows.0 rows.1, (refl, (number_kept newest_version (omega arith), tt)))

@@ -23,7 +23,7 @@ use Rattle.text_fields.specs.SettingLaws.{made}
 use Rattle.text_fields.specs.Settings.{before_keys, place, settings_of, with_setting, with_settings}
 use Rattle.principals_text.specs.Ahead.{value_at}
 use Rattle.principals_text.specs.RowWritten.{each_value, key_value, keys_value, version_value, versions_value, row_value}
-use Rattle.principals_text.specs.Tokens.{IsKept, data_tokens, member_tokens, setting_tokens, settings_tokens, values_tokens}
+use Rattle.principals_text.specs.Tokens.{ReadsBack, data_tokens, member_tokens, setting_tokens, settings_tokens, values_tokens}
 use Rattle.principals_text.proofs.Kept.{depth-outline}
 use Rattle.principals_text.specs.Taken.{AreTaken}
 use Rattle.principals_text.proofs.RowTokens.{array_end, one_more_of, settings_more, row_tokens}
@@ -143,7 +143,7 @@ pub shorter : (d : Data) (a b : List Token) → a ≡ data_tokens d ++ b → len
 shorter d a b is = omega (arith, some_token d, ap length is, length-append (data_tokens d) b)
 
 -- the value that comes next, if its tokens do
-pub value_next : (n : ℕ) (d : Data) (a r : List Token) → IsKept d → depth d ≤ n → a ≡ data_tokens d ++ r → value_at n a ≡ Some (d, r)
-unfolding IsKept
+pub value_next : (n : ℕ) (d : Data) (a r : List Token) → ReadsBack d → depth d ≤ n → a ≡ data_tokens d ++ r → value_at n a ≡ Some (d, r)
+unfolding ReadsBack
 value_next n d a r kept nests is =
     ap (value_at n) is ∙ ap (converted of_json) (value-json_tokens (outline d) n r (omega (arith, depth-outline d, nests))) ∙ ap (option_map (λ b. (b, r))) kept

@@ -36,8 +36,8 @@ values_tokens f [] = []
 values_tokens f (x ∷ xs) = data_tokens (f x) ++ values_tokens f xs
 
 -- what is written for the value is read as the value
-unfoldable pub IsKept : Data → Type 0
-IsKept d = of_json (outline d) ≡ Some d
+unfoldable pub ReadsBack : Data → Type 0
+ReadsBack d = of_json (outline d) ≡ Some d
 
 -- a writer has these additional tokens, after the same bytes
 pub record IsLonger (old new : Written) (ts : List Token) : Type 0 where

@@ -4,7 +4,7 @@ ghost use Rattle.serde_json.specs.Data.{no_members, boolean, number, object, uns
 ghost use Rattle.principal_rows.specs.NameMap.{pairs};
 ghost use Rattle.principals_text.specs.ReadBack.{IsTime, IsFitting, IsRowReadBack, IsEntryReadBack};
 ghost use Rattle.principals_text.specs.RowWritten as written;
-ghost use Rattle.principals_text.specs.Tokens.{IsKept, IsLonger, data_tokens, member_tokens, setting_tokens};
+ghost use Rattle.principals_text.specs.Tokens.{ReadsBack, IsLonger, data_tokens, member_tokens, setting_tokens};
 ghost use Rattle.principals_text.specs.Tokens.{settings_tokens};
 ghost use Rattle.principals_text.specs.Tokens.{named_members};
 ghost use Rattle.principals_text.specs.Written.{with_rows};
@@ -142,7 +142,7 @@ pub(crate) fn write_rows(
 pub(crate) fn named_rows(alloc: Global, entries: &[Entry<Row>]) -> Result<NamedRows<'_>, AllocError>
     ensures members { IfOk result (λ rows. named_members rows.entries ≡ with_rows no_members (pairs entries.now)) }
     ensures reads { IfOk result (λ _. All IsEntryReadBack entries.now) }
-    ensures kept { IfOk result (λ _. All (λ entry. IsKept (written.row_value entry.value)) entries.now) }
+    ensures kept { IfOk result (λ _. All (λ entry. ReadsBack (written.row_value entry.value)) entries.now) }
 {
     let mut rows = Map::new(alloc);
     for entry in entries {
@@ -156,7 +156,7 @@ pub(crate) fn named_rows(alloc: Global, entries: &[Entry<Row>]) -> Result<NamedR
 /// Makes the properties of each row known to the proofs. It does nothing.
 pub(crate) fn know_row(row: &Row)
     ensures reads { IsRowReadBack row.now }
-    ensures kept { IsKept (written.row_value row.now) }
+    ensures kept { ReadsBack (written.row_value row.now) }
 {
     let _versions = row.versions.as_slice();
     know_settings(&Setting::all(row.policy));

@@ -11,7 +11,7 @@ ghost use Rattle.principals.specs.Database.{AreRows};
 ghost use Rattle.principals_text.specs.Ahead.{text_value};
 ghost use Rattle.principals_text.specs.NameOf.{name_of, component_of};
 ghost use Rattle.principals_text.specs.RowValue.{member_count};
-ghost use Rattle.principals_text.specs.Tokens.{IsKept, IsLonger, data_tokens, named_members};
+ghost use Rattle.principals_text.specs.Tokens.{ReadsBack, IsLonger, data_tokens, named_members};
 ghost use Rattle.principals_text.specs.Written.{database_value};
 ghost use Rattle.principals_text.specs.Value.{format_value, entries_of, rows_of, realm_of, principals_of, database};
 ghost use Rattle.principals_text.specs.Value.{text_database};
@@ -90,7 +90,7 @@ pub fn write(alloc: Global, database: &Database) -> Result<String, AllocError>
 fn write_tokens(alloc: Global, out: &mut Writer, principals: &Database) -> Result<(), AllocError>
     ensures tokens { OnOk result (IsLonger out.old out.new (data_tokens (database_value principals.now))) }
     ensures reads { OnOk result (database (database_value principals.now) ≡ Ok principals.now) }
-    ensures kept { OnOk result (IsKept (database_value principals.now)) }
+    ensures kept { OnOk result (ReadsBack (database_value principals.now)) }
 {
     let rows = named_rows(alloc, principals.entries())?;
     let realm = component_to_text(alloc, principals.realm())?;

@@ -6,7 +6,7 @@ use Rattle.principal_rows.specs.declared.name_map.Entry.{Entry}
 use Rattle.principal_rows.specs.declared.row.Row.{Row}
 use Rattle.principals_text.specs.ReadBack.{IsEntryReadBack}
 use Rattle.principals_text.specs.RowWritten.{row_value}
-use Rattle.principals_text.specs.Tokens.{IsKept, named_members}
+use Rattle.principals_text.specs.Tokens.{ReadsBack, named_members}
 use Rattle.principals_text.specs.Written.{with_rows}
 use Rattle.principals_text.proofs.ReadBack.{one_more_read, at_end}
 use Rattle.principals_text.proofs.Members.{one_more, all_rows}
@@ -24,7 +24,7 @@ loop-entry-preserved c =
     ap named_members c.in_ok-insert.ensures.entries ∙ named_members-insert c.loop-entry.rows.entries c.in_ok-text.text _ ∙ ap (λ t. put t row (named_members c.loop-entry.rows.entries)) text in (
       one_more c.args.entries.now c.loop-entry.entry-index c.entry-item.result (named_members c.loop-entry.rows.entries) (named_members c.insert.new.self.entries) (with_rows no_members (pairs c.args.entries.now)) within here made held.0,
       one_more_read IsEntryReadBack c.args.entries.now c.loop-entry.entry-index c.entry-item.result held.1 within here c.know_row.ensures.reads,
-      one_more_read (λ (entry : Entry Row). IsKept (row_value entry.value)) c.args.entries.now c.loop-entry.entry-index c.entry-item.result held.2 within here c.know_row.ensures.kept,
+      one_more_read (λ (entry : Entry Row). ReadsBack (row_value entry.value)) c.args.entries.now c.loop-entry.entry-index c.entry-item.result held.2 within here c.know_row.ensures.kept,
     )
 
 pub returns-clause-members : goal.returns-clause-members
@@ -35,4 +35,4 @@ pub returns-clause-reads : goal.returns-clause-reads
 returns-clause-reads c = at_end IsEntryReadBack c.args.entries.now c.loop-entry.entry-index c.loop-entry.invariant.1 c.loop-entry-test.false
 
 pub returns-clause-kept : goal.returns-clause-kept
-returns-clause-kept c = at_end (λ (entry : Entry Row). IsKept (row_value entry.value)) c.args.entries.now c.loop-entry.entry-index c.loop-entry.invariant.2 c.loop-entry-test.false
+returns-clause-kept c = at_end (λ (entry : Entry Row). ReadsBack (row_value entry.value)) c.args.entries.now c.loop-entry.entry-index c.loop-entry.invariant.2 c.loop-entry-test.false
