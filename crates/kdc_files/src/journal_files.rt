@@ -20,7 +20,9 @@ const LONGEST_BOOT_ID: usize = 255;
 /// The journals at a path, and their files, which this process holds.
 #[derive(Drop)]
 pub struct OpenedJournals<'a, F, W> {
+    /// What was read from the files.
     pub journals: Journals,
+    /// The files, locked against other servers.
     pub files: SystemJournal<'a, F, W>,
 }
 

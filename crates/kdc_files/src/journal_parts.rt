@@ -39,7 +39,7 @@ impl fmt::Display for JournalPart {
 
 /// The paths of a journal's files.
 #[derive(Drop)]
-pub(crate) struct Paths {
+pub struct JournalPaths {
     pub(crate) newer: String,
     pub(crate) older: String,
     pub(crate) beside: String,
@@ -47,15 +47,21 @@ pub(crate) struct Paths {
     pub(crate) seal: String,
 }
 
-impl Paths {
-    pub(crate) fn new(alloc: Global, path: &str) -> Result<Paths, AllocError> {
-        Ok(Paths {
+impl JournalPaths {
+    /// Returns the paths for a journal at this path.
+    pub fn new(alloc: Global, path: &str) -> Result<JournalPaths, AllocError> {
+        Ok(JournalPaths {
             newer: format!(in alloc; "{path}")?,
             older: format!(in alloc; "{path}.old")?,
             beside: format!(in alloc; "{path}.new")?,
             lock: format!(in alloc; "{path}{LOCK_END}")?,
             seal: format!(in alloc; "{path}.sealed")?,
         })
+    }
+
+    /// Returns how many bytes the two files with entries have together. One that can't be looked at counts as 0.
+    pub fn len_of_entries<F: Files>(&self, files: &F) -> u64 {
+        len_at(files, self.newer.as_str()).saturating_add(len_at(files, self.older.as_str()))
     }
 
     /// Checks whether either of the two files of a journal is there.
@@ -70,6 +76,13 @@ impl Paths {
         check_part(alloc, files, self.beside.as_str(), JournalPart::Beside)?;
         check_short(files, self.lock.as_str(), 0, JournalPart::Lock)?;
         check_short(files, self.seal.as_str(), SEAL_LEN, JournalPart::Seal)
+    }
+}
+
+fn len_at<F: Files>(files: &F, path: &str) -> u64 {
+    match fs::metadata(files, path) {
+        Ok(file) => file.len(),
+        Err(_) => 0,
     }
 }
 

@@ -4,7 +4,7 @@ ghost use Rattle.kdc_files.specs.Unrecorded.{no_world};
 
 use crate::files::ServerFileCause;
 use crate::journal_files::{open_locked, open_newer, seal_at, text_at, text_in};
-use crate::journal_parts::{Paths, require_replaceable};
+use crate::journal_parts::{JournalPaths, require_replaceable};
 use journal::{BeginFault, Begun, FileText, JournalFiles, News, Part};
 use program::OWNER_ONLY;
 use std::alloc::Global;
@@ -17,8 +17,11 @@ use std::{fs, io};
 /// Where a journal is, and where it is said what becomes of its files.
 #[derive(Drop)]
 pub struct JournalPlace<'a, 'p, F, W> {
+    /// The files of the system.
     pub files: &'a F,
+    /// The path of the file that is appended to. The paths of its other files begin with this one.
     pub path: &'p str,
+    /// Takes the log lines about the journal's files.
     pub lines: W,
 }
 
@@ -27,7 +30,7 @@ pub struct JournalPlace<'a, 'p, F, W> {
 #[derive(Drop)]
 pub struct SystemJournal<'a, F, W> {
     files: &'a F,
-    paths: Paths,
+    paths: JournalPaths,
     /// The file whose lock keeps other servers from this journal, as long as it is open.
     lock: File,
     /// The file that is appended to, if it is there.
@@ -44,7 +47,7 @@ impl<'a, F: Files<File = File>, W: Write + Drop> SystemJournal<'a, F, W> {
         place: JournalPlace<'a, '_, F, W>,
     ) -> Result<SystemJournal<'a, F, W>, ServerFileCause> {
         let JournalPlace { files, path, lines } = place;
-        let paths = Paths::new(alloc, path)?;
+        let paths = JournalPaths::new(alloc, path)?;
         paths.check(alloc, files)?;
         let lock = open_locked(alloc, files, path)?;
         let newer = open_newer(files, path)?;

@@ -19,6 +19,7 @@ pub struct Journals {
 /// What the journal of a server begins with.
 #[derive(Drop)]
 pub struct JournalBeginning {
+    /// The realm that the server serves.
     pub realm: Octets,
     /// When the server started.
     pub at: Moment,
@@ -26,5 +27,6 @@ pub struct JournalBeginning {
     pub floor: i64,
     /// What the start made of the journals that it found.
     pub start: Start,
+    /// The journals that the start found.
     pub journals: Journals,
 }

@@ -10,7 +10,9 @@ use std::rt::Files;
 pub struct KeyFile<'a> {
     /// The word for it in a message.
     pub what: &'a str,
+    /// Its path, which a message names.
     pub path: &'a str,
+    /// What the system says of it, with its mode and its owner.
     pub metadata: &'a Metadata,
 }
 

@@ -33,7 +33,7 @@ mod sealing;
 pub use crate::files::{ServerFileCause, read_up_to, read_whole, seed_in};
 pub use crate::journal_file::{FileJournal, begin_journal, begun};
 pub use crate::journal_files::{OpenedJournals, open_journals};
-pub use crate::journal_parts::JournalPart;
+pub use crate::journal_parts::{JournalPart, JournalPaths};
 pub use crate::journal_store::{JournalPlace, SystemJournal};
 pub use crate::journals::{JournalBeginning, Journals};
 pub use crate::keeping::{JournalWriter, keep_for};

@@ -14,10 +14,12 @@ use kdc_core::Seen;
 use krb_fields::Moment;
 use std::alloc::{AllocError, Global};
 
-/// An authenticator that was handed to a journal, with the moment of its request.
+/// An authenticator that was handed to a journal.
 #[derive(Drop)]
 pub struct HandedOver {
+    /// When its request came in.
     pub at: Moment,
+    /// The authenticator's client and time.
     pub seen: Seen,
 }
 

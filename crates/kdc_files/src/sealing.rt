@@ -1,7 +1,7 @@
 //! Sealing a journal, and removing one.
 use crate::files::ServerFileCause;
 use crate::journal_files::{OpenedJournals, open_journals};
-use crate::journal_parts::Paths;
+use crate::journal_parts::JournalPaths;
 use crate::journal_store::{JournalPlace, SystemJournal};
 use journal::{Doubt, Found, Place, SealOutcome, seal_journal};
 use krb_fields::Moment;
@@ -54,7 +54,7 @@ pub fn refuse_journal<F: Files<File = File>, W: Write + Drop>(
     place: JournalPlace<'_, '_, F, W>,
     removes: bool,
 ) -> Result<(), ServerFileCause> {
-    if !Paths::new(alloc, place.path)?.are_there(place.files)? {
+    if !JournalPaths::new(alloc, place.path)?.are_there(place.files)? {
         return Ok(());
     }
     if !removes {

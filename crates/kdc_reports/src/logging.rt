@@ -30,10 +30,12 @@ pub trait LogWriter {
         → Records (logged log) (entry ∷ []) (logged new) };
 }
 
-/// When an event came, and the peer's address if it came on a connection whose peer is known.
+/// The arrival of an event at a server.
 #[derive(Clone, Copy)]
 pub struct Arrival {
+    /// When it came.
     pub at: Moment,
+    /// The address of the peer on a connection. `None` for a datagram, or if the peer is not known.
     pub source: Option<SocketAddr>,
 }
 
@@ -81,11 +83,14 @@ impl<L: LogWriter> LogWriter for Option<L> {
     ghost records = { log_if_records L.logged L.Logs L.records };
 }
 
-/// An action that was tried, the event before it, and whether it was done.
+/// An action that was tried.
 #[derive(Clone, Copy)]
 pub struct Tried<'a> {
+    /// The last event before it, or the start.
     pub came: Arrival,
+    /// The action of the hub.
     pub action: &'a Action,
+    /// Whether it was done: it neither failed nor was withheld.
     pub is_sent: bool,
 }
 

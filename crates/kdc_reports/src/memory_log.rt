@@ -17,9 +17,13 @@ use std::alloc::{AllocError, Global};
 /// An entry of a log.
 #[derive(Drop)]
 pub struct MemoryEntry {
+    /// When the request came in.
     pub at: Moment,
+    /// Who sent it.
     pub asker: Asker,
+    /// What the KDC made of it. There is no account if memory ran out.
     pub account: Option<Account>,
+    /// Whether its reply was sent.
     pub is_sent: bool,
 }
 

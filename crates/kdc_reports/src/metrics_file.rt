@@ -1,5 +1,6 @@
 //! The file of a server's numbers.
 use crate::metrics::MetricsWriter;
+use kdc_files::JournalPaths;
 use program::open_plain;
 use std::alloc::{AllocError, Global};
 use std::fs::{File, OpenFile, OpenOptions, Permissions};
@@ -14,10 +15,12 @@ const HEAD: &[u8; 17] = b"# HELP kdcd_info ";
 /// Everybody may read the numbers: what collects them runs as another user.
 const READABLE: u32 = 0o644;
 
-/// The paths of a file of numbers, and of the journal whose length is one of them, if there is one.
+/// The paths for a file of numbers.
 #[derive(Clone, Copy)]
 pub struct MetricsPaths<'a> {
+    /// The path of that file.
     pub numbers: &'a str,
+    /// The path of the journal whose length is one of the numbers. `None` if there is no journal.
     pub journal: Option<&'a str>,
 }
 
@@ -29,7 +32,7 @@ pub struct MetricsFile<'a, F, W> {
     /// The path of the new file, until it is renamed.
     beside: String,
     /// The paths of the journal's files, if there is one.
-    journal: Option<[String; 2]>,
+    journal: Option<JournalPaths>,
     /// Where faults are logged.
     lines: W,
     /// Whether the last fault was logged, and no text was written since.
@@ -86,29 +89,16 @@ impl<F: Files<File = File>, W: Write + Drop> MetricsWriter for MetricsFile<'_, F
 
     fn journal_bytes(&self) -> u64 {
         match &self.journal {
-            Some([newer, older]) => {
-                let newer = bytes_at(self.files, newer.as_str());
-                newer.saturating_add(bytes_at(self.files, older.as_str()))
-            }
+            Some(paths) => paths.len_of_entries(self.files),
             None => 0,
         }
     }
 }
 
-fn journal_paths(alloc: Global, journal: Option<&str>) -> Result<Option<[String; 2]>, AllocError> {
-    let Some(path) = journal else {
-        return Ok(None);
-    };
-    let newer = format!(in alloc; "{path}")?;
-    let older = format!(in alloc; "{path}.old")?;
-    Ok(Some([newer, older]))
-}
-
-/// Returns how many bytes the file at a path has, or 0 if none is known.
-fn bytes_at<F: Files>(files: &F, path: &str) -> u64 {
-    match fs::metadata(files, path) {
-        Ok(file) => file.len(),
-        Err(_) => 0,
+fn journal_paths(alloc: Global, journal: Option<&str>) -> Result<Option<JournalPaths>, AllocError> {
+    match journal {
+        Some(path) => Ok(Some(JournalPaths::new(alloc, path)?)),
+        None => Ok(None),
     }
 }
 

@@ -36,6 +36,7 @@ pub struct Numbers {
     pub rows_taken: u64,
     /// 1 if there were newer rows that can't be used, otherwise 0.
     pub rows_behind: u64,
+    /// How much the replay caches of all clients hold.
     pub caches: CacheSizes,
     /// How many replies were withheld since the journal could not keep what they make the KDC remember.
     pub withheld_by_journal: u64,

@@ -12,7 +12,9 @@ use std::net::SocketAddr;
 /// The journal at a path, and what the start made of it.
 #[derive(Clone, Copy)]
 pub struct JournalNews<'a> {
+    /// The path, as the options name it.
     pub path: &'a str,
+    /// Whether the start resumed, and with how many authenticators; or why not.
     pub found: JournalFound,
 }
 
@@ -50,17 +52,21 @@ impl JournalFound {
 /// one, what is refused after the start if anything is, and the limits.
 #[derive(Clone, Copy)]
 pub struct Started<'a> {
+    /// The addresses that accept datagrams.
     pub udp: &'a [SocketAddr],
+    /// The addresses that accept connections.
     pub tcp: &'a [SocketAddr],
     /// The path of the database's file.
     pub db: &'a str,
     /// The number of rows.
     pub rows: usize,
+    /// The journal; `None` if the server keeps none.
     pub journal: Option<JournalNews<'a>>,
     /// Which requests are refused after the start, if any are.
     pub refused: Option<Refused>,
     /// Whether they get no reply.
     pub is_quiet: bool,
+    /// The limits on what the KDC records and grants.
     pub limits: Limits,
 }
 
