@@ -1,14 +1,13 @@
 #!/usr/bin/env python3
-"""Lists the public items of the crates without a doc comment: functions, methods, types, traits, constants and modules
-that are `pub`, the methods of public traits, the variants of public enums, and with --all also public fields.
+"""Lists the public items of the crates without a doc comment: functions, methods, types, traits, constants, modules and
+fields that are `pub`, the methods of public traits, and the variants of public enums.
 
-    python3 dev/list_undocumented.py [--all] [CRATE ..]
+    python3 dev/list_undocumented.py [CRATE ..]
 
 It needs only Python 3. It prints PATH:LINE, the kind and the name of each, and at the end how many there are of how
-many. The status is 1 if there is one without --all; the gate tries that, too. Crates that no other one uses, programs
-and tests, are left out unless they are named."""
+many. The status is 1 if there is one; the gate tries that, too. Crates that no other one uses, programs and tests, are
+left out unless they are named."""
 
-import argparse
 import pathlib
 import re
 import sys
@@ -51,7 +50,7 @@ def has_doc(lines, at):
     return at >= 0
 
 
-def items_in(file, takes_all):
+def items_in(file):
     """The public items of a file. A module may have its doc at the head of its own file."""
     lines, found, kind = file.read_text().splitlines(), [], None
     for at, line in enumerate(lines):
@@ -61,7 +60,7 @@ def items_in(file, takes_all):
             inner = [file.parent / f"{item[2]}.rt", file.with_suffix("") / f"{item[2]}.rt"] if item[1] == "mod" else []
             is_in_file = any(each.exists() and each.read_text().startswith("//!") for each in inner)
             found.append(Item(place, item[1], item[2], is_in_file or has_doc(lines, at)))
-        if takes_all and (field := FIELD.match(line)) and not item:
+        if (field := FIELD.match(line)) and not item:
             found.append(Item(place, "field", field[1], has_doc(lines, at)))
         kind = item[1] if item and item[1] in INNER else kind if line != "}" else None
         if kind and not item and (inner := INNER[kind].match(line)):
@@ -69,24 +68,20 @@ def items_in(file, takes_all):
     return found
 
 
-def all_items(crates, takes_all):
+def all_items(crates):
     """The public items of these crates, or of all that others use."""
     crates = crates or sorted(each.name for each in (TOP / "crates").iterdir() if not PRIVATE.search(each.name))
     files = [file for crate in crates for file in sorted((TOP / "crates" / crate / "src").rglob("*.rt"))]
-    return [item for file in files for item in items_in(file, takes_all)]
+    return [item for file in files for item in items_in(file)]
 
 
 def main():
-    words = argparse.ArgumentParser(description=__doc__, formatter_class=argparse.RawDescriptionHelpFormatter)
-    words.add_argument("--all", action="store_true")
-    words.add_argument("crate", nargs="*")
-    words = words.parse_args()
-    found = all_items(words.crate, words.all)
+    found = all_items(sys.argv[1:])
     lacking = [item for item in found if not item.has_doc]
     for item in lacking:
         print(f"{item.place} {item.kind} {item.name}")
     print(f"{len(lacking)} of {len(found)} public items have no doc")
-    sys.exit(bool(lacking) and not words.all)
+    sys.exit(bool(lacking))
 
 
 if __name__ == "__main__":

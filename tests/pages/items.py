@@ -1,5 +1,5 @@
-"""Public items of the crates, and parts of enums and traits, have a doc comment (`dev/list_undocumented.py`), and each
-library begins with what it is for and an example."""
+"""Public items of the crates have a doc comment (`dev/list_undocumented.py`), and each library begins with what it is
+for and an example."""
 
 from list_undocumented import all_items
 
@@ -12,9 +12,9 @@ LEAST = 10
 
 @test()
 def documented(trial):
-    """Each public item of a crate that another one uses has a doc comment, and so has each part of an enum and a
-    trait."""
-    found = all_items([], False)
+    """Each public item of a crate that another one uses has a doc comment; so has each public field, each variant of an
+    enum and each method of a trait."""
+    found = all_items([])
     lacking = [f"{item.place} {item.name}" for item in found if not item.has_doc]
     trial.note(f"docs of {len(found)} public items", ", ".join(lacking))
 

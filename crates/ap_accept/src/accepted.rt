@@ -8,6 +8,7 @@ use ticket_times::TicketTerms;
 /// An accepted AP-REQ: the client, the ticket's terms, and what the authenticator carries (RFC 4120, section 5.5.1).
 #[derive(Drop)]
 pub struct Accepted {
+    /// The client's realm and name, from the ticket.
     pub client: Principal,
     /// The ticket's session key.
     pub session_key: Key,
@@ -15,6 +16,7 @@ pub struct Accepted {
     pub ticket: TicketTerms,
     /// The key that the client chose for the rest of the connection, if it chose one.
     pub subkey: Option<Key>,
+    /// The sequence number at which the client's KRB-SAFE and KRB-PRIV messages start, if it uses one.
     pub seq_number: Option<UInt32>,
     /// The authenticator's checksum over the application's data, with its type. The application checks it.
     pub cksum: Option<Typed>,

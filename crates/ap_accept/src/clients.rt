@@ -23,6 +23,7 @@ pub struct Clients {
     /// An authenticator from a client without a cache of its own is too old if its ctime, in seconds since 1970, is
     /// below this. All dropped entries lie below it.
     pub floor: i64,
+    /// By the client's name, the replay cache of each client that has one of its own.
     pub caches: NameMap<ReplayCache<()>>,
 }
 

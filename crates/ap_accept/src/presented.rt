@@ -21,8 +21,11 @@ use std::alloc::{AllocError, Global};
 pub struct Presented {
     /// The service that the ticket is for: its realm, followed by the components of its name.
     pub service: Name,
+    /// The encrypted part of the ticket, decrypted with the service's key.
     pub ticket: EncTicketPart,
+    /// The ticket's session key.
     pub session_key: Key,
+    /// The authenticator, decrypted with the session key.
     pub authenticator: Authenticator,
     /// The key that the client chose for the rest of the connection, if it chose one.
     pub subkey: Option<Key>,

@@ -8,12 +8,14 @@ use principal_rows::NameMap;
 use replay::Opening;
 use std::alloc::Global;
 
-/// The services' keys, the options, and the replay caches of each service's clients. A service without an entry has the
-/// empty caches that `opening` prescribes.
+/// The state of an acceptor. A service without an entry in `services` has the empty caches that `opening` prescribes.
 #[derive(Drop)]
 pub struct State {
+    /// The services' keys, which decrypt the tickets.
     pub keytab: Keytab,
+    /// The options that the acceptor was opened with.
     pub options: AcceptorOptions,
+    /// Whether the acceptor opened for the first time, or again, and when.
     pub opening: Opening,
     /// The map's key is the service's realm, followed by the components of its name.
     pub services: NameMap<Clients>,

@@ -7,6 +7,7 @@ use crate::status::Status;
 /// The result of a call that copies bytes into a buffer.
 #[derive(Clone, Copy)]
 pub struct Given {
+    /// [`Status::Done`] if the bytes were copied; otherwise why not.
     pub status: Status,
     /// How many bytes there are, whether they fit or not.
     pub len: usize,

@@ -20,7 +20,9 @@ use std::alloc::Global;
 #[repr(C)]
 #[derive(Clone, Copy)]
 pub struct Time {
+    /// Whole seconds since the start of 1970; a moment has 0 to 253402300799.
     pub sec: i64,
+    /// Microseconds; a moment has 0 to 999999.
     pub usec: u32,
 }
 
@@ -32,12 +34,14 @@ pub struct Start {
     pub remembered: u32,
     /// Whether the service never ran before.
     pub is_first: bool,
+    /// When it opens. It must name a moment, even if the service never ran before.
     pub time: Time,
 }
 
 /// What accepting an AP-REQ came to.
 #[derive(Clone, Copy)]
 pub struct Outcome {
+    /// [`Status::Done`] if the AP-REQ is accepted; otherwise why not.
     pub status: Status,
     /// The numbers of the AP-REQ, or [`Numbers::NONE`] if it isn't accepted.
     pub numbers: Numbers,

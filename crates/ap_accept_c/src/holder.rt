@@ -11,7 +11,9 @@ use std::mem;
 #[repr(C)]
 #[derive(Drop)]
 pub struct Holder {
+    /// Whether there is a service.
     pub is_open: bool,
+    /// The boxed service; none while the acceptor is closed.
     pub held: Held,
 }
 

@@ -10,9 +10,11 @@ use ap_accept::Accepted;
 #[repr(C)]
 #[derive(Clone, Copy)]
 pub struct Numbers {
+    /// When the client first authenticated.
     pub authtime: i64,
     /// The authtime, if the ticket has no starttime.
     pub starttime: i64,
+    /// When the ticket expires.
     pub endtime: i64,
     /// The endtime, if the ticket has no renew-till.
     pub renew_till: i64,
@@ -20,12 +22,15 @@ pub struct Numbers {
     pub seq_number: i64,
     /// Bit 0 of RFC 4120 is the most significant.
     pub flags: u32,
+    /// The number of the session key's encryption type.
     pub session_key_type: i32,
     /// 0 if the client chose no subkey.
     pub subkey_type: i32,
     /// 0 if the authenticator has no checksum.
     pub checksum_type: i32,
+    /// Whether the authenticator has a sequence number, which may be 0.
     pub has_seq_number: bool,
+    /// Whether the authenticator has a checksum.
     pub has_checksum: bool,
     /// Whether the client asks the service to prove its identity.
     pub has_ap_rep: bool,

@@ -7,7 +7,9 @@ use std::marker::Model;
 
 /// The parts of a box.
 pub struct Parts<T, A: Allocator> {
+    /// Points to the boxed value.
     pub ptr: *mut T,
+    /// The allocator of the value's memory.
     pub alloc: A,
     pub ghost value: { T },
 }

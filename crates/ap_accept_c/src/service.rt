@@ -17,6 +17,7 @@ use std::alloc::Global;
 /// The value behind the pointer that C holds.
 #[derive(Drop)]
 pub struct Service {
+    /// The services' keys, and the replay caches of their clients.
     pub acceptor: Acceptor,
     /// What the last call accepted, if it accepted anything. The caller may read it any number of times, until the next
     /// call.

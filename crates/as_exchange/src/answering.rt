@@ -28,11 +28,14 @@ use preauth::{Outcome, after_failure, after_success};
 use replay::Failures;
 use std::alloc::{AllocError, Global};
 
-/// The reply to an AS-REQ, the outcome, and the client's failures afterwards: `None` if they don't change.
+/// The answer to an AS-REQ.
 #[derive(Drop)]
 pub struct AsAnswer {
+    /// The bytes of the AS-REP or the KRB-ERROR.
     pub reply: Vec<u8>,
+    /// The issued ticket, or why there is none.
     pub outcome: AsOutcome,
+    /// The client's failed preauthentications afterwards; `None` if they don't change.
     pub failures: Option<Failures>,
 }
 

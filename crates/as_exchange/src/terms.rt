@@ -16,19 +16,24 @@ use ticket_times::{Times, as_times};
 /// A client and a service that have keys of the requested encryption types.
 #[derive(Drop)]
 pub struct Terms {
+    /// The cname of the request, with its name-type as sent.
     pub client_name: Name,
+    /// The policy of the client's row.
     pub client_policy: Policy,
     /// The client's current key of the first requested encryption type for which it has one.
     pub reply_key: Key,
     /// Its key version.
     pub reply_version: u32,
+    /// The service's name, policy and keys.
     pub service: ServiceTerms,
 }
 
 /// All that a ticket is issued from.
 #[derive(Drop)]
 pub struct Admission {
+    /// The client and the service, with their keys.
     pub terms: Terms,
+    /// The ticket's start, end and renew-till.
     pub times: Times,
     /// The outcome of the client's timestamp.
     pub timestamp: Outcome,

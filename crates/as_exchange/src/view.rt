@@ -12,6 +12,7 @@ use std::marker::Model;
 pub struct AsView<'a> {
     /// The realm, 1 to 255 bytes.
     pub realm: &'a [u8],
+    /// The limits that the realm sets for all its principals.
     pub limits: &'a Limits,
     /// The client's row, if it has one.
     pub client: Option<&'a Row>,

@@ -21,9 +21,11 @@ pub const MAX_ETYPES: usize = 64;
 pub struct Asked {
     /// Its named bits are those of `krb_fields::KdcOption`.
     pub options: Flags,
+    /// The client's name. The KDC-REQ-BODY has it only in an AS-REQ.
     pub client: Name,
     /// The realm of the client and of the service.
     pub realm: KerberosString,
+    /// The name of the service that the ticket is for.
     pub service: Name,
     /// When the ticket is to start; absent: at once.
     pub from: Option<KTime>,

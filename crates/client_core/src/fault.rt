@@ -31,7 +31,9 @@ pub enum ClientFault {
 /// The contents of a KRB-ERROR.
 #[derive(Debug, Drop)]
 pub struct Refusal {
+    /// The error code, and the server's time.
     pub error: ServerError,
+    /// The e-data, such as the METHOD-DATA of KDC_ERR_PREAUTH_REQUIRED, if any.
     pub e_data: Option<Octets>,
 }
 

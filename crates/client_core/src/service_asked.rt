@@ -11,5 +11,6 @@ pub struct ServiceAsked {
     pub checksum: Option<Typed>,
     /// The key that the client chose for what follows.
     pub subkey: Option<Key>,
+    /// The sequence number at which the client's KRB-SAFE and KRB-PRIV messages start, if it uses one.
     pub seq_number: Option<u32>,
 }

@@ -18,7 +18,9 @@ pub const MAX_OCTETS_SENT: usize = 16_777_216;
 /// A ticket, and the session key in it.
 #[derive(Drop)]
 pub struct Session {
+    /// The ticket, as the service gets it.
     pub ticket: Ticket,
+    /// The key that encrypts the client's authenticators.
     pub key: Key,
 }
 

@@ -14,6 +14,7 @@ use std::{fmt, io};
 pub struct Fault {
     /// A file, KDCs, or a word. Absent if memory ran out, or if the cause says what it concerns.
     pub subject: Option<String>,
+    /// What is wrong. A message has it after the subject.
     pub cause: Cause,
 }
 

@@ -29,9 +29,11 @@ pub enum Transports {
 /// The KDCs of a realm, and the way to them.
 #[derive(Drop)]
 pub struct Kdcs<X> {
+    /// What carries the messages to them.
     pub network: X,
     /// In the order in which the client tries them.
     pub places: Vec<KdcPlace>,
+    /// Whether UDP is tried before TCP.
     pub transports: Transports,
     /// The KDC to try first, because it sent the last reply.
     answered: Option<SocketAddr>,
@@ -78,7 +80,9 @@ impl<X> Kdcs<X> {
 /// A KDC's reply.
 #[derive(Drop)]
 pub(crate) struct Reply {
+    /// The KDC that sent it.
     pub kdc: SocketAddr,
+    /// The bytes of the message, without the length that comes before it over TCP.
     pub octets: Vec<u8>,
     /// The refusal, if the reply is a KRB-ERROR.
     pub refusal: Option<Refusal>,

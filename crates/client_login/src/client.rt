@@ -12,6 +12,7 @@ use std::alloc::Global;
 pub struct KdcClient<X> {
     /// What it takes its memory from.
     pub alloc: Global,
+    /// The KDCs that it asks.
     pub kdcs: Kdcs<X>,
     /// The moment of the next request. Each request that proves who the client is moves it on by a microsecond, because
     /// a KDC accepts each moment of a client once.

@@ -13,6 +13,7 @@ use std::{fmt, io};
 /// Why a client gets no ticket, and from which KDC.
 #[derive(Clone, Copy, Debug)]
 pub struct LoginFault {
+    /// The reason, with the KDC's error if one refused.
     pub why: LoginError,
     /// The KDC whose reply ended the login; `None` if no reply did.
     pub kdc: Option<SocketAddr>,

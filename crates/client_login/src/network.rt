@@ -19,7 +19,9 @@ pub enum Transport {
 /// Where a message goes, and how.
 #[derive(Clone, Copy)]
 pub struct Route {
+    /// The KDC's address and port.
     pub to: SocketAddr,
+    /// Whether it goes by UDP or by TCP.
     pub by: Transport,
 }
 

@@ -33,6 +33,7 @@ pub enum Secret {
 /// A password, from which a key is derived as the KDC says.
 #[derive(Drop)]
 pub struct Password {
+    /// The bytes of the password, which string-to-key takes as they are.
     pub octets: Octets,
     /// The fewest iterations of string-to-key that the client accepts. Absent: the type's default, 4,096 for the types
     /// 17 and 18 and 32,768 for the types 19 and 20. A program on the path to the KDC may name any count and salt, and

@@ -15,9 +15,11 @@ use std::alloc::{AllocError, Global};
 /// A client that logs in, and its first ticket.
 #[derive(Drop)]
 pub struct Login {
+    /// The client, with its realm.
     pub client: Principal,
     /// A service of the client's realm, usually [`krb_fields::tgs_name`].
     pub service: Name,
+    /// What the client requests of the ticket.
     pub request: TicketRequest,
 }
 
@@ -28,10 +30,13 @@ pub struct TicketRequest {
     pub lifetime: Option<u32>,
     /// The seconds until it starts; absent: it starts at once. A ticket that starts later has to be validated then.
     pub start: Option<u32>,
+    /// Whether it is to be renewable (RFC 4120, section 2.3).
     pub renewable: bool,
     /// How long a renewable ticket can be renewed, in seconds from its start; absent: the longest that the KDC gives.
     pub renew_lifetime: Option<u32>,
+    /// Whether it is to be forwardable (RFC 4120, section 2.6).
     pub forwardable: bool,
+    /// Whether it is to be proxiable (RFC 4120, section 2.5).
     pub proxiable: bool,
 }
 
@@ -85,7 +90,9 @@ pub(crate) fn first_asked(
 pub(crate) struct FurtherTicket<'a> {
     /// Its named bits are those of `krb_fields::KdcOption`.
     pub options: Flags,
+    /// The client of the ticket-granting ticket, with its realm.
     pub client: &'a Principal,
+    /// A service of the client's realm.
     pub service: &'a Name,
 }
 

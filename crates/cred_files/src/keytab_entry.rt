@@ -23,9 +23,13 @@ use std::alloc::{AllocError, Global};
 /// A key of a principal.
 #[derive(Drop)]
 pub struct KeytabEntry {
+    /// The principal's realm.
     pub realm: KerberosString,
+    /// Its name in the realm, with the name-type.
     pub name: Name,
+    /// The key version (kvno).
     pub version: u32,
+    /// The key, with one of the four supported encryption types.
     pub key: Key,
 }
 

@@ -18,7 +18,9 @@ use std::alloc::{AllocError, Global};
 /// A principal and its realm.
 #[derive(Drop)]
 pub struct Principal {
+    /// The realm that it belongs to.
     pub realm: KerberosString,
+    /// Its name in the realm, with the name-type.
     pub name: Name,
 }
 

@@ -10,7 +10,9 @@ use std::alloc::AllocError;
 /// A header or an entry in the octets that are read, and its check.
 #[derive(Drop)]
 pub struct Element<'a> {
+    /// The octets of the header or the entry, without the tag and the length before them.
     pub octets: &'a [u8],
+    /// The first 16 octets of the SHA-256 digest of the check before it and of these octets.
     pub check: [u8; 16],
 }
 

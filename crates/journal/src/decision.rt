@@ -31,11 +31,13 @@ pub enum Found {
 /// Where and when a server starts, or a journal is sealed.
 #[derive(Clone, Copy)]
 pub struct Place<'a> {
+    /// The realm that the server serves. When a journal is sealed, it is the realm of that journal.
     pub realm: &'a [u8],
     /// The system's name for its current boot.
     pub boot: &'a [u8],
     /// The seal beside the journal; empty if there is no seal.
     pub seal: &'a [u8],
+    /// The moment of the start or of the sealing, by the system's clock.
     pub at: Moment,
 }
 

@@ -14,9 +14,11 @@ use std::alloc::AllocError;
 /// A seen authenticator.
 #[derive(Drop)]
 pub struct Entry<N = Name> {
+    /// The client's name. Its realm is that of the journal.
     pub client: N,
     /// The authenticator's own time.
     pub ctime: KTime,
+    /// The microseconds of that time, 0 to 999999.
     pub cusec: Microseconds,
     /// How many seconds after that time its request came. It is negative if the client's clock was ahead.
     pub age: i32,

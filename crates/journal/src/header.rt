@@ -13,6 +13,7 @@ use std::alloc::AllocError;
 /// The header of a journal.
 #[derive(Drop)]
 pub struct Header<S = Octets> {
+    /// The realm that the server serves.
     pub realm: S,
     /// The system's name for its boot. After another boot the end of the journal may be lost.
     pub boot: S,

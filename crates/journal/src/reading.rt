@@ -26,6 +26,7 @@ const FEW: usize = 1_024;
 /// its entries, also of these.
 #[derive(Drop)]
 pub struct Journal {
+    /// The header that the file begins with.
     pub header: Header,
     /// The entries whose times are not more than the skew before the latest second. A start refuses all others by their
     /// times.

@@ -14,7 +14,9 @@ use std::alloc::{AllocError, Global};
 /// Octets to append, and the check that they end with.
 #[derive(Drop)]
 pub struct Written {
+    /// A header or an entry, and its check behind it, each as an OCTET STRING.
     pub text: Vec<u8>,
+    /// That check, from which the check of the next entry is made.
     pub check: [u8; 16],
 }
 

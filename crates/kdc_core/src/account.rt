@@ -17,25 +17,32 @@ use tgs_exchange::TgsOutcome;
 pub enum Account<N = Name> {
     /// The bytes encode no request.
     NoRequest,
-    /// The client is the one that the request names. A ticket's flag PRE-AUTHENT says whether it proved its key.
+    /// An AS-REQ. A ticket's flag PRE-AUTHENT says whether the client proved its key.
     As {
+        /// The client that the request names, if it names one.
         client: Option<N>,
+        /// The service that the request names, if it names one.
         service: Option<N>,
+        /// The issued ticket, or why there is none.
         outcome: AsOutcome,
     },
-    /// The client is that of the presented ticket, if that could be decrypted.
+    /// A TGS-REQ.
     Tgs {
+        /// The client of the presented ticket, if that could be decrypted.
         client: Option<Name>,
+        /// The service that the request names, if it names one.
         service: Option<N>,
+        /// The issued ticket, or why there is none; if a stored reply was sent again, what that bears.
         outcome: TgsOutcome,
     },
 }
 
-/// The reply to a request, if there is one; the account of the request, if it was wanted; and the authenticator that it
-/// records, if any.
+/// The answer to a request, and the authenticator that the request records, if any.
 #[derive(Drop)]
 pub struct Answer {
+    /// The bytes of the reply; `None` if the bytes that came in encode no request.
     pub reply: Option<Octets>,
+    /// How the request was handled; `None` if the account was not wanted.
     pub account: Option<Account>,
     /// A refused request may record one too: if its authenticator was new.
     pub newly_seen: Option<Seen>,

@@ -24,11 +24,14 @@ use std::alloc::{AllocError, Global};
 use tgs_exchange::{TgsOutcome, tgs_error};
 use tgs_opening::Rejection;
 
-/// A reply, the account of its request, and the change to make in the client's replay cache, if any.
+/// The answer to a request, before the KDC's state changes.
 #[derive(Drop)]
 pub struct Answered<'q> {
+    /// The bytes of the reply.
     pub octets: Vec<u8>,
+    /// The change to make in the client's replay cache, if any.
     pub mark: Option<Mark>,
+    /// How the request was handled. Names from the request are borrowed from its bytes.
     pub account: Account<NameRef<'q>>,
 }
 

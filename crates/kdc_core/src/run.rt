@@ -23,12 +23,15 @@ use std::fmt;
 /// An event of a KDC.
 #[derive(Drop)]
 pub enum Event {
-    /// A request arrives at this moment. `random` are 64 random bytes, and `room` is the greatest size of a reply with
-    /// a ticket.
+    /// A request arrives.
     Request {
+        /// When it comes in.
         at: Moment,
+        /// 32 random bytes for the session key, and 16 each for the confounders of ticket and reply.
         random: [u8; 64],
+        /// The maximum length of a reply with a ticket, in bytes.
         room: u32,
+        /// The bytes of the request.
         request: Octets,
     },
     /// A change of the database is requested.

@@ -5,10 +5,12 @@ ghost use Rattle.kdc_hub.specs.Wire.{Records, complete};
 use crate::wires::WireCall;
 use std::alloc::{AllocError, Global};
 
-/// What was done, in order, until memory ran out.
+/// What was done, in order, but for calls whose record ran out of memory.
 #[derive(Drop)]
 pub struct Diary {
+    /// The calls of the Wire that were recorded, with their outcomes.
     pub did: Vec<WireCall>,
+    /// Whether every call was recorded. It is false once memory ran out for one.
     pub is_whole: bool,
 }
 

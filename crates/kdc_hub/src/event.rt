@@ -10,6 +10,7 @@ use std::net::SocketAddr;
 /// Where a datagram came from, and the socket of the server that it came to. The reply goes back the same way.
 #[derive(Clone, Copy, Debug, PartialEq, Eq)]
 pub struct Peer {
+    /// The sender's address and port.
     pub address: SocketAddr,
     /// The number of the socket among those for datagrams.
     pub socket: u64,

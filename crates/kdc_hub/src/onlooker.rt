@@ -6,9 +6,11 @@ use std::alloc::Global;
 /// A server after a period.
 #[derive(Drop)]
 pub struct ServerView<'a, W, S, R> {
+    /// What it receives and sends through.
     pub wire: &'a W,
     /// The source of its rows.
     pub source: &'a S,
+    /// The hub, with the KDC and the connections.
     pub hub: &'a Hub<R>,
     /// What it served in the period.
     pub served: Served,

@@ -8,6 +8,7 @@ use std::alloc::{AllocError, Global};
 /// A reply, and the account of the request that it answers.
 #[derive(Drop)]
 pub struct Reply {
+    /// An AS-REP, a TGS-REP or a KRB-ERROR, without a length before it.
     pub message: Octets,
     /// `None` if the hub keeps no accounts, and in the answer to a length that is too large.
     pub account: Option<Account>,

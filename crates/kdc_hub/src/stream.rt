@@ -25,13 +25,16 @@ const ROOM: u32 = 131_072;
 /// A connection whose bytes came, and when.
 #[derive(Clone, Copy)]
 pub struct TimedConnection {
+    /// The number of the connection.
     pub conn: u64,
+    /// When the bytes came.
     pub at: Moment,
 }
 
 /// The answers to the messages of a connection.
 #[derive(Drop)]
 pub struct StreamStep {
+    /// The replies to write, in order, and then a `Close` if the connection is to end.
     pub actions: Vec<Action>,
     /// Whether the connection stays open.
     pub stays: bool,

@@ -19,12 +19,17 @@ use ticket_times::Times;
 pub struct Grant<'a> {
     /// The realm of both.
     pub realm: KerberosStringRef<'a>,
+    /// The client's name: in the AS exchange the request's cname, in the TGS exchange the presented ticket's.
     pub client: Lent<'a, Name>,
+    /// The service's name: the request's sname.
     pub service: Lent<'a, Name>,
+    /// The new session key, which the ticket and the reply have.
     pub session_key: Key,
+    /// The ticket's flags.
     pub flags: Flags,
     /// When the client first authenticated.
     pub authtime: KTime,
+    /// The ticket's start, end and renew-till.
     pub times: Times,
     /// The authorization data that the new ticket copies from the presented one.
     pub authorization_data: Option<Lent<'a, Seq<Typed>>>,

@@ -13,8 +13,10 @@ pub struct Granted {
     pub ticket_type: Etype,
     /// The encryption type of the session key.
     pub session_type: Etype,
+    /// The ticket's flags.
     pub flags: Flags,
     /// When the client first authenticated.
     pub authtime: KTime,
+    /// The ticket's start, end and renew-till.
     pub times: Times,
 }

@@ -19,12 +19,16 @@ use krb_types::{KdcRep, Under};
 use sealed_parts::{PartKey, ReadyKeys};
 use std::alloc::{AllocError, Global};
 
-/// What a reply copies from its request, the time when it is made, the random bytes, and the cache of keys.
+/// What a reply with a ticket needs besides the grant and the keys.
 #[derive(Clone, Copy)]
 pub struct ReplyInputs<'r> {
+    /// The nonce of the request.
     pub nonce: UInt32,
+    /// When the reply is made; its last-req has this time.
     pub time: KTime,
+    /// The random bytes for the answer. The reply uses the last 32, for the two confounders.
     pub random: &'r [u8; 64],
+    /// A cache of recently used keys. It affects speed only, never a reply.
     pub ready: &'r ReadyKeys,
 }
 

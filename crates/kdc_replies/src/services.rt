@@ -13,7 +13,9 @@ use std::alloc::{AllocError, Global};
 /// A service that has a current key of a requested encryption type.
 #[derive(Drop)]
 pub struct ServiceTerms {
+    /// The sname of the request, with its name-type as sent.
     pub name: Name,
+    /// The policy of the service's row.
     pub policy: Policy,
     /// The first requested encryption type for which it has a current key.
     pub session_type: Etype,

@@ -16,10 +16,12 @@ use krb_types::Ticket;
 use sealed_parts::{PartKey, ReadyKeys};
 use std::alloc::{AllocError, Global};
 
-/// A key of a service, which encrypts its tickets, and its key version.
+/// A key of a service, which encrypts its tickets.
 #[derive(Clone, Copy)]
 pub struct ServiceKey {
+    /// The key, with its encryption type.
     pub key: Key,
+    /// Its key version (kvno), which the ticket names.
     pub version: u32,
 }
 

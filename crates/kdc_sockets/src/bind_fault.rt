@@ -9,6 +9,7 @@ use std::{fmt, io};
 pub struct BindFault {
     /// The socket that failed. `None` if the poll for all sockets failed, or memory ran out.
     pub socket: Option<Endpoint>,
+    /// The system's error, or that memory ran out.
     pub error: io::Error,
 }
 

@@ -42,7 +42,9 @@ pub struct Connections {
 /// A connection that was accepted, and the end of the one that was closed for it.
 #[derive(Drop)]
 pub struct Accepted {
+    /// The number of the new connection.
     pub conn: u64,
+    /// The end of the connection that was closed. `None` if there was room for the new one.
     pub closed: Option<Event>,
 }
 

@@ -14,7 +14,9 @@ const MOST_EVENTS: usize = 64;
 /// The sockets that stay open, and the poll that reports which are ready.
 #[derive(Drop)]
 pub struct Ports {
+    /// The poll. The connections are registered with it, too.
     pub poll: Poll,
+    /// What the last poll reported, 64 events at most.
     pub events: Events,
     /// The UDP sockets. The poll knows each by its index.
     pub datagrams: Vec<UdpSocket>,

@@ -63,8 +63,11 @@ impl Queue {
 /// The ports and connections that may be ready.
 #[derive(Drop)]
 pub struct Ready {
+    /// The UDP sockets, by their indices.
     pub datagrams: Queue,
+    /// The TCP listeners, by their indices.
     pub newcomers: Queue,
+    /// The connections, by their numbers.
     pub connections: Queue,
 }
 

@@ -8,6 +8,7 @@ use crate::line::Line;
 /// The place of a line.
 #[derive(Clone, Copy)]
 pub(crate) struct LinePlace<'a> {
+    /// The name of the section that it is in; empty before the first section.
     pub section: &'a [u8],
     /// The outermost open group; empty if none is open.
     pub group: &'a [u8],

@@ -134,7 +134,9 @@ fn look_fixed(reader: &mut Reader<'_>, number: i32) -> Result<(), DerFault>
 /// A value, and its bytes as they were sent.
 #[derive(Debug, Drop)]
 pub struct Sent<'a, T> {
+    /// The value that the bytes encode.
     pub value: T,
+    /// The encoding of the value, without the tag of the field that it is in.
     pub octets: &'a [u8],
 }
 

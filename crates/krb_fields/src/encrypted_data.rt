@@ -11,11 +11,14 @@ use krb_elements::{
 };
 use std::alloc::{AllocError, Global};
 
-/// Encrypted bytes, with the number of the encryption type and the key version.
+/// Encrypted bytes, with what identifies their key.
 #[derive(Debug, Drop)]
 pub struct EncryptedData<C = Octets> {
+    /// The number of the key's encryption type.
     pub etype: i32,
+    /// The key version number, if the sender names one; session keys and subkeys have none.
     pub kvno: Option<UInt32>,
+    /// The ciphertext, as the encryption type defines it (RFC 3961).
     pub cipher: C,
 }
 

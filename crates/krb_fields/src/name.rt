@@ -12,7 +12,9 @@ use std::cmp::Ordering;
 /// section 6.2). So comparisons use only the components.
 #[derive(Debug, Drop)]
 pub struct Name<C = Seq<KerberosString>> {
+    /// The name-type (RFC 4120, section 6.2), such as 1 for NT-PRINCIPAL.
     pub name_type: i32,
+    /// The components in order, such as `host` and `a.example`.
     pub components: C,
 }
 

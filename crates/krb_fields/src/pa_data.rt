@@ -14,7 +14,9 @@ use std::alloc::{AllocError, Global};
 /// Preauthentication data, or other data in a request or a reply, with its type.
 #[derive(Debug, Drop)]
 pub struct PaData<V = Octets> {
+    /// The type (RFC 4120, section 7.5.2), such as 2 for PA-ENC-TIMESTAMP.
     pub padata_type: i32,
+    /// The contents, as the type defines them.
     pub padata_value: V,
 }
 

@@ -13,7 +13,9 @@ use std::alloc::{AllocError, Global};
 /// Bytes with their type: the form of HostAddress (RFC 4120, section 5.2.5) and of other types.
 #[derive(Debug, Drop)]
 pub struct Typed<O = Octets> {
+    /// The number of the type, such as a key's encryption type or a checksum's type.
     pub number: i32,
+    /// The bytes, as the type defines them.
     pub octets: O,
 }
 

@@ -19,10 +19,13 @@ use std::alloc::{AllocError, Global};
 /// message type.
 #[derive(Debug, Drop)]
 pub struct ApReq<T = Ticket, E = EncryptedData> {
+    /// The protocol version: 5.
     pub pvno: i32,
+    /// The message type: 14.
     pub msg_type: i32,
     /// The bits are named by `krb_fields::ApOption`.
     pub ap_options: Flags,
+    /// The ticket that authenticates the client to the service.
     pub ticket: T,
     /// An Authenticator, encrypted with the ticket's session key.
     pub authenticator: E,

@@ -18,15 +18,21 @@ use std::alloc::{AllocError, Global};
 /// What a client encrypts with a session key, to prove that it has the key now.
 #[derive(Debug, Drop)]
 pub struct Authenticator<S = KerberosString, N = Name, T = Typed, L = Seq<Typed>> {
+    /// The client's realm, as in the ticket.
     pub crealm: S,
+    /// The client's name, as in the ticket.
     pub cname: N,
     /// A checksum over the data that the authenticator comes with.
     pub cksum: Option<T>,
+    /// The microseconds of the client's time, 0 to 999999.
     pub cusec: Microseconds,
+    /// The client's time, in whole seconds.
     pub ctime: KTime,
     /// The key that the client chose for the rest of the connection.
     pub subkey: Option<T>,
+    /// The sequence number at which the client's KRB-SAFE and KRB-PRIV messages start, if it uses one.
     pub seq_number: Option<UInt32>,
+    /// Restrictions on the use of the ticket, beyond those in the ticket itself.
     pub authorization_data: Option<L>,
 }
 

@@ -18,9 +18,13 @@ use std::alloc::{AllocError, Global};
 /// What a service encrypts with the session key, to prove that it has the key.
 #[derive(Debug, Drop)]
 pub struct EncApRepPart<T = Typed> {
+    /// The ctime of the authenticator.
     pub ctime: KTime,
+    /// The cusec of the authenticator.
     pub cusec: Microseconds,
+    /// The key that the service chose for the rest of the connection.
     pub subkey: Option<T>,
+    /// The sequence number at which the service's KRB-SAFE and KRB-PRIV messages start, if it uses one.
     pub seq_number: Option<UInt32>,
 }
 

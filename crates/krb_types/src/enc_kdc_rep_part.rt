@@ -26,18 +26,27 @@ pub struct EncKdcRepPart<
 > {
     /// The session key: its encryption type and its bytes.
     pub key: T,
+    /// The times of the client's last requests, each with its kind.
     pub last_req: R,
     /// The nonce of the request.
     pub nonce: UInt32,
     /// When the client's key expires.
     pub key_expiration: Option<KTime>,
+    /// The flags of the ticket. The bits are named by `krb_fields::TicketFlag`.
     pub flags: Flags,
+    /// When the client first authenticated.
     pub authtime: KTime,
+    /// When the ticket starts; if it is absent, at `authtime`.
     pub starttime: Option<KTime>,
+    /// When the ticket expires.
     pub endtime: KTime,
+    /// Until when the ticket is renewable.
     pub renew_till: Option<KTime>,
+    /// The realm of the service that the ticket is for.
     pub srealm: S,
+    /// The name of the service that the ticket is for.
     pub sname: N,
+    /// The addresses to which the ticket is bound.
     pub caddr: Option<L>,
 }
 

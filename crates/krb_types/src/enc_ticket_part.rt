@@ -18,10 +18,13 @@ use std::alloc::{AllocError, Global};
 /// The encrypted part of a ticket.
 #[derive(Debug, Drop)]
 pub struct EncTicketPart<T = Typed, S = KerberosString, N = Name, L = Seq<Typed>> {
+    /// The flags of the ticket. The bits are named by `krb_fields::TicketFlag`.
     pub flags: Flags,
     /// The session key: its encryption type and its bytes.
     pub key: T,
+    /// The realm in which the client is registered.
     pub crealm: S,
+    /// The client's name in that realm.
     pub cname: N,
     /// The transited realms, with the type of their encoding.
     pub transited: T,
@@ -35,6 +38,7 @@ pub struct EncTicketPart<T = Typed, S = KerberosString, N = Name, L = Seq<Typed>
     pub renew_till: Option<KTime>,
     /// The addresses to which the ticket is bound.
     pub caddr: Option<L>,
+    /// Restrictions on the use of the ticket (RFC 4120, section 5.2.6).
     pub authorization_data: Option<L>,
 }
 

@@ -14,6 +14,7 @@ use std::alloc::{AllocError, Global};
 /// How a client derives its key of an encryption type from its password.
 #[derive(Debug, Drop)]
 pub struct EtypeInfo2Entry<S = KerberosString, O = Octets> {
+    /// The number of the encryption type.
     pub etype: i32,
     /// The salt; if it is absent, the default salt.
     pub salt: Option<S>,

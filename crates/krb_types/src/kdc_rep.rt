@@ -30,10 +30,15 @@ pub struct KdcRep<
     T = Ticket,
     E = EncryptedData,
 > {
+    /// Preauthentication data, such as the PA-ETYPE-INFO2 of an AS-REP.
     pub padata: Option<P>,
+    /// The client's realm, as in the ticket.
     pub crealm: S,
+    /// The client's name, as in the ticket.
     pub cname: N,
+    /// The issued ticket, which the client presents to the service.
     pub ticket: T,
+    /// An EncKDCRepPart in its tag, encrypted with a key that the client has.
     pub enc_part: E,
 }
 

@@ -55,9 +55,13 @@ impl Exchange {
 /// An AS-REQ or a TGS-REQ. Reading checks neither the version nor the message type.
 #[derive(Debug, Drop)]
 pub struct KdcReq<P = Seq<PaData>, B = ReqBody> {
+    /// The protocol version: 5.
     pub pvno: i32,
+    /// The message type: 10 for an AS-REQ, 12 for a TGS-REQ.
     pub msg_type: i32,
+    /// Preauthentication data, such as the AP-REQ in a TGS-REQ.
     pub padata: Option<P>,
+    /// The KDC-REQ-BODY.
     pub body: B,
 }
 

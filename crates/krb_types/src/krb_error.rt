@@ -21,16 +21,27 @@ const MSG_TYPE: i32 = KRB_ERROR as i32;
 /// The refusal of a KDC or a service. The version and the message type are fixed, so they are not stored.
 #[derive(Debug, Drop)]
 pub struct KrbError<S = KerberosString, N = Name, O = Octets> {
+    /// The client's time, in whole seconds, if the server knows it.
     pub ctime: Option<KTime>,
+    /// The microseconds of the client's time, 0 to 999999.
     pub cusec: Option<Microseconds>,
+    /// The server's time, in whole seconds.
     pub stime: KTime,
+    /// The microseconds of the server's time, 0 to 999999.
     pub susec: Microseconds,
+    /// The error code (RFC 4120, section 7.5.9).
     pub error_code: i32,
+    /// The client's realm, if the server gives it.
     pub crealm: Option<S>,
+    /// The client's name, if the server gives it.
     pub cname: Option<N>,
+    /// The realm of the service.
     pub realm: S,
+    /// The name of the service.
     pub sname: N,
+    /// A text about the error, for human readers.
     pub e_text: Option<S>,
+    /// More about the error, such as the METHOD-DATA of KDC_ERR_PREAUTH_REQUIRED.
     pub e_data: Option<O>,
 }
 

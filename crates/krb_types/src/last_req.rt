@@ -15,7 +15,9 @@ use std::alloc::{AllocError, Global};
 /// The time of the client's last request of some kind, and the kind.
 #[derive(Debug, Drop)]
 pub struct LastReq {
+    /// The kind (RFC 4120, section 5.4.2); 0 if the time means nothing.
     pub lr_type: i32,
+    /// The time; of kind 1, that of the last initial request for a TGT.
     pub lr_value: KTime,
 }
 

@@ -15,7 +15,9 @@ use std::alloc::{AllocError, Global};
 /// The moment that a client encrypts with its key, to prove that it has the key.
 #[derive(Debug, Drop)]
 pub struct PaEncTsEnc {
+    /// The client's time, in whole seconds.
     pub patimestamp: KTime,
+    /// The microseconds of the client's time, 0 to 999999.
     pub pausec: Option<Microseconds>,
 }
 

@@ -25,9 +25,13 @@ pub struct ReqBody<
     E = EncryptedData,
     T = Seq<Ticket>,
 > {
+    /// The bits are named by `krb_fields::KdcOption`.
     pub kdc_options: Flags,
+    /// The client's name, in an AS-REQ only.
     pub cname: Option<N>,
+    /// The service's realm; in an AS-REQ also the client's.
     pub realm: S,
+    /// The service's name. It may be absent only with the option ENC-TKT-IN-SKEY.
     pub sname: Option<N>,
     /// The requested start of the ticket.
     pub from: Option<KTime>,
@@ -39,8 +43,11 @@ pub struct ReqBody<
     pub nonce: UInt32,
     /// The encryption types that the client supports, in order of preference.
     pub etype: L,
+    /// The addresses to which the ticket should be bound.
     pub addresses: Option<A>,
+    /// In a TGS-REQ, authorization data for the ticket, encrypted with the subkey or the session key.
     pub enc_authorization_data: Option<E>,
+    /// With ENC-TKT-IN-SKEY, the session key of the first of these encrypts the requested ticket.
     pub additional_tickets: Option<T>,
 }
 

@@ -15,9 +15,13 @@ use std::alloc::{AllocError, Global};
 /// A ticket as it is sent: the service in the clear, and the rest encrypted with the service's key.
 #[derive(Debug, Drop)]
 pub struct Ticket<S = KerberosString, N = Name, E = EncryptedData> {
+    /// The version of the ticket's format: 5.
     pub tkt_vno: i32,
+    /// The realm that issued the ticket, which is also the service's.
     pub realm: S,
+    /// The service's name.
     pub sname: N,
+    /// An EncTicketPart, encrypted with the service's key.
     pub enc_part: E,
 }
 

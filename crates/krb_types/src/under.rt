@@ -12,6 +12,7 @@ use std::marker::Model;
 /// A value in the tag `[APPLICATION N]`, where N is at most 30. Contracts see the value only.
 #[derive(Debug, Drop)]
 pub struct Under<const N: u8, T> {
+    /// The value inside the tag.
     pub value: T,
 }
 

@@ -24,10 +24,12 @@ pub enum LineFault {
     Memory,
 }
 
-/// The number of a line, from 1, and what is wrong with it.
+/// Where a text fails to be a dump, and why.
 #[derive(Clone, Copy, Debug, PartialEq, Eq)]
 pub struct DumpFault {
+    /// The number of the line, from 1.
     pub line: usize,
+    /// What is wrong with it.
     pub cause: LineFault,
 }
 

@@ -13,7 +13,9 @@ use std::alloc::{AllocError, Global};
 /// A name with its realm.
 #[derive(Drop)]
 pub(crate) struct FullName {
+    /// Its components, with the escapes resolved. The text has no name-type: it is NT-PRINCIPAL.
     pub name: Name,
+    /// What follows the `@`, with the escapes resolved.
     pub realm: KerberosString,
 }
 

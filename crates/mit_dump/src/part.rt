@@ -11,7 +11,9 @@ use std::alloc::Global;
 /// its type.
 #[derive(Drop)]
 pub struct Part {
+    /// MIT's number of tagged data (`KRB5_TL_*`) or of a salt (`KRB5_KDB_SALTTYPE_*`), or an encryption type's.
     pub tag: u32,
+    /// The bytes. Those of a key are encrypted with the master key.
     pub octets: Octets,
 }
 

@@ -17,17 +17,22 @@ const BASE_LENGTH: u32 = 38;
 /// What a dump says of a principal.
 #[derive(Drop)]
 pub struct DumpedPrincipal {
+    /// Its name in the realm. A dump has no name-type: it is NT-PRINCIPAL.
     pub name: Name,
+    /// Its realm, which may be another than that of the database.
     pub realm: KerberosString,
+    /// What it is allowed, and until when.
     pub numbers: Numbers,
     /// Tagged data: the version of the master key, the policy and other things.
     pub tagged: Vec<Part>,
+    /// Its keys in all versions, of any encryption type, encrypted with the master key.
     pub keys: Vec<StoredKey>,
 }
 
 /// The numbers of a principal that say what it is allowed.
 #[derive(Clone, Copy)]
 pub struct Numbers {
+    /// MIT's attributes of it, whose named bits are those of `Attribute`.
     pub attributes: Flags,
     /// The maximum lifetime of tickets, in seconds; 0 sets no limit.
     pub max_life: u32,

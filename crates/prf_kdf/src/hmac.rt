@@ -22,7 +22,9 @@ const OUTER_MASK: u8 = 0x5c;
 /// so the key is hashed only once for any number of MACs.
 #[derive(Drop)]
 pub struct HmacKey<H> {
+    /// The hasher with the block masked with 0x36. It takes the message (RFC 2104, section 2).
     pub inner: H,
+    /// The hasher with the block masked with 0x5c. It takes the inner digest.
     pub outer: H,
 }
 

@@ -69,7 +69,9 @@ pub trait Upkeep<V> {
 /// A name and its value.
 #[derive(Drop)]
 pub struct Entry<V> {
+    /// The name. Only its components matter.
     pub name: Name,
+    /// What the map holds for it.
     pub value: V,
 }
 

@@ -12,6 +12,7 @@ use std::marker::Model;
 pub struct KeyVersion {
     /// The key version (kvno), starting at 1.
     pub number: u32,
+    /// The keys of this version, in order of preference.
     pub keys: KeyList,
 }
 
@@ -165,7 +166,9 @@ fn are_versions(versions: &[KeyVersion]) -> bool
 /// A principal of the realm.
 #[derive(Drop)]
 pub struct Row {
+    /// Its keys, the current version first.
     pub versions: Versions,
+    /// What it is allowed as a client and as a service.
     pub policy: Policy,
 }
 

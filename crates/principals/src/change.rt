@@ -13,6 +13,7 @@ use std::fmt;
 pub struct Change {
     /// The name of the row. Only its components matter.
     pub name: Name,
+    /// What happens to the row.
     pub what: RowChange,
 }
 

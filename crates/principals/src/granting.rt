@@ -15,6 +15,7 @@ const KRBTGT: &[u8; 6] = b"krbtgt";
 /// The name of a realm's ticket-granting service, as a key of maps from names. No name is built for it.
 #[derive(Drop)]
 pub struct TgsOf<'a> {
+    /// The bytes of the realm: the name's second component, after `krbtgt`.
     pub realm: &'a [u8],
 }
 

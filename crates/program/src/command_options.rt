@@ -50,6 +50,7 @@ pub struct OptionRow {
     pub shape: &'static str,
     /// The help for the value.
     pub help: &'static str,
+    /// How often it may appear on a command line.
     pub times: Times,
 }
 
@@ -58,16 +59,20 @@ pub struct OptionRow {
 pub struct FlagRow {
     /// The word after `--`, or after `-` if it is one letter.
     pub name: &'static str,
+    /// What the help says of it.
     pub help: &'static str,
 }
 
 /// The words of a subcommand.
 #[derive(Clone, Copy)]
 pub struct SubcommandRow {
+    /// The word for it on the command line.
     pub name: &'static str,
     /// What the subcommand does.
     pub about: &'static str,
+    /// Its options with a value.
     pub options: &'static [OptionRow],
+    /// Its options without a value.
     pub flags: &'static [FlagRow],
 }
 

@@ -11,6 +11,7 @@ use std::{fmt, io};
 pub struct FileFault<'p> {
     /// The path; if there is no file, a name for the source.
     pub path: &'p str,
+    /// Why it could not be used.
     pub cause: FileCause,
 }
 

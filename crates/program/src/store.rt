@@ -14,6 +14,7 @@ pub const LONGEST_FILE: usize = 16_777_216;
 pub struct FileRights {
     /// The nine bits of its mode.
     pub mode: u32,
+    /// The number of the user who owns it.
     pub owner: u32,
     /// The user who runs the program, if the system says so.
     pub user: Option<u32>,

@@ -18,9 +18,11 @@ const DAY: i64 = 86_400;
 /// The replay cache of one client: its failures, and what is stored for each of its accepted authenticators.
 #[derive(Drop)]
 pub struct ReplayCache<T> {
+    /// The client's failed preauthentications; none in the cache of a service.
     pub failures: Failures,
     /// The second since 1970 below which a time is too old to be compared with the pairs.
     pub floor: i64,
+    /// What is stored for each recorded authenticator, by its ctime and cusec.
     pub pairs: Pairs<T>,
 }
 

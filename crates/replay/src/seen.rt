@@ -8,9 +8,11 @@ use std::alloc::{AllocError, Global};
 /// A recorded authenticator: its client, and its time.
 #[derive(Drop)]
 pub struct Seen {
+    /// The client's name. Only its components matter.
     pub client: Name,
     /// In seconds since 1970.
     pub ctime: i64,
+    /// In microseconds after `ctime`.
     pub cusec: u32,
 }
 

@@ -13,6 +13,7 @@ pub enum Transport {
 /// The sender of a request.
 #[derive(Clone, Copy, PartialEq, Eq)]
 pub struct Asker {
+    /// Whether the request came over UDP or TCP.
     pub transport: Transport,
     /// The address that sent the request, if it is known.
     pub peer: Option<SocketAddr>,

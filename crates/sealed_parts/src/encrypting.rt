@@ -9,11 +9,14 @@ use krb_elements::{Encode, Octets, UInt32};
 use krb_fields::EncryptedData;
 use std::alloc::{AllocError, Global};
 
-/// The key of an encrypted part, its usage, and its key version if the message names one.
+/// The key of an encrypted part of a message.
 #[derive(Clone, Copy)]
 pub struct PartKey {
+    /// The key, with its encryption type.
     pub key: Key,
+    /// The key usage (RFC 4120, section 7.5.1).
     pub usage: KeyUsage,
+    /// The key version that the message names, if it names one.
     pub kvno: Option<UInt32>,
 }
 

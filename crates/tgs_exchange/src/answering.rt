@@ -34,11 +34,14 @@ use replay::{Bears, Kept};
 use std::alloc::{AllocError, Global};
 use tgs_opening::{Presented, TgsRefusal};
 
-/// The reply to a TGS-REQ, its outcome, and what to store for its authenticator, if it is to be recorded.
+/// The answer to a TGS-REQ.
 #[derive(Drop)]
 pub struct TgsAnswer {
+    /// The bytes of the TGS-REP or the KRB-ERROR.
     pub reply: Vec<u8>,
+    /// The issued ticket, or why there is none; if a stored reply was sent again, what that bears.
     pub outcome: TgsOutcome,
+    /// What to store for the authenticator; `None` if it is not to be recorded.
     pub kept: Option<Kept>,
 }
 

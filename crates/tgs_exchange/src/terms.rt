@@ -13,14 +13,18 @@ use ticket_times::{TicketTerms, Times, tgs_times};
 /// A client that has a row, and a service that has a key of a requested type.
 #[derive(Drop)]
 pub struct Terms {
+    /// The policy of the client's row.
     pub client_policy: Policy,
+    /// The service's name, policy and keys.
     pub service: ServiceTerms,
 }
 
 /// The terms and times of a ticket to be issued.
 #[derive(Drop)]
 pub struct Admission {
+    /// The client's policy, and the service with its keys.
     pub terms: Terms,
+    /// The ticket's start, end and renew-till.
     pub times: Times,
 }
 

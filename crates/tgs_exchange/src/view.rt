@@ -8,6 +8,7 @@ use std::marker::Model;
 pub struct TgsView<'a> {
     /// The realm's bytes, 1 to 255.
     pub realm: &'a [u8],
+    /// The limits that the realm sets for all its principals.
     pub limits: &'a Limits,
     /// The client's row, if it has one.
     pub client: Option<&'a Row>,

@@ -2,9 +2,10 @@
 use crate::refusal::TgsRefusal;
 use krb_fields::Name;
 
-/// The rule that refuses a ticket or its authenticator, and the ticket's client.
+/// The refusal of a ticket or of its authenticator.
 #[derive(Debug, Drop)]
 pub struct Rejection {
+    /// The first rule that refuses what the TGS-REQ presents.
     pub rule: TgsRefusal,
     /// The client of the ticket, if the ticket could be decrypted.
     pub client: Option<Name>,

@@ -18,11 +18,14 @@ use krb_fields::{KdcOption, Moment, SKEW, TicketFlag};
 use krb_types::ReqBodyRef;
 use principal_rows::{Limits, Policy};
 
-/// When a ticket is valid, and until when it is renewable, if at all.
+/// The times of a new ticket.
 #[derive(Clone, Copy, Debug, PartialEq, Eq)]
 pub struct Times {
+    /// When the ticket starts.
     pub start: KTime,
+    /// When the ticket expires.
     pub end: KTime,
+    /// Until when the ticket is renewable; `None` if it isn't.
     pub renew_till: Option<KTime>,
 }
 
