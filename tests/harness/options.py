@@ -1,7 +1,9 @@
 """The help of commands, and each of their options with bad values, left out, given twice, and without a value."""
 
+import re
 import shlex
 
+from harness.programs import TOP
 from harness.wire import REALM
 
 MOST = 4294967295
@@ -35,6 +37,8 @@ GOOD = {
 # What is behind the name of an option: it is required, may be given more than once, has no value, may have none, or its
 # value is a number.
 MARKS = "!*-?#"
+# A line of a session with the options of a command. Each command has one such line.
+ROW = re.compile(r"^% (\w+) (.*)$", re.M)
 NAMES = (
     "", "a b", "a//b", "/a", "a/", "u@x", "\\41", "\\4A", "\\4", "\u00e9", "a" * 256, "a/" * 16 + "a", "a\nb",
 )
@@ -44,6 +48,25 @@ def faults_of(trial, base, values, status, *texts):
     """What is wrong, if a command with each of these last words has to end with this status and these texts."""
     faults = ((value, trial.run([*base, value], seconds=10).fault(status, *texts)) for value in values)
     return " | ".join(f"{value[:40]!r}: {fault}" for value, fault in faults if fault)
+
+
+def rows(program):
+    """The options of each command, as the sessions of a program have them."""
+    texts = [path.read_text() for path in sorted((TOP / "tests" / program / "sessions").glob("*.session"))]
+    return [(f"{program} {command}", options) for text in texts for command, options in ROW.findall(text)]
+
+
+def commands_in(text):
+    """The commands that a help lists."""
+    return re.findall(r"^  (\w+) ", text.partition("Commands:\n")[2].partition("\n\n")[0], re.M)
+
+
+def try_sessions(trial, program):
+    """Tries what the sessions of a program say of its options. The help lists the commands with a row, and no other."""
+    found = rows(program)
+    try_program(trial, program, dict(found))
+    listed = {f"{program} {each}" for each in commands_in(trial.run(f"{program} --help").out)} - {f"{program} help"}
+    trial.same("the commands of the help, and those with a row", sorted(listed), sorted(row[0] for row in found))
 
 
 def try_program(trial, program, commands):

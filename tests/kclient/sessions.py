@@ -5,6 +5,7 @@ messages, or one in Python.
 A session is a file NAME.session, and the test kclient/sessions/NAME. The start of a line says what it is:
 
     # COMMENT
+    % ROW             the options of a command, which usage.py tries (tests/harness/options.py)
     == another user   a user other than root runs the commands
     == own cache      in the cache that this user has if none is named
     == apart          each command below is run after those above this line, and without the others below it
@@ -147,7 +148,7 @@ class Table:
                 self.settings.add(line[3:])
             elif line.startswith("$ "):
                 self.runs.append(run_of(line[2:]))
-            elif line and not line.startswith("#"):
+            elif line and not line.startswith(("#", "%")):
                 self.runs[-1].take(line)
         self.is_other, self.uses_own = "another user" in self.settings, "own cache" in self.settings
         self.runs = [run for run in self.runs if run.is_here]
