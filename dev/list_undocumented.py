@@ -8,6 +8,7 @@ It needs only Python 3. It prints PATH:LINE, the kind and the name of each, and 
 many. The status is 1 if there is one; the gate tries that, too. Crates that no other one uses, programs and tests, are
 left out unless they are named."""
 
+import argparse
 import pathlib
 import re
 import sys
@@ -76,7 +77,12 @@ def all_items(crates):
 
 
 def main():
-    found = all_items(sys.argv[1:])
+    words = argparse.ArgumentParser(description=__doc__, formatter_class=argparse.RawDescriptionHelpFormatter)
+    words.add_argument("crate", nargs="*")
+    crates = words.parse_args().crate
+    if unknown := [crate for crate in crates if not (TOP / "crates" / crate).is_dir()]:
+        words.error(f"no such crate: {', '.join(unknown)}")
+    found = all_items(crates)
     lacking = [item for item in found if not item.has_doc]
     for item in lacking:
         print(f"{item.place} {item.kind} {item.name}")
