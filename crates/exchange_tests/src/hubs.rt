@@ -305,8 +305,7 @@ fn serve_with(
     served
 }
 
-/// Serves the events that come. Only this function and `hub_steps::step_through` drop a hub: each place with a drop
-/// takes long to prove.
+/// Serves the events that come. It is a function of its own because each place that drops a hub takes long to prove.
 fn serve_wire(alloc: Global, wire: &mut MemoryWire, case: &Case) -> Result<Served, Fail> {
     let kdc = opened(alloc, (0, 0), 0)?;
     let mut hub = Hub::new(alloc, kdc, ChaCha20Rng::from_seed([0; 32]), true);
