@@ -7,12 +7,19 @@ what makes the user `kdcd` and its folder.
 PREFIX is /usr/local, or an absolute path. --root installs below a folder, as to make a package; the installed files
 name no folder of it. The programs are those of the crates, as `rt run` leaves them there, or of FOLDER. An unproved
 program, whose version says so, is refused without --unproved. A file that is there is replaced as a whole, so a server
-may run meanwhile. It needs only Python 3, and prints each path. The status is 1 if a program is refused or not there;
-nothing is installed then."""
+may run meanwhile. It needs only Python 3, and prints each path. The status is 1 if a program is refused or not there,
+or a folder below that of --root is a link; nothing is installed then.
+
+Others may write into a folder of PREFIX: Debian's /usr/local belongs to a group. So no link there is followed. A file
+is written under a fresh name and then renamed, which replaces a link. A folder that is a link is refused, wherever it
+leads: others could change where, between a look and a write."""
 
 import argparse
+import contextlib
+import errno
 import os
 import pathlib
+import secrets
 import subprocess
 import sys
 
@@ -32,6 +39,13 @@ USUAL = "/usr/local/bin/"
 # The user that the server runs as, and its folder (sysusers.d, tmpfiles.d of systemd).
 USER = 'u kdcd - "Kerberos KDC" /nonexistent /usr/sbin/nologin\n'
 FOLDER = "d /var/lib/kdcd 0700 kdcd kdcd\n"
+# How a folder and a new file are opened: never through a link, and the file only if nothing has its name. A folder need
+# not be readable.
+NO_LINK = os.O_NOFOLLOW | os.O_CLOEXEC
+AS_FOLDER = os.O_PATH | os.O_DIRECTORY | NO_LINK
+AS_NEW = os.O_WRONLY | os.O_CREAT | os.O_EXCL | NO_LINK
+# How many fresh names are tried.
+TRIES = 100
 
 
 class Refused(Exception):
@@ -73,18 +87,63 @@ def contents(folder, prefix, takes_unproved):
     for name in PROGRAMS:
         for file, place in COMPLETION.items():
             found[f"{prefix}/share/{place.format(name)}"] = completion[file.format(name)].encode(), 0o644
-    texts = {f"systemd/system/{unit}": (DOCS / unit).read_text().replace(USUAL, f"{prefix}/bin/") for unit in UNITS}
-    texts |= {"sysusers.d/kdcd.conf": USER, "tmpfiles.d/kdcd.conf": FOLDER}
-    return found | {f"{prefix}/lib/{name}": (text.encode(), 0o644) for name, text in texts.items()}
+    placed = lambda name: (DOCS / name).read_text().replace(USUAL, f"{prefix}/bin/")
+    texts = {f"lib/systemd/system/{unit}": placed(unit) for unit in UNITS}
+    texts |= {"lib/sysusers.d/kdcd.conf": USER, "lib/tmpfiles.d/kdcd.conf": FOLDER}
+    return found | {f"{prefix}/{name}": (text.encode(), 0o644) for name, text in texts.items()}
 
 
-def write(path, octets, mode):
-    """Puts a file in its place as a whole."""
-    path.parent.mkdir(parents=True, exist_ok=True)
-    new = path.with_name(f".{path.name}.{os.getpid()}.new")
-    new.write_bytes(octets)
-    new.chmod(mode)
-    new.replace(path)
+def enter(folder, name, path):
+    """Opens a folder in an open one, and makes it if it is not there. A link, or what else is no folder, is refused."""
+    try:
+        try:
+            return os.open(name, AS_FOLDER, dir_fd=folder)
+        except FileNotFoundError:
+            os.mkdir(name, 0o755, dir_fd=folder)
+            return os.open(name, AS_FOLDER, dir_fd=folder)
+    except OSError as fault:
+        if fault.errno not in (errno.ENOTDIR, errno.ELOOP):
+            raise
+        raise Refused(f"{path}: it is no folder; if it is a link, name the folder that it leads to") from None
+
+
+@contextlib.contextmanager
+def folder_of(root, path):
+    """Opens the folder of a path below `root`, and makes what is not there."""
+    root.mkdir(parents=True, exist_ok=True)
+    shown, folder = root, os.open(root, AS_FOLDER & ~os.O_NOFOLLOW)
+    try:
+        for name in pathlib.PurePath(path).relative_to("/").parent.parts:
+            shown, outer = shown / name, folder
+            folder = enter(outer, name, shown)
+            os.close(outer)
+        yield folder
+    finally:
+        os.close(folder)
+
+
+def create(folder, name):
+    """Makes a file in an open folder, of a name that nobody can foresee and nothing had. Returns the name, and it."""
+    for _ in range(TRIES):
+        new = f".{name}.{secrets.token_hex(8)}.new"
+        with contextlib.suppress(FileExistsError):
+            return new, os.open(new, AS_NEW, 0o600, dir_fd=folder)
+    raise FileExistsError(f"{name}: all fresh names beside it are taken")
+
+
+def write(root, path, octets, mode):
+    """Puts a file in its place below `root` as a whole."""
+    name = os.path.basename(path)
+    with folder_of(root, path) as folder:
+        new, number = create(folder, name)
+        try:
+            with open(number, "wb") as file:
+                file.write(octets)
+                os.fchmod(number, mode)
+            os.replace(new, name, src_dir_fd=folder, dst_dir_fd=folder)
+        except BaseException:
+            os.unlink(new, dir_fd=folder)
+            raise
 
 
 def main():
@@ -99,10 +158,13 @@ def main():
         words.error("PREFIX is an absolute path")
     os.umask(0o022)
     try:
-        for path, (octets, mode) in contents(given.programs, prefix, given.unproved).items():
-            place = given.root / path.lstrip("/")
-            write(place, octets, mode)
-            print(place)
+        files = contents(given.programs, prefix, given.unproved)
+        for path in files:
+            with folder_of(given.root, path):
+                pass
+        for path, (octets, mode) in files.items():
+            write(given.root, path, octets, mode)
+            print(given.root / path.lstrip("/"))
     except (Refused, OSError) as fault:
         sys.exit(f"install.py: {fault}")
 

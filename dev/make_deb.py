@@ -107,25 +107,27 @@ def machine():
     return subprocess.run(["dpkg", "--print-architecture"], check=True, capture_output=True, text=True).stdout.strip()
 
 
+def own_files(text):
+    """The files by which dpkg knows the package, as `contents` has those that it installs."""
+    found = {"control": (text, 0o644)}
+    found |= {name: (script, 0o755) for name, script in (("postinst", POSTINST), ("prerm", PRERM), ("postrm", POSTRM))}
+    return {f"/DEBIAN/{name}": (text.encode(), mode) for name, (text, mode) in found.items()}
+
+
 def make(out, files, text):
     """Makes the package in a folder, and returns its path."""
-    with tempfile.TemporaryDirectory() as root:
-        root = pathlib.Path(root)
-        root.chmod(0o755)
-        for path, (octets, mode) in files.items():
-            write(root / path.lstrip("/"), octets, mode)
-        for folder in root.rglob("*"):
-            if folder.is_dir():
-                folder.chmod(0o755)
-        scripts = {"postinst": POSTINST, "prerm": PRERM, "postrm": POSTRM}
-        write(root / "DEBIAN" / "control", text.encode(), 0o644)
-        for name, script in scripts.items():
-            write(root / "DEBIAN" / name, script.encode(), 0o755)
-        (root / "DEBIAN").chmod(0o755)
-        fields = dict(line.split(": ", 1) for line in text.splitlines() if re.match(r"[A-Z][\w-]*: ", line))
-        made = out / f"{NAME}_{fields['Version']}_{fields['Architecture']}.deb"
+    fields = dict(line.split(": ", 1) for line in text.splitlines() if re.match(r"[A-Z][\w-]*: ", line))
+    name = f"{NAME}_{fields['Version']}_{fields['Architecture']}.deb"
+    with tempfile.TemporaryDirectory() as scratch:
+        root, made = pathlib.Path(scratch, "root"), pathlib.Path(scratch, name)
+        for path, (octets, mode) in (files | own_files(text)).items():
+            write(root, path, octets, mode)
+        for folder in [root, *(each for each in root.rglob("*") if each.is_dir())]:
+            folder.chmod(0o755)
         subprocess.run(["dpkg-deb", "--build", "--root-owner-group", root, made], check=True, stdout=subprocess.DEVNULL)
-        return made
+        # Others may write into the folder of --out, and guess the name.
+        write(out, f"/{name}", made.read_bytes(), 0o644)
+    return out / name
 
 
 def main():
