@@ -1,6 +1,6 @@
 #!/usr/bin/env python3
-"""Installs `kdcd`, `kadm` and `kclient` with their manual pages, completion for bash and zsh, the units of systemd, and
-what makes the user `kdcd` and its folder.
+"""Installs `kdcd`, `kadm` and `kclient` with their manual pages, completion for bash and zsh, the units of systemd with
+what they start, and what makes the user `kdcd` and its folder.
 
     python3 dev/install.py [--programs FOLDER] [--root FOLDER] [--unproved] [PREFIX]
 
@@ -28,8 +28,9 @@ from make_completion import Unreadable, made
 TOP = pathlib.Path(__file__).resolve().parent.parent
 DOCS = TOP / "docs"
 PROGRAMS = ("kdcd", "kadm", "kclient")
-# The units of docs/: the server, and what brings a changed database to other hosts.
+# The units of docs/: the server, and what brings a changed database to other hosts, by the script PUSH.
 UNITS = ("kdcd.service", "kdcd-push.path", "kdcd-push.service")
+PUSH = "kdcd-push"
 # Where shells look for the files of `make_completion.py`, below share/.
 COMPLETION = {"{}.bash": "bash-completion/completions/{}", "_{}": "zsh/site-functions/_{}"}
 # What `dev/quick_build.py` adds to the version of a program.
@@ -90,7 +91,9 @@ def contents(folder, prefix, takes_unproved):
     placed = lambda name: (DOCS / name).read_text().replace(USUAL, f"{prefix}/bin/")
     texts = {f"lib/systemd/system/{unit}": placed(unit) for unit in UNITS}
     texts |= {"lib/sysusers.d/kdcd.conf": USER, "lib/tmpfiles.d/kdcd.conf": FOLDER}
-    return found | {f"{prefix}/{name}": (text.encode(), 0o644) for name, text in texts.items()}
+    found |= {f"{prefix}/{name}": (text.encode(), 0o644) for name, text in texts.items()}
+    found[f"{prefix}/bin/{PUSH}"] = placed(f"{PUSH}.sh").encode(), 0o755
+    return found
 
 
 def enter(folder, name, path):

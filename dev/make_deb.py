@@ -1,6 +1,7 @@
 #!/usr/bin/env python3
 """Makes a package for Debian of what `install.py` installs: `kdcd`, `kadm` and `kclient` with their manual pages,
-completion for bash and zsh, the units of systemd, what makes the user and its folder, and the pages.
+completion for bash and zsh, the units of systemd with what they start, what makes the user and its folder, and the
+pages.
 
     python3 dev/make_deb.py [--programs FOLDER] [--out FOLDER] [--unproved]
 
@@ -31,7 +32,7 @@ Maintainer: those from whom you have it <root@localhost>
 Installed-Size: {size}
 Depends: libc6 (>= {libc})
 Recommends: systemd
-Suggests: libjemalloc2, rsync, krb5-user | heimdal-clients
+Suggests: libjemalloc2, openssh-client, krb5-user | heimdal-clients
 Section: net
 Priority: optional
 Description: Kerberos 5 KDC for one realm, with its tools

@@ -12,9 +12,9 @@ from harness.tests import test
 
 # What is installed, below the prefix, with its mode.
 INSTALLED = {
-    "bin/kadm": 0o755, "bin/kclient": 0o755, "bin/kdcd": 0o755, "lib/sysusers.d/kdcd.conf": 0o644,
-    "lib/tmpfiles.d/kdcd.conf": 0o644, "share/man/man1/kclient.1": 0o644, "share/man/man8/kadm.8": 0o644,
-    "share/man/man8/kdcd.8": 0o644,
+    "bin/kadm": 0o755, "bin/kclient": 0o755, "bin/kdcd": 0o755, "bin/kdcd-push": 0o755,
+    "lib/sysusers.d/kdcd.conf": 0o644, "lib/tmpfiles.d/kdcd.conf": 0o644, "share/man/man1/kclient.1": 0o644,
+    "share/man/man8/kadm.8": 0o644, "share/man/man8/kdcd.8": 0o644,
     **{f"lib/systemd/system/{unit}": 0o644 for unit in ("kdcd.service", "kdcd-push.path", "kdcd-push.service")},
     **{f"share/bash-completion/completions/{name}": 0o644 for name in ("kadm", "kclient", "kdcd")},
     **{f"share/zsh/site-functions/_{name}": 0o644 for name in ("kadm", "kclient", "kdcd")},
@@ -78,6 +78,8 @@ def files(trial):
     trial.note(
         "the unit starts the installed server", "it does not" * ("ExecStart=/opt/kdc/bin/kdcd serve" not in unit)
     )
+    push = (root / "opt/kdc/bin/kdcd-push").read_text()
+    trial.same("kdcd-push runs the installed kadm", push.count("PATH=/opt/kdc/bin/:$PATH"), 2)
     server = root / "opt/kdc/bin/kdcd"
     trial.expect("kadm init --db database --realm A.B", 0, "=ok")
     serve = [str(server), "serve", "--rounds", "100", "--udp", "127.0.0.1:0", "--db", "database"]

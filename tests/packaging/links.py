@@ -49,7 +49,7 @@ def target(trial):
     for name in ("kadm", "kdcd"):
         found = (folder / name).lstat()
         trial.same(f"{name} is a program, and no link", oct(found.st_mode), oct(0o100755))
-    trial.same("no other file is left", sorted(os.listdir(folder)), ["kadm", "kclient", "kdcd"])
+    trial.same("no other file is left", sorted(os.listdir(folder)), ["kadm", "kclient", "kdcd", "kdcd-push"])
 
 
 @test()
