@@ -7,7 +7,8 @@ what they start, and what makes the user `kdcd` and its folder.
 PREFIX is /usr/local, or an absolute path. --root installs below a folder, as to make a package; the installed files
 name no folder of it. The programs are those of the crates, as `rt run` leaves them there, or of FOLDER. An unproved
 program, whose version says so, is refused without --unproved. A file that is there is replaced as a whole, so a server
-may run meanwhile. It needs only Python 3, and prints each path. The status is 1 if a program is refused or not there,
+may run meanwhile. Only the settings of the server's log, in etc/systemd, stay as they are: an administrator changes
+them. It needs only Python 3, and prints each path that it wrote. The status is 1 if a program is refused or not there,
 or a folder below that of --root is a link; nothing is installed then.
 
 Others may write into a folder of PREFIX: Debian's /usr/local belongs to a group. So no link there is followed. A file
@@ -31,6 +32,10 @@ PROGRAMS = ("kdcd", "kadm", "kclient")
 # The units of docs/: the server, and what brings a changed database to other hosts, by the script PUSH.
 UNITS = ("kdcd.service", "kdcd-push.path", "kdcd-push.service")
 PUSH = "kdcd-push"
+# The settings of the server's log, as systemd names them for the namespace `kdcd` of the unit. It reads them in /etc.
+LOG = "journald@kdcd.conf"
+# With these prefixes that is the system's own /etc.
+OF_SYSTEM = ("/usr", "/usr/local")
 # Where shells look for the files of `make_completion.py`, below share/.
 COMPLETION = {"{}.bash": "bash-completion/completions/{}", "_{}": "zsh/site-functions/_{}"}
 # What `dev/quick_build.py` adds to the version of a program.
@@ -93,7 +98,12 @@ def contents(folder, prefix, takes_unproved):
     texts |= {"lib/sysusers.d/kdcd.conf": USER, "lib/tmpfiles.d/kdcd.conf": FOLDER}
     found |= {f"{prefix}/{name}": (text.encode(), 0o644) for name, text in texts.items()}
     found[f"{prefix}/bin/{PUSH}"] = placed(f"{PUSH}.sh").encode(), 0o755
-    return found
+    return found | {log_settings(prefix): ((DOCS / LOG).read_bytes(), 0o644)}
+
+
+def log_settings(prefix):
+    """The path of the settings of the server's log."""
+    return f"{'' if prefix in OF_SYSTEM else prefix}/etc/systemd/{LOG}"
 
 
 def enter(folder, name, path):
@@ -134,10 +144,21 @@ def create(folder, name):
     raise FileExistsError(f"{name}: all fresh names beside it are taken")
 
 
-def write(root, path, octets, mode):
-    """Puts a file in its place below `root` as a whole."""
+def is_there(folder, name):
+    """Whether anything has this name in an open folder, also a link that leads nowhere."""
+    try:
+        os.stat(name, dir_fd=folder, follow_symlinks=False)
+    except FileNotFoundError:
+        return False
+    return True
+
+
+def write(root, path, octets, mode, stays=False):
+    """Puts a file in its place below `root` as a whole. With `stays` it replaces nothing. Returns whether it wrote."""
     name = os.path.basename(path)
     with folder_of(root, path) as folder:
+        if stays and is_there(folder, name):
+            return False
         new, number = create(folder, name)
         try:
             with open(number, "wb") as file:
@@ -147,6 +168,7 @@ def write(root, path, octets, mode):
         except BaseException:
             os.unlink(new, dir_fd=folder)
             raise
+    return True
 
 
 def main():
@@ -166,8 +188,8 @@ def main():
             with folder_of(given.root, path):
                 pass
         for path, (octets, mode) in files.items():
-            write(given.root, path, octets, mode)
-            print(given.root / path.lstrip("/"))
+            if write(given.root, path, octets, mode, stays=path == log_settings(prefix)):
+                print(given.root / path.lstrip("/"))
     except (Refused, OSError) as fault:
         sys.exit(f"install.py: {fault}")
 

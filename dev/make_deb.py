@@ -108,9 +108,11 @@ def machine():
     return subprocess.run(["dpkg", "--print-architecture"], check=True, capture_output=True, text=True).stdout.strip()
 
 
-def own_files(text):
-    """The files by which dpkg knows the package, as `contents` has those that it installs."""
-    found = {"control": (text, 0o644)}
+def own_files(files, text):
+    """The files by which dpkg knows the package, as `contents` has those that it installs. What is in /etc stays as an
+    administrator changed it."""
+    settings = "".join(f"{path}\n" for path in files if path.startswith("/etc/"))
+    found = {"control": (text, 0o644), "conffiles": (settings, 0o644)}
     found |= {name: (script, 0o755) for name, script in (("postinst", POSTINST), ("prerm", PRERM), ("postrm", POSTRM))}
     return {f"/DEBIAN/{name}": (text.encode(), mode) for name, (text, mode) in found.items()}
 
@@ -121,7 +123,7 @@ def make(out, files, text):
     name = f"{NAME}_{fields['Version']}_{fields['Architecture']}.deb"
     with tempfile.TemporaryDirectory() as scratch:
         root, made = pathlib.Path(scratch, "root"), pathlib.Path(scratch, name)
-        for path, (octets, mode) in (files | own_files(text)).items():
+        for path, (octets, mode) in (files | own_files(files, text)).items():
             write(root, path, octets, mode)
         for folder in [root, *(each for each in root.rglob("*") if each.is_dir())]:
             folder.chmod(0o755)

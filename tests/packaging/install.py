@@ -13,8 +13,8 @@ from harness.tests import test
 # What is installed, below the prefix, with its mode.
 INSTALLED = {
     "bin/kadm": 0o755, "bin/kclient": 0o755, "bin/kdcd": 0o755, "bin/kdcd-push": 0o755,
-    "lib/sysusers.d/kdcd.conf": 0o644, "lib/tmpfiles.d/kdcd.conf": 0o644, "share/man/man1/kclient.1": 0o644,
-    "share/man/man8/kadm.8": 0o644, "share/man/man8/kdcd.8": 0o644,
+    "etc/systemd/journald@kdcd.conf": 0o644, "lib/sysusers.d/kdcd.conf": 0o644, "lib/tmpfiles.d/kdcd.conf": 0o644,
+    "share/man/man1/kclient.1": 0o644, "share/man/man8/kadm.8": 0o644, "share/man/man8/kdcd.8": 0o644,
     **{f"lib/systemd/system/{unit}": 0o644 for unit in ("kdcd.service", "kdcd-push.path", "kdcd-push.service")},
     **{f"share/bash-completion/completions/{name}": 0o644 for name in ("kadm", "kclient", "kdcd")},
     **{f"share/zsh/site-functions/_{name}": 0o644 for name in ("kadm", "kclient", "kdcd")},
@@ -100,7 +100,7 @@ def systemd(trial):
     trial.expect([*install, "--unproved", "--root", root], 0, what="the programs are installed in a system of its own")
     if not shutil.which("systemd-sysusers") or not shutil.which("systemd-tmpfiles") or os.getuid():
         return trial.leave("systemd-sysusers and systemd-tmpfiles as root")
-    (root / "etc").mkdir()
+    (root / "etc").mkdir(exist_ok=True)
     trial.expect(["systemd-sysusers", f"--root={root}"], 0, what="systemd-sysusers")
     users = [line for line in (root / "etc/passwd").read_text().splitlines() if line.startswith("kdcd:")]
     homes = [each.split(":")[5:] for each in users]
@@ -113,14 +113,14 @@ def systemd(trial):
     )
 
 
-# Where the package has files otherwise than `install.py`, below /usr.
+# Where the package has files otherwise than `install.py`, below /usr. The settings of the log are not below /usr.
 IN_PACKAGE = (("share/zsh/site-functions/", "share/zsh/vendor-completions/"), (".1", ".1.gz"), (".8", ".8.gz"))
 
 
 def in_package(name):
     for there, here in IN_PACKAGE:
         name = name.replace(there, here)
-    return f"usr/{name}"
+    return name if name.startswith("etc/") else f"usr/{name}"
 
 
 @test()
@@ -160,3 +160,5 @@ def package(trial):
     scripts = subprocess.run(["dpkg-deb", "--ctrl-tarfile", made], capture_output=True).stdout
     lacking = [name for name in ("postinst", "prerm", "postrm") if name.encode() not in scripts]
     trial.note("its scripts are there", differs(lacking, []))
+    kept = subprocess.run(["dpkg-deb", "--info", made, "conffiles"], capture_output=True, text=True).stdout
+    trial.note("what dpkg leaves as an administrator changed it", differs(kept, "/etc/systemd/journald@kdcd.conf\n"))

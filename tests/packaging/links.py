@@ -7,6 +7,7 @@ import shutil
 
 from install import Refused, write
 
+from harness.programs import TOP
 from harness.tests import test
 from packaging.install import INSTALL, PACK, stand_ins
 
@@ -114,6 +115,25 @@ def folders(trial):
     (trial.folder / "named").symlink_to(trial.folder / "root")
     trial.expect([*words, "--root", trial.folder / "named"], 0, what="the folder of --root is a link")
     trial.note("the programs are where it leads", "" if (folder / "kdcd").is_file() else "they are not")
+
+
+@test()
+def settings(trial):
+    """The settings of the log are made once; an administrator's stay as they are."""
+    trial.enter("settings")
+    words, _ = installing(trial)
+    trial.expect(words, 0, "journald@kdcd.conf", what="the first time")
+    place = trial.folder / "root/etc/systemd/journald@kdcd.conf"
+    trial.same("the settings", place.read_text(), (TOP / "docs/journald@kdcd.conf").read_text())
+    place.write_text(OWN)
+    ran = trial.run(words)
+    trial.note("the second time", ran.fault(0) or "it names the settings" * ("journald@kdcd.conf" in ran.out))
+    trial.same("changed settings stay", place.read_text(), OWN)
+    place.unlink()
+    place.symlink_to(trial.folder / "nowhere")
+    trial.expect(words, 0, what="settings that are a link")
+    trial.same("it stays", os.readlink(place), str(trial.folder / "nowhere"))
+    trial.note("nothing is made where it leads", "it is" * (trial.folder / "nowhere").exists())
 
 
 @test()

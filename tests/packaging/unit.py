@@ -95,6 +95,32 @@ class Sandbox:
             raise OSError("the filter of system calls is not loaded")
 
 
+@test()
+def journal(trial):
+    """The log's journal of its own: its settings have the name that systemd looks for, and lines that it knows; pages
+    name it. And the addresses are of a host, no wildcard."""
+    found = settings()
+    [space] = found["LogNamespace"]
+    place = TOP / "docs" / f"journald@{space}.conf"
+    trial.note(f"{place.name} is there", "" if place.is_file() else "it is not")
+    lines = [line.partition("=") for line in place.read_text().splitlines() if line and line[0] not in "#["]
+    known = pathlib.Path("/etc/systemd/journald.conf")
+    if known.is_file():
+        names = set(re.findall(r"^#?(\w+)=", known.read_text(), re.M))
+        trial.same("settings that systemd doesn't know", [name for name, _, _ in lines if name not in names], [])
+    else:
+        trial.leave(f"the names of the settings: {known} is not there")
+    trial.same("the size of the journal", [value for name, _, value in lines if name == "SystemMaxUse"], ["1G"])
+    pages = " ".join(page.read_text() for page in [*TOP.glob("*.md"), *TOP.glob("docs/*")] if page.is_file())
+    reads = set(re.findall(r"journalctl [^`]*?-u\s[^`]*?kdcd", pages))
+    wrong = [each for each in reads if f"--namespace={space}" not in each]
+    trial.note("how pages read it", ", ".join(wrong) or "no page says so" * (not reads))
+    words = shlex.split(found["ExecStart"][0])
+    addresses = [word for place, word in enumerate(words) if words[place - 1] in ("--udp", "--tcp")]
+    wild = [each for each in addresses if each.startswith(("0.0.0.0:", "[::]:"))]
+    trial.note("its addresses", ", ".join(wild) or "there is none" * (not addresses))
+
+
 @test("kdcd")
 def file(trial):
     """The unit as a file."""

@@ -40,6 +40,8 @@ PHRASES = (
 )
 # A space of a phrase: in comments the next line begins with the comment's own sign.
 GAP = r"(?:[ \t]+|[ \t]*\n[ \t]*(?:///?|//!|--|\*|#)?[ \t]*)"
+# The units and settings of systemd, and what they start, by the ends of their names.
+UNITS = (".service", ".path", ".conf", ".sh")
 # The widest line of a page, but for rows of tables, which can't be broken.
 WIDEST, WIDEST_OF_README = 120, 100
 # How many lines a page has at most, and all together.
@@ -54,7 +56,7 @@ IN_ALL = 3450
 MOST_LINES_OF_PYTHON = 500
 # A link of a page, and a path of this repository that a page or a comment names.
 LINK, PATH = re.compile(r"\]\(([^)#\s]*)(?:#([^)\s]*))?\)"), re.compile(
-    r"(?<![\w/.$-])((?:crates|docs|tests|bench|dev)/[\w./*-]*[\w*])"
+    r"(?<![\w/.$-])((?:crates|docs|tests|bench|dev)/[\w./*@-]*[\w*])"
 )
 # What such a path may be that is made by a build, or stands for others.
 OTHER = re.compile(r"/out(/|$)|\*|\b(NAME|CRATE)\b")
@@ -147,6 +149,7 @@ def scripts(notes):
     kinds = {
         "Python": ("", files_of),
         "C and shell": ("", [TOP / ".ci/run", *TOP.glob("tests/**/*.c"), *TOP.glob("docs/*.h")]),
+        "units and settings": ("", [path for path in TOP.glob("docs/*") if path.suffix in UNITS]),
         "comments of code": ("//", TOP.glob("crates/*/src/**/*.rt")),
         "comments of sessions": ("#", TOP.glob("tests/**/*.session")),
     }
@@ -176,7 +179,7 @@ def links(notes):
         ).exists()]
         notes.note(f"{page.relative_to(TOP)}: its links and paths", ", ".join(sorted(set(faults))))
     named = {(path, file) for kind in ("code", "scripts") for file in files(kind) for path in re.findall(
-        r"\bdocs/[\w.-]*\w\b", file.read_text()
+        r"\bdocs/[\w.@-]*\w\b", file.read_text()
     )}
     faults = [f"{path} in {file.relative_to(TOP)}" for path, file in sorted(named) if not (TOP / path).exists()]
     notes.note("pages that code and scripts name", ", ".join(faults))
