@@ -1,5 +1,5 @@
 """Attacks of a user, a keytab's holder and a stranger (SECURITY.md): forged tickets that name another client,
-requests that take all memory, and datagrams that fill the log."""
+requests that take all memory, datagrams that fill the log, and what a stranger learns of clients and does to them."""
 
 import collections
 import contextlib
@@ -301,4 +301,30 @@ def noise(trial):
     trial.note(
         f"{lines_of_noise} of these have theirs", "" if 0 < lines_of_noise <= LOGINS * NOISE else "an odd number"
     )
+    server.end()
+
+
+# What a stranger gets for a client with this field, before any preauthentication (RFC 4120, section 7.5.9).
+STANDINGS = {"disabled": ("true", "18"), "expires": ("2001-01-01", "1"), "password_expires": ("2001-01-01", "23")}
+# A PA-ENC-TIMESTAMP (type 2) that nobody encrypted, and how many of them lock a client.
+JUNK, TRIES = sequence(field(1, integer(2)), field(2, octet_string(b"junk"))), 3
+
+
+@test("kadm", "kdcd")
+def stranger(trial):
+    """Without any key: the codes by which clients differ, and a lock by junk in place of timestamps, also of a client
+    that needs none."""
+    trial.realm()
+    for name_of, (value, _) in STANDINGS.items():
+        trial.expect(f"kadm add --db database --name {name_of} --password-file pw", 0, "=ok")
+        trial.expect(f"kadm policy --db database --name {name_of} --field {name_of} --value {value}", 0, "=ok")
+    server = trial.serve(f"--first --lock-after {TRIES} --lock-seconds 600")
+    wanted = {"nobody": "6", "u": "25", "v": "ticket"} | {each: code for each, (_, code) in STANDINGS.items()}
+    trial.same("what a stranger learns of clients", {each: server.answer(each) for each in wanted}, wanted)
+    with datagrams(server.udp) as peer:
+        for client in (b"u", b"v"):
+            found = [answer(ask_udp(peer, as_req(OURS, client, JUNK))) for _ in range(TRIES)]
+            trial.same(f"junk for {client.decode()}", found, ["24"] * TRIES)
+            good = timestamp(key_of(PASSWORD, OURS + client), int(time.time()))
+            trial.same("then its password", answer(ask_udp(peer, as_req(OURS, client, good))), "18")
     server.end()

@@ -49,7 +49,7 @@ MOST_LINES = {
     "CHANGELOG.md": 75, "CONTRIBUTING.md": 275, "README.md": 100, "docs/ADMINISTRATION.md": 245, "docs/CLIENT.md": 170,
     "docs/CLIENT_LIBRARY.md": 125, "docs/DECISIONS.md": 200, "docs/FORMATS.md": 415, "docs/HOSTS.md": 95,
     "docs/MAP.md": 150, "docs/OPERATIONS.md": 400, "docs/PERFORMANCE.md": 140, "docs/PROMISES.md": 510,
-    "docs/PROTOCOL.md": 325, "SECURITY.md": 80, "docs/SERVICES.md": 180,
+    "docs/PROTOCOL.md": 325, "SECURITY.md": 100, "docs/SERVICES.md": 180,
 }
 IN_ALL = 3450
 # How many lines a file of Python has at most.
@@ -60,6 +60,8 @@ LINK, PATH = re.compile(r"\]\(([^)#\s]*)(?:#([^)\s]*))?\)"), re.compile(
 )
 # What such a path may be that is made by a build, or stands for others.
 OTHER = re.compile(r"/out(/|$)|\*|\b(NAME|CRATE)\b")
+# The longest row of a table on these pages.
+LONGEST_ROW, WITH_SHORT_ROWS = 300, ("SECURITY.md",)
 # How wide lines begin that have to stay: a program prints them as one.
 KEPT = (
     "    accepted u@A.B", "    2026-11-23T22:46:18Z", '    {"time":', "    krbtgt/A.B@A.B from",
@@ -123,6 +125,10 @@ def widths(notes):
         notes.note(f"{name}: its length", f"{count} lines, and {most} at most" * (count > most))
     count = sum(len(page.read_text().splitlines()) for page in pages())
     notes.note("the length of all pages", f"{count} lines, and {IN_ALL} at most" * (count > IN_ALL))
+    for name in WITH_SHORT_ROWS:
+        lines = enumerate((TOP / name).read_text().splitlines(), 1)
+        long = [f"line {number}" for number, line in lines if line.startswith("|") and len(line) > LONGEST_ROW]
+        notes.note(f"{name}: rows of more than {LONGEST_ROW} characters", ", ".join(long))
     without = [str(page.relative_to(TOP)) for page in pages() if str(page.relative_to(TOP)) not in MOST_LINES]
     notes.note("each page has a length in MOST_LINES", ", ".join(without))
 
