@@ -15,12 +15,19 @@
  *                  time
  * CALLS=FILE       each call of a function below is added to this file: its name, and its path; output, pauses and
  *                  other clocks are left out
+ * AMONG=TEXT       only calls on files whose paths have this text are added and counted, each with its path
  * FAILS=WHICH      of these calls the one with this number fails, or the next one with this name; the setting is then
  *                  removed
+ * THEN=WHICH       takes the place of FAILS once that was removed; both are files of the stage
+ * ERROR=NUMBER     the error of a call that fails, in place of an input or output error
+ * KILLS=WHICH      the process is killed in place of the call with this number, or of the next one with this name
+ * UNSYNCED=1       nothing is forced to the disk
+ *
+ * An fsync of a folder has the name fsync_folder.
  */
 
 enum { LONGEST = 4096, STDOUT = 1, STDERR = 2, CREATES = 0100, TIME_OF_DAY = 0 };
-enum { INPUT_OUTPUT_ERROR = 5, WOULD_BLOCK = 11 };
+enum { INPUT_OUTPUT_ERROR = 5, WOULD_BLOCK = 11, KILL = 9, IS_A_FOLDER = 21, NO_FILE = -1 };
 
 struct stream;
 struct statx;
@@ -29,13 +36,13 @@ struct moment {
 	long seconds, nanoseconds;
 };
 
-extern char *fgets(char *, int, struct stream *), *getenv(const char *);
+extern char *fgets(char *, int, struct stream *), *getenv(const char *), *strstr(const char *, const char *);
 extern int *__errno_location(void);
 extern int dprintf(int, const char *, ...), fclose(struct stream *), fprintf(struct stream *, const char *, ...);
-extern int memfd_create(const char *, unsigned), strcmp(const char *, const char *);
+extern int memfd_create(const char *, unsigned), raise(int), strcmp(const char *, const char *);
 extern int snprintf(char *, unsigned long, const char *, ...);
-extern int unlink(const char *), unsetenv(const char *);
-extern long lseek(int, long, int), strtol(const char *, char **, int);
+extern int rename(const char *, const char *), unlink(const char *), unsetenv(const char *);
+extern long lseek(int, long, int), readlink(const char *, char *, unsigned long), strtol(const char *, char **, int);
 extern struct stream *fopen(const char *, const char *);
 extern unsigned long strcspn(const char *, const char *);
 extern void *dlsym(void *, const char *), *memset(void *, int, unsigned long);
@@ -78,14 +85,15 @@ static long number(const char *name)
 	return is_set(name, text) ? strtol(text, 0, 10) : -1;
 }
 
-static void remove_setting(const char *name)
+/* Removes the setting of the calls that fail, or puts the next one in its place. */
+static void go_on(void)
 {
-	char path[LONGEST];
+	char path[LONGEST], next[LONGEST];
 
-	if (getenv(name))
-		unsetenv(name);
-	else if (has_place(name, path))
-		unlink(path);
+	if (getenv("FAILS"))
+		unsetenv("FAILS");
+	else if (has_place("FAILS", path) && has_place("THEN", next) && NEXT(rename)(next, path))
+		NEXT(unlink)(path);
 }
 
 static void list(const char *call, const char *path)
@@ -105,18 +113,50 @@ static int fail(int error)
 	return -1;
 }
 
-/* Lists and counts a call. Returns whether it fails, with an error that is set. */
-static int fails(const char *call, const char *path)
+/* Writes the path of a call's file: of the one at this path, or, if that is empty, of the open one. Returns whether the
+ * call counts. */
+static int counts(const char *path, int file, char found[LONGEST])
 {
-	static long calls;
+	char text[LONGEST], link[64];
+	long length;
+
+	snprintf(found, LONGEST, "%s", path);
+	if (!is_set("AMONG", text))
+		return 1;
+	if (!*path && file != NO_FILE) {
+		snprintf(link, sizeof link, "/proc/self/fd/%d", file);
+		length = readlink(link, found, LONGEST - 1);
+		found[length < 0 ? 0 : length] = 0;
+	}
+	return !!strstr(found, text);
+}
+
+/* Returns whether a setting names the call with this number and name. */
+static int names(const char *setting, long number, const char *call)
+{
 	char which[LONGEST];
 
-	list(call, path);
-	calls++;
-	if (!is_set("FAILS", which) || (strtol(which, 0, 10) != calls && strcmp(which, call)))
+	return is_set(setting, which) && (strtol(which, 0, 10) == number || !strcmp(which, call));
+}
+
+/* Lists and counts a call. Returns whether it fails, with an error that is set. */
+static int fails(const char *call, const char *path, int file)
+{
+	static long calls;
+	char found[LONGEST];
+	long error;
+
+	if (!counts(path, file, found))
 		return 0;
-	remove_setting("FAILS");
-	return fail(INPUT_OUTPUT_ERROR);
+	list(call, found);
+	calls++;
+	if (names("KILLS", calls, call))
+		raise(KILL);
+	if (!names("FAILS", calls, call))
+		return 0;
+	go_on();
+	error = number("ERROR");
+	return fail(error < 0 ? INPUT_OUTPUT_ERROR : (int)error);
 }
 
 /* Returns a file that holds a line. */
@@ -129,25 +169,50 @@ static int file_of(const char *line)
 	return file;
 }
 
-/* Lets a call of this kind be listed, and fail. */
-#define FALLIBLE(type, name, path, parameters, arguments)                \
-	type name parameters                                             \
-	{                                                                \
-		return fails(#name, path) ? -1 : NEXT(name) arguments;   \
+/* Lets a call of this kind be listed, and fail. It is one on the file at a path, or, if that is empty, on an open
+ * one. */
+#define FALLIBLE(type, name, path, file, parameters, arguments)                \
+	type name parameters                                                   \
+	{                                                                      \
+		return fails(#name, path, file) ? -1 : NEXT(name) arguments;   \
 	}
 
-FALLIBLE(int, statx, path, (int folder, const char *path, int flags, unsigned mask, struct statx *found),
+FALLIBLE(int, statx, path, folder, (int folder, const char *path, int flags, unsigned mask, struct statx *found),
          (folder, path, flags, mask, found))
-FALLIBLE(long, read, "", (int file, void *octets, unsigned long count), (file, octets, count))
-FALLIBLE(int, fchmod, "", (int file, unsigned mode), (file, mode))
-FALLIBLE(int, fsync, "", (int file), (file))
-FALLIBLE(int, rename, from, (const char *from, const char *to), (from, to))
-FALLIBLE(int, bind, "", (int socket, const struct address *address, unsigned length), (socket, address, length))
-FALLIBLE(long, send, "", (int socket, const void *octets, unsigned long count, int flags),
+FALLIBLE(long, read, "", file, (int file, void *octets, unsigned long count), (file, octets, count))
+FALLIBLE(int, fchmod, "", file, (int file, unsigned mode), (file, mode))
+FALLIBLE(int, ftruncate, "", file, (int file, long length), (file, length))
+FALLIBLE(int, rename, from, NO_FILE, (const char *from, const char *to), (from, to))
+FALLIBLE(int, unlink, path, NO_FILE, (const char *path), (path))
+FALLIBLE(int, bind, "", socket, (int socket, const struct address *address, unsigned length),
+         (socket, address, length))
+FALLIBLE(long, send, "", socket, (int socket, const void *octets, unsigned long count, int flags),
          (socket, octets, count, flags))
-FALLIBLE(long, sendto, "",
+FALLIBLE(long, sendto, "", socket,
 	 (int socket, const void *octets, unsigned long count, int flags, const struct address *address, unsigned length),
 	 (socket, octets, count, flags, address, length))
+
+/* Returns whether an open file is a folder: to read one is an error of its own, also if no byte is asked for. */
+static int is_folder(int file)
+{
+	char none;
+
+	return NEXT(read)(file, &none, 0) < 0 && *__errno_location() == IS_A_FOLDER;
+}
+
+/* Lets a call that forces a file to the disk be listed, fail, and be left out. */
+#define SYNCING(name)                                                          \
+	int name(int file)                                                     \
+	{                                                                      \
+		char text[LONGEST];                                            \
+                                                                               \
+		if (fails(is_folder(file) ? #name "_folder" : #name, "", file)) \
+			return -1;                                             \
+		return is_set("UNSYNCED", text) ? 0 : NEXT(name)(file);        \
+	}
+
+SYNCING(fsync)
+SYNCING(fdatasync)
 
 int open(const char *path, int flags, ...)
 {
@@ -160,7 +225,7 @@ int open(const char *path, int flags, ...)
 		mode = __builtin_va_arg(more, unsigned);
 		__builtin_va_end(more);
 	}
-	if (fails("open", path))
+	if (fails("open", path, NO_FILE))
 		return -1;
 	if (!strcmp(path, "/proc/sys/kernel/random/boot_id") && is_set("BOOT", boot))
 		return file_of(boot);
@@ -171,14 +236,14 @@ long write(int file, const void *octets, unsigned long count)
 {
 	const int is_output = file == STDOUT || file == STDERR;
 
-	return !is_output && fails("write", "") ? -1 : NEXT(write)(file, octets, count);
+	return !is_output && fails("write", "", file) ? -1 : NEXT(write)(file, octets, count);
 }
 
 static long slept;
 
 int flock(int file, int operation)
 {
-	if (fails("flock", ""))
+	if (fails("flock", "", file))
 		return -1;
 	return slept < number("HELD") ? fail(WOULD_BLOCK) : NEXT(flock)(file, operation);
 }
@@ -195,7 +260,7 @@ int getentropy(void *octets, unsigned long count)
 {
 	const long drawn = number("DRAWS");
 
-	if (fails("getentropy", ""))
+	if (fails("getentropy", "", NO_FILE))
 		return -1;
 	if (drawn < 0)
 		return NEXT(getentropy)(octets, count);
@@ -208,7 +273,7 @@ int clock_gettime(int clock, struct moment *shown)
 	const int is_time_of_day = clock == TIME_OF_DAY;
 	const long seconds = is_time_of_day ? number("CLOCK") : -1;
 
-	if (is_time_of_day && fails("clock_gettime", ""))
+	if (is_time_of_day && fails("clock_gettime", "", NO_FILE))
 		return -1;
 	if (seconds < 0)
 		return NEXT(clock_gettime)(clock, shown);

@@ -32,7 +32,7 @@ class Trial(Notes):
     def start(self, words, **how):
         """Starts a program. It is killed at the end of the script at the latest."""
         words = [self.programs.get(words[0], words[0]), *words[1:]]
-        process = subprocess.Popen(words, cwd=self.folder, **{"env": self.environment, **how})
+        process = subprocess.Popen(words, **{"cwd": self.folder, "env": self.environment, **how})
         RUNNING.append(process)
         return process
 

@@ -4,7 +4,7 @@ import socket
 import sys
 import time
 
-from harness.kerberos import as_req, elements, fields
+from harness.kerberos import as_req, body, elements, field, fields, integer, sequence, tlv
 from harness.processes import SLOWNESS
 
 REALM = "A.B"
@@ -25,6 +25,12 @@ def free_port():
 
 def login(name):
     return as_req(REALM.encode(), name.encode())
+
+
+def long_login():
+    """A login for an unknown service, whose name has 60,000 bytes. The error names it."""
+    parts = field(1, integer(5)), field(2, integer(10)), field(4, body(REALM.encode(), (b"a" * 60_000,), b"v"))
+    return tlv(0x6A, sequence(*parts))
 
 
 def place_of(address):
@@ -85,3 +91,11 @@ def read_reply(connection, piece=65536):
         octets += read
         wanted = 4 + int.from_bytes(octets[:4], "big")
     return octets[4:]
+
+
+def read_to_end(connection):
+    """All replies that come, up to the end of the connection."""
+    replies = []
+    while reply := read_reply(connection):
+        replies.append(reply)
+    return replies

@@ -95,3 +95,51 @@ def owners(trial):
     trial.expect(words, 3, "=failed", "can't be kept", what="a user who can't keep them changes nothing")
     is_same = (trial.folder / "database").read_bytes() == before
     trial.note("the database is as it was", "" if is_same else "it is another")
+
+
+# Numbers of users that need no name.
+FIRST, SECOND = 65532, 65533
+
+
+@test("kadm")
+def planted_keytabs(trial):
+    """A keytab of another user gets no keys, who may have put it there to have them. Root may extend one in a folder
+    where nobody else but its owner could have put it."""
+    trial.realm()
+    if os.geteuid():
+        trial.leave("keytabs of other users: only root can give files away")
+        return
+    folder, words = trial.folder / "sub", "kadm keytab --db database --name h --out sub/kt --append"
+    folder.mkdir()
+    trial.expect("kadm keytab --db database --name h --out sub/kt", 0, "=ok")
+    before = (folder / "kt").read_bytes()
+    rows = (
+        # the owners of the keytab and of its folder, the folder's mode, and whether root may extend the keytab
+        (0, SECOND, 0o777, True), (FIRST, 0, 0o755, True), (FIRST, FIRST, 0o700, True), (FIRST, SECOND, 0o700, False),
+        (FIRST, 0, 0o775, False), (FIRST, 0, 0o757, False), (FIRST, FIRST, 0o1777, False),
+    )
+    for owner, of_folder, mode, may in rows:
+        (folder / "kt").write_bytes(before)
+        os.chown(folder / "kt", owner, owner)
+        os.chown(folder, of_folder, of_folder)
+        os.chmod(folder, mode)
+        status, *texts = (0, "=ok") if may else (1, "=refused NotOurs", "sub/kt: this keytab is another user's")
+        what = f"root, a keytab of {owner} in a folder of {of_folder} with mode {mode:o}"
+        trial.expect(words, status, *texts, what=what)
+        is_extended = (folder / "kt").read_bytes() != before
+        trial.same(f"{what}: whether it has more keys", is_extended, may)
+        found = (folder / "kt").stat().st_uid
+        trial.same(f"{what}: its owner", found, owner)
+    other = ["setpriv", f"--reuid={SECOND}", f"--regid={SECOND}", "--clear-groups"]
+    if not shutil.which("setpriv") or trial.run([*other, "true"]).status:
+        trial.leave("a kadm of another user: setpriv is missing, or may not become one here")
+        return
+    for path in (trial.folder, trial.folder / "database", trial.folder / "database.lock", folder, folder / "kt"):
+        os.chown(path, SECOND, SECOND)
+    os.chmod(folder, 0o700)
+    words = [*other, trial.programs["kadm"], *words.split()[1:]]
+    for owner, status, text in ((SECOND, 0, "=ok"), (FIRST, 1, "=refused NotOurs")):
+        (folder / "kt").write_bytes(before)
+        os.chown(folder / "kt", owner, owner)
+        os.chmod(folder / "kt", 0o644)
+        trial.expect(words, status, text, what=f"user {SECOND}, a keytab of {owner}")

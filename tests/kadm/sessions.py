@@ -19,7 +19,8 @@ A session is a file NAME.session, and the test kadm/sessions/NAME. The start of 
 A line that ends in ` (no-eol)` has no line feed. Each session begins with the files in FILES. A command that does not
 succeed has to leave all files as they were; it may make an empty lock. `CLOCK=`, `DRAWS=` and `HELD=` are settings of
 tests/harness/fixed_system.c. A command with `FAILS=NAME,..` runs once for each of its calls of the system. Another one
-fails each time, with the result that is written. These names have to be among the calls."""
+fails each time, with the result that is written. These names have to be among the calls. A call after the last `rename`
+is one that syncs the folder: if it fails, the file has to be the new one, and the command says so."""
 
 import dataclasses
 import itertools
@@ -126,6 +127,7 @@ class Session(Trial):
         (found / "kadm").symlink_to(programs["kadm"])
         (found / "show_keytab").symlink_to(HARNESS / "show_keytab.py")
         self.environment |= {"PATH": f"{found}:{self.environment['PATH']}", "LD_PRELOAD": fixed_system()}
+        self.changed = []
         self.enter("session")
         for name, octets in FILES.items():
             self.write(name, octets)
@@ -133,32 +135,51 @@ class Session(Trial):
     def do(self, steps):
         for step in steps:
             before = files(self.folder)
-            for command, what in self.runs_of(step):
+            for command, what, is_renamed in self.runs_of(step):
+                if is_renamed:
+                    self.expect_change(step, command, what)
+                    continue
                 step.compare(self.line(command, step.typed), what)
                 if step.status:
                     expect(f"{step.place()}{what}: the files that changed", changes(before, files(self.folder)), [])
+
+    def expect_change(self, step, command, what):
+        """Runs a command in a copy of the folder, where it has to change the same files as if no call fails."""
+        ran = self.line_in_copy(command)
+        step.compare(ran, what)
+        changed = changes(files(self.folder), files(self.copy()))
+        expect(f"{step.place()}{what}: the files that changed", changed, self.changed)
+        wanted = ": the change is made, but may be lost if the power fails now: "
+        expect(f"{step.place()}{what}: it says so", wanted in ran.err, True)
+
+    def copy(self):
+        return pathlib.Path(f"{self.folder}.copy")
+
+    def line_in_copy(self, command):
+        return self.line(f"rm -rf {self.copy()} && cp -r . {self.copy()} && cd {self.copy()} && {command}")
 
     def line(self, command, typed=()):
         words = ["sh", "-c", command]
         return self.run_typed(words, text_of(typed).replace("^D\n", "\4")) if typed else self.run(words)
 
     def runs_of(self, step):
-        """The command of a step; or, for each of its calls, the command in which this one fails, and words that say
-        so."""
+        """The command of a step; or, for each of its calls, the command in which this one fails, words that say so,
+        and whether a file was renamed before."""
         named = FAILS.search(step.command)
         if not named:
-            return [(step.command, "")]
+            return [(step.command, "", False)]
         calls = self.calls_of(step)
         expect(f"{step.place()}: the calls that it does not make", sorted({*named[1].split(",")} - {*calls}), [])
         failing = lambda turn: FAILS.sub(f"FAILS={turn}", step.command)
-        return [(failing(turn), f": call {turn}, {name}, fails") for turn, name in enumerate(calls, 1)]
+        renamed = len(calls) - calls[::-1].index("rename") if "rename" in calls else len(calls)
+        return [(failing(turn), f": call {turn}, {name}, fails", turn > renamed) for turn, name in enumerate(calls, 1)]
 
     def calls_of(self, step):
-        """The names of the calls of a command, which runs in a copy of the folder."""
-        copy, command = f"{self.folder}.copy", FAILS.sub("CALLS=calls", step.command)
-        ran = self.line(f"rm -rf {copy} && cp -r . {copy} && cd {copy} && {command}")
+        """The names of the calls of a command, which runs in a copy of the folder. Keeps which files it changes."""
+        ran = self.line_in_copy(FAILS.sub("CALLS=calls", step.command))
         expect(f"{step.place()}: the status if no call fails", ran.status, 0)
-        return [line.split()[0] for line in pathlib.Path(copy, "calls").read_text().splitlines()]
+        self.changed = [name for name in changes(files(self.folder), files(self.copy())) if name != "calls"]
+        return [line.split()[0] for line in (self.copy() / "calls").read_text().splitlines()]
 
 
 def known(path):

@@ -8,7 +8,7 @@ ghost use Rattle.program.specs.World.{with_file, without_file};
 use crate::client_store::{ClientStore, PathKind};
 use crate::faults::{Cause, Fault, at, at_file};
 use cred_files::{Cache, CredFault, Credential, Keytab};
-use program::{FileCause, read_file, write_file};
+use program::{FileCause, read_file, write_unsynced};
 use std::alloc::Global;
 use std::io;
 use std::io::{Error, ErrorKind};
@@ -125,7 +125,8 @@ pub fn write_new_cache<T: ClientStore>(
     write_cache(alloc, store, path, &cache)
 }
 
-/// Writes a cache. After an `Err` the path is unchanged.
+/// Writes a cache. Its folder is not synced: after a power failure its user logs in again. After an `Err` the path is
+/// unchanged.
 pub fn write_cache<T: ClientStore>(
     alloc: Global,
     store: &mut T,
@@ -137,7 +138,7 @@ pub fn write_cache<T: ClientStore>(
     ensures unchanged { OnErr result (T.world store.new ≡ T.world store.old) }
 {
     let octets = cache.write(alloc)?;
-    match write_file(alloc, store, path, &octets) {
+    match write_unsynced(alloc, store, path, &octets) {
         Ok(()) => Ok(()),
         Err(fault) => Err(Fault::of_file(alloc, fault)),
     }

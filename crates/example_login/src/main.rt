@@ -6,11 +6,15 @@
 use client_files::Fault;
 use client_sockets::Client;
 use cred_files::Credential;
-use program::Status;
+use program::{Status, open_missing_streams};
 use std::process::ExitCode;
 use std::{env, io};
 
 fn main(rt: HostRuntime) -> io::Result<ExitCode> {
+    if let Err(fault) = open_missing_streams(&rt) {
+        println!(rt; "{fault}")?;
+        return Ok(ExitCode::from(Status::Failed.code()));
+    }
     let args: Vec<String> = env::args(&rt)?.collect(rt.alloc())?;
     let [_, name, service, keytab] = args.as_slice() else {
         println!(rt; "usage: example_login NAME SERVICE KEYTAB")?;

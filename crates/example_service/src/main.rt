@@ -7,7 +7,7 @@ use cred_files::{Keytab, Principal};
 use hex::FromHexError;
 use krb_der::KTime;
 use krb_fields::component_to_text;
-use program::{FileStamp, Status, now, read_words};
+use program::{FileStamp, Status, now, open_missing_streams, read_words};
 use std::alloc::{AllocError, Global};
 use std::io::{BufRead, Error, ErrorKind};
 use std::process::ExitCode;
@@ -15,6 +15,10 @@ use std::random::RandomSource;
 use std::{fs, io};
 
 fn main(rt: HostRuntime) -> io::Result<ExitCode> {
+    if let Err(fault) = open_missing_streams(&rt) {
+        println!(rt; "{fault}")?;
+        return Ok(ExitCode::from(Status::Failed.code()));
+    }
     let Some(args) = read_words(&rt)? else {
         return usage(&rt);
     };

@@ -53,7 +53,8 @@ pub spelled_end : {E : Type 0} (r : Result Status E) (words : List Text) (before
 spelled_end (Ok statuses.Done) words before command after spelled done = inr (command, spelled, done)
 spelled_end (Ok statuses.Refused) words before command after spelled tried = inr (command, spelled, tried)
 spelled_end (Ok statuses.Usage) words before command after spelled none = absurd none
-spelled_end (Ok statuses.Failed) words before command after spelled none = absurd none
+spelled_end (Ok statuses.Failed) words before command after spelled (inl done) = inr (inl (command, spelled, done))
+spelled_end (Ok statuses.Failed) words before command after spelled (inr tried) = inr (inr (command, spelled, tried))
 spelled_end (Err e) words before command after spelled done = tt
 
 pub spelled_stop : {A : Type 0} (r : Result A Stop) (words : List Text) (before : Option World) (command : Command) (after : Option World)

@@ -1,2 +1,3 @@
 mod Batching
 mod Ending
+mod Reading

@@ -1,6 +1,7 @@
 -- The lines of a batch.
-use Rattle.std.specs.Prelude.{◌≡◌, Bool, true, false, List, map, Option, string_bytes}
+use Rattle.std.specs.Prelude.{◌≡◌, Bool, true, false, IfSome, List, map, Option, string_bytes}
 use Rattle.program.specs.World.{World}
+use Rattle.kadm_changes.specs.Found.{IsFound}
 use Rattle.kadm_changes.specs.Words.{Text}
 use Rattle.kadm.specs.Lines.{Batched, Tried}
 use Rattle.kadm.specs.declared.batch.BatchLine.{BatchLine}
@@ -10,6 +11,10 @@ line_text line = map string_bytes line.words.items
 
 abbrev pub line_texts : List BatchLine → List (List Text)
 line_texts lines = map line_text lines
+
+-- the password of the line, if it takes one, is what its file has
+abbrev pub IsLineRead : Option World → BatchLine → Type 0
+IsLineRead world line = IfSome line.password (λ found. IsFound world found)
 
 -- the changes of all lines, or of some of them if it keeps going
 abbrev pub IsBatchDone : Option World → Text → Bool → Bool → Option World → Type 0

@@ -74,7 +74,7 @@ abbrev pub IsCommandEnd : Option World → Command → Status → Option World �
 IsCommandEnd before command statuses.Done after = IsDone before command after
 IsCommandEnd before command statuses.Refused after = IsTried before command after
 IsCommandEnd before command statuses.Usage after = ⊥
-IsCommandEnd before command statuses.Failed after = ⊥
+IsCommandEnd before command statuses.Failed after = IsDone before command after ⊎ IsTried before command after
 
 abbrev pub IsCommandStopped : Option World → Command → Stop → Option World → Type 0
 IsCommandStopped before command stop after = (after ≡ before) ⊎ (IsFailed stop × IsDone before command after)
@@ -94,7 +94,8 @@ IsStopped words before stop after =
     (after ≡ before) ⊎ (IsFailed stop × (IsSpelledDone words before after ⊎ IsSpelledTried words before after))
 
 -- `Done`: what the words ask for was done, or they ask for help. `Refused` and `Usage`: the files are unchanged, unless
--- the words ask for a batch that keeps going. `Failed`: they are unchanged, or at most the output failed
+-- the words ask for a batch that keeps going. `Failed`: they are unchanged; or they have what was asked for, and then at
+-- most the output failed, or the sync of a folder
 abbrev pub IsEnd : List Text → Option World → Status → Option World → Type 0
 IsEnd words before statuses.Done after =
     ((asks_help words ≡ true) × (after ≡ before)) ⊎ IsSpelledDone words before after

@@ -1,19 +1,21 @@
 //! Many changes of one database: each line of standard input is a command. The database is read once and written once.
-ghost use Rattle.std.specs.Prelude.{◌≡◌, IfNone, IfOk, OnErr, OnOk, true};
+ghost use Rattle.std.specs.Prelude.{◌≡◌, All, IfNone, IfOk, IfSome, OnErr, OnOk, true};
+ghost use Rattle.kadm_changes.specs.Found.{IsFound, IsFoundIn};
 ghost use Rattle.kadm_changes.specs.Words.{texts};
-ghost use Rattle.kadm.specs.Batches.{IsBatchDone, line_text, line_texts};
+ghost use Rattle.kadm.specs.Batches.{IsBatchDone, IsLineRead, line_text, line_texts};
 ghost use Rattle.kadm.specs.Lines.{AreDone, IsLineDone, IsCommandMade, IsRun, IsSpelledMade, IsTurn};
 
 use crate::commands::{Command, CommandKind, read_args, read_command};
+use crate::outcome::Outcome;
 use crate::reports::report;
 use crate::usage::{CommandFault, report_command_fault, report_fault};
-use crate::words::{has_flag, in_batch};
+use crate::words::{has_flag, in_batch, is_given};
 use crate::writing::WriteCommand;
 use clap::ArgMatches;
 use clap::error::Error;
 use kadm_changes::{
-    Context, Draft, Stop, Subject, Target, begin_line, lock_database, read_database,
-    update_in_batch, write_database,
+    Context, Draft, FoundPassword, NAME, Note, Stop, Subject, Target, begin_line, find_password,
+    lock_database, read_database, update_in_batch, value_of, write_database,
 };
 use program::{FileCause, FileFault, STANDARD_INPUT, Status, Store};
 use std::alloc::{AllocError, Global};
@@ -29,18 +31,34 @@ const MOST_LINES: usize = 1_000_000;
 /// What is said of more lines.
 const TOO_MANY: &str = "a batch has at most 1,000,000 lines";
 
-/// What a line must not have.
+/// The option that a line must not have.
+const KEEP_MODE: &str = "--keep-mode";
+
+/// What is said of it.
 const NO_MODE: &str = "--keep-mode is an option of batch itself, and not of its lines";
 
 /// What a terminal shows before each line.
 const PROMPT: &str = "kadm> ";
 
-/// A line with a command.
+/// The option that names the file of a password.
+const PASSWORD_FILE: &str = "--password-file";
+
+/// A line with a command, as it was read.
+#[derive(Drop)]
+struct InputLine {
+    /// The number of the line, from 1.
+    number: usize,
+    words: Vec<String>,
+}
+
+/// A line with a command, and the password that it takes.
 #[derive(Drop)]
 struct BatchLine {
     /// The number of the line, from 1.
     number: usize,
     words: Vec<String>,
+    /// The file of its password. `None` if it takes none, or names no file of it.
+    password: Option<FoundPassword>,
 }
 
 /// The commands of a batch.
@@ -53,19 +71,20 @@ struct Batch<'a> {
     keep_going: bool,
 }
 
-/// Runs the commands on the lines of standard input, which it reads before it locks the database. Returns whether all
-/// were done. If one is not, nothing is written, unless the batch keeps going.
+/// Runs the commands on the lines of standard input. It reads them, and the files of their passwords, before it locks
+/// the database. If one is not done, nothing is written, unless the batch keeps going.
 pub(crate) fn run_batch<'p, T: Store, W: Write, E: Write>(
     context: &mut Context<W, E>,
     store: &mut T,
     target: &Target<'p>,
     keep_going: bool,
-) -> Result<bool, Stop<'p>>
-    ensures done { IfOk result (λ whole. IsBatchDone (T.world store.old) target.now.db.now keep_going whole (T.world store.new)) }
+) -> Result<Outcome, Stop<'p>>
+    ensures done { IfOk result (λ end. IsBatchDone (T.world store.old) target.now.db.now keep_going end.whole (T.world store.new)) }
     ensures unchanged { OnErr result (T.world store.new ≡ T.world store.old) }
 {
     let alloc = context.alloc;
-    let lines = read_lines(alloc, store, &mut context.errors)?;
+    let input = read_lines(alloc, store, &mut context.errors)?;
+    let lines = with_passwords(alloc, store, target.db, input)?;
     let locked = lock_database(context, store, target)?;
     let database = read_database(context, store, target.db)?;
     let mut draft = Draft { alloc, database };
@@ -75,8 +94,9 @@ pub(crate) fn run_batch<'p, T: Store, W: Write, E: Write>(
         keep_going,
     };
     let whole = run_lines(context, store, &batch, &mut draft)?;
-    write_database(alloc, store, &locked, &draft.database)?;
-    Ok(whole)
+    let written = write_database(alloc, store, &locked, &draft.database)?;
+    let _ = context.errors.write_all(&context.notes);
+    Ok(Outcome { whole, written })
 }
 
 /// Reads the lines to the end of standard input. An empty line and a comment are none.
@@ -84,7 +104,7 @@ fn read_lines<T: Store, E: Write>(
     alloc: Global,
     store: &mut T,
     errors: &mut E,
-) -> Result<Vec<BatchLine>, Stop<'static>>
+) -> Result<Vec<InputLine>, Stop<'static>>
     ensures unchanged { T.world store.new ≡ T.world store.old }
 {
     let mut lines = Vec::new(alloc);
@@ -117,7 +137,7 @@ fn next_line<T: Store>(alloc: Global, store: &mut T) -> Result<Option<Vec<u8>>, 
 /// Adds a line, if it has a command. The inner `Err` says what is wrong with the line.
 fn push_line(
     alloc: Global,
-    lines: &mut Vec<BatchLine>,
+    lines: &mut Vec<InputLine>,
     number: usize,
     octets: &[u8],
 ) -> Result<Result<(), &'static str>, AllocError> {
@@ -126,9 +146,72 @@ fn push_line(
         Err(fault) => return Ok(Err(fault)),
     };
     if !words.is_empty() {
-        lines.push(BatchLine { number, words })?;
+        lines.push(InputLine { number, words })?;
     }
     Ok(Ok(()))
+}
+
+/// Reads the file of the password of each line that takes one.
+fn with_passwords<T: Store>(
+    alloc: Global,
+    store: &mut T,
+    db: &str,
+    lines: Vec<InputLine>,
+) -> Result<Vec<BatchLine>, AllocError>
+    ensures read { IfOk result (λ all. All (IsLineRead (T.world store.old)) all.items) }
+    ensures unchanged { T.world store.new ≡ T.world store.old }
+{
+    let mut all = Vec::new(alloc);
+    for line in lines {
+        let password = password_of(alloc, store, db, &line.words)?;
+        all.push(BatchLine {
+            number: line.number,
+            words: line.words,
+            password,
+        })?;
+    }
+    Ok(all)
+}
+
+/// Reads the file of the password that a line takes. `None` if it takes none; what is wrong with the line is reported
+/// when it is run.
+fn password_of<T: Store>(
+    alloc: Global,
+    store: &mut T,
+    db: &str,
+    line: &[String],
+) -> Result<Option<FoundPassword>, AllocError>
+    ensures found { IfOk result (λ found. IfSome found (λ found. IsFound (T.world store.old) found)) }
+    ensures unchanged { T.world store.new ≡ T.world store.old }
+{
+    let words = in_batch(alloc, db, line)?;
+    if !is_given(&words, PASSWORD_FILE) || !is_line(alloc, &words) {
+        return Ok(None);
+    }
+    match read_command(alloc, &words) {
+        Ok(command) => command_password(alloc, store, &command),
+        Err(_) => Ok(None),
+    }
+}
+
+/// Checks whether the parser takes the words of a line.
+fn is_line(alloc: Global, words: &[&str]) -> bool {
+    read_args(alloc, words).is_ok() && !has_flag(words, KEEP_MODE)
+}
+
+/// Reads the file of the password that a command takes.
+fn command_password<T: Store>(
+    alloc: Global,
+    store: &mut T,
+    command: &Command<'_>,
+) -> Result<Option<FoundPassword>, AllocError>
+    ensures found { IfOk result (λ found. IfSome found (λ found. IsFound (T.world store.old) found)) }
+    ensures unchanged { T.world store.new ≡ T.world store.old }
+{
+    match &command.kind {
+        CommandKind::Write(WriteCommand::Update(update)) => find_password(alloc, store, update),
+        _ => Ok(None),
+    }
 }
 
 /// Reports why a line is no command. Returns how the batch ends. Ignores a failed write.
@@ -145,6 +228,7 @@ fn run_lines<T: Store, W: Write, E: Write>(
     batch: &Batch<'_>,
     draft: &mut Draft,
 ) -> Result<bool, Stop<'static>>
+    requires read { All (IsLineRead (T.world store.old)) batch.now.lines.now }
     ensures run { IfOk result (λ whole. IsRun (T.world store.old) batch.now.db.now batch.now.keep_going
         (line_texts batch.now.lines.now) draft.old.database draft.new.database whole) }
     ensures unchanged { T.world store.new ≡ T.world store.old }
@@ -163,6 +247,7 @@ fn run_all<T: Store, W: Write, E: Write>(
     batch: &Batch<'_>,
     draft: &mut Draft,
 ) -> Result<(), Stop<'static>>
+    requires read { All (IsLineRead (T.world store.old)) batch.now.lines.now }
     ensures done { OnOk result (AreDone (T.world store.old) batch.now.db.now (line_texts batch.now.lines.now)
         draft.old.database draft.new.database) }
     ensures unchanged { T.world store.new ≡ T.world store.old }
@@ -199,6 +284,7 @@ fn run_each<T: Store, W: Write, E: Write>(
     batch: &Batch<'_>,
     draft: &mut Draft,
 ) -> Result<bool, Stop<'static>>
+    requires read { All (IsLineRead (T.world store.old)) batch.now.lines.now }
     ensures run { IfOk result (λ whole. IsRun (T.world store.old) batch.now.db.now true (line_texts batch.now.lines.now)
         draft.old.database draft.new.database whole) }
     ensures unchanged { T.world store.new ≡ T.world store.old }
@@ -222,6 +308,7 @@ fn try_line<T: Store, W: Write, E: Write>(
     whole: bool,
     draft: &mut Draft,
 ) -> Result<bool, Stop<'static>>
+    requires read { IsLineRead (T.world store.old) line.now }
     ensures turn { IfOk result (λ whole_then. IsTurn (T.world store.old) db.now (line_text line.now)
         whole draft.old.database draft.new.database whole_then) }
     ensures unchanged { T.world store.new ≡ T.world store.old }
@@ -249,6 +336,7 @@ fn run_line<T: Store, W: Write, E: Write>(
     line: &BatchLine,
     draft: &mut Draft,
 ) -> Result<Option<Status>, Stop<'static>>
+    requires read { IsLineRead (T.world store.old) line.now }
     ensures done { IfOk result (λ end. IfNone end (IsLineDone (T.world store.old) db.now
         (line_text line.now) draft.old.database draft.new.database)) }
     ensures unchanged { T.world store.new ≡ T.world store.old }
@@ -258,26 +346,53 @@ fn run_line<T: Store, W: Write, E: Write>(
         words: &words,
         line: Some(line.number),
     };
-    match run_words(&mut context.errors, store, &subject, draft) {
-        Ok(()) => Ok(None),
+    match run_words(
+        &mut context.errors,
+        store,
+        &subject,
+        draft,
+        line.password.as_ref(),
+    ) {
+        Ok(note) => {
+            keep_note(&mut context.notes, &subject, note)?;
+            Ok(None)
+        }
         Err(stop) => Ok(Some(report(context, &subject, stop)?)),
     }
 }
 
-/// Makes the change that the words of a line ask for.
+/// Keeps what is to be said of a line once the database is written. Fails if memory runs out.
+fn keep_note(
+    notes: &mut Vec<u8>,
+    subject: &Subject<'_>,
+    note: Option<Note>,
+) -> Result<(), AllocError> {
+    let (Some(note), Some(name)) = (note, value_of(subject.words, NAME)) else {
+        return Ok(());
+    };
+    begin_line(notes, subject);
+    match note.write(notes, name) {
+        Ok(()) => Ok(()),
+        Err(_) => Err(AllocError),
+    }
+}
+
+/// Makes the change that the words of a line ask for. Returns what an administrator may not expect of it.
 fn run_words<'a, T: Store, E: Write>(
     errors: &mut E,
     store: &mut T,
     subject: &Subject<'a>,
     draft: &mut Draft,
-) -> Result<(), Stop<'a>>
+    found: Option<&FoundPassword>,
+) -> Result<Option<Note>, Stop<'a>>
+    requires found { IsFoundIn (T.world store.old) found }
     ensures done { OnOk result (IsSpelledMade (T.world store.old) (texts subject.now.words.now) draft.old.database draft.new.database) }
     ensures unchanged { T.world store.new ≡ T.world store.old }
 {
     let matches = read_args(draft.alloc, subject.words);
     check_words(errors, subject, &matches)?;
     match read_command(draft.alloc, subject.words) {
-        Ok(command) => run_command(errors, store, &command, subject, draft),
+        Ok(command) => run_command(store, &command, draft, found),
         Err(fault) => {
             begin_line(errors, subject);
             Err(report_command_fault(errors, fault))
@@ -297,7 +412,7 @@ fn check_words<E: Write>(
             begin_line(errors, subject);
             Err(report_fault(errors, error))
         }
-        Ok(_) if has_flag(subject.words, "--keep-mode") => {
+        Ok(_) if has_flag(subject.words, KEEP_MODE) => {
             begin_line(errors, subject);
             Err(report_command_fault(errors, CommandFault::BadValue(NO_MODE)))
         }
@@ -306,26 +421,19 @@ fn check_words<E: Write>(
 }
 
 /// Makes a change that a line asks for.
-fn run_command<'a, T: Store, E: Write>(
-    errors: &mut E,
+fn run_command<'a, T: Store>(
     store: &mut T,
     command: &Command<'a>,
-    subject: &Subject<'_>,
     draft: &mut Draft,
-) -> Result<(), Stop<'a>>
+    found: Option<&FoundPassword>,
+) -> Result<Option<Note>, Stop<'a>>
+    requires found { IsFoundIn (T.world store.old) found }
     ensures done { OnOk result (IsCommandMade (T.world store.old) command.now draft.old.database draft.new.database) }
     ensures unchanged { T.world store.new ≡ T.world store.old }
 {
     match command.kind {
         CommandKind::Write(WriteCommand::Update(update)) => {
-            update_in_batch(
-                errors,
-                store,
-                draft,
-                &command.target.etypes,
-                update,
-                subject,
-            )
+            update_in_batch(store, draft, &command.target.etypes, update, found)
         }
         _ => Err(Stop::NotInBatch),
     }

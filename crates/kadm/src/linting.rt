@@ -119,7 +119,7 @@ fn push_findings(
     let (alloc, db) = (place.alloc, place.db);
     let text = name.to_text(alloc)?;
     let word = shell_word(alloc, &text)?;
-    let options = format!(in alloc; "--db {db} --name {word}")?;
+    let options = format!(in alloc; "--db {db} --name={word}")?;
     let subject = Subject {
         name: &text,
         row,

@@ -4,10 +4,12 @@
 mod batch;
 mod changing;
 mod commands;
+mod escaping;
 mod json_lines;
 mod linting;
 mod listing;
 mod options;
+mod outcome;
 mod patterns;
 mod printing;
 mod reasons;
@@ -19,7 +21,9 @@ mod words;
 mod writing;
 
 use crate::run::{CommandLine, kadm_run};
-use program::{FileStore, NOT_UTF8, Status, Variable, read_words, report_failure};
+use program::{
+    FileStore, NOT_UTF8, Status, Variable, open_missing_streams, read_words, report_failure,
+};
 use std::env::VarError;
 use std::io::IsTerminal;
 use std::process::ExitCode;
@@ -70,6 +74,9 @@ impl<'a> Given<'a> {
 }
 
 fn main(rt: HostRuntime) -> ExitCode {
+    if let Err(fault) = open_missing_streams(&rt) {
+        return ExitCode::from(report_failure(&rt, "kadm", &fault).code());
+    }
     let named = env::var(&rt, KADM_DB);
     let given = match Given::read(&rt, &named) {
         Ok(given) => given,

@@ -27,6 +27,7 @@ pub(crate) fn reason_word(reason: Reason) -> &'static str {
         Reason::NoVersion => "Absent",
         Reason::IsDatabase => "IsDatabase",
         Reason::IsLock => "IsLock",
+        Reason::NotOurs => "NotOurs",
         Reason::NoKeys => "NoKeys",
         Reason::BadDump => "BadDump",
         Reason::BadStash => "BadStash",
@@ -58,6 +59,9 @@ pub(crate) fn reason_text(reason: Reason) -> &'static str {
         Reason::NoVersion => "it has no keys of this version",
         Reason::IsDatabase => "a lock is beside it, so it may be a database; name another file",
         Reason::IsLock => "a file whose name ends in `.lock` is a lock; name another file",
+        Reason::NotOurs => {
+            "this keytab is another user's, who would get the new keys; write a new one in its place"
+        }
         Reason::NoKeys => {
             "it has no key of the principal in this realm with the types asked for, or one of version 0"
         }

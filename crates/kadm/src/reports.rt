@@ -1,6 +1,7 @@
 //! What a command that ends early prints.
-ghost use Rattle.std.specs.Prelude.{IfOk};
+ghost use Rattle.std.specs.Prelude.{◌≡◌, IfOk};
 ghost use Rattle.kadm.specs.Ends.{IsStatusOf};
+ghost use Rattle.program.specs.declared.status.Status.TheVariants.{Failed};
 
 use crate::changing::NOT_IN_BATCH;
 use crate::reasons::{reason_text, reason_word};
@@ -41,6 +42,23 @@ pub(crate) fn report<W: Write, E: Write>(
             }
         }
     }
+}
+
+/// Reports that a command has changed a file, but could not sync its folder. Ignores a failed write: the status says
+/// that something failed.
+pub(crate) fn report_unsynced<W: Write, E: Write>(
+    context: &mut Context<W, E>,
+    path: &str,
+    error: io::Error,
+) -> Status
+    ensures { result ≡ Failed }
+{
+    let _ = writeln!(
+        context.errors,
+        "kadm: {path}: the change is made, but may be lost if the power fails now: {error}"
+    );
+    let _ = print_failure(&mut context.out);
+    Status::Failed
 }
 
 /// Returns the value that is refused, if it is not empty.

@@ -6,13 +6,15 @@ ghost use Rattle.kadm.specs.Words.{asks_help, with_db};
 ghost use Rattle.program.specs.declared.status.Status.TheVariants.{Failed};
 
 use crate::commands::{Command, CommandKind, read_args, read_command};
+use crate::escaping::Escaping;
+use crate::outcome::Outcome;
 use crate::printing::run_print;
-use crate::reports::report;
+use crate::reports::{report, report_unsynced};
 use crate::usage::{report_command_fault, report_fault};
 use crate::words::{asks_help, with_db, words_of};
-use crate::writing::write_files;
+use crate::writing::{write_files, written_path};
 use kadm_changes::{Context, Progress, Stop, Subject};
-use program::{Status, Store};
+use program::{Status, Store, Written};
 use std::alloc::{AllocError, Global};
 use std::io;
 use std::io::{BufWriter, Write};
@@ -30,8 +32,8 @@ pub(crate) struct CommandLine<'a> {
 
 /// Runs a command line. Prints the outcome to `writer`, and the reason of a refusal or failure and what is wrong with
 /// the words to `errors`. `Done` means that what the words ask for was done, or that they ask for help. Otherwise the
-/// files are unchanged, unless the words ask for a batch that keeps going (`Refused`), or only the printing failed
-/// (`Failed`).
+/// files are unchanged, but for two cases: the words ask for a batch that keeps going (`Refused`), or all was done, and
+/// then only the printing or the sync of a folder failed (`Failed`).
 pub(crate) fn kadm_run<T: Store, W: Write + Drop, E: Write + Drop>(
     alloc: Global,
     line: CommandLine<'_>,
@@ -57,7 +59,8 @@ pub(crate) fn kadm_run<T: Store, W: Write + Drop, E: Write + Drop>(
     let mut context = Context {
         alloc,
         out,
-        errors,
+        errors: Escaping::new(errors),
+        notes: Vec::new(alloc),
         progress,
     };
     run_and_report(&mut context, store, &words).unwrap_or(Status::Failed)
@@ -136,7 +139,7 @@ fn asks<'a, W: Write, E: Write>(
     }
 }
 
-/// Runs a command that was read. One that writes prints `ok` if all was done.
+/// Runs a command that was read. One that writes prints `ok` if all was done and is on the disk.
 #[tactic(auto, using(crate::proofs::Ending::write_done, crate::proofs::Ending::write_tried, crate::proofs::Ending::print_end))]
 fn run_command<'a, T: Store, W: Write, E: Write>(
     context: &mut Context<W, E>,
@@ -149,11 +152,17 @@ fn run_command<'a, T: Store, W: Write, E: Write>(
     match command.kind {
         CommandKind::Print(print) => run_print(context, store, command.target.db, print),
         CommandKind::Write(write) => {
-            if !write_files(context, store, &command.target, write)? {
-                return Ok(Status::Refused);
+            let Outcome { whole, written } = write_files(context, store, &command.target, write)?;
+            match written {
+                Written::NotSynced(error) => {
+                    Ok(report_unsynced(context, written_path(command, write), error))
+                }
+                Written::Synced if !whole => Ok(Status::Refused),
+                Written::Synced => {
+                    writeln!(context.out, "ok")?;
+                    Ok(Status::Done)
+                }
             }
-            writeln!(context.out, "ok")?;
-            Ok(Status::Done)
         }
     }
 }

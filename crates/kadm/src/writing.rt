@@ -6,7 +6,9 @@ ghost use Rattle.kadm.specs.Words.{IsWriteSpelled, command_of};
 
 use crate::batch::run_batch;
 use crate::changing::{CHANGES, change_of};
+use crate::commands::Command;
 use crate::options::{DATABASE, KEEPS_MODE, NAME};
+use crate::outcome::Outcome;
 use crate::usage::{CommandFault, NO_COMMAND, required};
 use crate::words::has_flag;
 use clap::Command as Parser;
@@ -152,35 +154,42 @@ fn keytab_args<'a>(words: &'a [&'a str]) -> Result<WriteCommand<'a>, CommandFaul
     }))
 }
 
-/// Runs a command that writes a file. Returns whether all was done: a batch that keeps going may have been done in
-/// part.
+/// Returns the path of the file that a command writes.
+pub(crate) fn written_path<'a>(command: &Command<'a>, write: WriteCommand<'a>) -> &'a str {
+    match write {
+        WriteCommand::Keytab(to) => to.out,
+        _ => command.target.db,
+    }
+}
+
+/// Runs a command that writes a file.
 #[tactic(auto, using(crate::proofs::Ending::batch_write))]
 pub(crate) fn write_files<'a, T: Store, W: Write, E: Write>(
     context: &mut Context<W, E>,
     store: &mut T,
     target: &Target<'a>,
     write: WriteCommand<'a>,
-) -> Result<bool, Stop<'a>>
-    ensures done { IfOk result (λ whole. IsWriteDone (T.world store.old) target.now write.entry whole (T.world store.new)) }
+) -> Result<Outcome, Stop<'a>>
+    ensures done { IfOk result (λ end. IsWriteDone (T.world store.old) target.now write.entry end.whole (T.world store.new)) }
     ensures unchanged { OnErr result (T.world store.new ≡ T.world store.old) }
 {
     match write {
         WriteCommand::Batch { keep_going } => run_batch(context, store, target, keep_going),
         WriteCommand::Init(new) => {
-            make_realm(context, store, target, new)?;
-            Ok(true)
+            let written = make_realm(context, store, target, new)?;
+            Ok(Outcome::whole(written))
         }
         WriteCommand::Update(changes) => {
-            make_update(context, store, target, changes)?;
-            Ok(true)
+            let written = make_update(context, store, target, changes)?;
+            Ok(Outcome::whole(written))
         }
         WriteCommand::Keytab(to) => {
-            write_keytab(context, store, target, to)?;
-            Ok(true)
+            let written = write_keytab(context, store, target, to)?;
+            Ok(Outcome::whole(written))
         }
         WriteCommand::Dump(from) => {
-            import_dump(context, store, target, from)?;
-            Ok(true)
+            let written = import_dump(context, store, target, from)?;
+            Ok(Outcome::whole(written))
         }
     }
 }

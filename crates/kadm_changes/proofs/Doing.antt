@@ -87,9 +87,9 @@ wrote_keytab (Err e) before locked opened checked filled after db to who p octet
 front : (world : Option World) (append : Bool) (path : List ℕ) (old : Option (List ℕ)) (new entries all : List ℕ)
     → IsOldKeytab world append path old → new ≡ 5 ∷ 2 ∷ entries → IsBehind old new all
     → (first : List ℕ) × IsFront world append path first × (all ≡ first ++ entries)
-front world true path (Some old) new entries all (is, read) text (size, behind) =
-    (take size old, inr (old, read, size, refl), behind ∙ ap (λ octets. take size old ++ drop 2 octets) text)
-front world false path (Some old) new entries all (is, read) text behind = absurd (subst (λ b. cond_type b) is tt)
+front world true path (Some old) new entries all (is, ours, read) text (size, behind) =
+    (take size old, inr (ours, old, read, size, refl), behind ∙ ap (λ octets. take size old ++ drop 2 octets) text)
+front world false path (Some old) new entries all (is, ours, read) text behind = absurd (subst (λ b. cond_type b) is tt)
   where
     cond_type : Bool → Type 0
     cond_type false = ⊤

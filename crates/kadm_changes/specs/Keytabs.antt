@@ -13,6 +13,7 @@ use Rattle.principal_rows.specs.declared.row.KeyVersion.{KeyVersion}
 use Rattle.principal_rows.specs.declared.row.Row.{Row}
 use Rattle.principals.specs.Database.{Principals}
 use Rattle.principals_text.specs.Value.{text_database}
+use Rattle.kadm_changes.specs.Owners.{IsOurs}
 use Rattle.kadm_changes.specs.declared.keytabs.KeytabArgs.{KeytabArgs}
 
 -- ---- where it may be written
@@ -47,16 +48,16 @@ entry_of realm name number key = record { realm = realm; name = name; version = 
 abbrev pub entries_of : List ℕ → Name → KeyVersion → List KeytabEntry
 entries_of realm name version = map (entry_of realm name version.number) version.keys
 
--- what comes before them: the first bytes of a keytab, or the content of the one that is extended
+-- what comes before them: the first bytes of a keytab, or the content of the one that is extended, which is ours
 abbrev pub IsFront : Option World → Bool → List ℕ → List ℕ → Type 0
 IsFront world false path front = front ≡ 5 ∷ 2 ∷ []
 IsFront world true path front =
     (IsThere world path false × (front ≡ 5 ∷ 2 ∷ []))
-    ⊎ ((old : List ℕ) × IsRead world path old × (size : ℕ) × (front ≡ take size old))
+    ⊎ (IsOurs world path × (old : List ℕ) × IsRead world path old × (size : ℕ) × (front ≡ take size old))
 
--- the keytab that is extended, if there is one
+-- the keytab that is extended, if there is one, and it is ours
 abbrev pub IsOldKeytab : Option World → Bool → List ℕ → Option (List ℕ) → Type 0
-IsOldKeytab world append path (Some old) = (append ≡ true) × IsRead world path old
+IsOldKeytab world append path (Some old) = (append ≡ true) × IsOurs world path × IsRead world path old
 IsOldKeytab world true path None = IsThere world path false
 IsOldKeytab world false path None = ⊤
 

@@ -1,9 +1,11 @@
 pub mod Changing
 pub mod Denying
 pub mod Dumps
+pub mod Found
 pub mod Granting
 pub mod Importing
 pub mod Keytabs
+pub mod Owners
 pub mod Stops
 pub mod Updates
 pub mod Words

@@ -21,7 +21,7 @@ use crate::words::{DB, NAME, value_at};
 use krb_elements::KerberosString;
 use krb_fields::{Name, component_from_text, tgs_name};
 use principals::{ChangeFault, Database, RowChange};
-use program::{Store, has_file, read_clock, read_or_draw_seed};
+use program::{Store, Written, has_file, read_clock, read_or_draw_seed};
 use std::alloc::{AllocError, Global};
 use std::io::Write;
 use text_fields::{FlagField, Setting, random_keys, setting_from, setting_of};
@@ -63,7 +63,7 @@ pub fn make_realm<'p, T: Store, W: Write, E: Write>(
     store: &mut T,
     target: &Target<'p>,
     new: InitArgs<'p>,
-) -> Result<(), Stop<'p>>
+) -> Result<Written, Stop<'p>>
     ensures done { OnOk result (MadeRealm (T.world store.old) target.now.db.now target.now.etypes.items new.entry.realm.now
         (path_of new.entry.seed) (T.world store.new)) }
     ensures unchanged { OnErr result (T.world store.new ≡ T.world store.old) }
@@ -80,7 +80,7 @@ fn make_new_realm<'p, T: Store, W: Write, E: Write>(
     target: &Target<'p>,
     realm: &KerberosString,
     seed: Option<&'p str>,
-) -> Result<(), Stop<'p>>
+) -> Result<Written, Stop<'p>>
     ensures done { OnOk result (MadeNew (T.world store.old) target.now.db.now target.now.etypes.items realm.now
         (path_of seed.entry) (T.world store.new)) }
     ensures unchanged { OnErr result (T.world store.new ≡ T.world store.old) }

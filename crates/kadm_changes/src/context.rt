@@ -11,6 +11,8 @@ pub struct Context<W, E> {
     pub out: W,
     /// Takes the reasons of what is not done, and what an administrator may not expect.
     pub errors: E,
+    /// What is to be said in `errors` of the lines of a batch, once the database is written.
+    pub notes: Vec<u8>,
     /// For the progress reports of a batch.
     pub progress: Progress,
 }

@@ -12,7 +12,7 @@ use crate::words::DB;
 use krb_fields::Name;
 use principals::{Change, ChangeFault, Database, RowChange};
 use principals_text::{DatabaseFault, LONGEST_TEXT, read_bytes};
-use program::{NewMode, Store, lock_file, read_at_most, update_file};
+use program::{NewMode, Store, Written, lock_file, read_at_most, update_file};
 use std::alloc::Global;
 use std::io::Write;
 use std::marker::Model;
@@ -107,13 +107,13 @@ pub fn write_database<'p, T: Store>(
     store: &mut T,
     locked: &Locked<'p>,
     database: &Database,
-) -> Result<(), Stop<'p>>
+) -> Result<Written, Stop<'p>>
     ensures written { OnOk result (T.world store.new ≡ with_database locked.now database.now (T.world store.old)) }
     ensures unchanged { OnErr result (T.world store.new ≡ T.world store.old) }
 {
     let text = principals_text::write(alloc, database)?;
-    update_file(alloc, store, locked.path, text.as_bytes(), locked.mode)?;
-    Ok(())
+    let written = update_file(alloc, store, locked.path, text.as_bytes(), locked.mode)?;
+    Ok(written)
 }
 
 /// Changes a principal's row. A refused change leaves the database unchanged.

@@ -26,7 +26,7 @@ use mit_dump::{DumpedPrincipal, dump_realm, read_dump};
 use principal_rows::{Entry, NameMap, Row};
 use principals::Database;
 use principals_text::LONGEST_TEXT;
-use program::{Store, has_file, read_at_most, read_file};
+use program::{Store, Written, has_file, read_at_most, read_file};
 use std::alloc::{AllocError, Global};
 use std::io::Write;
 use text_fields::{KeytabKeys, keytab_versions};
@@ -48,7 +48,7 @@ pub fn import_dump<'p, T: Store, W: Write, E: Write>(
     store: &mut T,
     target: &Target<'p>,
     from: DumpArgs<'p>,
-) -> Result<(), Stop<'p>>
+) -> Result<Written, Stop<'p>>
     ensures done { OnOk result (MadeFromDump (T.world store.old) target.now.db.now from.entry (T.world store.new)) }
     ensures unchanged { OnErr result (T.world store.new ≡ T.world store.old) }
 {

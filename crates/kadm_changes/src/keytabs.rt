@@ -2,6 +2,7 @@
 ghost use Rattle.std.specs.Prelude.{◌≡◌, IfOk, IsFalse, OnOk, OnErr, option_map};
 ghost use Rattle.program.specs.World.{IsRead, IsThere, with_file};
 ghost use Rattle.kadm_changes.specs.Keytabs.{IsBehind, IsFreePath, IsKeytabFor, IsKeytabStart, IsNewKeytab, IsOldKeytab, entries_of, lock_of};
+ghost use Rattle.kadm_changes.specs.Owners.{IsOurs, is_closed, is_ours, is_own};
 ghost use Rattle.kadm_changes.specs.Worlds.{WroteKeytab};
 
 use crate::context::Context;
@@ -17,13 +18,20 @@ use krb_fields::Name;
 use principal_rows::KeyVersion;
 use principals::{ChangeFault, Database};
 use program::{
-    FileFault, LOCK_END, Store, first_octet, has_file, read_file, update_file, write_file,
+    FileFault, FileRights, LOCK_END, Store, Written, file_rights, first_octet, folder_of, has_file,
+    read_file, update_file, write_file,
 };
 use std::alloc::{AllocError, Global};
 use std::io::Write;
 
 /// The first byte of a keytab. No text of a database begins with it.
 const KEYTAB_START: u8 = 5;
+
+/// The user who may write in any folder.
+const ROOT: u32 = 0;
+
+/// The bits of a folder's mode that let its group and others write in it.
+const OTHERS_WRITE: u32 = 0o022;
 
 /// The keytab that is written, and for whom.
 #[derive(Clone, Copy)]
@@ -37,13 +45,13 @@ pub struct KeytabArgs<'a> {
 }
 
 /// Writes a keytab of a principal's current keys. With `append` the keytab keeps its content, before the new entries,
-/// and its owner and group.
+/// and its owner and group; that of another user is refused.
 pub fn write_keytab<'p, T: Store, W: Write, E: Write>(
     context: &mut Context<W, E>,
     store: &mut T,
     target: &Target<'p>,
     to: KeytabArgs<'p>,
-) -> Result<(), Stop<'p>>
+) -> Result<Written, Stop<'p>>
     ensures done { OnOk result (WroteKeytab (T.world store.old) target.now.db.now to.entry (T.world store.new)) }
     ensures unchanged { OnErr result (T.world store.new ≡ T.world store.old) }
 {
@@ -120,16 +128,14 @@ fn put_octets<'p, T: Store>(
     target: &Target<'p>,
     to: KeytabArgs<'p>,
     octets: &[u8],
-) -> Result<(), Stop<'p>>
+) -> Result<Written, Stop<'p>>
     ensures written { OnOk result (T.world store.new ≡ option_map (with_file to.entry.out.now octets.now) (T.world store.old)) }
     ensures unchanged { OnErr result (T.world store.new ≡ T.world store.old) }
 {
     if to.append {
-        update_file(alloc, store, to.out, octets, target.mode)?;
-        return Ok(());
+        return Ok(update_file(alloc, store, to.out, octets, target.mode)?);
     }
-    write_file(alloc, store, to.out, octets)?;
-    Ok(())
+    Ok(write_file(alloc, store, to.out, octets)?)
 }
 
 /// Returns the content of a keytab that is extended.
@@ -143,10 +149,60 @@ fn read_old<'p, T: Store>(
     ensures unchanged { T.world store.new ≡ T.world store.old }
 {
     if append && has_file(store, path)? {
+        check_owner(store, path)?;
         Ok(Some(read_judged(alloc, store, path)?))
     } else {
         Ok(None)
     }
+}
+
+/// Refuses the keytab of another user, who may have put it there to get the new keys.
+fn check_owner<'p, T: Store>(store: &mut T, path: &'p str) -> Result<(), Stop<'p>>
+    ensures ours { OnOk result (IsOurs (T.world store.old) path.now) }
+    ensures unchanged { T.world store.new ≡ T.world store.old }
+{
+    let file = file_rights(store, path)?;
+    if is_own(file) {
+        return Ok(());
+    }
+    let folder = match file_rights(store, folder_of(path)) {
+        Ok(folder) => folder,
+        Err(fault) => return Err(Stop::from(FileFault {
+            path,
+            cause: fault.cause,
+        })),
+    };
+    if is_ours(file, folder) {
+        return Ok(());
+    }
+    Err(Stop::refused(OUT, Reason::NotOurs))
+}
+
+/// Checks whether the user who runs the program owns a file.
+fn is_own(file: FileRights) -> bool
+    ensures { result ≡ is_own file }
+{
+    match file.user {
+        Some(user) => user == file.owner,
+        None => false,
+    }
+}
+
+/// Checks whether the user owns a file in this folder, or is root and nobody else put it there but its owner.
+fn is_ours(file: FileRights, folder: FileRights) -> bool
+    ensures { result ≡ is_ours file folder }
+{
+    match file.user {
+        Some(user) => user == file.owner || (user == ROOT && is_closed(file, folder)),
+        None => false,
+    }
+}
+
+/// Checks whether nobody may write in a folder but root and the owner of a file.
+fn is_closed(file: FileRights, folder: FileRights) -> bool
+    ensures { result ≡ is_closed file folder }
+{
+    folder.mode & OTHERS_WRITE == 0 && (folder.owner == ROOT || folder.owner == file.owner)
 }
 
 /// Returns the bytes of a file that is a keytab.

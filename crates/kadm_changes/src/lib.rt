@@ -1,18 +1,19 @@
 //! The changes of a realm's database: what its file, or a keytab, holds after a command of the administration tool.
 //!
 //! `make_realm`, `make_update`, `write_keytab` and `import_dump` each do a command that was read, with the files of a
-//! `Store`. A batch reads a database by `read_database`, changes it by `update_in_batch`, and writes it by
-//! `write_database`.
+//! `Store`, and return whether the file that they wrote is on the disk. A batch reads its passwords by `find_password`
+//! and a database by `read_database`, changes it by `update_in_batch`, and writes it by `write_database`.
 //!
 //! ```
 //! make_update(&mut context, &mut store, &target, Update::Row(row))?;
 //!
 //! // a batch
+//! let found = find_password(alloc, &mut store, &update)?;
 //! let locked = lock_database(&mut context, &mut store, &target)?;
 //! let database = read_database(&mut context, &mut store, target.db)?;
 //! let mut draft = Draft { alloc, database };
-//! update_in_batch(&mut context.errors, &mut store, &mut draft, &target.etypes, update, &subject)?;
-//! write_database(alloc, &mut store, &locked, &draft.database)?;
+//! let note = update_in_batch(&mut store, &mut draft, &target.etypes, update, found.as_ref())?;
+//! let written = write_database(alloc, &mut store, &locked, &draft.database)?;
 //! ```
 //!
 //! It reads no command line and prints no result: `kadm` does. `principals` makes or refuses each change of a row, and
@@ -31,6 +32,7 @@ mod granting;
 mod importing;
 mod joining;
 mod keytabs;
+mod note;
 mod passwords;
 mod reason;
 mod stop;
@@ -47,7 +49,8 @@ pub use draft::Draft;
 pub use dump_import::{DumpArgs, import_dump};
 pub use granting::{Grant, RandomGrant};
 pub use keytabs::{KeytabArgs, write_keytab};
-pub use passwords::{PasswordArgs, PasswordGrant};
+pub use note::Note;
+pub use passwords::{FoundLine, FoundPassword, PasswordArgs, PasswordGrant, find_password};
 pub use reason::{Reason, Refusal};
 pub use stop::Stop;
 pub use subject::{Subject, begin_line};

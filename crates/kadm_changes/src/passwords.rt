@@ -1,5 +1,6 @@
 //! New passwords.
-ghost use Rattle.std.specs.Prelude.{◌≡◌, IfOk};
+ghost use Rattle.std.specs.Prelude.{◌≡◌, IfOk, IfSome};
+ghost use Rattle.kadm_changes.specs.Found.{HasPassword, IsFound, IsFoundIn, IsFoundLine};
 ghost use Rattle.kadm_changes.specs.Updates.{IsPasswordOf, IsSecretOf};
 ghost use Rattle.kadm_changes.specs.Words.{path_of};
 ghost use Rattle.program.specs.World.{HasFirstLine};
@@ -9,11 +10,11 @@ use crate::databases::read_database;
 use crate::granting::Grant;
 use crate::reason::Reason;
 use crate::stop::Stop;
-use crate::updates::{RowArgs, RowUpdate};
+use crate::updates::{RowArgs, RowUpdate, Update};
 use crate::words::{NAME, PASSWORD_FILE};
 use krb_fields::component_to_text;
-use program::{STANDARD_INPUT, Store, ask_password, read_password};
-use std::alloc::Global;
+use program::{FileCause, FileFault, STANDARD_INPUT, Store, ask_password, read_password};
+use std::alloc::{AllocError, Global};
 use std::io::Write;
 
 /// Where a password comes from.
@@ -32,6 +33,92 @@ pub struct PasswordGrant<'a> {
     pub password: PasswordArgs<'a>,
     /// Whether the principal is new, and what becomes of its older keys.
     pub grant: Grant,
+}
+
+/// The file of a password, as it was read before the database was locked.
+#[derive(Drop)]
+pub struct FoundPassword {
+    /// The path of the file.
+    pub path: String,
+    /// What it has.
+    pub line: FoundLine,
+}
+
+/// The first line of a password's file.
+#[derive(Drop)]
+pub enum FoundLine {
+    /// The password.
+    Password(Vec<u8>),
+    /// It has more than 1,024 bytes.
+    TooLong,
+    /// The file could not be read.
+    Fault(FileCause),
+}
+
+/// Reads the file of the password that a line of a batch takes, before the database is locked: the file may be a FIFO,
+/// and the read then waits for a writer. `None` if the change takes no password from a file. What is wrong with the
+/// file is reported when the change is made. Fails if memory runs out.
+pub fn find_password<T: Store>(
+    alloc: Global,
+    store: &mut T,
+    update: &Update<'_>,
+) -> Result<Option<FoundPassword>, AllocError>
+    ensures found { IfOk result (λ found. IfSome found (λ found. IsFound (T.world store.old) found)) }
+    ensures unchanged { T.world store.new ≡ T.world store.old }
+{
+    match update {
+        Update::Row(to) => find_row_password(alloc, store, &to.how),
+        Update::Changes(_) => Ok(None),
+        Update::Migrate {
+            users_are_no_services: _,
+        } => Ok(None),
+    }
+}
+
+/// Reads the file of the password that a change of a row takes.
+fn find_row_password<T: Store>(
+    alloc: Global,
+    store: &mut T,
+    how: &RowUpdate<'_>,
+) -> Result<Option<FoundPassword>, AllocError>
+    ensures found { IfOk result (λ found. IfSome found (λ found. IsFound (T.world store.old) found)) }
+    ensures unchanged { T.world store.new ≡ T.world store.old }
+{
+    match how {
+        RowUpdate::Password(to) => find_at(alloc, store, to.password.file),
+        RowUpdate::Random(_) => Ok(None),
+        RowUpdate::Import { keytab: _ } => Ok(None),
+    }
+}
+
+/// Reads the file of a password, if one is named.
+fn find_at<T: Store>(
+    alloc: Global,
+    store: &mut T,
+    file: Option<&str>,
+) -> Result<Option<FoundPassword>, AllocError>
+    ensures found { IfOk result (λ found. IfSome found (λ found. IsFound (T.world store.old) found)) }
+    ensures unchanged { T.world store.new ≡ T.world store.old }
+{
+    let Some(path) = file else {
+        return Ok(None);
+    };
+    let named = String::from_str(alloc, path)?;
+    let line = find_line(alloc, store, path)?;
+    Ok(Some(FoundPassword { path: named, line }))
+}
+
+/// Reads the first line of the file of a password.
+fn find_line<T: Store>(alloc: Global, store: &mut T, path: &str) -> Result<FoundLine, AllocError>
+    ensures found { IfOk result (λ line. IsFoundLine (T.world store.old) path.now line) }
+    ensures unchanged { T.world store.new ≡ T.world store.old }
+{
+    match read_password(alloc, store, path) {
+        // the copy has room for the line alone: a batch keeps many
+        Ok(Some(line)) => Ok(FoundLine::Password(Vec::from_slice(alloc, &line)?)),
+        Ok(None) => Ok(FoundLine::TooLong),
+        Err(fault) => Ok(FoundLine::Fault(fault.cause)),
+    }
 }
 
 /// Gets the password that a change takes, before the database is locked: from its file, or from standard input. It is
@@ -79,17 +166,20 @@ fn any_password<'p, T: Store, W: Write, E: Write>(
     likely(pass, args.any)
 }
 
-/// Gets the password that a line of a batch takes. It is in a file: standard input has the batch.
+/// Gets the password that a line of a batch takes. It is in a file, since standard input has the batch: as the file was
+/// read before, if it was.
 pub(crate) fn batch_password<'p, T: Store>(
     alloc: Global,
     store: &mut T,
     how: &RowUpdate<'p>,
+    found: Option<&FoundPassword>,
 ) -> Result<Vec<u8>, Stop<'p>>
+    requires found { IsFoundIn (T.world store.old) found }
     ensures given { IfOk result (λ pass. IsSecretOf (T.world store.old) how.now pass.items) }
     ensures unchanged { T.world store.new ≡ T.world store.old }
 {
     match how {
-        RowUpdate::Password(to) => file_password(alloc, store, to.password),
+        RowUpdate::Password(to) => file_password(alloc, store, to.password, found),
         RowUpdate::Random(_) => Ok(Vec::new(alloc)),
         RowUpdate::Import { keytab: _ } => Ok(Vec::new(alloc)),
     }
@@ -100,14 +190,47 @@ fn file_password<'p, T: Store>(
     alloc: Global,
     store: &mut T,
     args: PasswordArgs<'p>,
+    found: Option<&FoundPassword>,
 ) -> Result<Vec<u8>, Stop<'p>>
+    requires found { IsFoundIn (T.world store.old) found }
     ensures given { IfOk result (λ pass. IsPasswordOf (T.world store.old) (path_of args.entry.file) pass.items) }
     ensures unchanged { T.world store.new ≡ T.world store.old }
 {
     let Some(path) = args.file else {
         return Err(Stop::refused(NAME, Reason::NoPassword));
     };
-    likely(password_at(alloc, store, path)?, args.any)
+    likely(found_or_read(alloc, store, path, found)?, args.any)
+}
+
+/// Returns the password in a file, as the file was read before, if it was.
+fn found_or_read<'p, T: Store>(
+    alloc: Global,
+    store: &mut T,
+    path: &'p str,
+    found: Option<&FoundPassword>,
+) -> Result<Vec<u8>, Stop<'p>>
+    requires found { IsFoundIn (T.world store.old) found }
+    ensures line { IfOk result (λ pass. HasFirstLine (T.world store.old) path.now pass.items) }
+    ensures unchanged { T.world store.new ≡ T.world store.old }
+{
+    match found {
+        Some(found) if found.path.as_str() == path => password_in(alloc, path, &found.line),
+        _ => password_at(alloc, store, path),
+    }
+}
+
+/// Returns the password that was found in a file.
+fn password_in<'p>(alloc: Global, path: &'p str, line: &FoundLine) -> Result<Vec<u8>, Stop<'p>>
+    ensures { IfOk result (λ pass. HasPassword line.now pass.items) }
+{
+    match line {
+        FoundLine::Password(pass) => Ok(Vec::from_slice(alloc, pass)?),
+        FoundLine::TooLong => Err(too_long(path)),
+        FoundLine::Fault(cause) => Err(Stop::from(FileFault {
+            path,
+            cause: *cause,
+        })),
+    }
 }
 
 /// Reads the password in a file.

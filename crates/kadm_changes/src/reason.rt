@@ -49,6 +49,8 @@ pub enum Reason {
     IsDatabase,
     /// A keytab would replace a lock.
     IsLock,
+    /// A keytab to extend is another user's.
+    NotOurs,
     /// A keytab has no key of the principal, or one with version 0.
     NoKeys,
     /// A file is not a dump of MIT's database.

@@ -1,6 +1,7 @@
 //! The commands that change a database. Each reads it once and writes it once.
 ghost use Rattle.std.specs.Prelude.{◌≡◌, OnOk, OnErr};
 ghost use Rattle.kadm_changes.specs.Changing.{AreChanged};
+ghost use Rattle.kadm_changes.specs.Found.{IsFoundIn};
 ghost use Rattle.kadm_changes.specs.Updates.{IsMigrated, IsRowChanged, IsRowGiven, IsRowUpdated, IsUpdated};
 ghost use Rattle.kadm_changes.specs.Words.{texts};
 ghost use Rattle.kadm_changes.specs.Worlds.{Rewritten, Updated};
@@ -12,14 +13,15 @@ use crate::denying::is_user;
 use crate::draft::Draft;
 use crate::granting::{Grant, RandomGrant, Recipient, expiring, give_password, give_random};
 use crate::importing::import;
-use crate::passwords::{PasswordGrant, batch_password, new_password};
+use crate::note::Note;
+use crate::passwords::{FoundPassword, PasswordGrant, batch_password, new_password};
 use crate::stop::Stop;
 use crate::subject::{Subject, begin_line};
 use crate::target::Target;
 use enctypes::Etype;
 use krb_fields::Name;
 use principals::Database;
-use program::Store;
+use program::{Store, Written};
 use std::alloc::Global;
 use std::io::Write;
 
@@ -62,7 +64,7 @@ pub fn make_update<'p, T: Store, W: Write, E: Write>(
     store: &mut T,
     target: &Target<'p>,
     update: Update<'p>,
-) -> Result<(), Stop<'p>>
+) -> Result<Written, Stop<'p>>
     ensures done { OnOk result
         (Updated (T.world store.old) target.now.db.now target.now.etypes.items update.entry (T.world store.new)) }
     ensures unchanged { OnErr result (T.world store.new ≡ T.world store.old) }
@@ -82,7 +84,7 @@ fn update_row<'p, T: Store, W: Write, E: Write>(
     store: &mut T,
     target: &Target<'p>,
     to: &RowArgs<'p>,
-) -> Result<(), Stop<'p>>
+) -> Result<Written, Stop<'p>>
     ensures done { OnOk result (Rewritten (T.world store.old) target.now.db.now
         (IsRowUpdated (T.world store.old) target.now.etypes.items to.now) (T.world store.new)) }
     ensures unchanged { OnErr result (T.world store.new ≡ T.world store.old) }
@@ -93,26 +95,32 @@ fn update_row<'p, T: Store, W: Write, E: Write>(
     let locked = lock_database(context, store, target)?;
     let database = read_database(context, store, target.db)?;
     let mut draft = Draft { alloc, database };
-    let expires = expiring(&draft.database, &who).is_some();
+    let expired = expiring(&draft.database, &who).is_some();
     let recipient = Recipient {
         who: &who,
         etypes: &target.etypes,
         pass: &pass,
     };
     change_row(store, &mut draft, &recipient, to)?;
-    write_database(alloc, store, &locked, &draft.database)?;
+    let written = write_database(alloc, store, &locked, &draft.database)?;
+    report_note(
+        &mut context.errors,
+        to.name,
+        note_of(to, &who, &draft.database, expired),
+    );
+    Ok(written)
+}
+
+/// Reports what an administrator may not expect of a change that was made. Ignores a failed write.
+fn report_note<E: Write>(errors: &mut E, name: &str, note: Option<Note>) {
     let subject = Subject {
         words: &[],
         line: None,
     };
-    let change = RowChanged {
-        to,
-        who: &who,
-        database: &draft.database,
-        expires,
-    };
-    report_change(&mut context.errors, &subject, &change);
-    Ok(())
+    if let Some(note) = note {
+        begin_line(errors, &subject);
+        let _ = note.write(errors, name);
+    }
 }
 
 /// Changes each principal that the words of the command line name, without new keys.
@@ -121,7 +129,7 @@ fn update_rows<'p, T: Store, W: Write, E: Write>(
     store: &mut T,
     target: &Target<'p>,
     changes: &Changes<'p>,
-) -> Result<(), Stop<'p>>
+) -> Result<Written, Stop<'p>>
     ensures done { OnOk result (Rewritten (T.world store.old) target.now.db.now
         (AreChanged (T.world store.old) (texts changes.now.words.now) changes.now.how) (T.world store.new)) }
     ensures unchanged { OnErr result (T.world store.new ≡ T.world store.old) }
@@ -141,7 +149,7 @@ fn migrate<'p, T: Store, W: Write, E: Write>(
     store: &mut T,
     target: &Target<'p>,
     users_are_no_services: bool,
-) -> Result<(), Stop<'p>>
+) -> Result<Written, Stop<'p>>
     ensures done { OnOk result (Rewritten (T.world store.old) target.now.db.now
         (IsMigrated users_are_no_services) (T.world store.new)) }
     ensures unchanged { OnErr result (T.world store.new ≡ T.world store.old) }
@@ -154,56 +162,56 @@ fn migrate<'p, T: Store, W: Write, E: Write>(
     write_database(alloc, store, &locked, &draft.database)
 }
 
-/// Makes the change of a line of a batch in a database that was read.
-pub fn update_in_batch<'p, T: Store, E: Write>(
-    errors: &mut E,
+/// Makes the change of a line of a batch in a database that was read. Returns what an administrator may not expect of
+/// it. A password is what `find_password` found; without that its file is read now.
+pub fn update_in_batch<'p, T: Store>(
     store: &mut T,
     draft: &mut Draft,
     etypes: &[Etype],
     update: Update<'p>,
-    subject: &Subject<'_>,
-) -> Result<(), Stop<'p>>
+    found: Option<&FoundPassword>,
+) -> Result<Option<Note>, Stop<'p>>
+    requires found { IsFoundIn (T.world store.old) found }
     ensures done { OnOk result (IsUpdated (T.world store.old) etypes.now update.entry draft.old.database draft.new.database) }
     ensures unchanged { T.world store.new ≡ T.world store.old }
 {
     match update {
-        Update::Row(to) => row_in_batch(errors, store, draft, etypes, &to, subject),
-        Update::Changes(changes) => change_all(store, draft, &changes),
+        Update::Row(to) => row_in_batch(store, draft, etypes, &to, found),
+        Update::Changes(changes) => {
+            change_all(store, draft, &changes)?;
+            Ok(None)
+        }
         Update::Migrate {
             users_are_no_services,
-        } => Ok(migrate_rows(draft, users_are_no_services)?),
+        } => {
+            migrate_rows(draft, users_are_no_services)?;
+            Ok(None)
+        }
     }
 }
 
 /// Changes the row of a principal, as a line of a batch orders.
-fn row_in_batch<'p, T: Store, E: Write>(
-    errors: &mut E,
+fn row_in_batch<'p, T: Store>(
     store: &mut T,
     draft: &mut Draft,
     etypes: &[Etype],
     to: &RowArgs<'p>,
-    subject: &Subject<'_>,
-) -> Result<(), Stop<'p>>
+    found: Option<&FoundPassword>,
+) -> Result<Option<Note>, Stop<'p>>
+    requires found { IsFoundIn (T.world store.old) found }
     ensures done { OnOk result (IsRowUpdated (T.world store.old) etypes.now to.now draft.old.database draft.new.database) }
     ensures unchanged { T.world store.new ≡ T.world store.old }
 {
     let who = Name::from_text(draft.alloc, to.name)?;
-    let pass = batch_password(draft.alloc, store, &to.how)?;
-    let expires = expiring(&draft.database, &who).is_some();
+    let pass = batch_password(draft.alloc, store, &to.how, found)?;
+    let expired = expiring(&draft.database, &who).is_some();
     let recipient = Recipient {
         who: &who,
         etypes,
         pass: &pass,
     };
     change_row(store, draft, &recipient, to)?;
-    let change = RowChanged {
-        to,
-        who: &who,
-        database: &draft.database,
-        expires,
-    };
-    report_change(errors, subject, &change);
-    Ok(())
+    Ok(note_of(to, &who, &draft.database, expired))
 }
 
 /// Gives keys to a principal, and then makes the settings of the command line. After an `Err` it may be changed in
@@ -240,71 +248,27 @@ fn give_row<'p, T: Store>(
     }
 }
 
-/// A principal that was given keys.
-#[derive(Clone, Copy)]
-struct RowChanged<'a, 'p> {
-    to: &'a RowArgs<'p>,
-    who: &'a Name,
-    /// The database after the change.
-    database: &'a Database,
-    /// Whether the password expired before the change.
-    expires: bool,
-}
-
-/// Reports what an administrator may not expect of a change. Ignores a failed write.
-fn report_change<E: Write>(errors: &mut E, subject: &Subject<'_>, change: &RowChanged<'_, '_>) {
-    let name = change.to.name;
-    match &change.to.how {
-        RowUpdate::Password(_)
-            if change.expires && expiring(change.database, change.who).is_none() => {
-            begin_line(errors, subject);
-            let _ = writeln!(errors, "{name}: password_expires was past; it is now never");
+/// Returns what an administrator may not expect of a change of a row. `expired` says whether the password had a time at
+/// which it expires and that was past.
+fn note_of(to: &RowArgs<'_>, who: &Name, database: &Database, expired: bool) -> Option<Note> {
+    match &to.how {
+        RowUpdate::Password(_) if expired && expiring(database, who).is_none() => {
+            Some(Note::NeverExpires)
         }
-        RowUpdate::Random(to) => report_version(errors, subject, change, to.grant),
-        _ => (),
+        RowUpdate::Random(random) => random_note(random.grant, who, database),
+        _ => None,
     }
 }
 
-/// Reports the key version of a principal that got random keys. Ignores a failed write.
-fn report_version<E: Write>(
-    errors: &mut E,
-    subject: &Subject<'_>,
-    change: &RowChanged<'_, '_>,
-    grant: Grant,
-) {
-    let (name, who) = (change.to.name, change.who);
-    let Some(row) = change.database.get(who) else {
-        return;
-    };
-    if let Grant::New | Grant::NewUser = grant {
-        return;
-    }
-    let number = row.versions.current().number;
-    begin_line(errors, subject);
-    let _ = if number == 1 {
-        writeln!(
-            errors,
-            "{name}: added, with keys of version 1{}",
-            warning(who)
-        )
-    } else if let Grant::Replace = grant {
-        writeln!(
-            errors,
-            "{name}: has new keys, version {number}; older versions are dropped"
-        )
-    } else {
-        writeln!(
-            errors,
-            "{name}: has new keys, version {number}; older versions stay"
-        )
-    };
-}
-
-/// Returns what to say of a new service of a host, whose name may have a typing error.
-fn warning(who: &Name) -> &'static str {
-    if is_user(who) {
-        ""
-    } else {
-        "; `--existing` refuses a name that the database doesn't have"
+/// Returns the key version of a principal that got random keys. A new principal that was to be new has none to tell.
+fn random_note(grant: Grant, who: &Name, database: &Database) -> Option<Note> {
+    let version = database.get(who)?.versions.current().number;
+    match grant {
+        Grant::New | Grant::NewUser => None,
+        _ if version == 1 => Some(Note::Added {
+            is_user: is_user(who),
+        }),
+        Grant::Replace => Some(Note::Replaced { version }),
+        Grant::Next | Grant::Either => Some(Note::Renewed { version }),
     }
 }

@@ -20,7 +20,8 @@ use client_login::{KdcClient, Kdcs, Transports};
 use client_sockets::SocketNetwork;
 use krb_fields::Moment;
 use program::{
-    CLOCK, FileStore, NOT_UTF8, Status, Variable, now, read_words, report_failure, report_usage,
+    CLOCK, FileFault, FileStore, NOT_UTF8, Status, Variable, now, open_missing_streams, read_words,
+    report_failure, report_usage,
 };
 use std::alloc::AllocError;
 use std::env::VarError;
@@ -30,6 +31,8 @@ use std::{env, fmt, io};
 /// Why the command line can't be used.
 #[derive(Clone, Copy)]
 enum Fault {
+    /// The null device can't be opened in place of a standard stream.
+    Streams(FileFault<'static>),
     /// The clock can't be read, or shows no moment of the years 1970 to 9999.
     Clock(io::Error),
     /// The words of the command line can't be read.
@@ -41,6 +44,7 @@ enum Fault {
 impl fmt::Display for Fault {
     fn fmt<W: fmt::Write>(&self, f: &mut fmt::Formatter<W>) -> fmt::Result {
         match self {
+            Fault::Streams(fault) => write!(f, "{fault}"),
             Fault::Clock(error) => write!(f, "{CLOCK}: {error}"),
             Fault::Args(error) => write!(f, "cannot read the command line: {error}"),
             Fault::NotUtf8 => f.write_str(NOT_UTF8),
@@ -67,6 +71,7 @@ struct Given {
 
 impl Given {
     fn read(rt: &HostRuntime) -> Result<Given, Fault> {
+        open_missing_streams(rt).map_err(Fault::Streams)?;
         Ok(Given {
             at: now(rt).map_err(Fault::Clock)?,
             args: read_words(rt).map_err(Fault::Args)?.ok_or(Fault::NotUtf8)?,

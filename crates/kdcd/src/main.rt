@@ -19,7 +19,8 @@ use crate::sealing::seal;
 use crate::serving::serve_realm;
 use clap::error::ErrorKind;
 use program::{
-    NOT_UTF8, Status, parse_status, read_words, report_end, report_failure, report_usage,
+    NOT_UTF8, Status, open_missing_streams, parse_status, read_words, report_end, report_failure,
+    report_usage,
 };
 use std::io;
 use std::process::ExitCode;
@@ -37,6 +38,9 @@ fn main(rt: HostRuntime) -> ExitCode {
 
 /// Runs the program and returns its status. Fails if a write fails or memory runs out.
 fn run_words(rt: &HostRuntime) -> io::Result<Status> {
+    if let Err(fault) = open_missing_streams(rt) {
+        return Ok(report_failure(rt, PROGRAM, &fault));
+    }
     let alloc = rt.alloc();
     let args = match read_words(rt) {
         Ok(Some(args)) => args,

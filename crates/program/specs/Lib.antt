@@ -1,4 +1,5 @@
 pub mod Counting
+pub mod Folders
 pub mod Inputs
 pub mod Memory
 pub mod Refusal

@@ -2,11 +2,13 @@
 use Rattle.std.specs.Prelude.{◌≡◌, ◌≤◌, ◌<◌, ℕ, Bool, List, Option, Some, None, IfSome, is_some, if◌then◌else◌, bytes_eq}
 use Rattle.std.specs.Prelude.{length, slice_get, take}
 use Rattle.program.specs.Inputs.{first_line}
+use Rattle.program.specs.declared.store.FileRights.{FileRights}
 
 pub record World : Type 0 where
   pub files : List ℕ → Option (List ℕ)  -- the file at each path
   pub random : List ℕ  -- the result of each draw
   pub now : ℕ  -- the clock's second since the start of 1970
+  pub rights : List ℕ → FileRights  -- who may use what is at each path; all files of such a store have one owner
 
 -- with a file at a path, which replaces the one there; every other path is unchanged
 abbrev pub with_file : List ℕ → List ℕ → World → World
@@ -22,6 +24,9 @@ IsThere world path found = IfSome world (λ held. found ≡ is_some (held.files 
 
 abbrev pub IsRead : Option World → List ℕ → List ℕ → Type 0
 IsRead world path octets = IfSome world (λ held. held.files path ≡ Some octets)
+
+abbrev pub HasRights : Option World → List ℕ → FileRights → Type 0
+HasRights world path rights = IfSome world (λ held. held.rights path ≡ rights)
 
 abbrev pub IsDrawn : Option World → List ℕ → Type 0
 IsDrawn world octets = IfSome world (λ held. octets ≡ held.random)

@@ -3,13 +3,13 @@
 ghost use Rattle.std.specs.Prelude.{◌≡◌, ◌≤◌, ◌<◌, IfErr, IfOk, IfNone, IfSome, length, take, vec_len};
 ghost use Rattle.std.specs.Prelude.{◌==◌, Option, OnOk, OnErr, Some, codes, option_map};
 ghost use Rattle.std.specs.List.{position};
-ghost use Rattle.program.specs.Counting.{IsShown};
+ghost use Rattle.program.specs.Counting.{IsShown, IsWriteShown};
 ghost use Rattle.program.specs.Inputs.{first_line};
-ghost use Rattle.program.specs.World.{with_file, HasFirstLine, HasLongFirstLine, HasSeed, IsDrawn, IsFirst, IsNow};
+ghost use Rattle.program.specs.World.{with_file, HasFirstLine, HasLongFirstLine, HasRights, HasSeed, IsDrawn, IsFirst, IsNow};
 ghost use Rattle.program.specs.World.{IsRead, IsThere};
 
 use crate::faults::{FileCause, FileFault};
-use crate::store::{FileRights, LONGEST_FILE, NewMode, Store};
+use crate::store::{FileRights, LONGEST_FILE, NewMode, Store, Written};
 use std::alloc::Global;
 use std::io;
 
@@ -102,8 +102,9 @@ pub fn read_stream<'p, S: Store>(
     }
 }
 
-/// Returns who may read and write a file.
+/// Returns who may read and write a file, or a folder.
 pub fn file_rights<'p, S: Store>(store: &mut S, path: &'p str) -> Result<FileRights, FileFault<'p>>
+    ensures rights { IfOk result (λ rights. HasRights (S.world store.old) path.now rights) }
     ensures unchanged { S.world store.new ≡ S.world store.old }
     ensures named { IfErr result (λ fault. fault.path.now ≡ path.now) }
     ensures shown { IsShown (S.fault_count store.old) result (S.fault_count store.new) }
@@ -131,40 +132,59 @@ pub fn first_octet<'p, S: Store>(
     }
 }
 
-/// Writes a new file, which replaces the one there. Only its owner may read and write it. After an `Err` the path is
-/// unchanged.
+/// Writes a new file, which replaces the one there, and syncs its folder. Only its owner may read and write it. After
+/// an `Err` the path is unchanged.
 pub fn write_file<'p, S: Store>(
     alloc: Global,
     store: &mut S,
     path: &'p str,
     octets: &[u8],
-) -> Result<(), FileFault<'p>>
+) -> Result<Written, FileFault<'p>>
     ensures written { OnOk result (S.world store.new ≡ option_map (with_file path.now octets.now) (S.world store.old)) }
     ensures unchanged { OnErr result (S.world store.new ≡ S.world store.old) }
     ensures named { IfErr result (λ fault. fault.path.now ≡ path.now) }
-    ensures shown { IsShown (S.fault_count store.old) result (S.fault_count store.new) }
+    ensures shown { IsWriteShown (S.fault_count store.old) result (S.fault_count store.new) }
 {
     match store.write(alloc, path, octets) {
-        Ok(()) => Ok(()),
+        Ok(written) => Ok(written),
         Err(error) => Err(FileFault::failed(path, error)),
     }
 }
 
-/// Writes a file with the owner and the group of the one there, and with this mode. After an `Err` the path is
-/// unchanged.
+/// Writes a file with the owner and the group of the one there, and with this mode, and syncs its folder. After an
+/// `Err` the path is unchanged.
 pub fn update_file<'p, S: Store>(
     alloc: Global,
     store: &mut S,
     path: &'p str,
     octets: &[u8],
     mode: NewMode,
+) -> Result<Written, FileFault<'p>>
+    ensures written { OnOk result (S.world store.new ≡ option_map (with_file path.now octets.now) (S.world store.old)) }
+    ensures unchanged { OnErr result (S.world store.new ≡ S.world store.old) }
+    ensures named { IfErr result (λ fault. fault.path.now ≡ path.now) }
+    ensures shown { IsWriteShown (S.fault_count store.old) result (S.fault_count store.new) }
+{
+    match store.update(alloc, path, octets, mode) {
+        Ok(written) => Ok(written),
+        Err(error) => Err(FileFault::failed(path, error)),
+    }
+}
+
+/// Writes what `write_file` writes, and syncs no folder: after a power failure the old file may be back. After an `Err`
+/// the path is unchanged.
+pub fn write_unsynced<'p, S: Store>(
+    alloc: Global,
+    store: &mut S,
+    path: &'p str,
+    octets: &[u8],
 ) -> Result<(), FileFault<'p>>
     ensures written { OnOk result (S.world store.new ≡ option_map (with_file path.now octets.now) (S.world store.old)) }
     ensures unchanged { OnErr result (S.world store.new ≡ S.world store.old) }
     ensures named { IfErr result (λ fault. fault.path.now ≡ path.now) }
     ensures shown { IsShown (S.fault_count store.old) result (S.fault_count store.new) }
 {
-    match store.update(alloc, path, octets, mode) {
+    match store.write_unsynced(alloc, path, octets) {
         Ok(()) => Ok(()),
         Err(error) => Err(FileFault::failed(path, error)),
     }

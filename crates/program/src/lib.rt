@@ -22,6 +22,7 @@
 mod command_options;
 mod counting;
 mod faults;
+mod folders;
 mod inputs;
 mod locks;
 mod memory_store;
@@ -30,6 +31,7 @@ mod plain_files;
 mod reading;
 mod shell;
 mod stamp;
+mod standard_streams;
 mod status;
 mod store;
 mod system_store;
@@ -39,15 +41,16 @@ pub use crate::command_options::{
     FlagRow, OptionRow, SubcommandRow, Times, VERSION, parse_status, subcommand, with_flags,
     with_options, with_subcommands,
 };
-pub use crate::counting::counted;
+pub use crate::counting::{counted, counted_write};
 pub use crate::faults::{FileCause, FileFault};
+pub use crate::folders::{folder_of, sync_folder};
 pub use crate::inputs::{
     CLOCK, RANDOM_OCTETS, STANDARD_INPUT, ask_password, draw_seed, file_rights, first_octet,
     has_file, lock_file, password_of, read_at_most, read_clock, read_file, read_or_draw_seed,
-    read_password, read_seed, read_stream, seed_of, update_file, write_file,
+    read_password, read_seed, read_stream, seed_of, update_file, write_file, write_unsynced,
 };
 pub use crate::locks::{LOCK_END, hold_lock};
-pub use crate::memory_store::MemoryStore;
+pub use crate::memory_store::{MemoryStore, WriteEnd};
 pub use crate::moment::now;
 pub use crate::plain_files::{
     OWNER_ONLY, RIGHTS, RIGHTS_OF_OTHERS, is_own, open_plain, open_plain_with, own_user,
@@ -58,7 +61,8 @@ pub use crate::shell::{
     report_failure, report_usage,
 };
 pub use crate::stamp::FileStamp;
+pub use crate::standard_streams::open_missing_streams;
 pub use crate::status::Status;
-pub use crate::store::{FileRights, LONGEST_FILE, NewMode, Store};
+pub use crate::store::{FileRights, LONGEST_FILE, NewMode, Store, Written};
 pub use crate::system_store::{FileStore, random_octets};
 pub use crate::variable::Variable;

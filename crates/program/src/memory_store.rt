@@ -1,12 +1,12 @@
 //! Files, random bytes and an input in memory, for tests.
 ghost use Rattle.std.specs.Prelude.{◌≡◌, ◌≤◌, Some, IfOk, OnOk, OnErr, IfSome, vec_len, option_map, is_some};
-ghost use Rattle.program.specs.Memory.{file_at, world_of};
+ghost use Rattle.program.specs.Memory.{file_at, rights_under, world_of};
 ghost use Rattle.program.specs.World.{first_octet, with_file, without_file};
 
-use crate::counting::counted;
+use crate::counting::{counted, counted_write};
 use crate::inputs::line_of;
 use crate::plain_files::OWNER_ONLY;
-use crate::store::{FileRights, NewMode, Store};
+use crate::store::{FileRights, NewMode, Store, Written};
 use std::alloc::{AllocError, Global};
 use std::io;
 use std::io::{Error, ErrorKind};
@@ -19,7 +19,18 @@ struct StoredFile {
     octets: Option<Vec<u8>>,
 }
 
-/// Files in memory, for tests. Nobody else has the lock of a file.
+/// What becomes of a write in memory.
+#[derive(Clone, Copy)]
+pub enum WriteEnd {
+    /// The file is there, and on the disk.
+    Synced,
+    /// The file is there, but its folder could not be synced.
+    NotSynced,
+    /// The path is unchanged: the disk is full.
+    Unchanged,
+}
+
+/// Files in memory, for tests. Root owns each of them. Nobody else has the lock of a file.
 #[derive(Drop)]
 pub struct MemoryStore {
     /// What was written or removed last comes first.
@@ -28,11 +39,16 @@ pub struct MemoryStore {
     random: [u8; 32],
     input: Vec<u8>,
     terminal: bool,
+    /// The user who runs the program.
+    user: u32,
+    /// What becomes of each write.
+    end: WriteEnd,
     faults: u64,
 }
 
 impl MemoryStore {
-    /// Returns a store without files. Its random bytes are zeros, its clock stands at 0, and its input has ended.
+    /// Returns a store without files. Its random bytes are zeros, its clock stands at 0, its input has ended, and root
+    /// runs the program. Writes succeed.
     pub fn new(alloc: Global) -> MemoryStore {
         MemoryStore {
             files: Vec::new(alloc),
@@ -40,6 +56,8 @@ impl MemoryStore {
             random: [0; 32],
             input: Vec::new(alloc),
             terminal: false,
+            user: 0,
+            end: WriteEnd::Synced,
             faults: 0,
         }
     }
@@ -94,6 +112,16 @@ impl MemoryStore {
         self.random = octets;
     }
 
+    /// Makes this user the one who runs the program.
+    pub fn set_user(&mut self, user: u32) {
+        self.user = user;
+    }
+
+    /// Makes this the end of each later write.
+    pub fn set_write_end(&mut self, end: WriteEnd) {
+        self.end = end;
+    }
+
     /// Makes these bytes the remaining input, which comes from a terminal or from elsewhere.
     pub fn set_input(
         &mut self,
@@ -118,14 +146,38 @@ impl MemoryStore {
         }
     }
 
-    fn rights_of(&self, path: &str) -> io::Result<FileRights> {
+    fn rights_of(&self, path: &str) -> io::Result<FileRights>
+        ensures { IfOk result (λ rights. rights ≡ rights_under self.now.user) }
+    {
         match self.get(path) {
             Some(_) => Ok(FileRights {
                 mode: OWNER_ONLY,
                 owner: 0,
-                user: Some(0),
+                user: Some(self.user),
             }),
             None => Err(Error::from(ErrorKind::NotFound)),
+        }
+    }
+
+    /// Writes a file, unless the disk is full.
+    fn put(&mut self, alloc: Global, path: &str, octets: &[u8]) -> io::Result<()>
+        ensures written { OnOk result (Some (world_of self.new) ≡ Some (with_file path.now octets.now (world_of self.old))) }
+        ensures unchanged { OnErr result (Some (world_of self.new) ≡ Some (world_of self.old)) }
+        ensures faults { self.new.faults ≡ self.old.faults }
+    {
+        match self.end {
+            WriteEnd::Unchanged => Err(Error::from(ErrorKind::StorageFull)),
+            WriteEnd::Synced | WriteEnd::NotSynced => self
+                .set(alloc, path, octets)
+                .map_err(Error::from),
+        }
+    }
+
+    /// Syncs the folder of a file that was written.
+    fn synced(&self) -> Written {
+        match self.end {
+            WriteEnd::NotSynced => Written::NotSynced(Error::from(ErrorKind::Other)),
+            WriteEnd::Synced | WriteEnd::Unchanged => Written::Synced,
         }
     }
 }
@@ -186,9 +238,12 @@ impl Store for MemoryStore {
         }
     }
 
-    fn write(&mut self, alloc: Global, path: &str, octets: &[u8]) -> io::Result<()> {
-        let written = self.set(alloc, path, octets).map_err(Error::from);
-        self.faults = counted(self.faults, &written);
+    fn write(&mut self, alloc: Global, path: &str, octets: &[u8]) -> io::Result<Written> {
+        let written = match self.put(alloc, path, octets) {
+            Ok(()) => Ok(self.synced()),
+            Err(error) => Err(error),
+        };
+        self.faults = counted_write(self.faults, &written);
         written
     }
 
@@ -198,8 +253,14 @@ impl Store for MemoryStore {
         path: &str,
         octets: &[u8],
         _mode: NewMode,
-    ) -> io::Result<()> {
+    ) -> io::Result<Written> {
         self.write(alloc, path, octets)
+    }
+
+    fn write_unsynced(&mut self, alloc: Global, path: &str, octets: &[u8]) -> io::Result<()> {
+        let written = self.put(alloc, path, octets);
+        self.faults = counted(self.faults, &written);
+        written
     }
 
     fn rights(&mut self, path: &str) -> io::Result<FileRights> {

@@ -1,7 +1,7 @@
 //! What a program uses of its system.
 ghost use Rattle.std.specs.Prelude.{◌≡◌, ◌≤◌, ℕ, Option, IfOk, OnOk, OnErr, IfSome, vec_len, option_map};
-ghost use Rattle.program.specs.Counting.{IsCounted};
-ghost use Rattle.program.specs.World.{World, with_file, IsThere, IsRead, IsDrawn, IsFirst, IsNow};
+ghost use Rattle.program.specs.Counting.{IsCounted, IsWriteCounted};
+ghost use Rattle.program.specs.World.{World, with_file, HasRights, IsThere, IsRead, IsDrawn, IsFirst, IsNow};
 
 use std::alloc::Global;
 use std::io;
@@ -27,6 +27,15 @@ pub enum NewMode {
     Kept,
     /// 600: only its owner may read and write it.
     OwnerOnly,
+}
+
+/// How sure it is that a file that was replaced is on the disk. It is not `Drop`, so nobody ignores it.
+#[derive(Debug)]
+pub enum Written {
+    /// It is: after a power failure the new file is there.
+    Synced,
+    /// The new file is there, but its folder could not be synced. If the power fails now, the old file may be back.
+    NotSynced(io::Error),
 }
 
 /// The files, the random bytes, the clock and the standard input of a program. A store counts failed calls.
@@ -66,22 +75,37 @@ pub trait Store {
         ensures unchanged { world self.new ≡ world self.old }
         ensures counted { IsCounted (fault_count self.old) result (fault_count self.new) };
 
-    /// Writes a new file, which replaces the one there. Only its owner may read and write it. After an `Err` the path
-    /// is unchanged.
-    fn write(&mut self, alloc: Global, path: &str, octets: &[u8]) -> io::Result<()>
+    /// Writes a new file, which replaces the one there, and syncs its folder. Only its owner may read and write it.
+    /// After an `Err` the path is unchanged.
+    fn write(&mut self, alloc: Global, path: &str, octets: &[u8]) -> io::Result<Written>
+        ensures written { OnOk result (world self.new ≡ option_map (with_file path.now octets.now) (world self.old)) }
+        ensures unchanged { OnErr result (world self.new ≡ world self.old) }
+        ensures counted { IsWriteCounted (fault_count self.old) result (fault_count self.new) };
+
+    /// Writes a file with the owner and the group of the one there, and with this mode, and syncs its folder. Fails if
+    /// it can't set them. Without a file there it does what `write` does, whatever the mode. After an `Err` the path is
+    /// unchanged.
+    fn update(
+        &mut self,
+        alloc: Global,
+        path: &str,
+        octets: &[u8],
+        mode: NewMode,
+    ) -> io::Result<Written>
+        ensures written { OnOk result (world self.new ≡ option_map (with_file path.now octets.now) (world self.old)) }
+        ensures unchanged { OnErr result (world self.new ≡ world self.old) }
+        ensures counted { IsWriteCounted (fault_count self.old) result (fault_count self.new) };
+
+    /// Writes what `write` writes, and syncs no folder: after a power failure the old file may be back. It is for files
+    /// that are easily made anew.
+    fn write_unsynced(&mut self, alloc: Global, path: &str, octets: &[u8]) -> io::Result<()>
         ensures written { OnOk result (world self.new ≡ option_map (with_file path.now octets.now) (world self.old)) }
         ensures unchanged { OnErr result (world self.new ≡ world self.old) }
         ensures counted { IsCounted (fault_count self.old) result (fault_count self.new) };
 
-    /// Writes a file with the owner and the group of the one there, and with this mode. Fails if it can't set them.
-    /// Without a file there it does what `write` does, whatever the mode. After an `Err` the path is unchanged.
-    fn update(&mut self, alloc: Global, path: &str, octets: &[u8], mode: NewMode) -> io::Result<()>
-        ensures written { OnOk result (world self.new ≡ option_map (with_file path.now octets.now) (world self.old)) }
-        ensures unchanged { OnErr result (world self.new ≡ world self.old) }
-        ensures counted { IsCounted (fault_count self.old) result (fault_count self.new) };
-
-    /// Returns who may read and write a file.
+    /// Returns who may read and write a file, or a folder.
     fn rights(&mut self, path: &str) -> io::Result<FileRights>
+        ensures rights { IfOk result (λ rights. HasRights (world self.old) path.now rights) }
         ensures unchanged { world self.new ≡ world self.old }
         ensures counted { IsCounted (fault_count self.old) result (fault_count self.new) };
 

@@ -1,12 +1,13 @@
 //! The files of the system.
 ghost use Rattle.std.specs.Prelude.{◌≤◌, None, IfOk, IfSome, vec_len};
 
-use crate::counting::counted;
+use crate::counting::{counted, counted_write};
+use crate::folders::sync_folder;
 use crate::locks::hold_lock;
 use crate::moment::seconds_since_1970;
 use crate::plain_files::{OWNER_ONLY, RIGHTS, no_file, open_plain, own_user};
 use crate::reading::read_within;
-use crate::store::{FileRights, NewMode, Store};
+use crate::store::{FileRights, NewMode, Store, Written};
 use std::alloc::Global;
 use std::fs::{File, Metadata, OpenFile, OpenOptions, Permissions};
 use std::io::{BufRead, Error, ErrorKind, IsTerminal, Read, Write};
@@ -192,6 +193,32 @@ impl<'a, R: Files<File = File> + RandomSource> FileStore<'a, R> {
         self.replace(alloc, path, octets, rights)
     }
 
+    /// Syncs the folder of a file that was replaced.
+    fn synced(&self, path: &str) -> Written {
+        match sync_folder(self.files, path) {
+            Ok(()) => Written::Synced,
+            Err(error) => Written::NotSynced(error),
+        }
+    }
+
+    /// Writes what `write_own` writes, and syncs its folder.
+    fn write_synced(&self, alloc: Global, path: &str, octets: &[u8]) -> io::Result<Written> {
+        self.write_own(alloc, path, octets)?;
+        Ok(self.synced(path))
+    }
+
+    /// Writes what `write_over` writes, and syncs its folder.
+    fn update_synced(
+        &self,
+        alloc: Global,
+        path: &str,
+        octets: &[u8],
+        mode: NewMode,
+    ) -> io::Result<Written> {
+        self.write_over(alloc, path, octets, mode)?;
+        Ok(self.synced(path))
+    }
+
     /// Replaces a file. The new file has a name of its own until it is complete and synced; then it is renamed. So a
     /// kill at any moment leaves the old file or the new one, and two writes at once fill different files.
     fn replace(
@@ -319,9 +346,9 @@ where
         read
     }
 
-    fn write(&mut self, alloc: Global, path: &str, octets: &[u8]) -> io::Result<()> {
-        let written = self.write_own(alloc, path, octets);
-        self.faults = counted(self.faults, &written);
+    fn write(&mut self, alloc: Global, path: &str, octets: &[u8]) -> io::Result<Written> {
+        let written = self.write_synced(alloc, path, octets);
+        self.faults = counted_write(self.faults, &written);
         written
     }
 
@@ -331,8 +358,14 @@ where
         path: &str,
         octets: &[u8],
         mode: NewMode,
-    ) -> io::Result<()> {
-        let written = self.write_over(alloc, path, octets, mode);
+    ) -> io::Result<Written> {
+        let written = self.update_synced(alloc, path, octets, mode);
+        self.faults = counted_write(self.faults, &written);
+        written
+    }
+
+    fn write_unsynced(&mut self, alloc: Global, path: &str, octets: &[u8]) -> io::Result<()> {
+        let written = self.write_own(alloc, path, octets);
         self.faults = counted(self.faults, &written);
         written
     }

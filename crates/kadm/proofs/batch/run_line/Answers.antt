@@ -2,6 +2,7 @@ use Rattle.std.proofs.Common.{◌∙◌, ap, map, string_bytes, subst}
 use Rattle.kadm.specs.Lines.{IsSpelledMade}
 use Rattle.kadm_changes.specs.Words.{texts}
 use Rattle.kadm.specs.Words.{in_batch}
+use Rattle.kadm.proofs.Reading.{found_in}
 use Rattle.kadm.proofs.batch.run_line.Goals as goal
 
 pub returns-in-Ok-clause-done : goal.returns-in-Ok-clause-done
@@ -10,3 +11,6 @@ returns-in-Ok-clause-done g c =
     (ap texts c.deref-2.ensures.value ∙ c.in_ok-words.ensures
     ∙ ap (λ words. in_batch c.args.db.now (map string_bytes words)) c.deref.ensures.value)
     c.in-Ok.ensures.done
+
+pub run_words-requires : goal.run_words-requires
+run_words-requires g c = record { found = found_in _ c.args.line.now c.as_ref.result c.as_ref.ensures.value c.requires.read }

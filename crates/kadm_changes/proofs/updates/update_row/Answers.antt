@@ -12,4 +12,4 @@ returns-clause-done g c =
     (row_updated _ _ _ _ _ c.in_ok-who.who.components c.in_ok-pass.pass.items _ _ _
     (c.in_ok-database.ensures.unchanged ∙ c.in_ok-locked.ensures.unchanged ∙ c.in_ok-pass.ensures.unchanged) c.deref.ensures.value
     c.deref-2.ensures.value c.in_ok-who.ensures.ok c.in_ok-pass.ensures.given c.in_ok-change_row.ensures.changed)
-    c.in_ok-write_database.ensures.written
+    c.in_ok-written.ensures.written
