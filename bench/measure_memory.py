@@ -226,6 +226,13 @@ def one_burst(words, server, pool, known, begun):
 # The memory that one client pins.
 
 
+def replies_to(server, requests):
+    """The replies to requests that are sent together, over a connection of their own."""
+    with server.connect() as connection:
+        connection.sendall(b"".join(map(framed, requests)))
+        return [read_message(connection) for _ in requests]
+
+
 def long_request(known, ctime, cusec):
     """The longest TGS-REQ that is kept, for an unknown service, which the error names."""
     beyond = len(usual_request(known, ctime, cusec, (b"a" * 3000,))) - LONGEST_KEPT
@@ -233,22 +240,19 @@ def long_request(known, ctime, cusec):
 
 
 def pins(words, folder, what, remembered, make, wanted):
-    """Measures what the authenticators of one client pin, over one connection: over UDP a long reply with a ticket is
+    """Measures what the authenticators of one client pin, over connections: over UDP a long reply with a ticket is
     refused."""
     server = RealmServer(words.kdcd, database(os.path.join(folder, "pinned"), 1), "--remembered", str(remembered))
     [known] = logged_in([0], server.udp)
     begun, lengths, odd = server.resident_kib(), (0, 0), 0
     # Ahead, so that none is too old before the last one comes.
     ahead = lambda: int(time.time()) + SKEW - 5
-    with server.connect() as connection:
-        for place in range(0, remembered, BATCH):
-            requests = [make(known, ahead(), number) for number in range(place, min(place + BATCH, remembered))]
-            connection.sendall(b"".join(map(framed, requests)))
-            replies = [read_message(connection) for _ in requests]
-            odd += sum(reply[0] != wanted for reply in replies)
-            lengths = len(requests[-1]), len(replies[-1])
-        connection.sendall(framed(make(known, ahead(), remembered)))
-        last = answer(read_message(connection))
+    for place in range(0, remembered, BATCH):
+        requests = [make(known, ahead(), number) for number in range(place, min(place + BATCH, remembered))]
+        replies = replies_to(server, requests)
+        odd += sum(reply[0] != wanted for reply in replies)
+        lengths = len(requests[-1]), len(replies[-1])
+    [last] = map(answer, replies_to(server, [make(known, ahead(), remembered)]))
     kib = server.resident_kib() - begun
     print(
         f"pinned: {remembered} authenticators, {what} (requests of {lengths[0]} bytes, replies of {lengths[1]}): "
@@ -437,14 +441,10 @@ def well_again(server, beside, end):
             continue
         with contextlib.suppress(OSError, EOFError):
             [known] = logged_in([0], server.udp)
-            with server.connect() as connection:
-                for place in itertools.islice(turns, 7):
-                    requests = [
-                        usual_request(known, int(now) - SKEW + 5, place + turn, LONG_SERVICE) for turn in range(BATCH)
-                    ]
-                    connection.sendall(b"".join(map(framed, requests)))
-                    for _ in requests:
-                        read_message(connection)
+            for place in itertools.islice(turns, 7):
+                replies_to(server, [
+                    usual_request(known, int(now) - SKEW + 5, place + turn, LONG_SERVICE) for turn in range(BATCH)
+                ])
             return now
     return None
 

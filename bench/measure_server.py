@@ -132,16 +132,35 @@ def service_requests(server, count):
     return requests
 
 
+class KeptConnection:
+    """A client that asks over one connection until the server closes it, as it does after 256 replies, and then over
+    another one."""
+
+    def __init__(self, server):
+        self.server, self.connection = server, server.connect()
+
+    def exchange(self, request):
+        self.connection.sendall(framed(request))
+        return read_message(self.connection)
+
+    def ask(self, request):
+        try:
+            return self.exchange(request)
+        except (ConnectionError, EOFError):
+            self.connection.close()
+            self.connection = self.server.connect()
+            return self.exchange(request)
+
+
 def measure_connection(server, request, count):
-    connection, taken = server.connect(), []
+    connection, taken = KeptConnection(server), []
     before = server.processor_seconds()
     for _ in range(count):
         start = time.perf_counter()
-        connection.sendall(framed(request))
-        read_message(connection)
+        connection.ask(request)
         taken.append(time.perf_counter() - start)
     used = server.processor_seconds() - before
-    print(f"one connection: {used / count * 1e6:.1f} us of processor time a request; {summary(taken)}")
+    print(f"one connection at a time: {used / count * 1e6:.1f} us of processor time a request; {summary(taken)}")
 
 
 def read_exactly(connection, count):
@@ -185,7 +204,7 @@ class Asking(threading.Thread):
 
     def __init__(self, server, request):
         super().__init__()
-        self.peer, self.connection, self.request = Peer(server), server.connect(), request
+        self.peer, self.connection, self.request = Peer(server), KeptConnection(server), request
         self.taken, self.taken_over, self.lost, self.is_over = [], [], 0, False
 
     def run(self):
@@ -196,8 +215,7 @@ class Asking(threading.Thread):
                 self.lost += 1
             try:
                 start = time.perf_counter()
-                self.connection.sendall(framed(self.request))
-                read_message(self.connection)
+                self.connection.ask(self.request)
                 self.taken_over.append(time.perf_counter() - start)
             except (OSError, EOFError):
                 self.lost += 1
@@ -256,7 +274,8 @@ def hostile_connections(server, count):
 
 
 def unread_connection(server, request):
-    """A peer that sends requests and never reads. Prints how many bytes it could send until it was dropped."""
+    """A peer that sends requests and never reads. Prints how many bytes it could send before its system took no more
+    for five seconds, or the server dropped it."""
     connection, sent = server.connect(), 0
     requests = framed(request) * 100
     try:
@@ -264,28 +283,49 @@ def unread_connection(server, request):
             connection.sendall(requests)
             sent += len(requests)
     except OSError as error:
-        print(f"a peer that never reads is dropped after {sent / 1e6:.1f} MB of requests ({error})")
+        print(f"a peer that never reads can send {sent / 1e6:.1f} MB of requests ({error})")
         return
-    print("a peer that never reads is not dropped")
+    print("a peer that never reads can send 1 GB")
 
 
 def pipelining_connections(server, request, count, seconds):
-    """Connections that send requests without end and read the replies. Each gets its replies beside all the others."""
-    connections = [server.connect() for _ in range(count)]
-    unsent = dict.fromkeys(connections, b"")
-    read = dict.fromkeys(connections, 0)
-    for connection in connections:
-        connection.setblocking(False)
+    """Connections that send requests without end and read the replies. Each gets its replies beside all the others. One
+    that the server closes, after 256 replies, is replaced."""
+    connections, unsent, read = [None] * count, [b""] * count, [0] * count
+    places = {}
+
+    def connect(place):
+        connections[place], unsent[place] = server.connect(), b""
+        connections[place].setblocking(False)
+        places[connections[place]] = place
+
+    def reconnect(place):
+        del places[connections[place]]
+        connections[place].close()
+        connect(place)
+
+    for place in range(count):
+        connect(place)
     end = time.monotonic() + seconds
     while time.monotonic() < end:
         readable, writable, _ = select.select(connections, connections, [], 0.1)
-        for connection in readable:
-            read[connection] += len(connection.recv(65536))
-        for connection in writable:
-            unsent[connection] = unsent[connection] or framed(request) * 200
-            unsent[connection] = unsent[connection][connection.send(unsent[connection]):]
+        for place in [places[connection] for connection in writable]:
+            unsent[place] = unsent[place] or framed(request) * 200
+            try:
+                unsent[place] = unsent[place][connections[place].send(unsent[place]):]
+            except OSError:
+                # The server has dropped it, and the next turn reads its end.
+                continue
+        for place in [places[connection] for connection in readable]:
+            try:
+                octets = connections[place].recv(65536)
+            except ConnectionError:
+                octets = b""
+            read[place] += len(octets)
+            if not octets:
+                reconnect(place)
     print(
-        f"{count} connections that send without end had {min(read.values())} to {max(read.values())} octets of replies "
+        f"{count} connections that send without end had {min(read)} to {max(read)} octets of replies "
         f"each in {seconds} s"
     )
     for connection in connections:

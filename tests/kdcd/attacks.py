@@ -34,6 +34,8 @@ ROOM, LONGEST_KEPT = 6 << 20, 4096
 TAKERS, HELD, ENOUGH = 3, 4096, 40
 # The seconds in which they have to be done, and those from one tidying of the server to the next.
 HASTE, MINUTE, SKEW = 20, 60, 300
+# The replies after which a client takes another connection: as long as these are, a server gives more to one.
+GIVEN = 50
 # The datagrams of one byte between two logins, and the logins.
 NOISE, LOGINS = 40, 50
 
@@ -153,10 +155,11 @@ def forged_by_services(trial):
 
 
 class Connection:
-    """Asks over one connection after another. The server ends one if it ran out of memory for a request."""
+    """Asks over one connection after another: each for less than the server gives to one. The server also ends one if
+    it ran out of memory for a request."""
 
     def __init__(self, address):
-        self.place, self.peer = place_of(address), None
+        self.place, self.peer, self.given = place_of(address), None, 0
 
     def ask(self, request):
         """The reply, or nothing if the connection ended without one."""
@@ -168,14 +171,15 @@ class Connection:
             octets = self.peer.recv(int.from_bytes(octets, "big"), socket.MSG_WAITALL) if len(octets) == 4 else b""
         except ConnectionError:
             octets = b""
-        if not octets:
+        self.given += 1
+        if not octets or self.given == GIVEN:
             self.end()
         return octets
 
     def end(self):
         if self.peer:
             self.peer.close()
-        self.peer = None
+        self.peer, self.given = None, 0
 
 
 def data_bytes(server):

@@ -15,16 +15,16 @@ from concurrent.futures import ThreadPoolExecutor
 from harness.kerberos import body, elements, field, fields, integer, sequence, tlv
 from harness.processes import SLOWNESS
 from harness.tests import test
-from harness.wire import REALM, answer, ask_tcp, ask_udp, connected, datagrams, framed, login, place_of, read_reply
+from harness.wire import (
+    REALM, answer, ask_tcp, ask_udp, connected, datagrams, framed, login, long_login, place_of, read_reply,
+    read_to_end,
+)
 
 # The connections that are served at once (docs/OPERATIONS.md, 'Limits'), and the server's files that are not
 # connections.
 CONNECTIONS, OTHER_FILES = 256, 16
 # The seconds for which a connection may be without a complete request.
 LONGEST_IDLE = 30
-# The most bytes that a peer may send without reading a reply: what the server keeps for it, and the buffers of the
-# system.
-UNREAD = 1 << 26
 
 
 def is_served(server):
@@ -64,17 +64,20 @@ def slow(server):
 
 
 def full(server):
-    """A peer that sends requests without reading a reply is dropped, and nobody waits for it."""
-    sent, requests = 0, framed(login("v")) * 100
+    """A peer that sends requests without end and reads no reply. It is dropped 30 seconds after it was given all that a
+    connection is given, and nobody waits for it."""
+    requests, end = framed(login("v")) * 100, time.monotonic() + LONGEST_IDLE + 10 * SLOWNESS
     with connected(server) as peer:
-        peer.settimeout(20 * SLOWNESS)
-        try:
-            while sent < UNREAD:
+        peer.settimeout(SLOWNESS)
+        while time.monotonic() < end:
+            try:
                 peer.sendall(requests)
-                sent += len(requests)
-        except ConnectionError:
-            return is_served(server)
-    return f"it can send {sent} octets"
+            except TimeoutError:
+                continue
+            except ConnectionError:
+                return is_served(server)
+            time.sleep(0.05)
+    return "it is not dropped"
 
 
 def held(server):
@@ -196,12 +199,6 @@ def keeps_open(server):
     return fault or f"the server works for {took} of 3 seconds" * (took > 0.2)
 
 
-def long_login():
-    """A login for an unknown service, whose name has 60,000 bytes. The error names it."""
-    parts = field(1, integer(5)), field(2, integer(10)), field(4, body(REALM.encode(), (b"a" * 60_000,), b"v"))
-    return tlv(0x6A, sequence(*parts))
-
-
 def reads_little(server):
     """A connection whose peer's system buffers few bytes until the peer reads them."""
     peer = socket.socket()
@@ -212,32 +209,31 @@ def reads_little(server):
     return peer
 
 
-def waiting(server):
-    """The number of bytes in the system's buffers, for all connections of this server."""
-    port = place_of(server.addresses[1][1])[1]
+def waiting(peer):
+    """The number of bytes in the system's buffers, at both ends of a connection."""
+    port = peer.getsockname()[1]
     lines = [line.split() for line in pathlib.Path("/proc/net/tcp").read_text().splitlines()[1:]]
     ends = [line for line in lines if port in (int(each.rpartition(":")[2], 16) for each in line[1:3])]
     return sum(int(part, 16) for line in ends if line[3] != "0A" for part in line[4].split(":"))
 
 
-def unread(server, ends):
-    """What is wrong, unless a peer gets three long replies, which it begins to read only after `ends`, and then the
-    end."""
+def unread(server, ends, least):
+    """What is wrong, unless a peer that asks three times gets at least this many long replies, which it begins to read
+    only after `ends`, and then the end. While one waits it isn't read."""
     with reads_little(server) as peer:
         for _ in range(3):
             peer.sendall(framed(long_login()))
             time.sleep(1)
-        if (known := waiting(server)) > 3 * 60_000:
+        if (known := waiting(peer)) > 3 * 60_000:
             return f"all of it waits in the system's buffers, {known} octets"
         ends(peer)
-        found = [answer(read_reply(peer)) for _ in range(3)]
-        rest = peer.recv(1)
-    return f"three requests get {found}, then {rest!r}" if found != ["7"] * 3 or rest else ""
+        found = [answer(reply) for reply in read_to_end(peer)]
+    return "" if least <= len(found) <= 3 and set(found) == {"7"} else f"three requests get {found}"
 
 
 def written_in_part(server):
     """A reply that is partly written is finished after the peer closed its half."""
-    return unread(server, lambda peer: peer.shutdown(socket.SHUT_WR)) or is_served(server)
+    return unread(server, lambda peer: peer.shutdown(socket.SHUT_WR), 3) or is_served(server)
 
 
 def without_request(server):
@@ -249,7 +245,7 @@ def without_request(server):
         silent, half, late, asking = (stack.enter_context(connected(server)) for _ in range(4))
         pool = stack.enter_context(ThreadPoolExecutor())
         unanswered = silent, half, late
-        not_read = pool.submit(unread, server, lambda _: time.sleep(LONGEST_IDLE + 3))
+        not_read = pool.submit(unread, server, lambda _: time.sleep(LONGEST_IDLE + 3), 1)
         half.sendall(framed(login("v"))[:20])
         until(LONGEST_IDLE * 2 / 3)
         # Half a request does not count, and a whole one does.
@@ -396,7 +392,6 @@ def peers(trial):
         "a peer that sends and reads an octet at a time": slow,
         "two connections whose octets alternate": alternating,
         "two requests in pieces that are cut anywhere": cut_anywhere,
-        "a peer that reads no reply": full,
         f"more connections than {CONNECTIONS}, one after another": one_after_another,
         "a connection that its peer keeps open after the server closed it": keeps_open,
         "the connections that have been idle longest are closed for new ones": longest_idle,
@@ -407,6 +402,7 @@ def peers(trial):
         try_each_of(trial, server, {what: tried})
     try_each_of(trial, server, {
         f"connections without a complete request for {LONGEST_IDLE} seconds": without_request,
+        "a peer that sends without end and reads no reply": full,
         "more connections than are held at once, which peers keep open after the server closed them": closed_by_server,
     })
     status = server.end()

@@ -2,6 +2,7 @@ mod Counts
 mod Idle
 mod Places
 mod Queues
+mod Spent
 mod Taking
 mod Unsent
 mod Waiting

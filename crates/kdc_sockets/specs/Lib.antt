@@ -1,3 +1,4 @@
+pub mod Given
 pub mod Table
 pub mod Queue
 pub mod Unsent

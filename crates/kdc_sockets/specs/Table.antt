@@ -1,6 +1,6 @@
 -- The table of connections, as its entries, and the events of their ends.
-use Rattle.std.specs.Prelude.{◌≡◌, ◌≤◌, ◌<◌, ◌*◌, ◌-◌, ◌/◌, ◌++◌, ◌↔◌, ⊤, ℕ, nat_le, Bool, true, false, not}
-use Rattle.std.specs.Prelude.{List, All, count_by, length, Option, Some, None}
+use Rattle.std.specs.Prelude.{◌≡◌, ◌≤◌, ◌<◌, ◌*◌, ◌-◌, ◌/◌, ◌++◌, ◌↔◌, ◌&&◌, ⊤, ℕ, nat_le, Bool, true, false, not}
+use Rattle.std.specs.Prelude.{List, [], All, count_by, length, Option, Some, None, IsSomeAnd}
 use Rattle.std.specs.Ordering.{nat_cmp}
 use Rattle.std.specs.Map.{lookup, values_of}
 use Rattle.std.specs.BTreeMap.{is_at}
@@ -11,8 +11,9 @@ use Rattle.kdc_hub.specs.Hub.{most_connections}
 use Rattle.kdc_hub.specs.declared.event.Action.{Action}
 use Rattle.kdc_hub.specs.declared.event.Action.TheVariants.{SendTo, Pass, Write, Close}
 use Rattle.kdc_hub.specs.declared.event.Event.{Event}
-use Rattle.kdc_hub.specs.declared.event.Event.TheVariants.{Closed}
+use Rattle.kdc_hub.specs.declared.event.Event.TheVariants.{Datagram, Opened, Bytes, Closed}
 use Rattle.kdc_sockets.specs.declared.connection.Connection.{Connection}
+use Rattle.kdc_sockets.specs.Given.{given_more, is_all_given, nothing_given}
 use Rattle.kdc_sockets.specs.Unsent.{IsLeftOf}
 
 abbrev pub Table : Type 0
@@ -87,6 +88,38 @@ NoneWaits is_closing at table =
     (conn : ℕ) (connection : Connection) → held_at table conn ≡ Some connection → connection.is_closing ≡ is_closing →
     has_waited at connection ≡ false
 
+-- whether it is open, and was given all that a connection is given
+abbrev pub is_spent : Connection → Bool
+is_spent connection = not connection.is_closing && is_all_given connection.given
+
+-- this connection is spent
+pub record IsSpent (table : Table) (conn : ℕ) : Type 0 where
+  pub connection : Connection
+  pub held : held_at table conn ≡ Some connection
+  pub spent : is_spent connection ≡ true
+
+-- none is spent
+abbrev pub NoneSpent : Table → Type 0
+NoneSpent table =
+    (conn : ℕ) (connection : Connection) → held_at table conn ≡ Some connection → is_spent connection ≡ false
+
+-- An open connection that may be read: it was given less than what a connection is given, and its socket has taken all
+-- of that.
+pub record MayBeRead (table : Table) (conn : ℕ) : Type 0 where
+  pub connection : Connection
+  pub held : held_at table conn ≡ Some connection
+  pub live : connection.is_closing ≡ false
+  pub given : is_all_given connection.given ≡ false
+  pub sent : connection.unsent.items ≡ []
+
+-- a piece that is polled was read from a connection that may be read
+abbrev pub IsReadFrom : Table → Option Event → Type 0
+IsReadFrom table None = ⊤
+IsReadFrom table (Some (Datagram peer request)) = ⊤
+IsReadFrom table (Some (Opened conn)) = ⊤
+IsReadFrom table (Some (Bytes conn piece)) = MayBeRead table conn
+IsReadFrom table (Some (Closed conn)) = ⊤
+
 -- the end of a connection is reported if it was open
 abbrev pub closed_if : Bool → ℕ → Option Event
 closed_if true conn = Some (Closed conn)
@@ -152,19 +185,37 @@ pub record EndsWaiting (at : Instant) (old : Table) (event : Event) : Type 0 whe
   pub event_is : event ≡ Closed conn
   pub waits : Waits false at old conn
 
+-- The end is of a spent connection, and no other has changed.
+pub record EndsSpent (old : Table) (event : Event) (new : Table) : Type 0 where
+  pub conn : ℕ
+  pub event_is : event ≡ Closed conn
+  pub spent : IsSpent old conn
+  pub ended : is_open new conn ≡ false
+  pub others : KeepsOthers old conn new
+
+-- While a connection is spent, nothing is polled but the end of one that is.
+abbrev pub EndsSpentFirst : Table → Option Event → Table → Type 0
+EndsSpentFirst old event new = (conn : ℕ) → IsSpent old conn → IsSomeAnd event (λ event. EndsSpent old event new)
+
+-- it was given nothing so far, if it is held
+abbrev pub IsGivenNothing : Table → ℕ → Type 0
+IsGivenNothing table conn =
+    (connection : Connection) → held_at table conn ≡ Some connection → connection.given ≡ nothing_given
+
 -- it is idle since a moment, if it is held
 abbrev pub IsIdleSince : Table → ℕ → Instant → Type 0
 IsIdleSince table conn at =
     (connection : Connection) → held_at table conn ≡ Some connection → connection.idle_since ≡ at
 
 -- What a write leaves of a connection. What was unsent, and then the message after its length, went to its socket from
--- the front on, and what the socket has not taken is kept. It is idle since then.
+-- the front on, and what the socket has not taken is kept. The reply is counted. It is idle since then.
 pub record IsWritten (old : Table) (conn : ℕ) (message : List ℕ) (at : Instant) (new : Table) : Type 0 where
   pub before : Connection
   pub after : Connection
   pub was_held : held_at old conn ≡ Some before
   pub is_held : held_at new conn ≡ Some after
   pub left : IsLeftOf (before.unsent.items ++ framed message) after.unsent.items
+  pub given : after.given ≡ given_more before.given message
   pub idle : after.idle_since ≡ at
 
 -- what an action leaves of its own connection

@@ -1,10 +1,12 @@
 //! A TCP connection and its unsent bytes.
-ghost use Rattle.std.specs.Prelude.{◌≡◌, ◌++◌, true, false, OnOk};
+ghost use Rattle.std.specs.Prelude.{◌≡◌, ◌++◌, [], true, false, OnOk};
 ghost use Rattle.std.specs.Io.{ReadsAtMost};
 ghost use Rattle.framing.specs.Stream.{framed};
-ghost use Rattle.kdc_sockets.specs.Table.{has_waited};
+ghost use Rattle.kdc_sockets.specs.Given.{given_more, nothing_given};
+ghost use Rattle.kdc_sockets.specs.Table.{has_waited, is_spent};
 ghost use Rattle.kdc_sockets.specs.Unsent.{IsLeftOf};
 
+use crate::given::Given;
 use framing::prefix;
 use mio::net::TcpStream;
 use std::alloc::Global;
@@ -24,6 +26,8 @@ pub struct Connection {
     stream: TcpStream,
     peer: SocketAddr,
     unsent: Vec<u8>,
+    /// How many replies it was given.
+    given: Given,
     /// When it became idle: when it was opened, or when its last complete request was answered. While it is closing,
     /// when its peer last took bytes.
     idle_since: Instant,
@@ -33,12 +37,15 @@ pub struct Connection {
     is_shut_down: bool,
     /// The peer has shut down its sending side.
     is_at_end: bool,
+    /// A write has failed, so nothing more can be sent.
+    has_failed: bool,
 }
 
 impl Connection {
     /// Returns a new connection from this address.
     pub fn new(alloc: Global, stream: TcpStream, peer: SocketAddr, at: Instant) -> Connection
         ensures open { result.is_closing ≡ false }
+        ensures given { result.given ≡ nothing_given }
         ensures peer { result.peer ≡ peer }
         ensures idle { result.idle_since ≡ at }
     {
@@ -46,10 +53,12 @@ impl Connection {
             stream,
             peer,
             unsent: Vec::new(alloc),
+            given: Given::nothing(),
             idle_since: at,
             is_closing: false,
             is_shut_down: false,
             is_at_end: false,
+            has_failed: false,
         }
     }
 
@@ -81,6 +90,25 @@ impl Connection {
         at.duration_since(self.idle_since).as_secs() >= LONGEST_IDLE
     }
 
+    /// Checks whether it is open, and was given all that a connection is given.
+    pub fn is_spent(&self) -> bool
+        ensures { result ≡ is_spent self.now }
+    {
+        !self.is_closing && self.given.is_all()
+    }
+
+    /// Checks whether all that was written has gone to its socket.
+    pub fn is_sent(&self) -> bool
+        ensures { result ≡ true → self.now.unsent.items ≡ [] }
+    {
+        self.unsent.is_empty()
+    }
+
+    /// Checks whether a write has failed.
+    pub fn has_failed(&self) -> bool {
+        self.has_failed
+    }
+
     /// Checks whether both sides are done. Dropping a connection earlier could cost the peer replies that it has not
     /// read yet.
     pub fn is_over(&self) -> bool {
@@ -101,12 +129,14 @@ impl Connection {
         ensures closing { self.new.is_closing ≡ self.old.is_closing }
         ensures peer { self.new.peer ≡ self.old.peer }
         ensures idle { self.new.idle_since ≡ at }
+        ensures given { OnOk result (self.new.given ≡ given_more self.old.given message.now) }
         ensures written { OnOk result (IsLeftOf (self.old.unsent.items ++ framed message.now) self.new.unsent.items) }
     {
         self.idle_since = at;
         if message.len() > MOST_UNSENT {
             return Err(Error::from(ErrorKind::InvalidInput));
         }
+        self.given = self.given.more(message);
         self.unsent
             .extend_from_slice(&prefix(message.len() as u32))?;
         self.unsent.extend_from_slice(message)?;
@@ -142,12 +172,16 @@ impl Connection {
     /// each shutdown would raise another event for the connection.
     pub fn flush(&mut self, at: Instant) -> Result<()>
         ensures closing { self.new.is_closing ≡ self.old.is_closing }
+        ensures given { self.new.given ≡ self.old.given }
         ensures peer { self.new.peer ≡ self.old.peer }
         ensures idle { self.old.is_closing ≡ false → self.new.idle_since ≡ self.old.idle_since }
         ensures idle_at { self.old.idle_since ≡ at → self.new.idle_since ≡ at }
         ensures left { IsLeftOf self.old.unsent.items self.new.unsent.items }
     {
-        self.send(at)?;
+        if let Err(error) = self.send(at) {
+            self.has_failed = true;
+            return Err(error);
+        }
         if self.is_closing && self.unsent.is_empty() && !self.is_shut_down {
             self.is_shut_down = true;
             self.stream.shutdown(Shutdown::Write)?;
@@ -158,6 +192,7 @@ impl Connection {
     /// Writes until nothing is left, or no more fits.
     fn send(&mut self, at: Instant) -> Result<()>
         ensures closing { self.new.is_closing ≡ self.old.is_closing }
+        ensures given { self.new.given ≡ self.old.given }
         ensures peer { self.new.peer ≡ self.old.peer }
         ensures idle { self.old.is_closing ≡ false → self.new.idle_since ≡ self.old.idle_since }
         ensures idle_at { self.old.idle_since ≡ at → self.new.idle_since ≡ at }
@@ -180,6 +215,7 @@ impl Connection {
     /// Writes once, and returns whether more may fit.
     fn write_once(&mut self) -> Result<bool>
         ensures closing { self.new.is_closing ≡ self.old.is_closing }
+        ensures given { self.new.given ≡ self.old.given }
         ensures peer { self.new.peer ≡ self.old.peer }
         ensures idle { self.new.idle_since ≡ self.old.idle_since }
         ensures left { IsLeftOf self.old.unsent.items self.new.unsent.items }

@@ -4,7 +4,9 @@ ghost use Rattle.std.specs.Prelude.{IfOk, IfNone, IfSome, OnErr, OnOk, option_co
 ghost use Rattle.kdc_hub.specs.Hub.{most_connections};
 ghost use Rattle.kdc_sockets.specs.declared.connection.Connection.{Connection};
 ghost use Rattle.kdc_sockets.specs.Table.{AddsNone, AreAll, AreFew, AreUnused, EndsOne, EndsWaiting};
-ghost use Rattle.kdc_sockets.specs.Table.{FitsHub, HasEnded, NoneWaits, Waits};
+ghost use Rattle.kdc_sockets.specs.Table.{EndsSpent, FitsHub, HasEnded, IsGivenNothing, IsSpent, NoneSpent};
+ghost use Rattle.kdc_sockets.specs.Table.{NoneWaits, Waits};
+ghost use Rattle.kdc_sockets.specs.Given.{nothing_given};
 ghost use Rattle.kdc_sockets.specs.Table.{IsIdleSince, IsLongestIdle, IsWritten, KeepsOpen, KeepsOthers};
 ghost use Rattle.kdc_sockets.specs.Table.{OpensAlike, TakesIn, closed_if, count_if, held_at, is_open, open_count};
 
@@ -31,12 +33,16 @@ pub struct Connections {
     held: BTreeMap<u64, Connection>,
     /// The number of the next connection.
     next: u64,
+    /// Whether one may be spent: a write has made one so, and no search since then found none.
+    has_spent: bool,
     // No connection has a number from there on.
     ghost unused: { AreUnused held.entries next },
     // The hub has a place for each that is open.
     ghost bounded: { FitsHub held.entries },
     // With those that are closing there are at most twice as many.
     ghost few: { AreFew held.entries },
+    // None is spent, unless a write has just made it so.
+    ghost calm: { has_spent ≡ false → NoneSpent held.entries },
 }
 
 /// A connection that was accepted, and the end of the one that was closed for it.
@@ -56,6 +62,7 @@ impl Connections {
         Connections {
             held: BTreeMap::new(alloc),
             next: first,
+            has_spent: false,
         }
     }
 
@@ -71,7 +78,8 @@ impl Connections {
 
     /// Returns the connection with this number.
     pub fn get(&self, conn: u64) -> Option<&Connection>
-        ensures { option_copied result ≡ held_at self.now.held.entries conn }
+        ensures held { option_copied result ≡ held_at self.now.held.entries conn }
+        ensures calm { self.now.has_spent ≡ false → NoneSpent self.now.held.entries }
     {
         self.held.get(&conn)
     }
@@ -89,6 +97,8 @@ impl Connections {
         ensures new { IfOk result (λ accepted. held_at self.old.held.entries accepted.conn ≡ None) }
         ensures opened { IfOk result (λ accepted. is_open self.new.held.entries accepted.conn ≡ true) }
         ensures idle { IfOk result (λ accepted. IsIdleSince self.new.held.entries accepted.conn at) }
+        ensures given { IfOk result (λ accepted. IsGivenNothing self.new.held.entries accepted.conn) }
+        ensures calm { self.new.has_spent ≡ self.old.has_spent }
         ensures taken { IfOk result (λ accepted.
             TakesIn self.old.held.entries accepted.conn accepted.closed self.new.held.entries) }
         ensures failed { OnErr result (OpensAlike self.old.held.entries self.new.held.entries) }
@@ -117,10 +127,12 @@ impl Connections {
         requires number { conn < self.now.next }
         requires unused { held_at self.now.held.entries conn ≡ None }
         requires open { connection.is_closing ≡ false }
+        requires given { connection.given ≡ nothing_given }
         requires room { length self.now.held.entries < 2 * most_connections }
         ensures ok { OnOk result (held_at self.new.held.entries conn ≡ Some connection) }
         ensures taken { IfOk result (λ closed. TakesIn self.old.held.entries conn closed self.new.held.entries) }
         ensures err { OnErr result (OpensAlike self.old.held.entries self.new.held.entries) }
+        ensures calm { self.new.has_spent ≡ self.old.has_spent }
     {
         let oldest = self.to_evict();
         self.held.insert(conn, connection)?;
@@ -160,6 +172,7 @@ impl Connections {
         ensures none_new { AddsNone self.old.held.entries self.new.held.entries }
         ensures counted { open_count self.new.held.entries ≡ open_count self.old.held.entries }
         ensures next { self.new.next ≡ self.old.next }
+        ensures calm { self.new.has_spent ≡ self.old.has_spent }
         ensures room { length self.new.held.entries < 2 * most_connections }
     {
         if self.held.len() < MOST_CONNECTIONS {
@@ -177,6 +190,7 @@ impl Connections {
         ensures none_new { AddsNone self.old.held.entries self.new.held.entries }
         ensures counted { open_count self.new.held.entries ≡ open_count self.old.held.entries }
         ensures next { self.new.next ≡ self.old.next }
+        ensures calm { self.new.has_spent ≡ self.old.has_spent }
         ensures fewer { (connection : Connection) → held_at self.old.held.entries conn ≡ Some connection →
             connection.is_closing ≡ true → length self.new.held.entries < length self.old.held.entries }
     {
@@ -205,6 +219,7 @@ impl Connections {
     fn close_open(&mut self, conn: u64, at: Instant) -> Option<Event>
         ensures event { result ≡ closed_if (is_open self.old.held.entries conn) conn }
         ensures ended { HasEnded self.old.held.entries conn self.new.held.entries }
+        ensures calm { self.new.has_spent ≡ self.old.has_spent }
     {
         let is_open = match self.held.get(&conn) {
             Some(connection) => !connection.is_closing(),
@@ -224,6 +239,7 @@ impl Connections {
         ensures waited { IfSome result (EndsWaiting at self.old.held.entries) }
         ensures none { IfNone result (OpensAlike self.old.held.entries self.new.held.entries) }
         ensures all { IfNone result (NoneWaits false at self.new.held.entries) }
+        ensures calm { self.new.has_spent ≡ self.old.has_spent }
     {
         self.drop_idle(at);
         self.close_one_idle(at)
@@ -233,6 +249,7 @@ impl Connections {
     fn drop_idle(&mut self, at: Instant)
         ensures alike { OpensAlike self.old.held.entries self.new.held.entries }
         ensures kept { KeepsOpen self.old.held.entries self.new.held.entries }
+        ensures calm { self.new.has_spent ≡ self.old.has_spent }
     {
         for _ in 0..self.held.len() {
             match self.idle(true, at) {
@@ -248,6 +265,7 @@ impl Connections {
         ensures waited { IfSome result (EndsWaiting at self.old.held.entries) }
         ensures none { IfNone result (OpensAlike self.old.held.entries self.new.held.entries) }
         ensures all { IfNone result (NoneWaits false at self.new.held.entries) }
+        ensures calm { self.new.has_spent ≡ self.old.has_spent }
     {
         let conn = self.idle(false, at)?;
         self.close_open(conn, at)
@@ -264,10 +282,41 @@ impl Connections {
         Some(*conn)
     }
 
+    /// Closes one of the spent connections, and reports its end. What it was given is still written.
+    pub fn close_spent(&mut self, at: Instant) -> Option<Event>
+        ensures ended { IfSome result (λ event. EndsSpent self.old.held.entries event self.new.held.entries) }
+        ensures none { IfNone result (self.new.held ≡ self.old.held) }
+        ensures all { IfNone result (NoneSpent self.new.held.entries) }
+        ensures calm { IfNone result (self.new.has_spent ≡ false) }
+    {
+        if !self.has_spent {
+            return None;
+        }
+        let Some(conn) = self.spent() else {
+            self.has_spent = false;
+            return None;
+        };
+        self.close(conn, at);
+        Some(Event::Closed { conn })
+    }
+
+    /// Returns one of the spent connections.
+    fn spent(&self) -> Option<u64>
+        ensures spent { IfSome result (IsSpent self.now.held.entries) }
+        ensures none { IfNone result (NoneSpent self.now.held.entries) }
+    {
+        let (conn, _) = self
+            .held
+            .iter()
+            .find(|(_, connection)| connection.is_spent())?;
+        Some(*conn)
+    }
+
     /// Marks that the peer sends nothing more. The unsent bytes are still written.
     pub fn end(&mut self, conn: u64, at: Instant) -> Option<Event>
         ensures event { result ≡ closed_if (is_open self.old.held.entries conn) conn }
         ensures ended { HasEnded self.old.held.entries conn self.new.held.entries }
+        ensures calm { self.new.has_spent ≡ self.old.has_spent }
     {
         let connection = self.held.get_mut(&conn)?;
         let is_closing = connection.is_closing();
@@ -285,6 +334,7 @@ impl Connections {
         ensures event { result ≡ closed_if (is_open self.old.held.entries conn) conn }
         ensures lost { held_at self.new.held.entries conn ≡ None }
         ensures ended { HasEnded self.old.held.entries conn self.new.held.entries }
+        ensures calm { self.new.has_spent ≡ self.old.has_spent }
     {
         let connection = self.held.remove(&conn)?;
         if connection.is_closing() {
@@ -304,6 +354,7 @@ impl Connections {
             return Err(ErrorKind::NotConnected.into());
         };
         let written = connection.write(message, at);
+        self.has_spent = self.has_spent | connection.is_spent();
         if written.is_err() {
             self.held.remove(&conn);
         }
@@ -312,7 +363,8 @@ impl Connections {
 
     /// Closes a connection. It is dropped when all bytes are written and its peer has closed it too.
     pub fn close(&mut self, conn: u64, at: Instant)
-        ensures { HasEnded self.old.held.entries conn self.new.held.entries }
+        ensures ended { HasEnded self.old.held.entries conn self.new.held.entries }
+        ensures calm { self.new.has_spent ≡ self.old.has_spent }
     {
         close_in(&mut self.held, conn, at);
     }
@@ -340,6 +392,7 @@ fn close_in(held: &mut BTreeMap<u64, Connection>, conn: u64, at: Instant)
     ensures ended { HasEnded held.old.entries conn held.new.entries }
     ensures none_new { AddsNone held.old.entries held.new.entries }
     ensures no_more { length held.new.entries ≤ length held.old.entries }
+    ensures calm { NoneSpent held.old.entries → NoneSpent held.new.entries }
     ensures counted { open_count held.new.entries + count_if (is_open held.old.entries conn) ≡
         open_count held.old.entries }
 {

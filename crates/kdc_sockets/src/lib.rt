@@ -16,6 +16,8 @@
 //! - A search for idle connections ends those that have been idle for 30 seconds, one a call, and no other.
 //! - An action changes its own connection and no other. A reply is kept behind the connection's unsent bytes until the
 //!   socket takes it, in order and with no byte left out.
+//! - Once a connection was given 256 replies or 262,144 bytes of them, the next poll ends such a one before anything is
+//!   accepted or read. One that is read was given less, and its socket has taken all of that.
 //! - No socket stands twice among those that wait to be read.
 //!
 //! The rest is tested, on the loopback interface.
@@ -31,6 +33,7 @@
 mod bind_fault;
 mod connection;
 mod connections;
+mod given;
 mod ports;
 mod readiness;
 mod ready;

@@ -86,6 +86,14 @@ impl Ready {
         self.datagrams.is_empty() && self.newcomers.is_empty() && self.connections.is_empty()
     }
 
+    /// Queues all listeners: those with an index below this number.
+    pub fn note_newcomers(&mut self, count: u64) -> Result<(), AllocError> {
+        for place in 0..count {
+            self.newcomers.note(place)?;
+        }
+        Ok(())
+    }
+
     /// Queues the socket that has this poll token. The UDP sockets come first, then the listeners, then the
     /// connections.
     pub fn note(

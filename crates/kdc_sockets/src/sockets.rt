@@ -1,8 +1,8 @@
 //! The sockets of a wire, which take turns.
-ghost use Rattle.std.specs.Prelude.{◌≡◌, false, OnErr, OnOk, option_map};
+ghost use Rattle.std.specs.Prelude.{◌≡◌, false, IfNone, IfOk, IfSome, OnErr, OnOk, option_map};
 ghost use Rattle.kdc_hub.specs.Rounds.{action_connection};
 ghost use Rattle.kdc_sockets.specs.Queue.{has};
-ghost use Rattle.kdc_sockets.specs.Table.{HasEnded, IsDone, IsLost, KeepsOthersOf, held_at};
+ghost use Rattle.kdc_sockets.specs.Table.{EndsSpentFirst, HasEnded, IsDone, IsLost, IsReadFrom, KeepsOthersOf, held_at};
 
 use crate::bind_fault::BindFault;
 use crate::connections::Connections;
@@ -136,7 +136,9 @@ impl<C: Clock + Drop> Sockets<C> {
     /// Returns the moment and the next event from a ready socket, in turn. If no socket has one, it waits, and returns
     /// no event if none comes. While some sockets are known to be ready, it polls the others only in every sixteenth
     /// call.
-    pub fn next(&mut self, alloc: Global) -> io::Result<(Moment, Option<Event>)> {
+    pub fn next(&mut self, alloc: Global) -> io::Result<(Moment, Option<Event>)>
+        ensures { IfOk result (λ next. IsReadFrom self.new.connections.held.entries next.1) }
+    {
         if !self.ready.is_empty() && self.unlooked < MOST_UNLOOKED {
             self.unlooked = self.unlooked.saturating_add(1);
             let next = self.next_known(alloc)?;
@@ -149,13 +151,17 @@ impl<C: Clock + Drop> Sockets<C> {
     }
 
     /// Returns the next event of the sockets that are known to be ready.
-    fn next_known(&mut self, alloc: Global) -> io::Result<(Moment, Option<Event>)> {
+    fn next_known(&mut self, alloc: Global) -> io::Result<(Moment, Option<Event>)>
+        ensures first { IfOk result (λ next. EndsSpentFirst self.old.connections.held.entries next.1
+            self.new.connections.held.entries) }
+        ensures reads { IfOk result (λ next. IsReadFrom self.new.connections.held.entries next.1) }
+    {
         let at = now(&self.clock)?;
         self.at = Instant::now(&self.clock)?;
-        self.retry(at)?;
-        if let Some(event) = self.take_newcomer().or_else(|| self.close_idle()) {
+        if let Some(event) = self.take_first() {
             return Ok((at, Some(event)));
         }
+        self.retry(at)?;
         for _ in 0..MOST_TURNS {
             if self.ready.is_empty() {
                 break;
@@ -167,14 +173,36 @@ impl<C: Clock + Drop> Sockets<C> {
         Ok((at, None))
     }
 
+    /// Returns what comes before anything is accepted or read: the end of a spent connection, the accepted connection
+    /// for which another one was closed, or the end of an idle one.
+    fn take_first(&mut self) -> Option<Event>
+        ensures first { EndsSpentFirst self.old.connections.held.entries result self.new.connections.held.entries }
+        ensures reads { IsReadFrom self.new.connections.held.entries result }
+        ensures calm { IfNone result (self.new.connections.has_spent ≡ false) }
+    {
+        if let Some(closed) = self.connections.close_spent(self.at) {
+            return Some(closed);
+        }
+        if let Some(opened) = self.take_newcomer() {
+            return Some(opened);
+        }
+        self.close_idle()
+    }
+
     /// Returns the accepted connection for which another one was closed.
-    fn take_newcomer(&mut self) -> Option<Event> {
+    fn take_newcomer(&mut self) -> Option<Event>
+        ensures reads { IsReadFrom self.new.connections.held.entries result }
+        ensures kept { self.new.connections ≡ self.old.connections }
+    {
         let conn = self.newcomer.take()?;
         Some(Event::Opened { conn })
     }
 
     /// Closes a connection that has been idle for too long, if there is one. It searches once a second.
-    fn close_idle(&mut self) -> Option<Event> {
+    fn close_idle(&mut self) -> Option<Event>
+        ensures reads { IsReadFrom self.new.connections.held.entries result }
+        ensures calm { self.new.connections.has_spent ≡ self.old.connections.has_spent }
+    {
         if self.at.duration_since(self.none_idle_at).as_secs() < BETWEEN_LOOKS {
             return None;
         }
@@ -206,18 +234,23 @@ impl<C: Clock + Drop> Sockets<C> {
     }
 
     /// Tries once a second to accept a connection that could not be accepted. The poll may not report it again.
-    fn retry(&mut self, at: Moment) -> io::Result<()> {
+    fn retry(&mut self, at: Moment) -> io::Result<()>
+        ensures { self.new.connections ≡ self.old.connections }
+    {
         if self.refused_at.is_some_and(|sec| sec != at.sec) {
             self.refused_at = None;
-            for place in 0..self.ports.newcomers.len() as u64 {
-                self.ready.newcomers.note(place)?;
-            }
+            self.ready
+                .note_newcomers(self.ports.newcomers.len() as u64)?;
         }
         Ok(())
     }
 
     /// Returns the event of the next kind of socket, if it has one.
-    fn take_turn(&mut self, alloc: Global, at: Moment) -> io::Result<Option<Event>> {
+    fn take_turn(&mut self, alloc: Global, at: Moment) -> io::Result<Option<Event>>
+        requires calm { self.old.connections.has_spent ≡ false }
+        ensures reads { IfOk result (IsReadFrom self.new.connections.held.entries) }
+        ensures calm { self.new.connections.has_spent ≡ false }
+    {
         match self.turn {
             Turn::Datagrams => {
                 self.turn = Turn::Newcomers;
@@ -238,7 +271,10 @@ impl<C: Clock + Drop> Sockets<C> {
     }
 
     /// Receives a datagram, if there is one. It is lost if memory runs out.
-    fn receive(&mut self, alloc: Global) -> io::Result<Option<Event>> {
+    fn receive(&mut self, alloc: Global) -> io::Result<Option<Event>>
+        ensures reads { IfOk result (IsReadFrom self.new.connections.held.entries) }
+        ensures kept { self.new.connections ≡ self.old.connections }
+    {
         let Some(place) = self.ready.datagrams.pop_front() else {
             return Ok(None);
         };
@@ -263,7 +299,10 @@ impl<C: Clock + Drop> Sockets<C> {
     }
 
     /// Accepts a new connection, if there is one.
-    fn accept(&mut self, alloc: Global, at: Moment) -> io::Result<Option<Event>> {
+    fn accept(&mut self, alloc: Global, at: Moment) -> io::Result<Option<Event>>
+        ensures reads { IfOk result (IsReadFrom self.new.connections.held.entries) }
+        ensures calm { self.new.connections.has_spent ≡ self.old.connections.has_spent }
+    {
         let Some(place) = self.ready.newcomers.pop_front() else {
             return Ok(None);
         };
@@ -296,11 +335,21 @@ impl<C: Clock + Drop> Sockets<C> {
 
     /// Reads the next piece of a connection's stream, or its end, if there is either.
     fn read(&mut self, alloc: Global, conn: u64) -> io::Result<Option<Event>>
-        requires { has self.old.ready.connections.numbers.items conn ≡ false }
+        requires queued { has self.old.ready.connections.numbers.items conn ≡ false }
+        requires calm { self.old.connections.has_spent ≡ false }
+        ensures reads { IfOk result (IsReadFrom self.new.connections.held.entries) }
+        ensures calm { self.new.connections.has_spent ≡ false }
     {
         let Some(connection) = self.connections.get(conn) else {
             return Ok(None);
         };
+        if connection.has_failed() {
+            return Ok(self.connections.lose(conn));
+        }
+        // Its next reply would only wait behind the others. When its socket takes bytes again, the poll reports it.
+        if !connection.is_sent() {
+            return Ok(None);
+        }
         let is_closing = connection.is_closing();
         match connection.read(&mut self.buffers.piece) {
             Ok(0) => Ok(self.connections.end(conn, self.at)),
