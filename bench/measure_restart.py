@@ -2,13 +2,14 @@
 """Measures what clients see when `kdcd serve --journal` is restarted under load. Linux and Python 3 alone are needed.
 
     python3 bench/measure_restart.py [--kdcd crates/kdcd/out/kdcd] [--rate N] [--clients N] [--seconds N] [--restarts N]
-        [--kill]
+        [--records N] [--kill]
 
 N client processes ask for tickets of a service, together at that rate, and do not wait for each other. Each
 request has a socket of its own and is asked again as stock clients do: the same octets after a second, after another
 one, and then over TCP. Meanwhile the server is ended and started again. It prints how many requests got their ticket at
 once and after another try, and the errors that others got. With `--restarts 0` it prints what there is without a
-restart. It ends with status 1 if a request got an error or no reply."""
+restart. With `--records N` the first server starts on a journal with this many records (`measure_long_restart.py`).
+It ends with status 1 if a request got an error or no reply."""
 
 import argparse
 import collections
@@ -27,6 +28,7 @@ import harness_path
 from harness.kerberos import as_req, tgs_req, ticket_in
 from harness.processes import RUNNING, ending
 from harness.wire import answer, free_port
+from measure_long_restart import write_journal
 from measure_server import KEY, REALM, database_text, framed, row
 
 SERVICE = (b"host", b"n1")
@@ -39,7 +41,7 @@ PATIENCE = 8
 class Restarted:
     """A server on ports that stay the same."""
 
-    def __init__(self, kdcd, folder, clients):
+    def __init__(self, kdcd, folder, clients, records):
         self.folder, self.address = folder, ("127.0.0.1", free_port())
         rows = {"krbtgt/EXAMPLE.COM": row("00" * 32), "host/n1": row("22" * 32)}
         rows.update({client.decode(): row(KEY.hex(), preauth=False) for client in clients})
@@ -48,7 +50,9 @@ class Restarted:
         self.words = [
             kdcd, "serve", "--db", "database", "--udp", at, "--tcp", at, "--journal", "journal", "--remembered", "65536"
         ]
-        self.begin("--first")
+        if records:
+            write_journal(folder, records, 1_000)
+        self.begin(*[] if records else ["--first"])
 
     def begin(self, *words):
         self.errors = open(self.folder / "errors", "wb+")
@@ -190,11 +194,12 @@ def main():
     words.add_argument("--clients", type=int, default=4)
     words.add_argument("--seconds", type=int, default=15)
     words.add_argument("--restarts", type=int, default=5)
+    words.add_argument("--records", type=int, default=0)
     words.add_argument("--kill", action="store_true", help="by SIGKILL in place of SIGTERM")
     words = words.parse_args()
     with tempfile.TemporaryDirectory() as folder, ending():
         clients = [b"client%d" % number for number in range(words.clients)]
-        server = Restarted(os.path.abspath(words.kdcd), pathlib.Path(folder), clients)
+        server = Restarted(os.path.abspath(words.kdcd), pathlib.Path(folder), clients, words.records)
         found, count, passed, away = measure(server, words, clients)
         server.process.terminate()
         server.process.wait()

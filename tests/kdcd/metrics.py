@@ -240,11 +240,39 @@ def faults(trial):
     found = server.said().count(again), (trial.folder / "none" / "m").exists()
     trial.same("the file can be written again", found, (1, True))
     server.end()
-    for what, path in (("a database", "database"), ("somebody's file beside it", "m")):
+    trial.write("other", (trial.folder / "database").read_bytes())
+    for what, path in (("another database", "other"), ("somebody's file beside it", "m")):
         trial.write("m.new", "somebody's\n")
-        both = lambda: [(trial.folder / name).read_bytes() for name in ("database", "m.new")]
+        both = lambda: [(trial.folder / name).read_bytes() for name in ("other", "m.new")]
         before, server = both(), trial.server(f"--first --metrics {path}")
         server.wait(lambda: "metrics" in server.said())
         said = f"kdcd: metrics {path}: the file there has no numbers, and stays as it is\n"
         trial.same(f"{what} is not replaced by numbers", (server.said().count(said), both()), (1, before))
         server.end()
+
+
+@test("kdcd", trial=Watched, seconds=15)
+def names(trial):
+    """The names of the files of the database and of the journal, and files that have no numbers. The server says so,
+    serves, and changes nothing there."""
+    trial.enter()
+    taken = "this is the name of a file of the database or of the journal"
+    stays = "the file there has no numbers, and stays as it is"
+    for name, text, said in (
+        ("database", None, taken), ("database.lock", None, taken), ("database.new", None, taken), ("j", None, taken),
+        ("j.old", None, taken), ("j.new", None, taken), ("j.lock", None, taken), ("j.sealed", None, taken),
+        ("empty", b"", stays), ("cut", b"# HELP kdcd_info", stays),
+    ):
+        if text is not None:
+            trial.write(name, text)
+        server = trial.server(f"--first --journal j --metrics {name}")
+        line, file = f"kdcd: metrics {name}: {said}\n", trial.folder / name
+        server.wait(lambda: line in server.said(), 5)
+        found = server.said().count(line), answer(ask(server, realm.LOGIN)), (trial.folder / f"{name}.new").exists()
+        trial.same(f"{name}: it is said once, and the server serves", found, (1, "ticket", False))
+        now = file.read_bytes() if file.exists() else None
+        is_well = now == text if text is not None else not (now or b"").startswith(b"# HELP")
+        trial.note(f"{name}: nothing is written there", "" if is_well else repr((now or b"")[:20]))
+        server.end()
+        for left in trial.folder.glob("j*"):
+            left.unlink()

@@ -94,7 +94,8 @@ def resumes(trial):
     )
     server.end()
     ran = trial.run("kdcd serve --db database --udp 127.0.0.1:0 --journal run/journal --first --rounds 0")
-    trial.note("--first is refused beside a journal", ran.fault(3, "=failed", "--first is for the first start alone"))
+    fault = ran.fault(1, "=refused NotFirst", "--first is for the first start alone")
+    trial.note("--first is refused beside a journal", fault)
 
 
 @test("kadm", "kdcd", seconds=3)

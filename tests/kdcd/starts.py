@@ -1,13 +1,16 @@
 """The order in which a start reads and opens what it needs; starts that fail; files that are accepted and refused."""
 
+import contextlib
 import os
+import re
 import socket
 
 from harness import staged_realm as realm
 from harness.databases import VERSION
+from harness.processes import SLOWNESS
 from harness.stage import ask, Staged
 from harness.tests import test
-from harness.wire import answer, free_port
+from harness.wire import answer, free_port, login
 
 # The longest file of a seed.
 LONGEST_SEED = 16_777_216
@@ -97,3 +100,38 @@ def files(trial):
         os.truncate(trial.folder / "longest", length)
         ran = trial.run("kdcd serve --db database --udp 127.0.0.1:0 --rounds 0 --seed longest")
         trial.same(f"a seed's file of {length} bytes", (ran.status, ran.out, ran.err)[:len(wanted)], wanted)
+
+
+def asked_at(host, port):
+    """The address from which the system sends the reply to a datagram that came to this one."""
+    with socket.socket(type=socket.SOCK_DGRAM) as peer:
+        peer.settimeout(5 * SLOWNESS)
+        peer.sendto(login("nobody"), (host, port))
+        return peer.recvfrom(65536)[1][0]
+
+
+@test("kdcd", trial=Staged)
+def wildcards(trial):
+    """Each address for datagrams that stands for all of the host has a line at the start. Replies leave from another
+    address there than the one that was asked, and else from that one."""
+    trial.enter()
+    every, first, second = free_port(), free_port(), free_port()
+    server = trial.server(
+        f"--first --udp 0.0.0.0:{every} --udp 127.0.0.1:{first} --udp 127.0.0.2:{second} --tcp 0.0.0.0:{every}"
+    )
+    said = server.said()
+    line = (
+        f"kdcd: udp 0.0.0.0:{every}: replies leave from the address that the system picks, and clients that asked at "
+        "another drop them; name the host's addresses instead: at most 8 of --udp and --tcp in all\n"
+    )
+    trial.same("one of three addresses for datagrams has its line, behind those of all", (
+        said.count("replies leave from"), re.search(r"kdcd: serving on .*\n(.*\n)", said)[1]
+    ), (1, line))
+    found = [asked_at(host, port) for host, port in (("127.0.0.2", every), ("127.0.0.1", first), ("127.0.0.2", second))]
+    trial.same("where replies leave", found, ["127.0.0.1", "127.0.0.1", "127.0.0.2"])
+    server.end()
+    with contextlib.suppress(OSError):
+        socket.create_server(("::", 0), family=socket.AF_INET6).close()
+        server = trial.server(f"--first --udp [::]:{every}")
+        trial.same("the same of IPv6", server.said().count(f"kdcd: udp [::]:{every}: replies leave from "), 1)
+        server.end()

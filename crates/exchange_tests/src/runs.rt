@@ -1,10 +1,12 @@
 //! A server over a host in memory: what it asks of its host, and what its sockets, its tally, its journal and its log
-//! record. Its journal fails once.
+//! record. Its journal fails once. And starts without a journal that find the one of an earlier server.
 use journal::{Doubt, Start};
 use kdc_core::{Account, Bears, TgsOutcome};
 use kdc_files::{HandedOver, JournalBeginning, MemoryJournal};
 use kdc_hub::{Action, Event, Look, MemoryRows, Peer, Totals, WireCall};
-use kdc_reports::{CountedLog, LogFormat, MemoryEntry, MemoryLog, MemoryMetrics, MemoryTally};
+use kdc_reports::{
+    CountedLog, LogFormat, MemoryEntry, MemoryLog, MemoryMetrics, MemoryTally, Refused,
+};
 use kdcd_run::{
     Given, HostCall, MemoryHost, MemorySockets, Outlets, Ran, ServeOptions, run_server,
 };
@@ -134,17 +136,24 @@ fn rows(alloc: Global) -> Result<Database, Fail> {
     }
 }
 
-fn host(alloc: Global) -> Result<MemoryHost, Fail> {
-    let coming = coming(alloc)?;
+/// Returns a host whose clock shows this moment. The journal beside its database asks for a floor, if there is one.
+fn host(
+    alloc: Global,
+    at: Moment,
+    coming: VecDeque<(Moment, Event)>,
+    leftover: Option<i64>,
+) -> Result<MemoryHost, Fail> {
+    let rows = rows(alloc)?;
     Ok(MemoryHost::new(
         alloc,
         Given {
-            rows: rows(alloc)?,
+            rows,
             seed: [7; 32],
-            at: MIDNIGHT,
+            at,
             coming,
             looks: VecDeque::new(alloc),
             keeps_before_fault: Some(1),
+            leftover,
         },
     ))
 }
@@ -153,7 +162,11 @@ fn address() -> SocketAddr {
     SocketAddr::from((Ipv4Addr::LOCALHOST, 88))
 }
 
-fn options(alloc: Global) -> Result<ServeOptions<'static>, Fail> {
+fn options(
+    alloc: Global,
+    journal: Option<&'static str>,
+    is_first: bool,
+) -> Result<ServeOptions<'static>, Fail> {
     Ok(ServeOptions {
         db: "database",
         udp: Vec::from_slice(alloc, &[address()])?,
@@ -161,9 +174,9 @@ fn options(alloc: Global) -> Result<ServeOptions<'static>, Fail> {
         rounds: Some(8),
         seed: None,
         limits: Limits::new(64, 0, 0, 36_000, 0).ok_or("limits")?,
-        is_first: true,
+        is_first,
         is_quiet: false,
-        journal: Some("journal"),
+        journal,
         journal_size: 67_108_864,
         removes_journal: false,
         is_fixed: false,
@@ -183,15 +196,20 @@ type Finished = Ran<
     MemoryMetrics,
 >;
 
-fn run(alloc: Global, host: &mut MemoryHost) -> Result<Finished, Fail> {
+/// Runs a server. Returns the word for its refusal if it does not start.
+fn run(
+    alloc: Global,
+    host: &mut MemoryHost,
+    options: &ServeOptions<'static>,
+) -> Result<Finished, &'static str> {
     let outlets = Outlets {
         log: CountedLog::new(MemoryLog::new(alloc)),
         errors: Vec::new(alloc),
         tally: MemoryTally::new(alloc),
     };
-    match run_server(alloc, host, &options(alloc)?, outlets) {
+    match run_server(alloc, host, options, outlets) {
         Ok(ran) => Ok(ran),
-        Err(_) => Err(Fail::from("a start")),
+        Err(fault) => Err(fault.refusal().unwrap_or("another fault")),
     }
 }
 
@@ -283,6 +301,7 @@ fn is_beginning(beginning: &JournalBeginning) -> bool {
             &beginning.start,
             Start::Refuses {
                 doubt: Doubt::Absent,
+                floor: None,
             }
         )
 }
@@ -364,9 +383,12 @@ fn is_right(alloc: Global, ran: &Finished) -> Result<bool, Fail> {
 }
 
 fn is_run(alloc: Global) -> Result<(bool, bool), Fail> {
-    let mut host = host(alloc)?;
-    let ran = run(alloc, &mut host)?;
-    Ok((is_right(alloc, &ran)?, are_calls(host.calls())))
+    let mut host = host(alloc, MIDNIGHT, coming(alloc)?, None)?;
+    let options = options(alloc, Some("journal"), true)?;
+    match run(alloc, &mut host, &options) {
+        Ok(ran) => Ok((is_right(alloc, &ran)?, are_calls(host.calls()))),
+        Err(word) => Err(Fail::from(word)),
+    }
 }
 
 #[test]
@@ -374,5 +396,68 @@ fn what_a_server_did_is_in_its_records(rt: HostRuntime) -> Result<(), Fail> {
     let (is_right, are_calls) = is_run(rt.alloc())?;
     assert!(rt; is_right, "the records of the server");
     assert!(rt; are_calls, "the record of its host");
+    Ok(())
+}
+
+/// The second of midnight, which is the floor of a start 301 seconds before it.
+const T: i64 = 1_704_067_200;
+
+const BEFORE_MIDNIGHT: Moment = Moment {
+    sec: T - 301,
+    usec: 0,
+};
+
+/// The floor of a start, and the first octet of the reply to a TGS-REQ whose authenticator is of midnight. Or the word
+/// for the refusal of the start.
+type Begun = Result<(Option<Refused>, Option<u8>), &'static str>;
+
+/// Whether a start is to be the first, and the floor that a journal beside its database asks for, if there is one; and
+/// what follows. A ticket is in a TGS-REP (0x6d), a refusal in a KRB-ERROR (0x7e).
+const BEGUN: &[((bool, Option<i64>), Begun)] = &[
+    ((false, None), Ok((Some(Refused::All(T)), Some(0x6d)))),
+    ((false, Some(T)), Ok((Some(Refused::All(T)), Some(0x6d)))),
+    (
+        (false, Some(T + 1)),
+        Ok((Some(Refused::All(T + 1)), Some(0x7e))),
+    ),
+    ((true, None), Ok((None, Some(0x6d)))),
+    ((true, Some(T - 300)), Err("NotFirst")),
+];
+
+/// Returns the TGS-REQ in a datagram, at midnight.
+fn bought(alloc: Global) -> Result<VecDeque<(Moment, Event)>, Fail> {
+    let mut coming = VecDeque::new(alloc);
+    push(&mut coming, datagram(octets(alloc, BUYS)?, 1002))?;
+    Ok(coming)
+}
+
+/// Starts without a journal.
+fn begun(alloc: Global, is_first: bool, leftover: Option<i64>) -> Result<Begun, Fail> {
+    let mut host = host(alloc, BEFORE_MIDNIGHT, bought(alloc)?, leftover)?;
+    let options = options(alloc, None, is_first)?;
+    match run(alloc, &mut host, &options) {
+        Ok(ran) => Ok(Ok((refused(&host), first_octet(&ran)))),
+        Err(word) => Ok(Err(word)),
+    }
+}
+
+fn first_octet(ran: &Finished) -> Option<u8> {
+    message(ran.server.wire.tally().did(), 1).first().copied()
+}
+
+/// Returns which requests the start refuses, as it was announced.
+fn refused(host: &MemoryHost) -> Option<Refused> {
+    match host.announced() {
+        Some(news) => news.refused,
+        None => None,
+    }
+}
+
+#[test]
+fn a_removed_journal_raises_the_floor(rt: HostRuntime) -> Result<(), Fail> {
+    for ((is_first, leftover), wanted) in BEGUN {
+        let found = begun(rt.alloc(), *is_first, *leftover)?;
+        assert!(rt; found == *wanted, "{is_first} {leftover:?}: {found:?}");
+    }
     Ok(())
 }

@@ -28,7 +28,7 @@ use Rattle.replay.specs.declared.seen.Seen.{Seen}
 use Rattle.krb_fields.specs.declared.moment.Moment.{Moment}
 use Rattle.journal.specs.Decision.{Place, above, above_all, entries_behind, floor_behind, floor_on, is_above, is_behind, is_early, is_first, is_linked, latest_of, recent, resumed_floor, resumption_of, seen_of}
 use Rattle.journal.proofs.Chains.{chained-one, have_none, have_one_more, last-one}
-use Rattle.journal.specs.Forms.{Entry, entry, header}
+use Rattle.journal.specs.Forms.{Entry, Header, entry, header}
 use Rattle.journal.specs.Keeping.{BeginsJournal, KeepsEntry, begun}
 use Rattle.journal.specs.Texts.{chained, check_of, checked, header_check, last_check}
 use Rattle.journal.specs.Holding.{HasSums, HoldAll, IsAbove, IsHeld, Knows, Spells, cut, cut_found, held_in, with_one}
@@ -44,7 +44,7 @@ same_le a = grind (arith, ints)
 le_le : (a b c : ℤ) → a ≤ℤ b → b ≤ℤ c → a ≤ℤ c
 le_le a b c x y = grind (arith, ints)
 
-lt_le : (a b c : ℤ) → a <ℤ b → b ≤ℤ c → a <ℤ c
+pub lt_le : (a b c : ℤ) → a <ℤ b → b ≤ℤ c → a <ℤ c
 lt_le a b c x y = grind (arith, ints)
 
 max_first : (a b : ℤ) → a ≤ℤ int_max a b
@@ -62,7 +62,7 @@ max_both a b c d x y = grind (arith, ints, clamps)
 max_of : (a b c : ℤ) → a ≤ℤ c → b ≤ℤ c → int_max a b ≤ℤ c
 max_of a b c x y = grind (arith, ints, clamps)
 
-one_above : (floor ctime : ℤ) → ctime <ℤ above floor ctime
+pub one_above : (floor ctime : ℤ) → ctime <ℤ above floor ctime
 one_above floor ctime = grind (arith, ints, clamps)
 
 floor_stays : (floor ctime : ℤ) → floor ≤ℤ above floor ctime
@@ -85,12 +85,19 @@ rises_above floor r seen a = record {
       (one_above floor seen.ctime);
 }
 
-all_stays : (floor : ℤ) (es : List Entry) → floor ≤ℤ above_all floor es
+pub stays_above : (floor : ℤ) (r : Resumption) (seen : Seen) → IsAbove floor r → IsAbove (above floor seen.ctime) r
+stays_above floor r seen a = record {
+  floor_above = le_le r.floor floor (above floor seen.ctime) a.floor_above (floor_stays floor seen.ctime);
+  times_above = All-weaker (λ s. s.ctime <ℤ floor) (λ s. s.ctime <ℤ above floor seen.ctime)
+      (λ s lt. lt_le s.ctime floor (above floor seen.ctime) lt (floor_stays floor seen.ctime)) r.seen a.times_above;
+}
+
+pub all_stays : (floor : ℤ) (es : List Entry) → floor ≤ℤ above_all floor es
 all_stays floor [] = same_le floor
 all_stays floor (e ∷ es) =
     le_le floor (above floor e.ctime) (above_all (above floor e.ctime) es) (floor_stays floor e.ctime) (all_stays (above floor e.ctime) es)
 
-all_above : (floor : ℤ) (es : List Entry) → All (λ (s : Seen). s.ctime <ℤ above_all floor es) (map seen_of es)
+pub all_above : (floor : ℤ) (es : List Entry) → All (λ (s : Seen). s.ctime <ℤ above_all floor es) (map seen_of es)
 all_above floor [] = All-nil (λ (s : Seen). s.ctime <ℤ floor)
 all_above floor (e ∷ es) =
     All-cons (λ (s : Seen). s.ctime <ℤ above_all (above floor e.ctime) es) (seen_of e) (map seen_of es)
@@ -144,7 +151,7 @@ linked_above j before sums linked not_first =
 -- the sums of what was found
 abbrev pub HaveSums : Found → Type 0
 HaveSums Nothing = ⊤
-HaveSums Broken = ⊤
+HaveSums (Broken lost) = ⊤
 HaveSums (Whole before) = HasSums before
 
 -- ---- more entries
@@ -176,17 +183,17 @@ if_more false es others more = sym (append_assoc others es more)
 module _ (newer : Journal) (more : List Entry) (check : List ℕ) where
   floor_more : (older : Found) → floor_behind (with_entries newer more check) older ≡ floor_behind newer older
   floor_more Nothing = refl
-  floor_more Broken = refl
+  floor_more (Broken lost) = refl
   floor_more (Whole before) = refl
 
   behind_more : (older : Found) → entries_behind (with_entries newer more check) older ≡ entries_behind newer older ++ more
   behind_more Nothing = refl
-  behind_more Broken = refl
+  behind_more (Broken lost) = refl
   behind_more (Whole before) = if_more (is_first newer) newer.entries before.entries more
 
   pub linked_more : (older : Found) → is_linked (with_entries newer more check) older ≡ is_linked newer older
   linked_more Nothing = refl
-  linked_more Broken = refl
+  linked_more (Broken lost) = refl
   linked_more (Whole before) = refl
 
   module _ (older : Found) (low : ℤ) (r : Resumption) (hold : HoldAll older newer low r) where
@@ -258,12 +265,12 @@ module _ (before newer : Journal) where
 held_alone : (older : Found) (newer : Journal) → HaveSums older → is_linked newer older ≡ true → (s : Seen)
     → IsHeld (floor_behind newer older) (entries_behind newer older) s → IsHeld newer.header.floor newer.entries s
 held_alone Nothing newer sums linked s held = held
-held_alone Broken newer sums linked s held = held
+held_alone (Broken lost) newer sums linked s held = held
 held_alone (Whole before) newer sums linked s held = alone_if before newer (is_first newer) (linked_above newer before sums linked) s held
 
 pub floor_alone : (older : Found) (newer : Journal) → HaveSums older → is_linked newer older ≡ true → floor_behind newer older ≤ℤ newer.header.floor
 floor_alone Nothing newer sums linked = same_le newer.header.floor
-floor_alone Broken newer sums linked = same_le newer.header.floor
+floor_alone (Broken lost) newer sums linked = same_le newer.header.floor
 floor_alone (Whole before) newer sums linked = floor_if before newer (is_first newer) (linked_above newer before sums linked)
 
 -- above all is held by a floor
@@ -304,7 +311,7 @@ module _ (place : Place) (low floor : ℤ) (link : List ℕ) (r : Resumption) (a
 
   pub hold_first : (older : Found) → is_first (fresh place floor link) ≡ true → HoldAll older (fresh place floor link) low r
   hold_first Nothing first = record { floor = within; seen = none_before }
-  hold_first Broken first = record { floor = within; seen = none_before }
+  hold_first (Broken lost) first = record { floor = within; seen = none_before }
   hold_first (Whole before) first = record {
     floor = subst (λ b. r.floor ≤ℤ int_max (if b then floor else before.header.floor) low) (sym first) within;
     seen = subst (λ b. All (IsHeld (if b then floor else before.header.floor) (if b then [] else before.entries ++ [])) r.seen) (sym first) none_before;
@@ -401,7 +408,7 @@ All_first P (e ∷ es) others all =
 pub All_cut : (P : Seen → Type 0) (older : Found) (j : Journal) → All P (map seen_of (entries_behind j older))
     → All P (map seen_of (entries_behind (cut j) (cut_found older)))
 All_cut P Nothing j all = All_recent P j.latest j.entries all
-All_cut P Broken j all = All_recent P j.latest j.entries all
+All_cut P (Broken lost) j all = All_recent P j.latest j.entries all
 All_cut P (Whole before) j all = by_first (is_first j) all
   where
     by_first : (b : Bool) → All P (map seen_of (if b then j.entries else before.entries ++ j.entries))
@@ -453,7 +460,7 @@ module _ (place : Place) (j : Journal) (floor : ℤ) (under : (place.at.sec -ℤ
 
   late_held : (older : Found) → is_early place j older ≡ false → All (IsHeld floor (entries_behind (cut j) (cut_found older))) (map seen_of (entries_behind j older))
   late_held Nothing late = one_held j late
-  late_held Broken late = one_held j late
+  late_held (Broken lost) late = one_held j late
   late_held (Whole before) late = by_first (is_first j) late
     where
       by_first : (b : Bool) → (int_lt place.at.sec j.latest || (not b && int_lt place.at.sec before.latest)) ≡ false
@@ -606,7 +613,7 @@ module _ (place : Place) (older : Found) (newer : Journal) (sums : HaveSums olde
 -- the floor of a start is the same, whatever is left out
 pub cut_floor : (place : Place) (older : Found) (j : Journal) → resumed_floor place (cut j) (cut_found older) ≡ resumed_floor place j older
 cut_floor place Nothing j = refl
-cut_floor place Broken j = refl
+cut_floor place (Broken lost) j = refl
 cut_floor place (Whole before) j = refl
 
 pub resumes_with_held : (place : Place) (older : Found) (newer : Journal) (low : ℤ) (r : Resumption) → HaveSums older → HasSums newer → HoldAll older newer low r
@@ -646,17 +653,22 @@ none_last : (check : List ℕ) → last_check check [] ≡ check
 unfolding last_check
 none_last check = refl
 
+-- a journal before its first entry
+abbrev pub begun_journal : Header → Journal
+begun_journal h = record { header = h; entries = []; check = header_check h; latest = h.at; high = h.floor }
+
+pub spells_begun : (h : Header) (text check : List ℕ) → BeginsJournal h text check → Spells text (begun_journal h)
+spells_begun h text check begins = record {
+  text_is = begins.text_is ∙ sym (append-nil (checked h.link (written header h))) ∙ ap (λ l. checked h.link (written header h) ++ l) (sym (none_chained (header_check h)));
+  check_is = sym (none_last (header_check h));
+  has_header = begins.has;
+  have_elements = have_none;
+  sums = record { latest_is = refl; high_is = refl };
+}
+
 pub spells_fresh : (place : Place) (floor : ℤ) (link text check : List ℕ) → BeginsJournal (begun place floor link) text check
     → Spells text (fresh place floor link)
-spells_fresh place floor link text check begins =
-    let h = begun place floor link in
-    record {
-      text_is = begins.text_is ∙ sym (append-nil (checked link (written header h))) ∙ ap (λ l. checked link (written header h) ++ l) (sym (none_chained (header_check h)));
-      check_is = sym (none_last (header_check h));
-      has_header = begins.has;
-      have_elements = have_none;
-      sums = record { latest_is = refl; high_is = refl };
-    }
+spells_fresh place floor link text check begins = spells_begun (begun place floor link) text check begins
 
 pub spells_one : (text more : List ℕ) (j : Journal) (at : Moment) (seen : Seen) (check : List ℕ) → Spells text j
     → (keeps : KeepsEntry j.check at seen more check) → Spells (text ++ more) (with_entries j (keeps.entry_kept ∷ []) check)

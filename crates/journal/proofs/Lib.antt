@@ -1,3 +1,5 @@
+mod Floors
+mod Walks
 mod Chains
 mod Fronts
 mod Spellings
@@ -5,8 +7,10 @@ mod Lengths
 pub mod Held
 mod Worlds
 mod Keeps
+mod Findings
 mod Recent
 mod Starts
 mod Heads
 mod Seals
+mod Showings
 mod Life

@@ -1,5 +1,5 @@
 -- No start resumes without what the processes of a life kept.
-use Rattle.std.proofs.Common.{◌≡◌, ◌⊎◌, inl, inr, ℤ, pos, ◌-ℤ◌, ◌≤ℤ◌, ◌<ℤ◌, Bool, true, false, cond, ◌||◌, if◌then◌else◌, List, [], ◌∷◌, ◌++◌, Option, Some, None, Result, Ok, Err, refl, sym, ap, subst, ◌∙◌, append_assoc, arith, ℕ, zero, suc, ◌+ℤ◌, ◌+◌, is_eq, length, take, ◌<◌}
+use Rattle.std.proofs.Common.{◌≡◌, ◌⊎◌, inl, inr, ℤ, pos, ◌-ℤ◌, ◌≤ℤ◌, ◌<ℤ◌, Bool, true, false, cond, if◌then◌else◌, List, [], ◌∷◌, ◌++◌, Option, Some, None, Result, Ok, Err, refl, sym, ap, subst, ◌∙◌, append_assoc, arith, ℕ, zero, suc, ◌+ℤ◌, ◌+◌, is_eq, length, take, ◌<◌}
 use Rattle.std.specs.Prelude.{All, Contains, IfSome, get_or, int_lt, is_ok}
 use Rattle.std.specs.Int.{int_max}
 use Rattle.std.specs.Cmp.{Equal-is, tied_itself}
@@ -9,7 +9,7 @@ use Rattle.std.specs.Option.{is_some}
 use Rattle.std.specs.Ordering.{eq_by_cmp}
 use Rattle.std.proofs.lemmas.Bool.{false≢true}
 use Rattle.std.proofs.lemmas.Int.{ints, clamps}
-use Rattle.std.proofs.lemmas.List.{append-nil, length-take-le, take_more}
+use Rattle.std.proofs.lemmas.List.{append-nil, take_more}
 use Rattle.std.proofs.lemmas.List.Elements.{All-head, All-tail}
 use Rattle.krb_fields.specs.Name.{Components, name_cmp, name_total}
 use Rattle.krb_fields.specs.Skew.{skew}
@@ -22,27 +22,25 @@ use Rattle.replay.specs.Stamp.{Stamp, stamp_cmp}
 use Rattle.replay.specs.declared.keep.Kept.{Kept}
 use Rattle.replay.specs.declared.seen.Resumption.{Resumption}
 use Rattle.replay.specs.declared.seen.Seen.{Seen}
-use Rattle.sha2.proofs.Facts256.{length-sha256}
-use Rattle.sha2.specs.Sha256.{sha256}
-use Rattle.krb_elements.specs.Codec.{written}
 use Rattle.journal.proofs.Held.{test_le}
 use Rattle.journal.specs.Appending.{kept_by}
-use Rattle.journal.specs.Decision.{Place, doubt_of, floor_behind, goes_on_behind, is_early, resumption_of, start_by, start_of}
-use Rattle.journal.specs.Forms.{Entry, entry, header}
-use Rattle.journal.specs.Texts.{check_of, header_check, last_check}
-use Rattle.journal.specs.Holding.{IsAbove, IsFound, IsKept, IsSafe, IsSpelled, IsStart, known_by}
+use Rattle.journal.specs.Decision.{Place, doubt_of, doubt_without, floor_behind, found_floor, goes_on_behind, is_early, next_start, resumption_of, start_by, start_of}
+use Rattle.journal.specs.Finding.{AreFound}
+use Rattle.journal.specs.declared.decision.FoundFiles.{FoundFiles}
+use Rattle.journal.proofs.Showings.{shown_is_refused}
+use Rattle.journal.specs.Holding.{IsAbove, IsFound, IsKept, IsSafe, IsStart, known_by}
 use Rattle.replay.specs.Run.{with_any}
 use Rattle.journal.specs.declared.process.Asked.{Asked}
 use Rattle.journal.specs.Life.{AllIsKept, AreCalls, Call, Follows, IsBegun, IsCall, IsKeptIn, IsLater, IsProcess, IsSafeAfter, IsStage, JournalState, KeptIsRefused, LeavesNoSeal, LivesHold, NextBootRefuses, Past, Process, ProcessIsSafe, Serves, Stage, StagesFollow, StartsAreLater, StaysSafe}
 use Rattle.journal.specs.Life.{all_after, kept_by_process, kept_in, past_after, past_after_all, past_of, result_of, seen_asked, seen_in}
 use Rattle.journal.specs.Life.Call.{Keep, Mend}
-use Rattle.journal.specs.Life.Stage.{Ran, Sealed, Lost}
+use Rattle.journal.specs.Life.Stage.{Ran, Finished, Sealed, Lost}
 use Rattle.journal.specs.Sealing.{HasSealed}
 use Rattle.journal.specs.declared.sealing.SealOutcome.{SealOutcome}
 use Rattle.journal.specs.declared.sealing.SealOutcome.TheVariants as outcomes
 use Rattle.journal.specs.World.{World}
 use Rattle.journal.specs.declared.decision.Doubt.{Doubt}
-use Rattle.journal.specs.declared.decision.Doubt.TheVariants.{Absent, Damaged}
+use Rattle.journal.specs.declared.decision.Doubt.TheVariants.{Damaged}
 use Rattle.journal.specs.declared.decision.Found.{Found}
 use Rattle.journal.specs.declared.decision.Found.TheVariants.{Nothing, Broken, Whole}
 use Rattle.journal.specs.declared.reading.Journal.{Journal}
@@ -50,7 +48,7 @@ use Rattle.journal.specs.declared.decision.Start.{Start}
 use Rattle.journal.specs.declared.decision.Start.TheVariants.{Resumes, Refuses}
 use Rattle.journal.specs.declared.journal_file.NotKept.{NotKept}
 use Rattle.journal.proofs.Seals.{seals_hold, sealed_safe, stays_broken}
-use Rattle.journal.proofs.Worlds.{kept_is_safe}
+use Rattle.journal.proofs.Worlds.{finished_is_safe, kept_is_safe, spelled_len}
 
 -- ---- numbers and tests
 
@@ -116,8 +114,8 @@ raised_both r k below within c s is =
 -- files that are safe for one are safe for the other
 within_safe : (low : ℤ) (r k : Resumption) → IsWithin r k → (w : World) → IsSafe low k w → IsSafe low r w
 within_safe low r k within w safe = record {
-  knows = λ place older newer found check o n starts late below under c s is.
-      safe.knows place older newer found check o n starts late below under c s (raised_both r k below within c s is);
+  knows = λ place older newer beside found check o n b starts late below under c s is.
+      safe.knows place older newer beside found check o n b starts late below under c s (raised_both r k below within c s is);
 }
 
 -- ---- a floor above all
@@ -221,16 +219,23 @@ calls_unsealed (call ∷ calls) old new (next, step, rest) none =
 
 -- ---- what a process begins with refuses all that was kept before it
 
+-- a start that resumes found no turn that was cut
+resumes_next : (place : Place) (older newer beside : Found) (found : Resumption) (check : Option (List ℕ))
+    → start_of place older newer beside ≡ Resumes found check → next_start place older newer beside ≡ Resumes found check
+resumes_next place older Nothing beside found check is = absurd cc
+resumes_next place older (Broken lost) beside found check is = absurd cc
+resumes_next place older (Whole j) beside found check is = is
+
 begins_within : (past : Past) (r : Resumption) (p : Process) (w : World) → IsSafeAfter r past w
     → IsStart p.at p.floor p.newer p.start w → IsLater r past p.floor p.start → IsWithin r (known_by p.floor p.start)
 begins_within past r p w safe starts later = by_start p.start refl later
   where
     by_start : (made : Start) → p.start ≡ made → IsLater r past p.floor made → IsWithin r (known_by p.floor made)
-    by_start (Refuses doubt) is above = above_within p.floor r above
+    by_start (Refuses doubt lost) is above = above_within p.floor r above
     by_start (Resumes found check) is late =
         within_both r (raised r found.floor) found (raised_within r found.floor)
-        ((safe late.0).knows starts.place starts.older p.newer found check starts.older_found starts.newer_found (sym starts.decided ∙ is) late.1 found.floor
-        (same_le found.floor))
+        ((safe late.0).knows starts.place starts.older p.newer starts.beside found check starts.older_found starts.newer_found starts.beside_found
+        (resumes_next starts.place starts.older p.newer starts.beside found check (sym starts.decided ∙ is)) late.1 found.floor (same_le found.floor))
 
 module _ (p : Process) (old new : World) (is : IsProcess p old new) where
   abbrev known : Resumption
@@ -280,6 +285,9 @@ process_is_safe p old new begun is = process_safe p old new is begun
 stage_safe : (r : Resumption) (past : Past) (stage : Stage) (old new : World) → IsSafeAfter r past old → IsStage stage old new → Follows r past stage
     → IsSafeAfter r (past_after past stage) new
 stage_safe r past (Ran p) old new safe is follows here = safe_after p old new is r past safe follows p.has_begun refl here
+stage_safe r past Finished old new safe (finds, same) follows here =
+    subst (IsSafe past.low r) (sym same)
+    (finished_is_safe past.low r old finds.older finds.newer finds.beside finds.older_found finds.newer_found finds.beside_found finds.cut (safe here))
 stage_safe r past Sealed old new safe (seal, same) follows here = subst (IsSafe past.low r) (sym same) (sealed_safe past.low r old seal (safe here))
 stage_safe r past Lost old new safe is follows here = absurd (false≢true (sym here))
 
@@ -314,10 +322,10 @@ spent_itself r seen has =
     (extended_holds c upto r.floor after (same_le r.floor) (stamp_seen seen) (last_spent c first r.floor seen (own_name seen)))
 
 kept_is_refused : KeptIsRefused
-kept_is_refused p life before after new begun is lives follows place older newer found check o n starts late seen has =
+kept_is_refused p life before after new begun is lives follows place older newer beside found check o n b starts late seen has =
     let kept = kept_by_process p in
     let safe = stays_safe kept (past_of p) life after new (λ here. process_is_safe p before after begun is) lives follows late.0 in
-    safe.knows place older newer found check o n starts late.1 found.floor (same_le found.floor) seen.client.components (stamp_seen seen)
+    safe.knows place older newer beside found check o n b starts late.1 found.floor (same_le found.floor) seen.client.components (stamp_seen seen)
     (raised_within kept found.floor seen.client.components (stamp_seen seen) (spent_itself kept seen has))
 
 -- ---- what is kept if the last call succeeded
@@ -358,7 +366,7 @@ all_is_kept r calls last ok = all_in r r calls last ok
 
 abbrev resumption_or : Resumption → Start → Resumption
 resumption_or otherwise (Resumes found check) = found
-resumption_or otherwise (Refuses doubt) = otherwise
+resumption_or otherwise (Refuses doubt lost) = otherwise
 
 not_below : (at floor high : ℤ) (early : Bool)
     → (at -ℤ pos skew) ≤ℤ (if early then int_max (at +ℤ pos (skew + 1)) high else int_max floor (at -ℤ pos skew))
@@ -366,42 +374,30 @@ not_below at floor high true = grind (arith, ints, clamps)
 not_below at floor high false = grind (arith, ints, clamps)
 
 starts_are_later : StartsAreLater
-starts_are_later place older Nothing found check is = absurd cc
-starts_are_later place older Broken found check is = absurd cc
-starts_are_later place older (Whole j) found check is = by_doubt (doubt_of place older j) is
+starts_are_later place older Nothing beside found check is = absurd cc
+starts_are_later place older (Broken lost) beside found check is = absurd cc
+starts_are_later place older (Whole j) beside found check is = by_doubt (doubt_of place older j) is
   where
-    by_doubt : (doubt : Option Doubt) → start_by place older j doubt ≡ Resumes found check → (place.at.sec -ℤ pos skew) ≤ℤ found.floor
+    by_doubt : (doubt : Option Doubt) → start_by place older j beside doubt ≡ Resumes found check → (place.at.sec -ℤ pos skew) ≤ℤ found.floor
     by_doubt (Some doubt) is = absurd cc
     by_doubt None is =
         subst (λ (r : Resumption). (place.at.sec -ℤ pos skew) ≤ℤ r.floor) (ap (resumption_or found) is)
         (not_below place.at.sec (floor_behind j older) j.high (is_early place j older))
 
-check_len : (check : List ℕ) (e : List ℕ) → length (check_of check e) ≡ 16
-check_len check e = length-take-le 16 (sha256 (check ++ e)) (omega (arith, length-sha256 (check ++ e)))
-
-last_len : (check : List ℕ) (es : List Entry) → length check ≡ 16 → length (last_check check es) ≡ 16
-unfolding last_check
-last_len check [] len = len
-last_len check (e ∷ es) len = last_len (check_of check (written entry e)) es (check_len check (written entry e))
-
-spelled_len : (file : Option (List ℕ)) (j : Journal) → IsSpelled file (Whole j) → length j.check ≡ 16
-spelled_len None j s = absurd s
-spelled_len (Some text) j s = ap length s.check_is ∙ last_len (header_check j.header) j.entries (check_len j.header.link (written header j.header))
-
 abbrev check_or : List ℕ → Found → List ℕ
 check_or otherwise Nothing = otherwise
-check_or otherwise Broken = otherwise
+check_or otherwise (Broken lost) = otherwise
 check_or otherwise (Whole j) = j.check
 
 found_len : (file : Option (List ℕ)) (j : Journal) → IsFound file (Whole j) → length j.check ≡ 16
 found_len file j (Nothing, s, is) = absurd cc
-found_len file j (Broken, s, is) = absurd cc
+found_len file j (Broken lost, s, is) = absurd cc
 found_len file j (Whole all, s, is) = ap (λ f. length (check_or [] f)) is ∙ spelled_len file all s
 
 next_boot_refuses : NextBootRefuses
-next_boot_refuses w place older Nothing o n none other = (Absent, refl)
-next_boot_refuses w place older Broken o n none other = (Damaged, refl)
-next_boot_refuses w place older (Whole j) o n none other = by_doubt (doubt_of place older j) refl
+next_boot_refuses w place older Nothing beside o n none other = (doubt_without older beside, found_floor older Nothing beside, refl)
+next_boot_refuses w place older (Broken lost) beside o n none other = (Damaged, found_floor older (Broken lost) beside, refl)
+next_boot_refuses w place older (Whole j) beside o n none other = by_doubt (doubt_of place older j) refl
   where
     by_boot : (k : Journal) → Whole j ≡ Whole k → (k.header.boot ≡ place.boot.now) ⊎ (place.seal.now ≡ k.check) → ⊥
     by_boot k same (inl boot) = other k same boot
@@ -410,10 +406,10 @@ next_boot_refuses w place older (Whole j) o n none other = by_doubt (doubt_of pl
         let empty : length k.check ≡ 0 = ap length (sym seal ∙ none) in
         absurd (omega (arith, len, empty))
 
-    by_doubt : (doubt : Option Doubt) → doubt_of place older j ≡ doubt → (d : Doubt) × (start_by place older j (doubt_of place older j) ≡ Refuses d)
-    by_doubt (Some doubt) is = (doubt, ap (start_by place older j) is)
+    by_doubt : (doubt : Option Doubt) → doubt_of place older j ≡ doubt → (d : Doubt) × (floor : Option ℤ) × (start_by place older j beside (doubt_of place older j) ≡ Refuses d floor)
+    by_doubt (Some doubt) is = (doubt, found_floor older (Whole j) beside, ap (start_by place older j beside) is)
     by_doubt None is =
-        let (k, same, either) = seals_hold.needed place older (Whole j) (resumption_of place older j) (goes_on_behind place older j) (ap (start_by place older j) is) in
+        let (k, same, either) = seals_hold.needed place older (Whole j) beside (resumption_of place older j) (goes_on_behind place older j) (ap (start_by place older j beside) is) in
         absurd (by_boot k same either)
 
 -- ---- what is promised of a seal and of a start
@@ -429,7 +425,8 @@ pub sealing_left : {E : Type 0} (place : Place) (older newer : Found) (result : 
     → HasSealed place older newer (Some old) result (Some new) → IsStage Sealed old new
 sealing_left place older newer (Ok outcomes.Sealed) old new (check, sealed, left) = (check, left)
 sealing_left place older newer (Ok (outcomes.Doubted doubt)) old new (doubted, same) = (old.seal, one_world old new same)
-sealing_left place older newer (Err fault) old new (check, sealed, (part, rest, whole, left)) = (part, left)
+sealing_left place older newer (Err fault) old new (check, sealed, inl same) = (old.seal, same)
+sealing_left place older newer (Err fault) old new (check, sealed, inr left) = (check, left)
 
 -- one more call is made
 one_more_call : (calls : List Call) (call : Call) (old next new : JournalState) → AreCalls calls old next → IsCall call next new
@@ -477,7 +474,7 @@ made_more all i one is lt old next new made step =
 
 pub known_again : (start : Start) (otherwise floor : ℤ) → floor ≡ (known_by otherwise start).floor → floor ≡ (known_by floor start).floor
 known_again (Resumes found check) otherwise floor is = is
-known_again (Refuses doubt) otherwise floor is = refl
+known_again (Refuses doubt lost) otherwise floor is = refl
 
 -- a journal began, or failed to, and then made the calls that were asked for
 abbrev pub HasServed : Moment → Found → Start → List Asked → JournalState → JournalState → Type 0
@@ -506,17 +503,19 @@ process_run at floor newer start asked first last old new found floor_is starts 
   },
 )
 
-pub start_made : (place : Place) (older newer : Found) (start : Start) (w : Option World) → IfSome w (λ w. IsFound w.older older)
-    → IfSome w (λ w. IsFound w.newer newer) → start ≡ start_of place older newer
-    → IfSome w (λ w. (floor : ℤ) → floor ≡ (known_by floor start).floor → IsStart place.at floor newer start w)
-start_made place older newer start None o n decided = tt
-start_made place older newer start (Some w) o n decided = λ floor is.
+pub start_made : (place : Place) (found : FoundFiles) (start : Start) (w : Option World) → IfSome w (AreFound found)
+    → start ≡ start_of place found.older found.newer found.beside
+    → IfSome w (λ w. (floor : ℤ) → floor ≡ (known_by floor start).floor → IsStart place.at floor found.newer start w)
+start_made place found start None are decided = tt
+start_made place found start (Some w) are decided = λ floor is.
     record {
       place = place;
       moment = refl;
-      older = older;
-      older_found = o;
-      newer_found = n;
+      older = found.older;
+      beside = found.beside;
+      older_found = are.older;
+      newer_found = are.newer;
+      beside_found = are.beside;
       decided = decided;
       floor = is;
     }
@@ -530,4 +529,5 @@ lives_hold = record {
   later = starts_are_later;
   no_seal = leaves_no_seal;
   next_boot = next_boot_refuses;
+  shown = shown_is_refused;
 }

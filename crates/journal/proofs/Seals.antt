@@ -1,42 +1,45 @@
 -- What a seal is for, and that no call of a running server touches it.
-use Rattle.std.proofs.Common.{◌≡◌, ◌⊎◌, inl, inr, ℕ, ℤ, Bool, true, false, not, ◌||◌, List, [], Option, Some, None, Result, Ok, Err, refl, sym, ap, subst, ◌∙◌}
+use Rattle.std.proofs.Common.{◌≡◌, ◌⊎◌, inl, inr, ℕ, ℤ, Bool, true, false, not, ◌||◌, List, [], Option, Some, None, Ok, refl, sym, ap, subst, ◌∙◌}
 use Rattle.std.specs.Prelude.{IfSome, nat_eq, if◌then◌else◌}
 use Rattle.std.specs.Cmp.Lexicographic.{pointwise, same_text}
 use Rattle.krb_fields.specs.declared.moment.Moment.{Moment}
 use Rattle.replay.specs.declared.seen.Resumption.{Resumption}
 use Rattle.replay.specs.declared.seen.Seen.{Seen}
-use Rattle.journal.specs.Appending.{BeginsFile, HasMended, HasTurned, HasKeptOne, MayKeep, MayTurn}
-use Rattle.journal.specs.Decision.{Place, doubt_of, goes_on_behind, is_other_boot, is_other_realm, is_sealed, is_unlinked, resumption_of, seal_by, seal_of, start_by, start_of}
-use Rattle.journal.specs.Holding.{IsSafe, IsStart}
-use Rattle.journal.specs.Sealing.{SealIsSafe, SealsHold, SealsWhatResumes, ThisBootOrSealed}
-use Rattle.journal.specs.World.{HasPart, IsTorn, Leaves, SameSeal, Unseals, World, with_seal}
+use Rattle.journal.specs.Appending.{BeginsFile, HasMended, MayFail, MayKeep, MayTurn}
+use Rattle.journal.specs.Decision.{Place, doubt_of, found_floor, goes_on_behind, is_missealed, is_other_boot, is_other_realm, is_sealed, is_unlinked, resumption_of, seal_by, start_by, start_of}
+use Rattle.journal.specs.Holding.{IsStart}
+use Rattle.journal.specs.Sealing.{MissealedRefuses, SealIsSafe, SealsHold, SealsWhatResumes, ThisBootOrSealed}
+use Rattle.journal.specs.World.{HasBeside, HasPart, IsLeft, Leaves, SameSeal, Unseals, World, with_seal, without_older}
 use Rattle.journal.specs.declared.decision.Doubt.{Doubt}
 use Rattle.journal.specs.declared.decision.Found.{Found}
 use Rattle.journal.specs.declared.decision.Found.TheVariants.{Nothing, Broken, Whole}
 use Rattle.journal.specs.declared.decision.Start.{Start}
 use Rattle.journal.specs.declared.decision.Start.TheVariants.{Resumes, Refuses}
 use Rattle.journal.specs.declared.files.Begun.{Begun}
-use Rattle.journal.specs.declared.files.Begun.TheVariants.{Linked, Anew}
+use Rattle.journal.specs.declared.files.Begun.TheVariants.{Linked, Anew, Roomy}
+use Rattle.journal.specs.declared.files.Left.{Left}
+use Rattle.journal.specs.declared.files.Left.TheVariants.{Before, Between, InPlace}
 use Rattle.journal.specs.declared.journal_file.Tail.{Tail}
-use Rattle.journal.specs.declared.reading.Journal.{Journal}
 use Rattle.journal.proofs.Keeps.{unrecorded}
 
 -- ---- what is sealed
 
 seals_what_resumes : SealsWhatResumes
-seals_what_resumes place older Nothing check is = absurd cc
-seals_what_resumes place older Broken check is = absurd cc
-seals_what_resumes place older (Whole j) check is = by_doubt (doubt_of place older j) is
+seals_what_resumes place older Nothing beside check is = absurd cc
+seals_what_resumes place older (Broken lost) beside check is = absurd cc
+seals_what_resumes place older (Whole j) beside check is = by_doubt (doubt_of place older j) is
   where
     by_doubt : (doubt : Option Doubt) → seal_by j doubt ≡ Ok check
-        → (r : Resumption) × (behind : Option (List ℕ)) × (start_by place older j doubt ≡ Resumes r behind)
+        → (r : Resumption) × (behind : Option (List ℕ)) × (start_by place older j beside doubt ≡ Resumes r behind)
     by_doubt (Some doubt) is = absurd cc
     by_doubt None is = (resumption_of place older j, goes_on_behind place older j, refl)
 
-second_fails : (a b c : Bool) (x y z : Doubt) → (if a then Some x else (if b then Some y else (if c then Some z else None))) ≡ None → b ≡ false
-second_fails true b c x y z e = absurd cc
-second_fails false true c x y z e = absurd cc
-second_fails false false c x y z e = refl
+third_fails : (a m b c : Bool) (x v y z : Doubt)
+    → (if a then Some x else (if m then Some v else (if b then Some y else (if c then Some z else None)))) ≡ None → b ≡ false
+third_fails true m b c x v y z e = absurd cc
+third_fails false true b c x v y z e = absurd cc
+third_fails false false true c x v y z e = absurd cc
+third_fails false false false c x v y z e = refl
 
 either : (a b : Bool) → not (a || b) ≡ false → (a ≡ true) ⊎ (b ≡ true)
 either true b e = inl refl
@@ -44,28 +47,52 @@ either false true e = inr refl
 either false false e = absurd cc
 
 this_boot_or_sealed : ThisBootOrSealed
-this_boot_or_sealed place older Nothing r behind is = absurd cc
-this_boot_or_sealed place older Broken r behind is = absurd cc
-this_boot_or_sealed place older (Whole j) r behind is = (j, refl, by_doubt (doubt_of place older j) refl is)
+this_boot_or_sealed place older Nothing beside r behind is = absurd cc
+this_boot_or_sealed place older (Broken lost) beside r behind is = absurd cc
+this_boot_or_sealed place older (Whole j) beside r behind is = (j, refl, by_doubt (doubt_of place older j) refl is)
   where
     by_test : (pointwise nat_eq j.header.boot place.boot.now ≡ true) ⊎ (is_sealed place j ≡ true)
         → (j.header.boot ≡ place.boot.now) ⊎ (place.seal.now ≡ j.check)
     by_test (inl boot) = inl (same_text j.header.boot place.boot.now (sym boot))
     by_test (inr seal) = inr (same_text place.seal.now j.check (sym seal))
 
-    by_doubt : (doubt : Option Doubt) → doubt_of place older j ≡ doubt → start_by place older j doubt ≡ Resumes r behind
+    by_doubt : (doubt : Option Doubt) → doubt_of place older j ≡ doubt → start_by place older j beside doubt ≡ Resumes r behind
         → (j.header.boot ≡ place.boot.now) ⊎ (place.seal.now ≡ j.check)
     by_doubt (Some doubt) none is = absurd cc
     by_doubt None none is =
         by_test
         (either (pointwise nat_eq j.header.boot place.boot.now) (is_sealed place j)
-        (second_fails (is_other_realm place j) (is_other_boot place j) (is_unlinked place older j) _ _ _ none))
+        (third_fails (is_other_realm place j) (is_missealed place j) (is_other_boot place j) (is_unlinked place older j) _ _ _ _ none))
 
 pub sealed_safe : SealIsSafe
 sealed_safe low r w seal safe = record { knows = safe.knows }
 
+-- a list that is another one is tested to be so
+not_same : (a b : List ℕ) (test : Bool) → pointwise nat_eq a b ≡ test → (a ≡ b → ⊥) → test ≡ false
+not_same a b true is not = absurd (not (same_text a b (sym is)))
+not_same a b false is not = refl
+
+second_holds : (a m : Bool) (x v : Doubt) (others : Option Doubt) → m ≡ true → (d : Doubt) × ((if a then Some x else (if m then Some v else others)) ≡ Some d)
+second_holds true m x v others e = (x, refl)
+second_holds false true x v others e = (v, refl)
+second_holds false false x v others e = absurd cc
+
+missealed_refuses : MissealedRefuses
+missealed_refuses place older newer beside j is empty other =
+    subst (λ n. (doubt : Doubt) × (floor : Option ℤ) × (start_of place older n beside ≡ Refuses doubt floor)) (sym is) by_journal
+  where
+    missealed : is_missealed place j ≡ true
+    missealed =
+        ap (λ b. not (b || is_sealed place j)) (not_same place.seal.now [] (pointwise nat_eq place.seal.now []) refl empty)
+        ∙ ap not (not_same place.seal.now j.check (is_sealed place j) refl other)
+
+    by_journal : (doubt : Doubt) × (floor : Option ℤ) × (start_of place older (Whole j) beside ≡ Refuses doubt floor)
+    by_journal =
+        let (d, holds) = second_holds (is_other_realm place j) (is_missealed place j) _ _ _ missealed in
+        (d, found_floor older (Whole j) beside, ap (start_by place older j beside) holds)
+
 pub seals_hold : SealsHold
-seals_hold = record { resumes = seals_what_resumes; needed = this_boot_or_sealed; safe = sealed_safe }
+seals_hold = record { resumes = seals_what_resumes; needed = this_boot_or_sealed; safe = sealed_safe; missealed = missealed_refuses }
 
 -- ---- before a start breaks it
 
@@ -75,8 +102,10 @@ sealed_start at floor newer start w seal s = record {
   place = s.place;
   moment = s.moment;
   older = s.older;
+  beside = s.beside;
   older_found = s.older_found;
   newer_found = s.newer_found;
+  beside_found = s.beside_found;
   decided = s.decided;
   floor = s.floor;
 }
@@ -131,20 +160,35 @@ pub begun_stays : (place : Place) (floor : Option ℤ) (link : List ℕ) (how : 
     → BeginsFile place floor link how check old new → Leaves SameSeal old new
 begun_stays place floor link Linked check old new file = by_world _ (λ w n is. ap (λ (w : World). w.seal) is) old new file.leaves
 begun_stays place floor link Anew check old new file = by_world _ (λ w n is. ap (λ (w : World). w.seal) is) old new file.leaves
+begun_stays place floor link Roomy check old new file = by_world _ (λ w n is. ap (λ (w : World). w.seal) is) old new file.leaves
 
-pub torn_stays : (old new : Option World) → Leaves IsTorn old new → Leaves SameSeal old new
-torn_stays old new torn = by_world IsTorn one old new torn
-  where
-    one : (w n : World) → IsTorn w n → n.seal ≡ w.seal
-    one w n (inl same) = ap (λ (w : World). w.seal) same
-    one w n (inr (inl moved)) = ap (λ (w : World). w.seal) moved
-    one w n (inr (inr gone)) = ap (λ (w : World). w.seal) gone
+beside_stays : (text : List ℕ) (w n : World) → HasBeside text w n → n.seal ≡ w.seal
+beside_stays text w n (inl same) = ap (λ (w : World). w.seal) same
+beside_stays text w n (inr (inl gone)) = ap (λ (w : World). w.seal) gone
+beside_stays text w n (inr (inr (part, rest, is, there))) = ap (λ (w : World). w.seal) there
+
+left_stays : (how : Begun) (text : List ℕ) (left : Left) (w n : World) → IsLeft how text left w n → n.seal ≡ w.seal
+left_stays how text Before w n is = beside_stays text w n is
+left_stays Linked text Between w n is = ap (λ (w : World). w.seal) is
+left_stays Anew text Between w n is = beside_stays text w n is
+left_stays Roomy text Between w n is = beside_stays text (without_older w) n is
+left_stays Linked text InPlace w n is = ap (λ (w : World). w.seal) is
+left_stays Anew text InPlace w n (inl is) = ap (λ (w : World). w.seal) is
+left_stays Anew text InPlace w n (inr is) = ap (λ (w : World). w.seal) is
+left_stays Roomy text InPlace w n (inl is) = ap (λ (w : World). w.seal) is
+left_stays Roomy text InPlace w n (inr is) = ap (λ (w : World). w.seal) is
+
+pub failed_stays : (place : Place) (floor : Option ℤ) (link : List ℕ) (how : Begun) (left : Left) (old new : Option World)
+    → MayFail place floor link how left old new → Leaves SameSeal old new
+failed_stays place floor link how left old new (inl (before, same)) = stays_if_same old new same
+failed_stays place floor link how left old new (inr file) =
+    by_world (IsLeft how file.text left) (left_stays how file.text left) old new file.leaves
 
 pub turn_stays : (place : Place) (floor : Option ℤ) (tail : Option Tail) (old : Option World) (next : Option Tail) (new : Option World)
     → MayTurn place floor tail old next new → Leaves SameSeal old new
 turn_stays place floor None old next new (none, same) = stays_if_same old new same
-turn_stays place floor (Some tail) old None new torn = torn_stays old new torn
-turn_stays place floor (Some tail) old (Some next) new (inl (check, same)) = stays_if_same old new same
+turn_stays place floor (Some tail) old None new (left, failed) = failed_stays place floor tail.check Linked left old new failed
+turn_stays place floor (Some tail) old (Some next) new (inl (check, failed)) = failed_stays place floor tail.check Linked Before old new failed
 turn_stays place floor (Some tail) old (Some next) new (inr file) = begun_stays place floor tail.check Linked next.check old new file
 
 pub append_stays : (at : Moment) (seen : Seen) (tail : Option Tail) (old : Option World) (next : Option Tail) (new : Option World)
@@ -158,5 +202,5 @@ append_stays at seen (Some tail) old None new (text, part) = by_world (HasPart t
 
 pub mend_stays : (place : Place) (floor : Option ℤ) (old : Option World) (next : Option Tail) (new : Option World) → HasMended place floor old next new
     → Leaves SameSeal old new
-mend_stays place floor old (Some next) new file = begun_stays place floor [] Anew next.check old new file
-mend_stays place floor old None new torn = torn_stays old new torn
+mend_stays place floor old (Some next) new file = begun_stays place floor [] Roomy next.check old new file
+mend_stays place floor old None new (left, failed) = failed_stays place floor [] Roomy left old new failed

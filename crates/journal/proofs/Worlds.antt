@@ -1,6 +1,9 @@
 -- Whatever the calls of a running server leave, no start resumes without what was kept.
-use Rattle.std.proofs.Common.{◌≡◌, ◌⊎◌, inl, inr, ℕ, ℤ, pos, ◌-ℤ◌, ◌≤ℤ◌, ◌<ℤ◌, Bool, true, false, not, ◌&&◌, ◌||◌, if◌then◌else◌, List, [], ◌∷◌, ◌++◌, map, Option, Some, None, option_map, refl, sym, ap, subst, ◌∙◌}
+use Rattle.std.proofs.Common.{◌≡◌, inl, inr, ℕ, ℤ, pos, ◌-ℤ◌, ◌≤ℤ◌, ◌<ℤ◌, Bool, true, false, not, ◌&&◌, ◌||◌, if◌then◌else◌, List, [], ◌∷◌, ◌++◌, map, Option, Some, None, option_map, refl, sym, ap, subst, ◌∙◌, length, arith}
 use Rattle.std.specs.Prelude.{All, IfSome, nat_eq}
+use Rattle.std.proofs.lemmas.List.{length-take-le}
+use Rattle.sha2.proofs.Facts256.{length-sha256}
+use Rattle.sha2.specs.Sha256.{sha256}
 use Rattle.std.specs.Int.{int_max}
 use Rattle.std.proofs.lemmas.Bool.{eq-eqb}
 use Rattle.std.specs.Cmp.Lexicographic.{pointwise}
@@ -8,33 +11,37 @@ use Rattle.krb_fields.specs.Skew.{skew}
 use Rattle.krb_fields.specs.declared.moment.Moment.{Moment}
 use Rattle.replay.specs.declared.seen.Resumption.{Resumption}
 use Rattle.replay.specs.declared.seen.Seen.{Seen}
-use Rattle.journal.specs.Decision.{Place, above, doubt_of, entries_behind, floor_behind, floor_on, goes_on_behind, is_early, is_first, is_foreign, is_linked, is_other_boot, is_other_realm, is_unlinked, resumed_floor, resumption_of, seen_of, start_by, start_of}
-use Rattle.journal.specs.Forms.{Entry}
-use Rattle.journal.specs.Holding.{HasSums, HoldAll, HoldsOn, IsAbove, IsFound, IsHeld, IsSafe, IsSpelled, IsWhole, KeptIsSafe, Knows, Spells, TornIsSafe, cut, cut_found, held_in, with_one}
+use Rattle.journal.specs.Decision.{Place, above, doubt_of, entries_behind, floor_behind, floor_on, goes_behind, goes_on_behind, is_behind, is_early, is_first, is_foreign, is_linked, is_missealed, is_other_boot, is_other_realm, is_unlinked, next_start, resumed_floor, resumption_of, seen_of, start_by, start_of}
+use Rattle.krb_elements.specs.Codec.{written}
+use Rattle.journal.specs.Forms.{Entry, Header, entry, header}
+use Rattle.journal.specs.Holding.{FinishedIsSafe, HasSums, HoldAll, HoldsOn, IsAbove, IsFound, IsHeld, IsSafe, IsSpelled, IsWhole, KeptIsSafe, Knows, Spells, UnbegunIsSafe, cut, cut_found, held_in, with_one}
+use Rattle.journal.specs.Texts.{check_of, header_check, last_check}
 use Rattle.journal.specs.Keeping.{BeginsJournal, KeepsEntry, begun}
-use Rattle.journal.specs.World.{World, with_file, with_more}
+use Rattle.journal.specs.World.{HasBeside, IsLeft, World, finished, with_beside, with_file, with_more, without_older}
 use Rattle.journal.specs.declared.decision.Doubt.{Doubt}
 use Rattle.journal.specs.declared.decision.Found.{Found}
 use Rattle.journal.specs.declared.decision.Found.TheVariants.{Nothing, Broken, Whole}
 use Rattle.journal.specs.declared.decision.Start.{Start}
 use Rattle.journal.specs.declared.decision.Start.TheVariants.{Resumes, Refuses}
-use Rattle.journal.specs.declared.files.Begun.TheVariants.{Linked, Anew}
+use Rattle.journal.specs.declared.files.Begun.TheVariants.{Linked, Anew, Roomy}
+use Rattle.journal.specs.declared.files.Left.{Left}
+use Rattle.journal.specs.declared.files.Left.TheVariants.{Before, Between, InPlace}
 use Rattle.journal.specs.declared.reading.Journal.{Journal}
 use Rattle.journal.proofs.Fronts.{IsOnward, one_journal, onward, same_journal}
-use Rattle.journal.proofs.Held.{All_cut, HaveSums, above_one, above_test, cut_floor, early_above, entries_below, floor_on_stays, found_holds, fresh, fresh_above, hold_first, hold_more, hold_one, hold_turned, linked_more, on_newer, resumes_with_held, rises_above, same_le, spells_fresh, spells_one, with_entries}
+use Rattle.journal.proofs.Held.{All_cut, HaveSums, above_one, above_test, cut_floor, early_above, begun_journal, entries_below, floor_on_stays, found_holds, fresh, fresh_above, hold_first, hold_more, hold_one, hold_turned, linked_more, on_newer, resumes_with_held, rises_above, same_le, spells_begun, spells_fresh, spells_one, with_entries}
 
 -- ---- what a start resumes with
 
 abbrev with_resumption : Resumption → Start → Resumption
 with_resumption otherwise (Resumes r check) = r
-with_resumption otherwise (Refuses doubt) = otherwise
+with_resumption otherwise (Refuses doubt lost) = otherwise
 
 abbrev with_check : Option (List ℕ) → Start → Option (List ℕ)
 with_check otherwise (Resumes r check) = check
-with_check otherwise (Refuses doubt) = otherwise
+with_check otherwise (Refuses doubt lost) = otherwise
 
 -- the journals are linked, and it resumes with what is left of them
-record IsResumed (place : Place) (older : Found) (j : Journal) (r : Resumption) (check : Option (List ℕ)) : Type 0 where
+pub record IsResumed (place : Place) (older : Found) (j : Journal) (r : Resumption) (check : Option (List ℕ)) : Type 0 where
   pub linked : is_linked j older ≡ true
   pub resumption : resumption_of place (cut_found older) (cut j) ≡ r
   pub goes_on : goes_on_behind place older j ≡ check
@@ -43,43 +50,47 @@ linked_by : (linked foreign : Bool) → (not linked || foreign) ≡ false → li
 linked_by true foreign e = refl
 linked_by false foreign e = absurd cc
 
-none_holds : (a b c : Bool) (x y z : Doubt) → (if a then Some x else (if b then Some y else (if c then Some z else None))) ≡ None → c ≡ false
-none_holds true b c x y z e = absurd cc
-none_holds false true c x y z e = absurd cc
-none_holds false false true x y z e = absurd cc
-none_holds false false false x y z e = refl
+none_holds : (a m b c : Bool) (x v y z : Doubt)
+    → (if a then Some x else (if m then Some v else (if b then Some y else (if c then Some z else None)))) ≡ None → c ≡ false
+none_holds true m b c x v y z e = absurd cc
+none_holds false true b c x v y z e = absurd cc
+none_holds false false true c x v y z e = absurd cc
+none_holds false false false true x v y z e = absurd cc
+none_holds false false false false x v y z e = refl
 
 cut_linked : (j : Journal) (older : Found) → is_linked (cut j) (cut_found older) ≡ is_linked j older
 cut_linked j Nothing = refl
-cut_linked j Broken = refl
+cut_linked j (Broken lost) = refl
 cut_linked j (Whole before) = refl
 
 cut_goes_on : (place : Place) (older : Found) (j : Journal) → goes_on_behind place (cut_found older) (cut j) ≡ goes_on_behind place older j
 cut_goes_on place Nothing j = refl
-cut_goes_on place Broken j = refl
+cut_goes_on place (Broken lost) j = refl
 cut_goes_on place (Whole before) j = refl
 
-by_doubt : (place : Place) (older : Found) (j : Journal) (doubt : Option Doubt) (r : Resumption) (check : Option (List ℕ))
-    → doubt_of place (cut_found older) (cut j) ≡ doubt → start_by place (cut_found older) (cut j) doubt ≡ Resumes r check → IsResumed place older j r check
-by_doubt place older j (Some doubt) r check none is = absurd cc
-by_doubt place older j None r check none is = record {
+by_doubt : (place : Place) (older beside : Found) (j : Journal) (doubt : Option Doubt) (r : Resumption) (check : Option (List ℕ))
+    → doubt_of place (cut_found older) (cut j) ≡ doubt → start_by place (cut_found older) (cut j) beside doubt ≡ Resumes r check
+    → IsResumed place older j r check
+by_doubt place older beside j (Some doubt) r check none is = absurd cc
+by_doubt place older beside j None r check none is = record {
   linked = sym (cut_linked j older)
       ∙ linked_by (is_linked (cut j) (cut_found older)) (is_foreign place (cut j) (cut_found older))
-      (none_holds (is_other_realm place (cut j)) (is_other_boot place (cut j)) (is_unlinked place (cut_found older) (cut j)) _ _ _ none);
+      (none_holds (is_other_realm place (cut j)) (is_missealed place (cut j)) (is_other_boot place (cut j))
+      (is_unlinked place (cut_found older) (cut j)) _ _ _ _ none);
   resumption = ap (with_resumption r) is;
   goes_on = sym (cut_goes_on place older j) ∙ ap (with_check check) is;
 }
 
-is_resumed : (place : Place) (older : Found) (j : Journal) (r : Resumption) (check : Option (List ℕ))
-    → start_of place (cut_found older) (Whole (cut j)) ≡ Resumes r check → IsResumed place older j r check
-is_resumed place older j r check is = by_doubt place older j (doubt_of place (cut_found older) (cut j)) r check refl is
+pub is_resumed : (place : Place) (older beside : Found) (j : Journal) (r : Resumption) (check : Option (List ℕ))
+    → start_of place (cut_found older) (Whole (cut j)) beside ≡ Resumes r check → IsResumed place older j r check
+is_resumed place older beside j r check is = by_doubt place older beside j (doubt_of place (cut_found older) (cut j)) r check refl is
 
 -- with journals that hold all, a start knows all
-holds_known : (place : Place) (older : Found) (j : Journal) (low : ℤ) (kept found : Resumption) (check : Option (List ℕ)) → HaveSums older → HasSums j
-    → (is_linked j older ≡ true → HoldAll older j low kept) → start_of place (cut_found older) (Whole (cut j)) ≡ Resumes found check
+holds_known : (place : Place) (older beside : Found) (j : Journal) (low : ℤ) (kept found : Resumption) (check : Option (List ℕ)) → HaveSums older → HasSums j
+    → (is_linked j older ≡ true → HoldAll older j low kept) → start_of place (cut_found older) (Whole (cut j)) beside ≡ Resumes found check
     → low ≤ℤ found.floor → (below : ℤ) → below ≤ℤ found.floor → Knows below kept found
-holds_known place older j low kept found check sums own hold is late below under =
-    let resumed = is_resumed place older j found check is in
+holds_known place older beside j low kept found check sums own hold is late below under =
+    let resumed = is_resumed place older beside j found check is in
     subst (λ r. Knows below kept r) resumed.resumption
     (resumes_with_held place older j low kept sums own (hold resumed.linked) resumed.linked
     (subst (λ (r : Resumption). low ≤ℤ r.floor) (sym resumed.resumption) late) below
@@ -90,12 +101,12 @@ holds_known place older j low kept found check sums own hold is late below under
 spelled_in : (file : Option (List ℕ)) (text : List ℕ) (found : Found) → file ≡ Some text → IsSpelled file found → IsSpelled (Some text) found
 spelled_in file text found is f = subst (λ x. IsSpelled x found) is f
 
-spelled_sums : (file : Option (List ℕ)) (found : Found) → IsSpelled file found → HaveSums found
+pub spelled_sums : (file : Option (List ℕ)) (found : Found) → IsSpelled file found → HaveSums found
 spelled_sums None Nothing s = tt
-spelled_sums None Broken s = absurd s
+spelled_sums None (Broken lost) s = absurd s
 spelled_sums None (Whole j) s = absurd s
 spelled_sums (Some text) Nothing s = absurd s
-spelled_sums (Some text) Broken s = tt
+spelled_sums (Some text) (Broken lost) s = tt
 spelled_sums (Some text) (Whole j) s = s.sums
 
 -- a world whose newer file spells only journals that hold all, is safe
@@ -103,63 +114,199 @@ safe_by : (low : ℤ) (kept : Resumption) (w : World) (text : List ℕ) → w.ne
     → ((older : Found) (j : Journal) → IsSpelled w.older older → Spells text j → is_linked j older ≡ true → HoldAll older j low kept)
     → IsSafe low kept w
 safe_by low kept w text is hold = record {
-  knows = λ place older newer found check (fo, so, eo) (fn, sn, en) starts late below under.
-      by_found place fo fn found check so (spelled_in w.newer text fn is sn)
-      (ap (λ o. start_of place o (cut_found fn)) (sym eo) ∙ (ap (start_of place older) (sym en) ∙ starts)) late below under;
+  knows = λ place older newer beside found check (fo, so, eo) (fn, sn, en) b starts late below under.
+      by_found place fo fn beside found check so (spelled_in w.newer text fn is sn)
+      (ap (λ o. next_start place o (cut_found fn) beside) (sym eo) ∙ (ap (λ n. next_start place older n beside) (sym en) ∙ starts)) late below under;
 }
   where
-    by_found : (place : Place) (older newer : Found) (found : Resumption) (check : Option (List ℕ)) → IsSpelled w.older older → IsSpelled (Some text) newer
-        → start_of place (cut_found older) (cut_found newer) ≡ Resumes found check → low ≤ℤ found.floor → (below : ℤ) → below ≤ℤ found.floor → Knows below kept found
-    by_found place older Nothing found check o n starts late below under = absurd n
-    by_found place older Broken found check o n starts late below under = absurd cc
-    by_found place older (Whole j) found check o n starts late below under =
-        holds_known place older j low kept found check (spelled_sums w.older older o) n.sums (hold older j o n) starts late below under
+    by_found : (place : Place) (older newer beside : Found) (found : Resumption) (check : Option (List ℕ)) → IsSpelled w.older older → IsSpelled (Some text) newer
+        → next_start place (cut_found older) (cut_found newer) beside ≡ Resumes found check → low ≤ℤ found.floor → (below : ℤ) → below ≤ℤ found.floor
+        → Knows below kept found
+    by_found place older Nothing beside found check o n starts late below under = absurd n
+    by_found place older (Broken lost) beside found check o n starts late below under = absurd cc
+    by_found place older (Whole j) beside found check o n starts late below under =
+        holds_known place older beside j low kept found check (spelled_sums w.older older o) n.sums (hold older j o n) starts late below under
 
 -- no file
-none_found : (found : Found) → IsFound None found → found ≡ Nothing
+pub none_found : (found : Found) → IsFound None found → found ≡ Nothing
 none_found found (Nothing, s, is) = is
-none_found found (Broken, s, is) = absurd s
+none_found found (Broken lost, s, is) = absurd s
 none_found found (Whole j, s, is) = absurd s
 
-safe_without : (low : ℤ) (kept : Resumption) (w : World) → w.newer ≡ None → IsSafe low kept w
-safe_without low kept w is = record {
-  knows = λ place older newer found check older_found newer_found starts late below under.
-      nothing place older found check below
-      (ap (start_of place older) (sym (none_found newer (subst (λ x. IsFound x newer) is newer_found))) ∙ starts);
-}
+-- what is found as no file is none
+found_none : (file : Option (List ℕ)) → IsFound file Nothing → file ≡ None
+found_none None f = refl
+found_none (Some text) (Nothing, s, is) = absurd s
+found_none (Some text) (Broken lost, s, is) = absurd cc
+found_none (Some text) (Whole j, s, is) = absurd cc
+
+-- a file that is there may be found broken
+pub some_found : (file : Option (List ℕ)) → (found : Found) × IsFound file found
+some_found None = (Nothing, (Nothing, tt, refl))
+some_found (Some text) = (Broken None, (Broken None, tt, refl))
+
+-- ---- without a newer file a start refuses, unless a turn was cut
+
+uncut : (place : Place) (older beside : Found) (b : Bool) → b ≡ false → (found : Resumption) (check : Option (List ℕ))
+    → (if b then start_of place older beside Nothing else start_of place older Nothing beside) ≡ Resumes found check → ⊥
+uncut place older beside true e found check starts = absurd cc
+uncut place older beside false e found check starts = absurd cc
+
+-- what it resumes with does not depend on what is beside
+other_resumes : (place : Place) (older beside other : Found) (j : Journal) (d : Option Doubt) (found : Resumption) (check : Option (List ℕ))
+    → start_by place older j beside d ≡ Resumes found check → start_by place older j other d ≡ Resumes found check
+other_resumes place older beside other j (Some doubt) found check starts = absurd cc
+other_resumes place older beside other j None found check starts = starts
+
+-- so another file beside leaves the files safe, if it does not seem to be that of a turn
+module _ (low : ℤ) (r : Resumption) (w : World) (safe : IsSafe low r w) (b : Option (List ℕ))
+    (not_cut : w.newer ≡ None → (older beside : Found) → IsFound w.older older → IsFound b beside → goes_behind beside older ≡ false) where
+  by_newer : (place : Place) (older newer beside : Found) (found : Resumption) (check : Option (List ℕ)) → IsFound w.older older → IsFound w.newer newer
+      → IsFound b beside → next_start place older newer beside ≡ Resumes found check → low ≤ℤ found.floor → (below : ℤ) → below ≤ℤ found.floor
+      → Knows below r found
+  by_newer place older Nothing beside found check o n f starts late below under =
+      absurd (uncut place older beside (goes_behind beside older) (not_cut (found_none w.newer n) older beside o f) found check starts)
+  by_newer place older (Broken lost) beside found check o n f starts late below under = absurd cc
+  by_newer place older (Whole j) beside found check o n f starts late below under =
+      let other = some_found w.beside in
+      safe.knows place older (Whole j) other.0 found check o n other.1
+      (other_resumes place older beside other.0 j (doubt_of place older j) found check starts) late below under
+
+  pub other_beside : IsSafe low r (with_beside b w)
+  other_beside = record { knows = by_newer }
+
+-- ---- a file that links to none is never taken for that of a turn
+
+check_len : (check e : List ℕ) → length (check_of check e) ≡ 16
+check_len check e = length-take-le 16 (sha256 (check ++ e)) (omega (arith, length-sha256 (check ++ e)))
+
+last_len : (check : List ℕ) (es : List Entry) → length check ≡ 16 → length (last_check check es) ≡ 16
+unfolding last_check
+last_len check [] len = len
+last_len check (e ∷ es) len = last_len (check_of check (written entry e)) es (check_len check (written entry e))
+
+pub spelled_len : (file : Option (List ℕ)) (j : Journal) → IsSpelled file (Whole j) → length j.check ≡ 16
+spelled_len None j s = absurd s
+spelled_len (Some text) j s = ap length s.check_is ∙ last_len (header_check j.header) j.entries (check_len j.header.link (written header j.header))
+
+nothing_same : (check : List ℕ) → length check ≡ 16 → pointwise nat_eq check [] ≡ false
+nothing_same [] len = absurd (omega (arith, len))
+nothing_same (x ∷ xs) len = refl
+
+false_and : (a b : Bool) → a ≡ false → (a && b) ≡ false
+false_and true b e = absurd cc
+false_and false b e = refl
+
+not_behind : (j before : Journal) → j.header.link ≡ [] → length before.check ≡ 16 → is_behind j before ≡ false
+not_behind j before none len =
+    false_and (pointwise nat_eq before.check j.header.link) _
+    (subst (λ l. pointwise nat_eq before.check l ≡ false) (sym none) (nothing_same before.check len))
+
+unlinked_older : (file : Option (List ℕ)) (older : Found) (j : Journal) → IsFound file older → j.header.link ≡ [] → goes_behind (Whole j) older ≡ false
+unlinked_older file older j (fo, so, eo) none = subst (λ o. goes_behind (Whole j) o ≡ false) (sym eo) (by_found fo so)
   where
-    nothing : (place : Place) (older : Found) (found : Resumption) (check : Option (List ℕ)) (below : ℤ) → start_of place older Nothing ≡ Resumes found check
-        → Knows below kept found
-    nothing place older found check below starts = absurd cc
+    by_found : (fo : Found) → IsSpelled file fo → goes_behind (Whole j) (cut_found fo) ≡ false
+    by_found Nothing so = refl
+    by_found (Broken lost) so = refl
+    by_found (Whole k) so = not_behind j (cut k) none (spelled_len file k so)
+
+-- a part of a text that begins so
+part_link : (h : Header) (text part rest check : List ℕ) → BeginsJournal h text check → text ≡ part ++ rest → (j : Journal) → Spells part j → j.header ≡ h
+part_link h text part rest check begins is j spells =
+    sym (onward part rest j (begun_journal h) spells (subst (λ t. Spells t (begun_journal h)) is (spells_begun h text check begins))).header_is
+
+module _ (h : Header) (text part rest check : List ℕ) (begins : BeginsJournal h text check) (none : h.link ≡ []) (is : text ≡ part ++ rest) where
+  unlinked_part : (file : Option (List ℕ)) (older beside : Found) → IsFound file older → IsFound (Some part) beside → goes_behind beside older ≡ false
+  unlinked_part file older beside o (fb, sb, eb) = subst (λ b. goes_behind b older ≡ false) (sym eb) (by_found fb sb)
+    where
+      by_found : (fb : Found) → IsSpelled (Some part) fb → goes_behind (cut_found fb) older ≡ false
+      by_found Nothing sb = absurd sb
+      by_found (Broken lost) sb = refl
+      by_found (Whole j) sb =
+          unlinked_older file older (cut j) o (ap (λ (x : Header). x.link) (part_link h text part rest check begins is j sb) ∙ none)
+
+none_beside : (file : Option (List ℕ)) (older beside : Found) → IsFound file older → IsFound None beside → goes_behind beside older ≡ false
+none_beside file older beside o b = subst (λ x. goes_behind x older ≡ false) (sym (none_found beside b)) refl
 
 -- ---- a file that could not be begun
 
+beside_safe : (low : ℤ) (r : Resumption) (h : Header) (text check : List ℕ) (old new : World) → BeginsJournal h text check → h.link ≡ []
+    → IsSafe low r old → HasBeside text old new → IsSafe low r new
+beside_safe low r h text check old new begins none safe (inl same) = subst (IsSafe low r) (sym same) safe
+beside_safe low r h text check old new begins none safe (inr (inl gone)) =
+    subst (IsSafe low r) (sym gone) (other_beside low r old safe None (λ newer older beside o b. none_beside old.older older beside o b))
+beside_safe low r h text check old new begins none safe (inr (inr (part, rest, is, there))) =
+    subst (IsSafe low r) (sym there)
+    (other_beside low r old safe (Some part) (λ newer older beside o b. unlinked_part h text part rest check begins none is old.older older beside o b))
+
 -- without an older file a start finds no more than with one that is broken
-broken_found : (file : Option (List ℕ)) → (older : Found) × IsFound file older × ((older ≡ Nothing) ⊎ (older ≡ Broken))
-broken_found None = (Nothing, (Nothing, tt, refl), inl refl)
-broken_found (Some text) = (Broken, (Broken, tt, refl), inr refl)
+broken_start : (place : Place) (beside other : Found) (j : Journal) (lost : Option ℤ) (d : Option Doubt) (found : Resumption) (check : Option (List ℕ))
+    → start_by place Nothing j beside d ≡ Resumes found check → start_by place (Broken lost) j other d ≡ Resumes found check
+broken_start place beside other j lost (Some doubt) found check starts = absurd cc
+broken_start place beside other j lost None found check starts = starts
 
-same_start : (place : Place) (older newer : Found) → (older ≡ Nothing) ⊎ (older ≡ Broken) → start_of place Nothing newer ≡ start_of place older newer
-same_start place older newer (inl is) = ap (λ o. start_of place o newer) (sym is)
-same_start place older newer (inr is) = by_newer newer ∙ ap (λ o. start_of place o newer) (sym is)
-  where
-    by_newer : (newer : Found) → start_of place Nothing newer ≡ start_of place Broken newer
-    by_newer Nothing = refl
-    by_newer Broken = refl
-    by_newer (Whole j) = refl
+nothing_start : (place : Place) (beside other : Found) (j : Journal) (d : Option Doubt) (found : Resumption) (check : Option (List ℕ))
+    → start_by place Nothing j beside d ≡ Resumes found check → start_by place Nothing j other d ≡ Resumes found check
+nothing_start place beside other j (Some doubt) found check starts = absurd cc
+nothing_start place beside other j None found check starts = starts
 
-older_gone : (low : ℤ) (r : Resumption) (old : World) → IsSafe low r old → IsSafe low r (record { newer = old.newer; older = None; seal = old.seal })
-older_gone low r old safe = record {
-  knows = λ place older newer found check older_found newer_found starts late below under.
-      let other = broken_found old.older in
-      safe.knows place other.0 newer found check other.1 newer_found
-      (sym (same_start place other.0 newer other.2) ∙ (ap (λ o. start_of place o newer) (sym (none_found older older_found)) ∙ starts)) late below under;
-}
+nothing_behind : (beside : Found) → goes_behind beside Nothing ≡ false
+nothing_behind Nothing = refl
+nothing_behind (Broken lost) = refl
+nothing_behind (Whole j) = refl
 
-pub torn_is_safe : TornIsSafe
-torn_is_safe low r old new safe (inl same) = subst (IsSafe low r) (sym same) safe
-torn_is_safe low r old new safe (inr (inl moved)) = safe_without low r new (ap (λ (w : World). w.newer) moved)
-torn_is_safe low r old new safe (inr (inr gone)) = subst (IsSafe low r) (sym gone) (older_gone low r old safe)
+module _ (low : ℤ) (r : Resumption) (old : World) (safe : IsSafe low r old) where
+  gone_by : (place : Place) (newer beside : Found) (found : Resumption) (check : Option (List ℕ)) → IsFound old.newer newer → IsFound old.beside beside
+      → next_start place Nothing newer beside ≡ Resumes found check → low ≤ℤ found.floor → (below : ℤ) → below ≤ℤ found.floor → Knows below r found
+  gone_by place Nothing beside found check n b starts late below under =
+      absurd (uncut place Nothing beside (goes_behind beside Nothing) (nothing_behind beside) found check starts)
+  gone_by place (Broken lost) beside found check n b starts late below under = absurd cc
+  gone_by place (Whole j) beside found check n b starts late below under = by_older old.older refl
+    where
+      by_older : (file : Option (List ℕ)) → old.older ≡ file → Knows below r found
+      by_older None is =
+          safe.knows place Nothing (Whole j) beside found check (subst (λ f. IsFound f Nothing) (sym is) (Nothing, tt, refl)) n b
+          (nothing_start place beside beside j (doubt_of place Nothing j) found check starts) late below under
+      by_older (Some text) is =
+          safe.knows place (Broken None) (Whole j) beside found check (subst (λ f. IsFound f (Broken None)) (sym is) (Broken None, tt, refl)) n b
+          (broken_start place beside beside j None (doubt_of place Nothing j) found check starts) late below under
+
+  older_gone : IsSafe low r (without_older old)
+  older_gone = record {
+    knows = λ place older newer beside found check o n b starts late below under.
+        gone_by place newer beside found check n b (ap (λ x. next_start place x newer beside) (sym (none_found older o)) ∙ starts) late below under;
+  }
+
+pub unbegun_is_safe : UnbegunIsSafe
+unbegun_is_safe low r Linked h text check left old new begins none unlinked safe is = absurd unlinked
+unbegun_is_safe low r Anew h text check Before old new begins none unlinked safe is = beside_safe low r h text check old new begins none safe is
+unbegun_is_safe low r Anew h text check Between old new begins none unlinked safe is = beside_safe low r h text check old new begins none safe is
+unbegun_is_safe low r Anew h text check InPlace old new begins none unlinked safe is = absurd unlinked
+unbegun_is_safe low r Roomy h text check Before old new begins none unlinked safe is = beside_safe low r h text check old new begins none safe is
+unbegun_is_safe low r Roomy h text check Between old new begins none unlinked safe is =
+    beside_safe low r h text check (without_older old) new begins none (older_gone low r old safe) is
+unbegun_is_safe low r Roomy h text check InPlace old new begins none unlinked safe is = absurd unlinked
+
+-- ---- a turn that was cut
+
+-- before it is finished, a start knows what it knows then
+module _ (low : ℤ) (r : Resumption) (w : World) (missing : w.newer ≡ None) (safe : IsSafe low r (finished w)) where
+  by_cut : (place : Place) (older beside : Found) (found : Resumption) (check : Option (List ℕ)) (b : Bool) → goes_behind beside older ≡ b
+      → IsFound w.older older → IsFound w.beside beside
+      → (if b then start_of place older beside Nothing else start_of place older Nothing beside) ≡ Resumes found check → low ≤ℤ found.floor → (below : ℤ)
+      → below ≤ℤ found.floor → Knows below r found
+  by_cut place older beside found check false is o f starts late below under = absurd cc
+  by_cut place older Nothing found check true is o f starts late below under = absurd cc
+  by_cut place older (Broken lost) found check true is o f starts late below under = absurd cc
+  by_cut place older (Whole j) found check true is o f starts late below under =
+      safe.knows place older (Whole j) Nothing found check o f (Nothing, tt, refl) starts late below under
+
+  pub unfinished_safe : IsSafe low r w
+  unfinished_safe = record {
+    knows = λ place older newer beside found check o n b starts late below under.
+        by_cut place older beside found check (goes_behind beside older) refl o b
+        (ap (λ x. next_start place older x beside) (sym (none_found newer (subst (λ f. IsFound f newer) missing n))) ∙ starts) late below under;
+  }
 
 -- ---- a whole journal
 
@@ -236,7 +383,7 @@ module _ (low : ℤ) (all : Resumption) (w : World) (check : List ℕ) (floor : 
     by_first : (a : Bool) (older : Found) → is_first k ≡ a → IsSpelled (Some whole.text) older → is_linked k older ≡ true → HoldAll older k low all
     by_first true older first o linked = hold_first place low f check all above_seen older first
     by_first false Nothing first o linked = absurd o
-    by_first false Broken first o linked = absurd (false_true (is_first k) first linked)
+    by_first false (Broken lost) first o linked = absurd (false_true (is_first k) first linked)
       where
         false_true : (b : Bool) → b ≡ false → b ≡ true → ⊥
         false_true true x y = absurd cc
@@ -281,18 +428,29 @@ module _ (low : ℤ) (all : Resumption) (w : World) (check : List ℕ) (floor : 
 -- ---- a file in place of both
 
 pub whole_anew : (low : ℤ) (all : Resumption) (w : World) (place : Place) (f : ℤ) (text next : List ℕ) → IsAbove f all → BeginsJournal (begun place f []) text next
-    → IsWhole low all (with_file Anew text w) next (Some f)
-whole_anew low all w place f text next above_it begins = record {
-  newer = fresh place f [];
-  text = text;
-  newer_is = refl;
-  spells = spells_fresh place f [] text next begins;
-  check_is = begins.check_is;
-  hold = λ older o linked. hold_first place low f [] all above_it older refl;
-  linked = (Nothing, tt, refl);
-  above_newer = fresh_above place f [];
-  above_all_seen = above_it;
-}
+    → w.newer ≡ Some text → IsWhole low all w next (Some f)
+whole_anew low all w place f text next above_it begins newer_is =
+    let older = some_spelled w.older in
+    record {
+      newer = fresh place f [];
+      text = text;
+      newer_is = newer_is;
+      spells = spells_fresh place f [] text next begins;
+      check_is = begins.check_is;
+      hold = λ older o linked. hold_first place low f [] all above_it older refl;
+      linked = (older.0, older.1, by_found older.0);
+      above_newer = fresh_above place f [];
+      above_all_seen = above_it;
+    }
+  where
+    some_spelled : (file : Option (List ℕ)) → (found : Found) × IsSpelled file found
+    some_spelled None = (Nothing, tt)
+    some_spelled (Some text) = (Broken None, tt)
+
+    by_found : (older : Found) → is_linked (fresh place f []) older ≡ true
+    by_found Nothing = refl
+    by_found (Broken lost) = refl
+    by_found (Whole before) = refl
 
 -- ---- a start
 
@@ -302,12 +460,12 @@ text_found (Some text) j f = (text, refl, f)
 
 first_floor : (j : Journal) (older : Found) → is_first j ≡ true → floor_behind j older ≡ j.header.floor
 first_floor j Nothing first = refl
-first_floor j Broken first = refl
+first_floor j (Broken lost) first = refl
 first_floor j (Whole before) first = ap (λ b. if b then j.header.floor else before.header.floor) first
 
 first_entries : (j : Journal) (older : Found) → is_first j ≡ true → entries_behind j older ≡ j.entries
 first_entries j Nothing first = refl
-first_entries j Broken first = refl
+first_entries j (Broken lost) first = refl
 first_entries j (Whole before) first = ap (λ b. if b then j.entries else before.entries ++ j.entries) first
 
 -- what goes before a journal that is linked to none is no matter
@@ -321,7 +479,7 @@ hold_other j low r older other first hold =
     }
 
 module _ (place : Place) (w : World) (older : Found) (j : Journal) (older_spelled : IsSpelled w.older older) (newer_spelled : IsSpelled w.newer (Whole j)) (r : Resumption)
-    (check : Option (List ℕ)) (starts : start_of place (cut_found older) (Whole (cut j)) ≡ Resumes r check) where
+    (check : Option (List ℕ)) (beside : Found) (starts : start_of place (cut_found older) (Whole (cut j)) beside ≡ Resumes r check) where
   abbrev sums : HaveSums older
   sums = spelled_sums w.older older older_spelled
 
@@ -329,7 +487,7 @@ module _ (place : Place) (w : World) (older : Found) (j : Journal) (older_spelle
   own = spelled_sums w.newer (Whole j) newer_spelled
 
   abbrev resumed : IsResumed place older j r check
-  resumed = is_resumed place older j r check starts
+  resumed = is_resumed place older beside j r check starts
 
   early_by : (b : Bool) (c : List ℕ) → (if b then None else Some j.check) ≡ Some c → b ≡ false
   early_by true c e = absurd cc
@@ -370,16 +528,16 @@ module _ (place : Place) (w : World) (older : Found) (j : Journal) (older_spelle
     any_older : (file : Option (List ℕ)) (was now : Found) → IsSpelled file was → IsSpelled file now → is_linked j was ≡ true → is_linked j now ≡ true
         → HoldAll was j since r → HoldAll now j since r
     any_older None Nothing Nothing a b x y hold = hold
-    any_older None Nothing Broken a b x y hold = absurd b
+    any_older None Nothing (Broken lost) a b x y hold = absurd b
     any_older None Nothing (Whole k) a b x y hold = absurd b
-    any_older None Broken now a b x y hold = absurd a
+    any_older None (Broken lost) now a b x y hold = absurd a
     any_older None (Whole k) now a b x y hold = absurd a
     any_older (Some text) Nothing now a b x y hold = absurd a
-    any_older (Some text) Broken Nothing a b x y hold = absurd b
+    any_older (Some text) (Broken lost) Nothing a b x y hold = absurd b
     any_older (Some text) (Whole k) Nothing a b x y hold = absurd b
-    any_older (Some text) Broken Broken a b x y hold = hold
-    any_older (Some text) Broken (Whole k) a b x y hold = hold_other j since r Broken (Whole k) x hold
-    any_older (Some text) (Whole k) Broken a b x y hold = hold_other j since r (Whole k) Broken y hold
+    any_older (Some text) (Broken lost) (Broken lost_too) a b x y hold = record { floor = hold.floor; seen = hold.seen }
+    any_older (Some text) (Broken lost) (Whole l) a b x y hold = hold_other j since r (Broken lost) (Whole l) x hold
+    any_older (Some text) (Whole l) (Broken lost) a b x y hold = hold_other j since r (Whole l) (Broken lost) y hold
     any_older (Some text) (Whole k) (Whole l) a b x y hold = subst (λ (z : Journal). HoldAll (Whole z) j since r) (sym (one_journal text k l a b)) hold
 
     abbrev r0 : Resumption
@@ -414,5 +572,122 @@ pub kept_is_safe : KeptIsSafe
 kept_is_safe low kept all w (Some tail) floor (same, whole) = subst (λ r. IsSafe low r w) (sym same) (whole_safe low all w tail.check floor whole)
 kept_is_safe low kept all w None floor lacking = lacking.safe
 
+-- ---- a start finishes a turn that was cut
+
+abbrev journal_or : Journal → Found → Journal
+journal_or j Nothing = j
+journal_or j (Broken lost) = j
+journal_or j (Whole k) = k
+
+-- a whole journal is what is left of one
+pub whole_found : (file : Option (List ℕ)) (j : Journal) → IsFound file (Whole j) → (all : Journal) × IsSpelled file (Whole all) × (j ≡ cut all)
+whole_found file j (Nothing, s, is) = absurd cc
+whole_found file j (Broken lost, s, is) = absurd cc
+whole_found file j (Whole all, s, is) = (all, s, ap (journal_or j) is)
+
+found_one : (file : Option (List ℕ)) (j k : Journal) → IsFound file (Whole j) → IsFound file (Whole k) → j ≡ k
+found_one file j k a b =
+    let (all, s, is) = whole_found file j a in
+    let (others, t, same) = whole_found file k b in
+    is ∙ (ap cut (by_file file all others s t) ∙ sym same)
+  where
+    by_file : (file : Option (List ℕ)) (all others : Journal) → IsSpelled file (Whole all) → IsSpelled file (Whole others) → all ≡ others
+    by_file None all others s t = absurd s
+    by_file (Some text) all others s t = one_journal text others all t s
+
+link_not_first : (check link : List ℕ) → length check ≡ 16 → pointwise nat_eq check link ≡ true → pointwise nat_eq link [] ≡ true → ⊥
+link_not_first [] link len a b = absurd (omega (arith, len))
+link_not_first (x ∷ xs) [] len a b = absurd cc
+link_not_first (x ∷ xs) (y ∷ ys) len a b = absurd cc
+
+first_of : (a b : Bool) → (a && b) ≡ true → a ≡ true
+first_of true b e = refl
+first_of false b e = absurd cc
+
+module _ (low : ℤ) (r : Resumption) (w : World) (safe : IsSafe low r w) (before j : Journal) (older_is : IsFound w.older (Whole before))
+    (beside_is : IsFound w.beside (Whole j)) (newer_is : IsFound w.newer Nothing) (behind : is_behind j before ≡ true) where
+  not_first : is_first j ≡ true → ⊥
+  not_first first =
+      let (all, s, is) = whole_found w.older before older_is in
+      link_not_first before.check j.header.link (ap (λ (x : Journal). length x.check) is ∙ spelled_len w.older all s)
+      (first_of (pointwise nat_eq before.check j.header.link) _ behind) first
+
+  first_by : (place : Place) (older beside : Found) (found : Resumption) (check : Option (List ℕ)) (linked : (k : Journal) → is_linked k older ≡ is_first k)
+      → start_of place (cut_found older) (Whole j) beside ≡ Resumes found check → is_first j ≡ true
+  first_by place older beside found check linked starts =
+      let (all, s, is) = whole_found w.beside j beside_is in
+      let resumed = is_resumed place older beside all found check (ap (λ k. start_of place (cut_found older) (Whole k) beside) (sym is) ∙ starts) in
+      subst (λ (x : Journal). is_first x ≡ true) (sym is) (sym (linked all) ∙ resumed.linked)
+
+  goes_on_behind_it : (place : Place) (older beside : Found) (found : Resumption) (check : Option (List ℕ)) → IsFound w.older older
+      → start_of place older (Whole j) beside ≡ Resumes found check → goes_behind (Whole j) older ≡ true
+  goes_on_behind_it place Nothing beside found check o starts = absurd (not_first (first_by place Nothing beside found check (λ k. refl) starts))
+  goes_on_behind_it place (Broken lost) beside found check o starts =
+      absurd (not_first (first_by place (Broken lost) beside found check (λ k. refl) starts))
+  goes_on_behind_it place (Whole k) beside found check o starts = subst (λ x. is_behind j x ≡ true) (found_one w.older before k older_is o) behind
+
+  finished_by : (place : Place) (older newer beside : Found) (found : Resumption) (check : Option (List ℕ)) → IsFound w.older older → IsFound w.beside newer
+      → IsFound None beside → next_start place older newer beside ≡ Resumes found check → low ≤ℤ found.floor → (below : ℤ) → below ≤ℤ found.floor
+      → Knows below r found
+  finished_by place older Nothing beside found check o n b starts late below under =
+      absurd (uncut place older beside (goes_behind beside older) (none_beside w.older older beside o b) found check starts)
+  finished_by place older (Broken lost) beside found check o n b starts late below under = absurd cc
+  finished_by place older (Whole k) beside found check o n b starts late below under =
+      let same = found_one w.beside k j n beside_is in
+      let is : start_of place older (Whole j) beside ≡ Resumes found check =
+      subst (λ (x : Journal). start_of place older (Whole x) beside ≡ Resumes found check) same starts in
+      safe.knows place older Nothing (Whole j) found check o newer_is beside_is
+      (subst (λ t. (if t then start_of place older (Whole j) Nothing else start_of place older Nothing (Whole j)) ≡ Resumes found check)
+      (sym (goes_on_behind_it place older beside found check o is))
+      (other_resumes place older beside Nothing j (doubt_of place older j) found check is)) late below under
+
+  finished_safe : IsSafe low r (finished w)
+  finished_safe = record {
+    knows = λ place older newer beside found check o n b starts late below under.
+        finished_by place older newer beside found check o n b starts late below under;
+  }
+
+pub finished_is_safe : FinishedIsSafe
+finished_is_safe low r w older Nothing Nothing o n b cut safe = absurd cc
+finished_is_safe low r w older Nothing (Broken lost) o n b cut safe = absurd cc
+finished_is_safe low r w Nothing Nothing (Whole j) o n b cut safe = absurd cc
+finished_is_safe low r w (Broken lost) Nothing (Whole j) o n b cut safe = absurd cc
+finished_is_safe low r w (Whole before) Nothing (Whole j) o n b cut safe = finished_safe low r w safe before j o b n cut
+finished_is_safe low r w older (Broken lost) beside o n b cut safe = absurd cc
+finished_is_safe low r w older (Whole k) beside o n b cut safe = absurd cc
+
+-- ---- what a turn that failed leaves
+
+module _ (low : ℤ) (all : Resumption) (w : World) (check : List ℕ) (floor : Option ℤ) (whole : IsWhole low all w check floor) where
+  -- another file beside is no matter to a whole journal
+  pub whole_beside : (b : Option (List ℕ)) → IsWhole low all (with_beside b w) check floor
+  whole_beside b = record {
+    newer = whole.newer;
+    text = whole.text;
+    newer_is = whole.newer_is;
+    spells = whole.spells;
+    check_is = whole.check_is;
+    hold = whole.hold;
+    linked = whole.linked;
+    above_newer = whole.above_newer;
+    above_all_seen = whole.above_all_seen;
+  }
+
+  pub whole_before : (text : List ℕ) (new : World) → HasBeside text w new → IsWhole low all new check floor
+  whole_before text new (inl same) = subst (λ x. IsWhole low all x check floor) (sym same) whole
+  whole_before text new (inr (inl gone)) = subst (λ x. IsWhole low all x check floor) (sym gone) (whole_beside None)
+  whole_before text new (inr (inr (part, rest, is, there))) = subst (λ x. IsWhole low all x check floor) (sym there) (whole_beside (Some part))
+
+  pub turn_safe : (place : Place) (f : ℤ) (text next : List ℕ) (left : Left) (new : World) → floor ≡ Some f
+      → BeginsJournal (begun place f check) text next → IsLeft Linked text left w new → IsSafe low all new
+  turn_safe place f text next Before new is begins left = whole_safe low all new check floor (whole_before text new left)
+  turn_safe place f text next Between new is begins left =
+      subst (IsSafe low all) (sym left)
+      (unfinished_safe low all (record { newer = None; older = w.newer; beside = Some text; seal = w.seal }) refl
+      (whole_safe low all (with_file Linked text w) next (Some f) (whole_turned low all w check floor whole place f is text next begins)))
+  turn_safe place f text next InPlace new is begins left =
+      subst (IsSafe low all) (sym left)
+      (whole_safe low all (with_file Linked text w) next (Some f) (whole_turned low all w check floor whole place f is text next begins))
+
 pub holds_on : HoldsOn
-holds_on = record { kept = kept_is_safe; torn = torn_is_safe }
+holds_on = record { kept = kept_is_safe; unbegun = unbegun_is_safe; finished = finished_is_safe }

@@ -9,10 +9,16 @@ use Rattle.replay.specs.Resumed.{Holds, resumed_cache}
 use Rattle.replay.specs.declared.keep.Kept.{Kept}
 use Rattle.replay.specs.declared.seen.Resumption.{Resumption}
 use Rattle.replay.specs.declared.seen.Seen.{Seen}
-use Rattle.journal.specs.Decision.{Place, above, above_all, entries_behind, floor_behind, is_linked, latest_of, recent, seen_of, start_of}
-use Rattle.journal.specs.Forms.{Entry}
+use Rattle.journal.specs.Decision.{Place, above, above_all, entries_behind, floor_behind, is_cut, is_linked, latest_of, next_start}
+use Rattle.journal.specs.Decision.{recent, seen_of, start_of}
+use Rattle.journal.specs.Forms.{Entry, Header}
+use Rattle.journal.specs.Keeping.{BeginsJournal}
+use Rattle.journal.specs.World.{IsLeft, World, finished}
+use Rattle.journal.specs.declared.files.Begun.{Begun}
+use Rattle.journal.specs.declared.files.Begun.TheVariants.{Linked, Anew, Roomy}
+use Rattle.journal.specs.declared.files.Left.{Left}
+use Rattle.journal.specs.declared.files.Left.TheVariants.{Before, Between, InPlace}
 use Rattle.journal.specs.Texts.{HasHeader, HaveElements, chained, header_check, journal_text, last_check}
-use Rattle.journal.specs.World.{IsTorn, World}
 use Rattle.journal.specs.declared.decision.Found.{Found}
 use Rattle.journal.specs.declared.decision.Found.TheVariants.{Nothing, Broken, Whole}
 use Rattle.journal.specs.declared.decision.Start.{Start}
@@ -65,7 +71,7 @@ cut j = record {
 
 abbrev pub cut_found : Found → Found
 cut_found Nothing = Nothing
-cut_found Broken = Broken
+cut_found (Broken floor) = Broken floor
 cut_found (Whole j) = Whole (cut j)
 
 -- a text that spells a journal with all of its entries
@@ -92,10 +98,10 @@ pub record HaveEntries (text before : List ℕ) (at floor : ℤ) (all kept : Lis
 -- What the two files hold, if this is what they are. A file that is there may count as broken, and never as absent.
 abbrev pub IsSpelled : Option (List ℕ) → Found → Type 0
 IsSpelled None Nothing = ⊤
-IsSpelled None Broken = ⊥
+IsSpelled None (Broken floor) = ⊥
 IsSpelled None (Whole j) = ⊥
 IsSpelled (Some text) Nothing = ⊥
-IsSpelled (Some text) Broken = ⊤
+IsSpelled (Some text) (Broken floor) = ⊤
 IsSpelled (Some text) (Whole j) = Spells text j
 
 -- what may be found in a file: of a journal, the entries that may matter
@@ -112,8 +118,9 @@ Knows below r found =
 
 -- No start resumes with these files without knowing all of this.
 pub record IsSafe (low : ℤ) (r : Resumption) (w : World) : Type 0 where
-  pub knows : (place : Place) (older newer : Found) (found : Resumption) (check : Option (List ℕ))
-      → IsFound w.older older → IsFound w.newer newer → start_of place older newer ≡ Resumes found check
+  pub knows : (place : Place) (older newer beside : Found) (found : Resumption) (check : Option (List ℕ))
+      → IsFound w.older older → IsFound w.newer newer → IsFound w.beside beside
+      → next_start place older newer beside ≡ Resumes found check
       → low ≤ℤ found.floor → (below : ℤ) → below ≤ℤ found.floor → Knows below r found
 
 -- ---- the files of a running server
@@ -134,6 +141,7 @@ pub record IsWhole (low : ℤ) (all : Resumption) (w : World) (check : List ℕ)
 -- Something could not be kept. What was kept before is safe, and the floor is above all.
 pub record IsLacking (low : ℤ) (kept all : Resumption) (w : World) (floor : Option ℤ) : Type 0 where
   pub safe : IsSafe low kept w
+  pub above_kept : IfSome floor (λ f. IsAbove f kept)
   pub above_all_seen : IfSome floor (λ f. IsAbove f all)
 
 -- the files of a server that was handed all of this, and kept so much of it
@@ -163,29 +171,50 @@ IsRaised floor ctime raised = IfSome raised (λ f. (g : ℤ) × (floor ≡ Some 
 -- what a start knows: what it resumes with, or only its floor
 abbrev pub known_by : ℤ → Start → Resumption
 known_by floor (Resumes r check) = r
-known_by floor (Refuses doubt) = record { floor = floor; seen = [] }
+known_by floor (Refuses doubt found) = record { floor = floor; seen = [] }
 
 -- a start at this moment, which made this of the files that it found
 pub record IsStart (at : Moment) (at_floor : ℤ) (newer : Found) (start : Start) (w : World) : Type 0 where
   pub place : Place
   pub moment : place.at ≡ at
   pub older : Found
+  pub beside : Found
   pub older_found : IsFound w.older older
   pub newer_found : IsFound w.newer newer
-  pub decided : start ≡ start_of place older newer
+  pub beside_found : IsFound w.beside beside
+  pub decided : start ≡ start_of place older newer beside
   pub floor : at_floor ≡ (known_by at_floor start).floor
 
 -- ---- the laws
+
+-- a file that is begun in place of both, before it is in place
+abbrev pub IsUnlinked : Begun → Left → Type 0
+IsUnlinked Linked left = ⊥
+IsUnlinked Anew Before = ⊤
+IsUnlinked Anew Between = ⊤
+IsUnlinked Anew InPlace = ⊥
+IsUnlinked Roomy Before = ⊤
+IsUnlinked Roomy Between = ⊤
+IsUnlinked Roomy InPlace = ⊥
 
 -- Whatever a server has kept, no start resumes without it.
 abbrev pub KeptIsSafe : Type 0
 KeptIsSafe = (low : ℤ) (kept all : Resumption) (w : World) (tail : Option Tail) (floor : Option ℤ)
     → IsKept low kept all w tail floor → IsSafe low kept w
 
--- Nor does one after a file could not be begun, by whomever.
-abbrev pub TornIsSafe : Type 0
-TornIsSafe = (low : ℤ) (r : Resumption) (old new : World) → IsSafe low r old → IsTorn old new → IsSafe low r new
+-- Nor does one after a file that links to none could not be begun, by whomever, unless it is in place.
+abbrev pub UnbegunIsSafe : Type 0
+UnbegunIsSafe = (low : ℤ) (r : Resumption) (how : Begun) (h : Header) (text check : List ℕ) (left : Left) (old new : World)
+    → BeginsJournal h text check → h.link ≡ [] → IsUnlinked how left
+    → IsSafe low r old → IsLeft how text left old new → IsSafe low r new
+
+-- Nor does one after a turn that was cut was finished, by a start that found it so.
+abbrev pub FinishedIsSafe : Type 0
+FinishedIsSafe = (low : ℤ) (r : Resumption) (w : World) (older newer beside : Found)
+    → IsFound w.older older → IsFound w.newer newer → IsFound w.beside beside → is_cut older newer beside ≡ true
+    → IsSafe low r w → IsSafe low r (finished w)
 
 pub record HoldsOn : Type 0 where
   pub kept : KeptIsSafe
-  pub torn : TornIsSafe
+  pub unbegun : UnbegunIsSafe
+  pub finished : FinishedIsSafe

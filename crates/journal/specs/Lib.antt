@@ -1,6 +1,7 @@
 pub mod Forms
 pub mod Texts
 pub mod Decision
+pub mod Showing
 pub mod Keeping
 pub mod World
 pub mod Holding
@@ -9,3 +10,4 @@ pub mod Sealing
 pub mod MemoryWorld
 pub mod Head
 pub mod Life
+pub mod Finding

@@ -1,20 +1,23 @@
 -- The life of a journal: processes that have its files one after the other, and what no start resumes without after
 -- them.
-use Rattle.std.specs.Prelude.{◌≡◌, ℕ, ℤ, pos, ◌-ℤ◌, ◌≤ℤ◌, ⊤, Bool, true, false, List, [], ◌∷◌, ◌++◌, Option, Some, Result}
+use Rattle.std.specs.Prelude.{◌≡◌, ◌⊎◌, ℕ, ℤ, pos, ◌-ℤ◌, ◌≤ℤ◌, ◌<ℤ◌, ⊤, Bool, true, false, List, [], ◌∷◌, ◌++◌, Option, Some, None, Result}
 use Rattle.std.specs.Prelude.{Contains, IfSome, if◌then◌else◌, is_ok}
+use Rattle.std.specs.Option.{IsSomeAnd}
 use Rattle.krb_fields.specs.Skew.{skew}
 use Rattle.krb_fields.specs.declared.moment.Moment.{Moment}
 use Rattle.replay.specs.Resumed.{is_spent, resumed_cache, stamp_seen}
 use Rattle.replay.specs.Run.{with_any}
 use Rattle.replay.specs.declared.seen.Resumption.{Resumption}
 use Rattle.replay.specs.declared.seen.Seen.{Seen}
-use Rattle.journal.specs.Appending.{kept_by}
-use Rattle.journal.specs.Decision.{Place, start_of}
-use Rattle.journal.specs.Holding.{IsAbove, IsFound, IsKept, IsSafe, IsStart, known_by, with_one}
-use Rattle.journal.specs.World.{Leaves, SameSeal, World, with_seal}
+use Rattle.journal.specs.Appending.{FoundIn, kept_by}
+use Rattle.journal.specs.Decision.{Place, is_cut, last_second, next_start, start_of}
+use Rattle.journal.specs.Forms.{Entry}
+use Rattle.journal.specs.Holding.{IsAbove, IsFound, IsKept, IsSafe, IsStart, Spells, known_by, with_one}
+use Rattle.journal.specs.Showing.{Shows, Shown}
+use Rattle.journal.specs.World.{Leaves, SameSeal, World, finished, with_seal}
 use Rattle.journal.specs.declared.decision.Doubt.{Doubt}
 use Rattle.journal.specs.declared.decision.Found.{Found}
-use Rattle.journal.specs.declared.decision.Found.TheVariants.{Whole}
+use Rattle.journal.specs.declared.decision.Found.TheVariants.{Nothing, Broken, Whole}
 use Rattle.journal.specs.declared.decision.Start.{Start}
 use Rattle.journal.specs.declared.decision.Start.TheVariants.{Resumes, Refuses}
 use Rattle.journal.specs.declared.journal_file.JournalFile.{JournalFile}
@@ -122,16 +125,28 @@ kept_by_process p = kept_in (known_by p.floor p.start) (known_by p.floor p.start
 
 -- ---- a life
 
--- What happens to the files: a process has them; their seal is made or broken; or they are lost, and may be anything,
--- since the system stopped without warning, or since somebody removed or replaced them. A reading leaves them as they
--- are.
+-- What happens to the files: a process has them; a reading finishes a turn that was cut, and else leaves them as they
+-- are; their seal is made or broken; or they are lost, and may be anything, since the system stopped without warning,
+-- or since somebody removed or replaced them.
 pub data Stage : Type 0 where
   Ran : Process → Stage
+  Finished : Stage
   Sealed : Stage
   Lost : Stage
 
+-- what is found in the files shows a turn that was cut
+pub record FindsCut (w : World) : Type 0 where
+  pub older : Found
+  pub newer : Found
+  pub beside : Found
+  pub older_found : IsFound w.older older
+  pub newer_found : IsFound w.newer newer
+  pub beside_found : IsFound w.beside beside
+  pub cut : is_cut older newer beside ≡ true
+
 abbrev pub IsStage : Stage → World → World → Type 0
 IsStage (Ran p) old new = IsProcess p old new
+IsStage Finished old new = FindsCut old × (new ≡ finished old)
 IsStage Sealed old new = (seal : List ℕ) × (new ≡ with_seal seal old)
 IsStage Lost old new = ⊤
 
@@ -149,6 +164,7 @@ past_of p = record { low = p.at.sec -ℤ pos skew; are_lost = false }
 
 abbrev pub past_after : Past → Stage → Past
 past_after past (Ran p) = if p.has_begun then past_of p else past
+past_after past Finished = past
 past_after past Sealed = past
 past_after past Lost = record { low = past.low; are_lost = true }
 
@@ -160,10 +176,11 @@ past_after_all past (stage ∷ life) = past_after_all (past_after past stage) li
 -- before the moment of the start before it; nor by one that refuses, with a floor above all of it.
 abbrev pub IsLater : Resumption → Past → ℤ → Start → Type 0
 IsLater kept past floor (Resumes found check) = (past.are_lost ≡ false) × (past.low ≤ℤ found.floor)
-IsLater kept past floor (Refuses doubt) = IsAbove floor kept
+IsLater kept past floor (Refuses doubt found) = IsAbove floor kept
 
 abbrev pub Follows : Resumption → Past → Stage → Type 0
 Follows kept past (Ran p) = p.has_begun ≡ true → IsLater kept past p.floor p.start
+Follows kept past Finished = ⊤
 Follows kept past Sealed = ⊤
 Follows kept past Lost = ⊤
 
@@ -191,8 +208,9 @@ StaysSafe = (kept : Resumption) (past : Past) (life : List Stage) (old new : Wor
 abbrev pub KeptIsRefused : Type 0
 KeptIsRefused = (p : Process) (life : List Stage) (before after new : World)
     → p.has_begun ≡ true → IsProcess p before after → IsLife life after new → StagesFollow (kept_by_process p) (past_of p) life
-    → (place : Place) (older newer : Found) (found : Resumption) (check : Option (List ℕ))
-    → IsFound new.older older → IsFound new.newer newer → start_of place older newer ≡ Resumes found check
+    → (place : Place) (older newer beside : Found) (found : Resumption) (check : Option (List ℕ))
+    → IsFound new.older older → IsFound new.newer newer → IsFound new.beside beside
+    → next_start place older newer beside ≡ Resumes found check
     → IsLater (kept_by_process p) (past_after_all (past_of p) life) found.floor (Resumes found check)
     → (seen : Seen) → Contains (kept_by_process p).seen seen
     → is_spent (resumed_cache found seen.client.components) (stamp_seen seen) ≡ true
@@ -205,8 +223,8 @@ AllIsKept = (r : Resumption) (calls : List Call) (last : Call) → is_ok (result
 -- The floor of a start that resumes is not below its own moment less the skew: so where clocks don't go back, it is
 -- later than the start before it.
 abbrev pub StartsAreLater : Type 0
-StartsAreLater = (place : Place) (older newer : Found) (found : Resumption) (check : Option (List ℕ))
-    → start_of place older newer ≡ Resumes found check → (place.at.sec -ℤ pos skew) ≤ℤ found.floor
+StartsAreLater = (place : Place) (older newer beside : Found) (found : Resumption) (check : Option (List ℕ))
+    → start_of place older newer beside ≡ Resumes found check → (place.at.sec -ℤ pos skew) ≤ℤ found.floor
 
 -- A process whose journal began leaves no seal.
 abbrev pub LeavesNoSeal : Type 0
@@ -214,9 +232,38 @@ LeavesNoSeal = (p : Process) (old new : World) → p.has_begun ≡ true → IsPr
 
 -- And without a seal, a start in a boot in which no journal that it finds was begun refuses, whatever else it finds.
 abbrev pub NextBootRefuses : Type 0
-NextBootRefuses = (w : World) (place : Place) (older newer : Found) → IsFound w.older older → IsFound w.newer newer
+NextBootRefuses = (w : World) (place : Place) (older newer beside : Found) → IsFound w.older older → IsFound w.newer newer
     → place.seal.now ≡ [] → ((j : Journal) → newer ≡ Whole j → j.header.boot ≡ place.boot.now → ⊥)
-    → (doubt : Doubt) × (start_of place older newer ≡ Refuses doubt)
+    → (doubt : Doubt) × (floor : Option ℤ) × (start_of place older newer beside ≡ Refuses doubt floor)
+
+-- ---- a start that refuses
+
+-- What was read of a file, and not only what may be found in it: a file that others may write is not read.
+abbrev pub IsReadOut : Option (List ℕ) → Found → Type 0
+IsReadOut None Nothing = ⊤
+IsReadOut None (Broken floor) = ⊥
+IsReadOut None (Whole j) = ⊥
+IsReadOut (Some text) found = FoundIn text found
+
+-- A file shows the entries of its journal; or, if it is no whole one, those that are still in it.
+abbrev pub ShowsEntry : List ℕ → Entry → Type 0
+ShowsEntry text e =
+    ((j : Journal) × Spells text j × Contains j.entries e)
+    ⊎ (((j : Journal) → Spells text j → ⊥) × (shown : Shown) × Shows text shown × Contains shown.entries e)
+
+-- one of the three files does
+abbrev pub FilesShow : World → Entry → Type 0
+FilesShow w e =
+    IsSomeAnd w.older (λ text. ShowsEntry text e)
+    ⊎ (IsSomeAnd w.newer (λ text. ShowsEntry text e) ⊎ IsSomeAnd w.beside (λ text. ShowsEntry text e))
+
+-- Whatever its clock shows, and whatever became of the files, a start that refuses has a floor above each authenticator
+-- that the files still show. (There is no floor above the last second of the year 9999.)
+abbrev pub ShownIsRefused : Type 0
+ShownIsRefused = (w : World) (place : Place) (older newer beside : Found) (doubt : Doubt) (floor : Option ℤ)
+    → IsReadOut w.older older → IsReadOut w.newer newer → IsReadOut w.beside beside
+    → start_of place older newer beside ≡ Refuses doubt floor
+    → (e : Entry) → FilesShow w e → e.ctime <ℤ last_second → IsSomeAnd floor (λ f. e.ctime <ℤ f)
 
 pub record LivesHold : Type 0 where
   pub safe : ProcessIsSafe
@@ -226,3 +273,4 @@ pub record LivesHold : Type 0 where
   pub later : StartsAreLater
   pub no_seal : LeavesNoSeal
   pub next_boot : NextBootRefuses
+  pub shown : ShownIsRefused

@@ -12,5 +12,6 @@ abbrev pub memory_world : MemoryFiles → World
 memory_world m = record {
   newer = option_map vec_items m.newer;
   older = option_map vec_items m.older;
+  beside = option_map vec_items m.beside;
   seal = seal_in m.seal;
 }

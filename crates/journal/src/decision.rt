@@ -1,11 +1,13 @@
 //! Deciding how to start from the journals that are found.
-ghost use Rattle.std.specs.Prelude.{◌≡◌, ◌-ℤ◌, ◌++◌, map, pos, IfOk, None, OnOk};
-ghost use Rattle.std.specs.Int.{int_max};
+ghost use Rattle.std.specs.Prelude.{◌≡◌, ◌-ℤ◌, ◌+ℤ◌, ◌+◌, ◌++◌, map, pos, IfOk, None, OnOk};
+ghost use Rattle.std.specs.Int.{int_max, int_min};
 ghost use Rattle.krb_fields.specs.Skew.{skew};
 ghost use Rattle.journal.specs.Decision.{doubt_of, entries_behind, floor_behind, goes_on_behind};
 ghost use Rattle.journal.specs.Decision.{is_above, is_behind, is_early, is_first, is_foreign, is_later, is_linked};
 ghost use Rattle.journal.specs.Decision.{is_other_boot, is_other_realm, is_sealed, is_unlinked, resumed_floor, resumption_of};
 ghost use Rattle.journal.specs.Decision.{seal_of, seen_of, start_by, start_of};
+ghost use Rattle.journal.specs.Decision.{doubt_without, floor_since, found_floor, goes_behind, greater, is_cut};
+ghost use Rattle.journal.specs.Decision.{is_missealed, is_nothing, last_second, shown_by};
 
 use crate::entry::Entry;
 use crate::keeping::floor_on;
@@ -22,10 +24,22 @@ use std::fmt;
 pub enum Found {
     /// No file.
     Nothing,
-    /// A file that is no whole journal.
-    Broken,
+    /// A file that is no whole journal, or that others may write. It may still show authenticators: no time below
+    /// this second may be accepted then. `None` if it shows none.
+    Broken(Option<i64>),
     /// A whole journal.
     Whole(Journal),
+}
+
+/// What is found in the three files of a journal.
+#[derive(Drop)]
+pub struct FoundFiles {
+    /// In the file that went before the newer one.
+    pub older: Found,
+    /// In the file that is appended to.
+    pub newer: Found,
+    /// In the file that was begun, before it is the newer one.
+    pub beside: Found,
 }
 
 /// Where and when a server starts, or a journal is sealed.
@@ -46,8 +60,9 @@ pub struct Place<'a> {
 pub enum Doubt {
     /// There is no journal.
     Absent,
-    /// It was cut within an entry, an entry was changed, or one was left out or added before others; or others may
-    /// write the journal. A journal that lacks its last entries is not noticed, nor an older one that was put back.
+    /// It was cut within an entry, an entry was changed, or one was left out or added before others; its seal is that
+    /// of another journal; the newer of its files is missing; or others may write it. A journal that was not sealed and
+    /// lacks its last entries is not noticed, nor an older one that was put back.
     Damaged,
     /// The journal is of another realm.
     OtherRealm,
@@ -82,28 +97,30 @@ pub enum Start {
     /// It refuses all authenticators that may have come before it.
     Refuses {
         doubt: Doubt,
+        /// The floor that the files ask for, if they show any authenticator or header: it is above the times of all
+        /// that they show. So it counts if the clock is behind.
+        floor: Option<i64>,
     },
 }
 
-/// Decides how a server starts. `newer` is the journal that is appended to, and `older` the one that went before it.
-pub fn start_of(
-    alloc: Global,
-    place: &Place<'_>,
-    older: &Found,
-    newer: &Found,
-) -> Result<Start, AllocError>
-    ensures { IfOk result (λ start. start ≡ start_of place.now older.now newer.now) }
+/// Decides how a server starts.
+pub fn start_of(alloc: Global, place: &Place<'_>, found: &FoundFiles) -> Result<Start, AllocError>
+    ensures { IfOk result (λ start.
+        start ≡ start_of place.now found.now.older found.now.newer found.now.beside) }
 {
-    match newer {
+    let floor = found_floor(found);
+    match &found.newer {
         Found::Nothing => Ok(Start::Refuses {
-            doubt: Doubt::Absent,
+            doubt: doubt_without(&found.older, &found.beside),
+            floor,
         }),
-        Found::Broken => Ok(Start::Refuses {
+        Found::Broken(_) => Ok(Start::Refuses {
             doubt: Doubt::Damaged,
+            floor,
         }),
-        Found::Whole(journal) => match doubt_of(place, older, journal) {
-            Some(doubt) => Ok(Start::Refuses { doubt }),
-            None => resumes(alloc, place, older, journal),
+        Found::Whole(journal) => match doubt_of(place, &found.older, journal) {
+            Some(doubt) => Ok(Start::Refuses { doubt, floor }),
+            None => resumes(alloc, place, found, journal),
         },
     }
 }
@@ -112,15 +129,105 @@ pub fn start_of(
 fn resumes(
     alloc: Global,
     place: &Place<'_>,
-    older: &Found,
+    found: &FoundFiles,
     journal: &Journal,
 ) -> Result<Start, AllocError>
-    ensures { IfOk result (λ start. start ≡ start_by place.now older.now journal.now None) }
+    ensures { IfOk result (λ start.
+        start ≡ start_by place.now found.now.older journal.now found.now.beside None) }
 {
     Ok(Start::Resumes {
-        resumption: resumption_of(alloc, place, older, journal)?,
-        check: goes_on_behind(place, older, journal),
+        resumption: resumption_of(alloc, place, &found.older, journal)?,
+        check: goes_on_behind(place, &found.older, journal),
     })
+}
+
+/// Returns why a server can't resume without a newer file.
+fn doubt_without(older: &Found, beside: &Found) -> Doubt
+    ensures { result ≡ doubt_without older.now beside.now }
+{
+    if is_nothing(older) && is_nothing(beside) {
+        Doubt::Absent
+    } else {
+        Doubt::Damaged
+    }
+}
+
+fn is_nothing(found: &Found) -> bool
+    ensures { result ≡ is_nothing found.now }
+{
+    match found {
+        Found::Nothing => true,
+        Found::Broken(_) => false,
+        Found::Whole(_) => false,
+    }
+}
+
+/// Returns the floor that the files of a journal ask for, if they show anything: no time below it may be accepted
+/// by a start that does not resume with them.
+pub fn found_floor(found: &FoundFiles) -> Option<i64>
+    ensures { result ≡ found_floor found.now.older found.now.newer found.now.beside }
+{
+    greater(
+        shown_by(&found.older),
+        greater(shown_by(&found.newer), shown_by(&found.beside)),
+    )
+}
+
+/// Returns the floor that one of the files asks for.
+fn shown_by(found: &Found) -> Option<i64>
+    ensures { result ≡ shown_by found.now }
+{
+    match found {
+        Found::Nothing => None,
+        Found::Broken(floor) => *floor,
+        Found::Whole(journal) => Some(floor_since(journal.high, journal.latest)),
+    }
+}
+
+/// Returns the greater of two floors, if there is one.
+pub fn greater(floor: Option<i64>, other: Option<i64>) -> Option<i64>
+    ensures { result ≡ greater floor other }
+{
+    match (floor, other) {
+        (None, other) => other,
+        (Some(floor), None) => Some(floor),
+        (Some(floor), Some(other)) => Some(floor.max(other)),
+    }
+}
+
+/// Returns a floor that is not below another one, and not below that of a start whose clock shows this second. It is at
+/// most the last second that a time can have.
+pub(crate) fn floor_since(floor: i64, second: i64) -> i64
+    ensures { result ≡ floor_since floor second }
+{
+    floor.max(restart_floor(second)).min(Moment::LAST_SECOND)
+}
+
+/// Returns the floor of a start whose clock shows this second, or the last second that a time can have.
+fn restart_floor(second: i64) -> i64
+    ensures { result ≡ int_min (second +ℤ pos (skew + 1)) last_second }
+{
+    if second < Moment::LAST_SECOND - SKEW - 1 {
+        second + SKEW + 1
+    } else {
+        Moment::LAST_SECOND
+    }
+}
+
+/// Checks whether a turn was cut: the newer file is missing, and what is beside goes on behind the older one.
+pub(crate) fn is_cut(found: &FoundFiles) -> bool
+    ensures { result ≡ is_cut found.now.older found.now.newer found.now.beside }
+{
+    is_nothing(&found.newer) && goes_behind(&found.beside, &found.older)
+}
+
+fn goes_behind(found: &Found, before: &Found) -> bool
+    ensures { result ≡ goes_behind found.now before.now }
+{
+    match (found, before) {
+        (Found::Whole(journal), Found::Whole(before)) => is_behind(journal, before),
+        _ => false,
+    }
 }
 
 /// Returns the seal of these journals: the last check of the newer one, if a start would resume with both.
@@ -129,7 +236,7 @@ pub(crate) fn seal_of(place: &Place<'_>, older: &Found, newer: &Found) -> Result
 {
     match newer {
         Found::Nothing => Err(Doubt::Absent),
-        Found::Broken => Err(Doubt::Damaged),
+        Found::Broken(_) => Err(Doubt::Damaged),
         Found::Whole(journal) => match doubt_of(place, older, journal) {
             Some(doubt) => Err(doubt),
             None => Ok(journal.check),
@@ -143,6 +250,7 @@ fn doubt_of(place: &Place<'_>, older: &Found, journal: &Journal) -> Option<Doubt
 {
     first_holding(&[
         (is_other_realm(place, journal), Doubt::OtherRealm),
+        (is_missealed(place, journal), Doubt::Damaged),
         (is_other_boot(place, journal), Doubt::OtherBoot),
         (is_unlinked(place, older, journal), Doubt::Unlinked),
     ])
@@ -158,6 +266,14 @@ fn is_other_boot(place: &Place<'_>, journal: &Journal) -> bool
     ensures { result ≡ is_other_boot place.now journal.now }
 {
     !(journal.header.boot.as_slice() == place.boot || is_sealed(place, journal))
+}
+
+/// Checks whether there is a seal, and it is that of another journal, or this one has lost its end.
+fn is_missealed(place: &Place<'_>, journal: &Journal) -> bool
+    ensures { result ≡ is_missealed place.now journal.now }
+{
+    let none: &[u8] = &[];
+    !(place.seal == none || is_sealed(place, journal))
 }
 
 /// Checks whether the seal that a start finds is that of this journal.
@@ -200,7 +316,7 @@ fn is_linked(journal: &Journal, older: &Found) -> bool
     ensures { result ≡ is_linked journal.now older.now }
 {
     match older {
-        Found::Nothing | Found::Broken => is_first(journal),
+        Found::Nothing | Found::Broken(_) => is_first(journal),
         Found::Whole(before) => is_first(journal) || is_behind(journal, before),
     }
 }
@@ -210,7 +326,7 @@ fn is_foreign(place: &Place<'_>, journal: &Journal, older: &Found) -> bool
     ensures { result ≡ is_foreign place.now journal.now older.now }
 {
     match older {
-        Found::Nothing | Found::Broken => false,
+        Found::Nothing | Found::Broken(_) => false,
         Found::Whole(before) => !is_first(journal) && is_other_realm(place, before),
     }
 }
@@ -226,7 +342,7 @@ fn is_early(place: &Place<'_>, journal: &Journal, older: &Found) -> bool
     ensures { result ≡ is_early place.now journal.now older.now }
 {
     match older {
-        Found::Nothing | Found::Broken => is_later(place, journal),
+        Found::Nothing | Found::Broken(_) => is_later(place, journal),
         Found::Whole(before) => {
             is_later(place, journal) || (!is_first(journal) && is_later(place, before))
         }
@@ -283,7 +399,7 @@ fn floor_behind(journal: &Journal, older: &Found) -> i64
     ensures { result ≡ floor_behind journal.now older.now }
 {
     match older {
-        Found::Nothing | Found::Broken => journal.header.floor.seconds(),
+        Found::Nothing | Found::Broken(_) => journal.header.floor.seconds(),
         Found::Whole(before) => {
             if is_first(journal) {
                 journal.header.floor.seconds()

@@ -1,27 +1,45 @@
 //! What a journal asks of its files.
 ghost use Rattle.std.specs.Prelude.{◌≡◌, Option, IfOk, IfSome};
 ghost use Rattle.std.specs.Result.{is_ok};
-ghost use Rattle.journal.specs.World.{Appends, BeginsAs, IsRead, Leaves, Seals, Unseals, World, file_in};
+ghost use Rattle.journal.specs.World.{Appends, BeginsAs, Finishes, IsRead, Leaves, Seals, Unseals, World, file_in};
 
 use crate::fault::FilesFault;
 use std::alloc::Global;
 
-/// One of the two files of a journal.
+/// One of the three files of a journal.
 #[derive(Clone, Copy, Debug, PartialEq, Eq)]
 pub enum Part {
     /// The file that came before the newer one.
     Older,
     /// The file that is appended to.
     Newer,
+    /// A file that was begun, before it is the newer one.
+    Beside,
 }
 
 /// How a file is begun.
 #[derive(Clone, Copy, Debug, PartialEq, Eq)]
 pub enum Begun {
-    /// The newer file becomes the older one.
+    /// The newer file becomes the older one. The new file is written and synced beside it, then both are renamed, and
+    /// then their folder is synced.
     Linked,
-    /// There is no older one afterwards.
+    /// There is no older one afterwards. The new file is written and synced beside the newer one, takes its place, and
+    /// the folder is synced. Then the older one is removed, and the folder is synced again.
     Anew,
+    /// The same, but the older file is removed first if the newer one is there: it may be why there is no room. The
+    /// floor of the newer one is above all that it holds.
+    Roomy,
+}
+
+/// What a call that failed to begin a file left.
+#[derive(Clone, Copy, Debug, PartialEq, Eq)]
+pub enum Left {
+    /// Both files, as they were. A part of the new one may be beside them.
+    Before,
+    /// A step between: the newer file is the older one now, and the new one is beside it; or the older one is gone.
+    Between,
+    /// The new file, in its place. The system may not have that on the disk, and the older file may still be there.
+    InPlace,
 }
 
 /// Why a file was not begun, and what that left.
@@ -29,9 +47,8 @@ pub enum Begun {
 pub struct BeginFault<E> {
     /// Why the call failed.
     pub fault: E,
-    /// Whether a file may be gone: the newer file may be the older one now, or the older one may be removed. Otherwise
-    /// both are as they were.
-    pub is_torn: bool,
+    /// What it left.
+    pub left: Left,
 }
 
 /// The content of one of the files.
@@ -56,7 +73,7 @@ pub enum News<E> {
     Mended,
 }
 
-/// The two files of a journal, and its seal: the last check of a journal that no server holds and that is wholly on the
+/// The files of a journal, and its seal: the last check of a journal that no server holds and that is wholly on the
 /// disk. They may keep a record of what the files hold, for contracts alone.
 pub trait JournalFiles {
     /// Why a call failed.
@@ -69,7 +86,7 @@ pub trait JournalFiles {
     fn append(&mut self, text: &[u8]) -> Result<(), Self::Fault>
         ensures { Leaves (Appends text.now (is_ok result)) (world self.old) (world self.new) };
 
-    /// Begins a file with a text. It becomes the newer one once all of it is written.
+    /// Begins a file with a text. It becomes the newer one once all of it is written and synced.
     fn begin(
         &mut self,
         alloc: Global,
@@ -77,6 +94,10 @@ pub trait JournalFiles {
         how: Begun,
     ) -> Result<(), BeginFault<Self::Fault>>
         ensures { BeginsAs how text.now result (world self.old) (world self.new) };
+
+    /// Finishes a turn that was cut: the file beside becomes the newer one, which is missing, and the folder is synced.
+    fn finish(&mut self) -> Result<(), Self::Fault>
+        ensures { Leaves (Finishes (is_ok result)) (world self.old) (world self.new) };
 
     /// Reads a file.
     fn read(&mut self, alloc: Global, part: Part) -> Result<FileText, Self::Fault>

@@ -3,17 +3,17 @@ ghost use Rattle.std.specs.Prelude.{◌≡◌, ◌-ℤ◌, ℤ, pos, true, false
 ghost use Rattle.std.specs.Result.{is_ok};
 ghost use Rattle.krb_fields.specs.Skew.{skew};
 ghost use Rattle.replay.specs.declared.seen.Resumption.{Resumption};
-ghost use Rattle.journal.specs.Appending.{FoundBy, HasAppended, HasBegun, HasMended, HasTail, MayKeep, MayTurn};
-ghost use Rattle.journal.specs.Appending.{FoundIn, HasKeptOne, HasTurned, kept_by};
-ghost use Rattle.journal.specs.Holding.{HasKept, IsFound, IsRaised, IsSafe, IsStart, is_whole, known_by, with_one};
+ghost use Rattle.journal.specs.Appending.{HasAppended, HasBegun, HasMended, HasTail, MayKeep, MayTurn};
+ghost use Rattle.journal.specs.Appending.{HasKeptOne, HasStarted, HasTurned, kept_by};
+ghost use Rattle.journal.specs.Holding.{HasKept, IsRaised, IsSafe, IsStart, is_whole, known_by, with_one};
 ghost use Rattle.journal.specs.Keeping.{BeginsJournal, begun};
-ghost use Rattle.journal.specs.World.{IsRead, Leaves, SameSeal, file_in};
+ghost use Rattle.journal.specs.World.{Leaves, SameSeal};
 
 use crate::decision::{Found, Place, Start};
-use crate::fault::{FilesFault, JournalFault};
-use crate::files::{BeginFault, Begun, FileText, JournalFiles, News, Part};
+use crate::fault::FilesFault;
+use crate::files::{BeginFault, Begun, JournalFiles, Left, News};
 use crate::keeping::{floor_on, write_beginning, write_seen};
-use crate::reading::{Journal, read_journal};
+use crate::reading::Journal;
 use crate::writing::Written;
 use krb_elements::Octets;
 use krb_fields::Moment;
@@ -149,12 +149,12 @@ impl<F: JournalFiles> JournalFile<F> {
             floor: self.floor,
             most: self.most,
         };
-        match begin(alloc, &mut self.files, &next, &[], Begun::Anew) {
+        match begin_in_place(alloc, &mut self.files, &mut self.is_said, &next) {
             Ok(tail) => {
-                self.tail = Some(tail);
+                self.tail = tail;
                 Ok(())
             }
-            Err(failed) => Err(failed.fault),
+            Err(fault) => Err(fault),
         }
     }
 
@@ -252,6 +252,29 @@ fn last_second(journal: &Journal, boot: &[u8]) -> i64 {
     }
 }
 
+/// Begins a file in place of both, at a start. Returns `None` if it is in place, and the system may not have that on
+/// the disk: then it is begun again before a reply.
+fn begin_in_place<F: JournalFiles>(
+    alloc: Global,
+    files: &mut F,
+    is_said: &mut bool,
+    next: &Next<'_>,
+) -> Result<Option<Tail>, FilesFault<F::Fault>>
+    ensures { HasStarted next.now.place next.now.floor (F.world files.old) result (F.world files.new) }
+{
+    match begin(alloc, files, next, &[], Begun::Anew) {
+        Ok(tail) => Ok(Some(tail)),
+        Err(BeginFault { fault, left }) => match left {
+            Left::Before => Err(fault),
+            Left::Between => Err(fault),
+            Left::InPlace => {
+                say_lost(files, is_said, fault);
+                Ok(None)
+            }
+        },
+    }
+}
+
 /// Begins a file with this link.
 fn begin<F: JournalFiles>(
     alloc: Global,
@@ -267,7 +290,7 @@ fn begin<F: JournalFiles>(
         Err(fault) => {
             return Err(BeginFault {
                 fault,
-                is_torn: false,
+                left: Left::Before,
             });
         }
     };
@@ -277,9 +300,9 @@ fn begin<F: JournalFiles>(
             last: next.place.at.sec.saturating_add(TURN),
             left: next.most.saturating_sub(written.text.len() as u64),
         }),
-        Err(BeginFault { fault, is_torn }) => Err(BeginFault {
+        Err(BeginFault { fault, left }) => Err(BeginFault {
             fault: FilesFault::Files(fault),
-            is_torn,
+            left,
         }),
     }
 }
@@ -338,16 +361,17 @@ fn turn<F: JournalFiles>(alloc: Global, files: &mut F, next: &Next<'_>, tail: Ta
 {
     match begin(alloc, files, next, &tail.check, Begun::Linked) {
         Ok(end) => Some(end),
-        Err(BeginFault { fault, is_torn }) => {
+        Err(BeginFault { fault, left }) => {
             files.say(News::NotTurned(fault));
-            if is_torn {
-                return None;
+            match left {
+                Left::Before => Some(Tail {
+                    check: tail.check,
+                    last: next.place.at.sec.saturating_add(BETWEEN_TURNS),
+                    left: next.most,
+                }),
+                Left::Between => None,
+                Left::InPlace => None,
             }
-            Some(Tail {
-                check: tail.check,
-                last: next.place.at.sec.saturating_add(BETWEEN_TURNS),
-                left: next.most,
-            })
         }
     }
 }
@@ -409,7 +433,7 @@ fn begin_anew<F: JournalFiles>(
 ) -> Option<Tail>
     ensures { HasMended next.now.place next.now.floor (F.world files.old) result (F.world files.new) }
 {
-    match begin(alloc, files, next, &[], Begun::Anew) {
+    match begin(alloc, files, next, &[], Begun::Roomy) {
         Ok(tail) => {
             say_mended(files, is_said);
             Some(tail)
@@ -438,46 +462,5 @@ fn say_mended<F: JournalFiles>(files: &mut F, is_said: &mut bool)
     if *is_said {
         *is_said = false;
         files.say(News::Mended);
-    }
-}
-
-/// Reads a file of a journal.
-pub fn read_part<F: JournalFiles>(
-    alloc: Global,
-    files: &mut F,
-    part: Part,
-) -> Result<Found, FilesFault<F::Fault>>
-    ensures world { F.world files.new ≡ F.world files.old }
-    ensures found { IfOk result (λ found. IfSome (F.world files.old) (λ w. IsFound (file_in part w) found)) }
-{
-    let text = match files.read(alloc, part) {
-        Ok(text) => text,
-        Err(fault) => return Err(FilesFault::Files(fault)),
-    };
-    match found_of(alloc, &text) {
-        Ok(found) => Ok(found),
-        Err(AllocError) => Err(FilesFault::Memory),
-    }
-}
-
-/// Reads what was read of a file as a journal.
-pub fn found_of(alloc: Global, text: &FileText) -> Result<Found, AllocError>
-    ensures { IfOk result (FoundBy text.now) }
-{
-    match text {
-        FileText::Nothing => Ok(Found::Nothing),
-        FileText::Unusable => Ok(Found::Broken),
-        FileText::Octets(octets) => found_in(alloc, octets),
-    }
-}
-
-/// Reads a text as a journal.
-fn found_in(alloc: Global, text: &[u8]) -> Result<Found, AllocError>
-    ensures { IfOk result (FoundIn text.now) }
-{
-    match read_journal(alloc, text) {
-        Ok(journal) => Ok(Found::Whole(journal)),
-        Err(JournalFault::Broken) => Ok(Found::Broken),
-        Err(JournalFault::Memory) => Err(AllocError),
     }
 }

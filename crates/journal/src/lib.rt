@@ -1,11 +1,10 @@
 //! A KDC's journal: a file of the authenticators in its replay caches, from which the next start resumes.
 //!
 //! ```
-//! let older = read_part(alloc, &mut files, Part::Older)?;
-//! let newer = read_part(alloc, &mut files, Part::Newer)?;
-//! let start = start_of(alloc, &place, &older, &newer)?;
+//! let found = read_files(alloc, &mut files)?;
+//! let start = start_of(alloc, &place, &found)?;
 //! let mut journal = JournalFile::new(files, realm, boot, floor, most);
-//! journal.start(alloc, at, &start, &newer, len)?;
+//! journal.start(alloc, at, &start, &found.newer, len)?;
 //! journal.keep(alloc, at, &seen)?; // before the reply to its request is sent
 //! ```
 //!
@@ -26,6 +25,7 @@ mod decision;
 mod entry;
 mod fault;
 mod files;
+mod found_files;
 mod head;
 mod header;
 mod journal_file;
@@ -35,18 +35,21 @@ mod memory_files;
 mod process;
 mod reading;
 mod sealing;
+mod showing;
 mod writing;
 
-pub use decision::{Doubt, Found, Place, Start, start_of};
+pub use decision::{Doubt, Found, FoundFiles, Place, Start, found_floor, greater, start_of};
 pub use entry::{Entry, EntryRef};
 pub use fault::{FilesFault, JournalFault, UNFIT};
-pub use files::{BeginFault, Begun, FileText, JournalFiles, News, Part};
+pub use files::{BeginFault, Begun, FileText, JournalFiles, Left, News, Part};
+pub use found_files::{found_of, read_files, read_part};
 pub use head::{HEAD, may_be_journal};
 pub use header::{Header, HeaderRef};
-pub use journal_file::{JournalFile, NotKept, found_of, read_part};
+pub use journal_file::{JournalFile, NotKept};
 pub use keeping::{above, floor_on, write_beginning, write_seen};
 pub use laws::{every_front, every_journal, every_journal_life, every_seal};
 pub use memory_files::{MemoryFiles, WriteFailures};
 pub use reading::{Journal, read_journal};
 pub use sealing::{SealOutcome, seal_journal};
+pub use showing::shown_in;
 pub use writing::{Written, write_entry, write_header};

@@ -1,10 +1,10 @@
 //! The files of a journal, in memory.
 ghost use Rattle.std.specs.Prelude.{◌≡◌, ◌++◌, ℕ, List, [], Some, None, IfOk, OnErr, OnOk, option_map, vec_items};
 ghost use Rattle.std.specs.Result.{is_ok};
-ghost use Rattle.journal.specs.World.{Appends, BeginsAs, IsRead, IsTorn, Leaves, file_in, with_file, with_more};
+ghost use Rattle.journal.specs.World.{Appends, BeginsAs, Finishes, HasBeside, IsBetween, IsInPlace, IsLeft, IsRead, Leaves, file_in, with_file, with_more};
 ghost use Rattle.journal.specs.MemoryWorld.{memory_world, seal_in};
 
-use crate::files::{BeginFault, Begun, FileText, JournalFiles, News, Part};
+use crate::files::{BeginFault, Begun, FileText, JournalFiles, Left, News, Part};
 use std::alloc::{AllocError, Global};
 
 /// A call on files in memory failed: it was made to fail, memory ran out, or there was no file to append to.
@@ -18,11 +18,10 @@ pub struct WriteFailures {
     pub good: u32,
     /// How many calls then fail, one after another.
     pub bad: u32,
-    /// How many octets of its text a failed `append` writes.
+    /// How many octets of its text a failed `append` writes, or a failed `begin` beside the newer file.
     pub cut: usize,
-    /// Whether a failed `begin` has already moved or removed the files that were there ([`BeginFault::is_torn`]). If
-    /// not, it leaves them as they were.
-    pub tears: bool,
+    /// How far a failed `begin` came.
+    pub left: Left,
 }
 
 /// The files of a journal, in memory, for tests. Contracts know what they hold, and calls can be made to fail.
@@ -30,6 +29,7 @@ pub struct WriteFailures {
 pub struct MemoryFiles {
     newer: Option<Vec<u8>>,
     older: Option<Vec<u8>>,
+    beside: Option<Vec<u8>>,
     seal: Option<[u8; 16]>,
     failures: WriteFailures,
 }
@@ -37,17 +37,18 @@ pub struct MemoryFiles {
 impl MemoryFiles {
     /// Returns the files before there is any.
     pub fn new() -> MemoryFiles
-        ensures { memory_world result ≡ record { newer = None; older = None; seal = [] } }
+        ensures { memory_world result ≡ record { newer = None; older = None; beside = None; seal = [] } }
     {
         MemoryFiles {
             newer: None,
             older: None,
+            beside: None,
             seal: None,
             failures: WriteFailures {
                 good: 0,
                 bad: 0,
                 cut: 0,
-                tears: false,
+                left: Left::Before,
             },
         }
     }
@@ -57,6 +58,73 @@ impl MemoryFiles {
         ensures { memory_world self.new ≡ memory_world self.old }
     {
         self.failures = failures;
+    }
+
+    /// Leaves what a `begin` that fails leaves, as far as it is to come, and returns how far it came.
+    fn leave(&mut self, alloc: Global, part: &[u8], octets: Vec<u8>, how: Begun) -> Left
+        ensures { (rest : List ℕ) → octets.items ≡ part.now ++ rest
+            → IsLeft how octets.items result (memory_world self.old) (memory_world self.new) }
+    {
+        match self.failures.left {
+            Left::Before => {
+                self.leave_part(alloc, part);
+                Left::Before
+            }
+            Left::Between => {
+                self.leave_between(octets, how);
+                Left::Between
+            }
+            Left::InPlace => {
+                self.leave_in_place(octets, how);
+                Left::InPlace
+            }
+        }
+    }
+
+    /// Leaves a part of a file beside the newer one.
+    fn leave_part(&mut self, alloc: Global, part: &[u8])
+        ensures { (text rest : List ℕ) → text ≡ part.now ++ rest
+            → HasBeside text (memory_world self.old) (memory_world self.new) }
+    {
+        self.beside = Vec::from_slice(alloc, part).ok();
+    }
+
+    /// Leaves the files between two steps.
+    fn leave_between(&mut self, octets: Vec<u8>, how: Begun)
+        ensures { IsBetween how octets.items (memory_world self.old) (memory_world self.new) }
+    {
+        match how {
+            Begun::Linked => {
+                self.older = self.newer.take();
+                self.beside = Some(octets);
+            }
+            Begun::Anew => self.beside = None,
+            Begun::Roomy => self.older = None,
+        }
+    }
+
+    /// Makes a file the newer one, and leaves the older one if it is to go.
+    fn leave_in_place(&mut self, octets: Vec<u8>, how: Begun)
+        ensures { IsInPlace how octets.items (memory_world self.old) (memory_world self.new) }
+    {
+        match how {
+            Begun::Linked => self.older = self.newer.take(),
+            Begun::Anew | Begun::Roomy => {}
+        }
+        self.newer = Some(octets);
+        self.beside = None;
+    }
+
+    /// Makes a file the newer one.
+    fn place(&mut self, octets: Vec<u8>, how: Begun)
+        ensures { memory_world self.new ≡ with_file how octets.items (memory_world self.old) }
+    {
+        match how {
+            Begun::Linked => self.older = self.newer.take(),
+            Begun::Anew | Begun::Roomy => self.older = None,
+        }
+        self.newer = Some(octets);
+        self.beside = None;
     }
 
     /// Checks whether the next call that changes a file fails.
@@ -95,26 +163,31 @@ impl JournalFiles for MemoryFiles {
         text: &[u8],
         how: Begun,
     ) -> Result<(), BeginFault<MemoryFault>> {
+        let Ok(octets) = Vec::from_slice(alloc, text) else {
+            return Err(not_begun(Left::Before));
+        };
         if self.fails() {
-            if self.failures.tears {
-                tear(&mut self.newer, &mut self.older, how);
-                return Err(not_begun(true));
-            }
-            return Err(not_begun(false));
+            let (part, _) = text.split_at(self.failures.cut.min(text.len()));
+            let left = self.leave(alloc, part, octets, how);
+            return Err(not_begun(left));
         }
-        match Vec::from_slice(alloc, text) {
-            Ok(octets) => {
-                replace(&mut self.newer, &mut self.older, octets, how);
-                Ok(())
-            }
-            Err(_) => Err(not_begun(false)),
+        self.place(octets, how);
+        Ok(())
+    }
+
+    fn finish(&mut self) -> Result<(), MemoryFault> {
+        if self.fails() {
+            return Err(MemoryFault);
         }
+        self.newer = self.beside.take();
+        Ok(())
     }
 
     fn read(&mut self, alloc: Global, part: Part) -> Result<FileText, MemoryFault> {
         match part {
             Part::Older => text_of(alloc, &self.older),
             Part::Newer => text_of(alloc, &self.newer),
+            Part::Beside => text_of(alloc, &self.beside),
         }
     }
 
@@ -127,7 +200,6 @@ impl JournalFiles for MemoryFiles {
 
     fn seal(&mut self, check: &[u8; 16]) -> Result<(), MemoryFault> {
         if self.fails() {
-            self.seal = None;
             return Err(MemoryFault);
         }
         self.seal = Some(*check);
@@ -174,38 +246,13 @@ fn seal_text(alloc: Global, seal: &Option<[u8; 16]>) -> Result<Vec<u8>, AllocErr
 }
 
 /// Returns the fault of a file that was not begun.
-fn not_begun(is_torn: bool) -> BeginFault<MemoryFault>
-    ensures { result.is_torn ≡ is_torn }
+fn not_begun(left: Left) -> BeginFault<MemoryFault>
+    ensures { result.left ≡ left }
 {
     BeginFault {
         fault: MemoryFault,
-        is_torn,
+        left,
     }
-}
-
-/// Moves or removes the files that were there, as a `begin` does before it writes.
-fn tear(newer: &mut Option<Vec<u8>>, older: &mut Option<Vec<u8>>, how: Begun)
-    ensures { (seal : List ℕ) → IsTorn
-        (record { newer = option_map vec_items newer.old; older = option_map vec_items older.old; seal = seal })
-        (record { newer = option_map vec_items newer.new; older = option_map vec_items older.new; seal = seal }) }
-{
-    match how {
-        Begun::Linked => *older = newer.take(),
-        Begun::Anew => *older = None,
-    }
-}
-
-/// Makes these octets the newer file.
-fn replace(newer: &mut Option<Vec<u8>>, older: &mut Option<Vec<u8>>, octets: Vec<u8>, how: Begun)
-    ensures { (seal : List ℕ) → record { newer = option_map vec_items newer.new; older = option_map vec_items older.new; seal = seal }
-        ≡ with_file how octets.items
-        (record { newer = option_map vec_items newer.old; older = option_map vec_items older.old; seal = seal }) }
-{
-    match how {
-        Begun::Linked => *older = newer.take(),
-        Begun::Anew => *older = None,
-    }
-    *newer = Some(octets);
 }
 
 fn text_of(alloc: Global, file: &Option<Vec<u8>>) -> Result<FileText, MemoryFault>

@@ -4,21 +4,23 @@ ghost use Rattle.std.specs.Prelude.{◌≡◌, ◌⊎◌, ℤ, Bool, true, List,
 ghost use Rattle.replay.specs.Run.{with_any};
 ghost use Rattle.journal.specs.Holding.{IsStart, known_by};
 ghost use Rattle.journal.specs.Life.{AreCalls, Call, IsBegun, IsCall, IsProcess, IsStage, JournalState, Process, Serves};
+ghost use Rattle.journal.specs.Finding.{MayFinish};
 ghost use Rattle.journal.specs.Life.{seen_asked, seen_in, state_of};
 ghost use Rattle.journal.specs.Life.Call.{Keep, Mend};
 ghost use Rattle.journal.specs.Life.Stage.{Sealed};
 ghost use Rattle.journal.specs.World.{World};
 
 use crate::decision::{Found, Place, Start, start_of};
-use crate::files::{JournalFiles, Part};
-use crate::journal_file::{JournalFile, NotKept, read_part};
+use crate::files::JournalFiles;
+use crate::found_files::read_files;
+use crate::journal_file::{JournalFile, NotKept};
 use crate::sealing::seal_journal;
 use krb_elements::Octets;
 use krb_fields::Moment;
 use replay::Seen;
 use std::alloc::Global;
 
-/// What a start finds in the newer file, and what it makes of both.
+/// What a start finds in the newer file, and what it makes of all.
 #[derive(Drop)]
 struct Beginning {
     newer: Found,
@@ -27,20 +29,20 @@ struct Beginning {
 
 /// Reads the files and decides how to start. `None` if that fails.
 fn decides<F: JournalFiles>(alloc: Global, files: &mut F, place: &Place<'_>) -> Option<Beginning>
-    ensures start { IfSome result (λ b. IfSome (F.world files.old) (λ w. (floor : ℤ)
+    ensures start { IfSome result (λ b. IfSome (F.world files.new) (λ w. (floor : ℤ)
         → floor ≡ (known_by floor b.start).floor → IsStart place.now.at floor b.newer b.start w)) }
-    ensures world { F.world files.new ≡ F.world files.old }
+    ensures world { MayFinish (F.world files.old) (F.world files.new) }
 {
-    let Ok(older) = read_part(alloc, files, Part::Older) else {
+    let Ok(found) = read_files(alloc, files) else {
         return None;
     };
-    let Ok(newer) = read_part(alloc, files, Part::Newer) else {
+    let Ok(start) = start_of(alloc, place, &found) else {
         return None;
     };
-    let Ok(start) = start_of(alloc, place, &older, &newer) else {
-        return None;
-    };
-    Some(Beginning { newer, start })
+    Some(Beginning {
+        newer: found.newer,
+        start,
+    })
 }
 
 /// Starts a journal. Returns whether it began.
@@ -143,8 +145,8 @@ fn run_process<F: JournalFiles>(
     asked: &[Asked],
 ) -> F
     ensures { (old new : World) → F.world files ≡ Some old → F.world result ≡ Some new
-        → (new ≡ old) ⊎ ((p : Process) × (p.at ≡ place.now.at) × (p.has_begun ≡ true → seen_in p.calls ≡ seen_asked asked.now)
-        × IsProcess p old new) }
+        → (read : World) × MayFinish (Some old) (Some read) × ((new ≡ read) ⊎ ((p : Process) × (p.at ≡ place.now.at)
+        × (p.has_begun ≡ true → seen_in p.calls ≡ seen_asked asked.now) × IsProcess p read new)) }
 {
     let mut files = files;
     let Some(beginning) = decides(alloc, &mut files, place) else {

@@ -90,7 +90,7 @@ fn take_header(alloc: Global, reader: &mut Reader<'_>) -> Result<Headed, Journal
 }
 
 /// Reads octets as a header.
-fn header_in(octets: &[u8]) -> Result<HeaderRef<'_>, DerFault>
+pub(crate) fn header_in(octets: &[u8]) -> Result<HeaderRef<'_>, DerFault>
     ensures found { IfOk result (λ h. octets.now ≡ written header h) }
     ensures spells { IfOk result (λ h. header.Spells h octets.now) }
     ensures only { (h : Headers) → header.Spells h octets.now → IsOkAnd result (λ x. x ≡ h) }
@@ -217,14 +217,14 @@ fn take_entry(
 }
 
 /// Returns the second in which a request came, this long after this time.
-fn came(ctime: KTime, age: i32) -> i64
+pub(crate) fn came(ctime: KTime, age: i32) -> i64
     ensures { result ≡ ctime +ℤ age }
 {
     ctime.seconds() + i64::from(age)
 }
 
 /// Reads octets as an entry.
-fn entry_in(octets: &[u8]) -> Result<EntryRef<'_>, DerFault>
+pub(crate) fn entry_in(octets: &[u8]) -> Result<EntryRef<'_>, DerFault>
     ensures found { IfOk result (λ e. octets.now ≡ written entry e) }
     ensures spells { IfOk result (λ e. entry.Spells e octets.now) }
     ensures only { (e : Listed) → entry.Spells e octets.now → IsOkAnd result (λ x. x ≡ e) }

@@ -1,12 +1,20 @@
 -- The words for the faults of a file that was read.
-use Rattle.std.specs.Prelude.{ℕ, List, Option, Some, codes}
+use Rattle.std.specs.Prelude.{ℕ, List, Option, Some, None, codes}
 use Rattle.program.specs.Refusal.{cause_refusal}
 use Rattle.principals_text.specs.RefusalWord.{read_refusal}
 use Rattle.kdc_files.specs.declared.files.ServerFileCause.{ServerFileCause}
-use Rattle.kdc_files.specs.declared.files.ServerFileCause.TheVariants.{File, NotJournal, Journal, Database}
+use Rattle.kdc_files.specs.declared.files.ServerFileCause.TheVariants.{File, NotJournal, Journal, NotFirst, BesideDatabase, Database}
+use Rattle.kdc_files.specs.declared.files.LeftoverFault.{LeftoverFault}
+use Rattle.kdc_files.specs.declared.files.LeftoverFault.TheVariants as leftovers
+
+abbrev pub leftover_refusal : LeftoverFault → Option (List ℕ)
+leftover_refusal (leftovers.NotJournal part) = Some (codes "NotJournal")
+leftover_refusal (leftovers.Failed error) = None
 
 abbrev pub refusal : ServerFileCause → Option (List ℕ)
 refusal (File cause) = cause_refusal cause
 refusal (NotJournal part) = Some (codes "NotJournal")
 refusal Journal = Some (codes "Journal")
+refusal NotFirst = Some (codes "NotFirst")
+refusal (BesideDatabase fault) = leftover_refusal fault
 refusal (Database fault) = read_refusal fault.cause

@@ -1,7 +1,7 @@
 //! The files that a server reads: what it takes from them, and why it refuses them.
 ghost use Rattle.std.specs.Prelude.{◌≡◌, ◌≤◌, ◌<◌, IfErr, IfOk, length, option_map, take, vec_len};
 ghost use Rattle.program.specs.declared.faults.FileCause.TheVariants.{Failed, ShortSeed};
-ghost use Rattle.kdc_files.specs.Refusal.{refusal};
+ghost use Rattle.kdc_files.specs.Refusal.{leftover_refusal, refusal};
 ghost use Rattle.kdc_files.specs.declared.files.ServerFileCause.TheVariants.{File};
 
 use crate::journal_parts::JournalPart;
@@ -21,6 +21,11 @@ pub enum ServerFileCause {
     NotJournal(JournalPart),
     /// The file is a database, and the journal of a server that had one is beside it.
     Journal,
+    /// The start is to be the first, and there is a journal.
+    NotFirst,
+    /// The file is a database. The journal beside it could not be removed, or something else has the name of one of its
+    /// files.
+    BesideDatabase(LeftoverFault),
     /// Its text denotes no database.
     Database(DatabaseFault),
 }
@@ -34,7 +39,22 @@ impl ServerFileCause {
             ServerFileCause::File(cause) => cause.refusal(),
             ServerFileCause::NotJournal(_) => Some("NotJournal"),
             ServerFileCause::Journal => Some("Journal"),
+            ServerFileCause::NotFirst => Some("NotFirst"),
+            ServerFileCause::BesideDatabase(fault) => fault.refusal(),
             ServerFileCause::Database(fault) => fault.cause.refusal(),
+        }
+    }
+
+    /// Returns the cause as one of the journal beside a database, which is not named otherwise.
+    pub(crate) fn of_journal_beside(self) -> ServerFileCause {
+        match self {
+            ServerFileCause::NotJournal(part) => {
+                ServerFileCause::BesideDatabase(LeftoverFault::NotJournal(part))
+            }
+            ServerFileCause::File(FileCause::Failed(error)) => {
+                ServerFileCause::BesideDatabase(LeftoverFault::Failed(error))
+            }
+            fault => fault,
         }
     }
 
@@ -47,6 +67,36 @@ impl ServerFileCause {
     }
 }
 
+/// Why the journal beside a database was not removed.
+#[derive(Debug, Drop)]
+pub enum LeftoverFault {
+    /// Something else than a journal has the name of one of its files.
+    NotJournal(JournalPart),
+    /// The system refused it, or another server appends to it.
+    Failed(Error),
+}
+
+impl LeftoverFault {
+    /// Returns the word for the refusal, unless the system refused it.
+    fn refusal(&self) -> Option<&'static str>
+        ensures { option_map (λ word. word.now) result ≡ leftover_refusal self.now }
+    {
+        match self {
+            LeftoverFault::NotJournal(_) => Some("NotJournal"),
+            LeftoverFault::Failed(_) => None,
+        }
+    }
+}
+
+impl fmt::Display for LeftoverFault {
+    fn fmt<W: fmt::Write>(&self, f: &mut fmt::Formatter<W>) -> fmt::Result {
+        match self {
+            LeftoverFault::NotJournal(part) => write!(f, "{part}; move it away"),
+            LeftoverFault::Failed(error) => write!(f, "{error}"),
+        }
+    }
+}
+
 impl fmt::Display for ServerFileCause {
     fn fmt<W: fmt::Write>(&self, f: &mut fmt::Formatter<W>) -> fmt::Result {
         match self {
@@ -54,6 +104,13 @@ impl fmt::Display for ServerFileCause {
             ServerFileCause::NotJournal(part) => write!(f, "{part}"),
             ServerFileCause::Journal => f.write_str(
                 "its journal is beside it; start with --journal to go on with that, or with --no-journal to remove it",
+            ),
+            ServerFileCause::NotFirst => f.write_str(
+                "there is a journal of an earlier start, and --first is for the first start alone; start without --first",
+            ),
+            ServerFileCause::BesideDatabase(fault) => write!(
+                f,
+                "its journal .journal beside it can't be removed: {fault}"
             ),
             ServerFileCause::Database(fault) => write!(f, "{fault}"),
         }

@@ -46,7 +46,7 @@ pub fn begun<F: JournalFiles + Drop>(
 ) -> Result<JournalFile<F>, FilesFault<F::Fault>>
     // If the start made this of what is in the files, they hold all that it knows.
     ensures kept { IfOk result (λ journal.
-        IfSome (F.world files) (IsStart beginning.at beginning.floor beginning.journals.newer beginning.start)
+        IfSome (F.world files) (IsStart beginning.at beginning.floor beginning.journals.found.newer beginning.start)
         → HasKept F.world (beginning.at.sec -ℤ pos skew) (known_by beginning.floor beginning.start)
         (known_by beginning.floor beginning.start) journal.files journal.tail journal.floor) }
     // No seal is left of what another boot could resume with.
@@ -60,7 +60,7 @@ pub fn begun<F: JournalFiles + Drop>(
         journals,
     } = beginning;
     let mut journal = JournalFile::new(files, realm, journals.boot, floor, most);
-    match journal.start(alloc, at, &start, &journals.newer, len) {
+    match journal.start(alloc, at, &start, &journals.found.newer, len) {
         Ok(()) => Ok(journal),
         Err(fault) => Err(fault),
     }

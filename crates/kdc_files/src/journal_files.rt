@@ -2,7 +2,7 @@
 use crate::files::{ServerFileCause, read_up_to, read_whole};
 use crate::journal_store::{JournalPlace, SystemJournal};
 use crate::journals::Journals;
-use journal::{FileText, JournalFiles, Part, read_part};
+use journal::{FileText, JournalFiles, read_files};
 use krb_elements::Octets;
 use program::{FileCause, hold_lock, is_own, open_plain, open_plain_with};
 use std::alloc::Global;
@@ -26,7 +26,7 @@ pub struct OpenedJournals<'a, F, W> {
     pub files: SystemJournal<'a, F, W>,
 }
 
-/// Opens the journal at a place, and reads it with the one that went before it.
+/// Opens the journal at a place, and reads its files. A turn that was cut is finished first.
 pub fn open_journals<'a, F: Files<File = File>, W: Write + Drop>(
     alloc: Global,
     place: JournalPlace<'a, '_, F, W>,
@@ -34,15 +34,14 @@ pub fn open_journals<'a, F: Files<File = File>, W: Write + Drop>(
     let files = place.files;
     let mut held = SystemJournal::open(alloc, place)?;
     let boot = boot_id(alloc, files)?;
-    let older = read_part(alloc, &mut held, Part::Older)?;
-    let newer = read_part(alloc, &mut held, Part::Newer)?;
+    let found = read_files(alloc, &mut held)?;
     let seal = Octets::new(held.read_seal(alloc)?);
     Ok(OpenedJournals {
         journals: Journals {
             boot,
-            older,
-            newer,
+            found,
             seal,
+            removed: None,
         },
         files: held,
     })

@@ -3,6 +3,7 @@ use crate::files::ServerFileCause;
 use journal::{HEAD, may_be_journal};
 use program::{FileCause, LOCK_END, open_plain};
 use std::alloc::{AllocError, Global};
+use std::fs::Metadata;
 use std::io::{Error, ErrorKind, Read};
 use std::rt::Files;
 use std::{fmt, fs, io};
@@ -45,6 +46,7 @@ pub struct JournalPaths {
     pub(crate) beside: String,
     pub(crate) lock: String,
     pub(crate) seal: String,
+    pub(crate) seal_beside: String,
 }
 
 impl JournalPaths {
@@ -56,6 +58,7 @@ impl JournalPaths {
             beside: format!(in alloc; "{path}.new")?,
             lock: format!(in alloc; "{path}{LOCK_END}")?,
             seal: format!(in alloc; "{path}.sealed")?,
+            seal_beside: format!(in alloc; "{path}.sealed.new")?,
         })
     }
 
@@ -64,9 +67,13 @@ impl JournalPaths {
         len_at(files, self.newer.as_str()).saturating_add(len_at(files, self.older.as_str()))
     }
 
-    /// Checks whether either of the two files of a journal is there.
+    /// Checks whether one of the three files of a journal is there.
     pub(crate) fn are_there<F: Files>(&self, files: &F) -> io::Result<bool> {
-        Ok(is_there(files, self.newer.as_str())? || is_there(files, self.older.as_str())?)
+        Ok(
+            is_there(files, self.newer.as_str())?
+                || is_there(files, self.older.as_str())?
+                || is_there(files, self.beside.as_str())?,
+        )
     }
 
     /// Refuses names that something else than a journal has. Nothing is changed by that.
@@ -75,7 +82,8 @@ impl JournalPaths {
         check_part(alloc, files, self.older.as_str(), JournalPart::Older)?;
         check_part(alloc, files, self.beside.as_str(), JournalPart::Beside)?;
         check_short(files, self.lock.as_str(), 0, JournalPart::Lock)?;
-        check_short(files, self.seal.as_str(), SEAL_LEN, JournalPart::Seal)
+        check_seal(files, self.seal.as_str())?;
+        check_seal(files, self.seal_beside.as_str())
     }
 }
 
@@ -113,7 +121,24 @@ fn check_short<F: Files>(
     most: u64,
     part: JournalPart,
 ) -> Result<(), ServerFileCause> {
-    match fs::metadata(files, path) {
+    judge_short(fs::metadata(files, path), most, part)
+}
+
+/// Refuses a path that has something else than the file of a seal. A link is something else, since the file is replaced.
+fn check_seal<F: Files>(files: &F, path: &str) -> Result<(), ServerFileCause> {
+    judge_short(
+        fs::symlink_metadata(files, path),
+        SEAL_LEN,
+        JournalPart::Seal,
+    )
+}
+
+fn judge_short(
+    found: io::Result<Metadata>,
+    most: u64,
+    part: JournalPart,
+) -> Result<(), ServerFileCause> {
+    match found {
         Ok(file) if file.is_file() && file.len() <= most => Ok(()),
         Ok(_) => Err(ServerFileCause::NotJournal(part)),
         Err(error) if error.kind() == ErrorKind::NotFound => Ok(()),

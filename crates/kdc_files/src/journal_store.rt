@@ -5,8 +5,8 @@ ghost use Rattle.kdc_files.specs.Unrecorded.{no_world};
 use crate::files::ServerFileCause;
 use crate::journal_files::{open_locked, open_newer, seal_at, text_at, text_in};
 use crate::journal_parts::{JournalPaths, require_replaceable};
-use journal::{BeginFault, Begun, FileText, JournalFiles, News, Part};
-use program::OWNER_ONLY;
+use journal::{BeginFault, Begun, FileText, JournalFiles, Left, News, Part};
+use program::{OWNER_ONLY, sync_folder};
 use std::alloc::Global;
 use std::fs::{File, OpenFile, OpenOptions};
 use std::io::{Error, ErrorKind, Write};
@@ -71,13 +71,14 @@ impl<'a, F: Files<File = File>, W: Write + Drop> SystemJournal<'a, F, W> {
         }
     }
 
-    /// Removes the journal, but for the file that is locked.
+    /// Removes the journal, but for the file that is locked. The newer file goes last, since its floor is above all
+    /// that the others hold.
     pub fn remove(&mut self, alloc: Global) -> io::Result<()> {
         self.newer = None;
         for path in [
-            self.paths.newer.as_str(),
             self.paths.older.as_str(),
             self.paths.beside.as_str(),
+            self.paths.newer.as_str(),
         ] {
             require_replaceable(alloc, self.files, path)?;
             remove_if_there(self.files, path)?;
@@ -94,7 +95,7 @@ impl<'a, F: Files<File = File>, W: Write + Drop> SystemJournal<'a, F, W> {
         }
     }
 
-    /// Begins a file beside the newer one.
+    /// Begins a file beside the newer one, and puts it on the disk.
     fn write_beside(&self, alloc: Global, text: &[u8]) -> io::Result<File> {
         let beside = self.paths.beside.as_str();
         require_replaceable(alloc, self.files, beside)?;
@@ -103,6 +104,7 @@ impl<'a, F: Files<File = File>, W: Write + Drop> SystemJournal<'a, F, W> {
         how.append(true).create_new(true).mode(OWNER_ONLY);
         let mut file = how.open(self.files, beside)?;
         append_to(&mut file, text)?;
+        file.sync_all()?;
         Ok(file)
     }
 
@@ -128,20 +130,56 @@ impl<'a, F: Files<File = File>, W: Write + Drop> SystemJournal<'a, F, W> {
         fs::rename(self.files, self.paths.beside.as_str(), newer)
     }
 
+    /// Puts on the disk which files there are.
+    fn sync_names(&self) -> io::Result<()> {
+        sync_folder(self.files, self.paths.newer.as_str())
+    }
+
     /// Begins a file that goes on behind the newer one.
     fn begin_linked(&self, alloc: Global, text: &[u8]) -> Result<File, BeginFault<Error>> {
-        let file = unless_changed(self.write_beside(alloc, text))?;
-        unless_changed(self.make_older(alloc))?;
-        unless_torn(self.make_newer(alloc))?;
+        let file = or_left(self.write_beside(alloc, text), Left::Before)?;
+        or_left(self.make_older(alloc), Left::Before)?;
+        or_left(self.make_newer(alloc), Left::Between)?;
+        or_left(self.sync_names(), Left::InPlace)?;
         Ok(file)
     }
 
-    /// Begins a file in place of both. The older one goes first, since it may be why there is no room.
+    /// Begins a file in place of both. What these hold is on the disk until the new one is.
     fn begin_anew(&self, alloc: Global, text: &[u8]) -> Result<File, BeginFault<Error>> {
-        unless_changed(self.remove_older(alloc))?;
-        let file = unless_torn(self.write_beside(alloc, text))?;
-        unless_torn(self.make_newer(alloc))?;
+        let file = or_left(self.write_beside(alloc, text), Left::Before)?;
+        or_left(self.make_newer(alloc), Left::Before)?;
+        or_left(self.sync_names(), Left::InPlace)?;
+        or_left(self.remove_older(alloc), Left::InPlace)?;
+        or_left(self.sync_names(), Left::InPlace)?;
         Ok(file)
+    }
+
+    /// Begins a file in place of both. The older one goes first, since it may be why there is no room: the floor of the
+    /// newer one is above all that it holds. If a turn was cut, the older one is the only one, and stays.
+    fn begin_roomy(&self, alloc: Global, text: &[u8]) -> Result<File, BeginFault<Error>> {
+        if or_left(
+            fs::exists(self.files, self.paths.newer.as_str()),
+            Left::Before,
+        )? {
+            or_left(self.remove_older(alloc), Left::Before)?;
+        }
+        let file = or_left(self.write_beside(alloc, text), Left::Between)?;
+        or_left(self.make_newer(alloc), Left::Between)?;
+        or_left(self.sync_names(), Left::InPlace)?;
+        or_left(self.remove_older(alloc), Left::InPlace)?;
+        or_left(self.sync_names(), Left::InPlace)?;
+        Ok(file)
+    }
+
+    /// Writes a seal beside the one that is there, and puts it on the disk.
+    fn write_seal(&self, check: &[u8; 16]) -> io::Result<()> {
+        let beside = self.paths.seal_beside.as_str();
+        remove_if_there(self.files, beside)?;
+        let mut how = OpenOptions::new();
+        how.append(true).create_new(true).mode(OWNER_ONLY);
+        let mut seal = how.open(self.files, beside)?;
+        append_to(&mut seal, check)?;
+        seal.sync_all()
     }
 }
 
@@ -161,6 +199,7 @@ impl<F: Files<File = File>, W: Write + Drop> JournalFiles for SystemJournal<'_, 
         let begun = match how {
             Begun::Linked => self.begin_linked(alloc, text),
             Begun::Anew => self.begin_anew(alloc, text),
+            Begun::Roomy => self.begin_roomy(alloc, text),
         };
         match begun {
             Ok(file) => {
@@ -171,10 +210,18 @@ impl<F: Files<File = File>, W: Write + Drop> JournalFiles for SystemJournal<'_, 
         }
     }
 
+    fn finish(&mut self) -> io::Result<()> {
+        let newer = self.paths.newer.as_str();
+        fs::rename(self.files, self.paths.beside.as_str(), newer)?;
+        self.newer = open_newer(self.files, newer)?;
+        self.sync_names()
+    }
+
     fn read(&mut self, alloc: Global, part: Part) -> io::Result<FileText> {
         match part {
             Part::Older => text_at(alloc, self.files, self.paths.older.as_str()),
             Part::Newer => text_in(alloc, self.files, self.newer.as_ref()),
+            Part::Beside => text_at(alloc, self.files, self.paths.beside.as_str()),
         }
     }
 
@@ -188,11 +235,13 @@ impl<F: Files<File = File>, W: Write + Drop> JournalFiles for SystemJournal<'_, 
             Some(newer) => newer.sync_all()?,
             None => return Err(Error::from(ErrorKind::NotFound)),
         }
-        let mut how = OpenOptions::new();
-        how.write(true).create(true).truncate(true).mode(OWNER_ONLY);
-        let mut seal = how.open(self.files, self.paths.seal.as_str())?;
-        append_to(&mut seal, check)?;
-        seal.sync_all()
+        self.write_seal(check)?;
+        fs::rename(
+            self.files,
+            self.paths.seal_beside.as_str(),
+            self.paths.seal.as_str(),
+        )?;
+        self.sync_names()
     }
 
     fn unseal(&mut self) -> io::Result<()> {
@@ -245,24 +294,10 @@ fn if_there(done: io::Result<()>) -> io::Result<()> {
     }
 }
 
-/// Says of a failure that both files are as they were.
-fn unless_changed<T>(done: io::Result<T>) -> Result<T, BeginFault<Error>> {
+/// Says of a failure what it left.
+fn or_left<T>(done: io::Result<T>, left: Left) -> Result<T, BeginFault<Error>> {
     match done {
         Ok(value) => Ok(value),
-        Err(fault) => Err(BeginFault {
-            fault,
-            is_torn: false,
-        }),
-    }
-}
-
-/// Says of a failure that one of the files may be gone.
-fn unless_torn<T>(done: io::Result<T>) -> Result<T, BeginFault<Error>> {
-    match done {
-        Ok(value) => Ok(value),
-        Err(fault) => Err(BeginFault {
-            fault,
-            is_torn: true,
-        }),
+        Err(fault) => Err(BeginFault { fault, left }),
     }
 }

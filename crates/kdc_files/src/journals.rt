@@ -1,5 +1,5 @@
 //! The journals that a start finds, and what its own begins with.
-use journal::{Found, Start};
+use journal::{FoundFiles, Start};
 use krb_elements::Octets;
 use krb_fields::Moment;
 
@@ -8,12 +8,12 @@ use krb_fields::Moment;
 pub struct Journals {
     /// The system's name for its current boot.
     pub boot: Octets,
-    /// The journal that went before the newer one.
-    pub older: Found,
-    /// The journal that is appended to.
-    pub newer: Found,
+    /// What is in the files.
+    pub found: FoundFiles,
     /// The seal beside them. Without one there are no octets.
     pub seal: Octets,
+    /// The floor that the files asked for that a start without a journal removed, if they showed anything.
+    pub removed: Option<i64>,
 }
 
 /// What the journal of a server begins with.

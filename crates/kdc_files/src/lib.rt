@@ -30,7 +30,7 @@ mod record;
 mod rows_file;
 mod sealing;
 
-pub use crate::files::{ServerFileCause, read_up_to, read_whole, seed_in};
+pub use crate::files::{LeftoverFault, ServerFileCause, read_up_to, read_whole, seed_in};
 pub use crate::journal_file::{FileJournal, begin_journal, begun};
 pub use crate::journal_files::{OpenedJournals, open_journals};
 pub use crate::journal_parts::{JournalPart, JournalPaths};
@@ -41,4 +41,4 @@ pub use crate::key_files::{KeyFile, say_rights};
 pub use crate::memory_journal::{HandedOver, MemoryJournal};
 pub use crate::record::Record;
 pub use crate::rows_file::RowsFile;
-pub use crate::sealing::{doubt_word, refuse_journal, seal_at_path};
+pub use crate::sealing::{Leftover, doubt_word, refuse_journal, seal_at_path};

@@ -3,7 +3,9 @@ use crate::files::ServerFileCause;
 use crate::journal_files::{OpenedJournals, open_journals};
 use crate::journal_parts::JournalPaths;
 use crate::journal_store::{JournalPlace, SystemJournal};
-use journal::{Doubt, Found, Place, SealOutcome, seal_journal};
+use journal::{
+    Doubt, Found, FoundFiles, Part, Place, SealOutcome, found_floor, read_part, seal_journal,
+};
 use krb_fields::Moment;
 use std::alloc::Global;
 use std::fs::File;
@@ -32,35 +34,70 @@ pub fn seal_at_path<F: Files<File = File>, W: Write + Drop>(
         mut files,
     } = open_journals(alloc, journal)?;
     let place = Place {
-        realm: realm_of(&journals.newer),
+        realm: realm_of(&journals.found.newer),
         boot: journals.boot.as_slice(),
         seal: journals.seal.as_slice(),
         at,
     };
-    Ok(seal_journal(&mut files, &place, &journals.older, &journals.newer)?)
+    Ok(seal_journal(
+        &mut files,
+        &place,
+        &journals.found.older,
+        &journals.found.newer,
+    )?)
 }
 
 /// Returns the realm of a journal, or no octets if there is none.
 fn realm_of(found: &Found) -> &[u8] {
     match found {
         Found::Whole(journal) => journal.header.realm.as_slice(),
-        Found::Nothing | Found::Broken => &[],
+        Found::Nothing | Found::Broken(_) => &[],
     }
 }
 
-/// Makes sure that no journal is at a place: one that is there is removed, or refused.
+/// What a start without a journal does with one that is at its place.
+#[derive(Clone, Copy, Debug, PartialEq, Eq)]
+pub enum Leftover {
+    /// It refuses to start.
+    Refused,
+    /// It removes it.
+    Removed,
+    /// It refuses to start, since it is to be the first.
+    NotFirst,
+}
+
+/// Makes sure that no journal is at a place: one that is there is removed, or refused. Returns the floor that the
+/// removed files asked for, if they showed anything: no time below it may be accepted.
 pub fn refuse_journal<F: Files<File = File>, W: Write + Drop>(
     alloc: Global,
     place: JournalPlace<'_, '_, F, W>,
-    removes: bool,
-) -> Result<(), ServerFileCause> {
+    leftover: Leftover,
+) -> Result<Option<i64>, ServerFileCause> {
     if !JournalPaths::new(alloc, place.path)?.are_there(place.files)? {
-        return Ok(());
+        return Ok(None);
     }
-    if !removes {
-        return Err(ServerFileCause::Journal);
+    match leftover {
+        Leftover::Refused => Err(ServerFileCause::Journal),
+        Leftover::NotFirst => Err(ServerFileCause::NotFirst),
+        Leftover::Removed => match remove_journal(alloc, place) {
+            Ok(floor) => Ok(floor),
+            Err(fault) => Err(fault.of_journal_beside()),
+        },
     }
+}
+
+/// Removes the journal at a place. Returns the floor that it asked for.
+fn remove_journal<F: Files<File = File>, W: Write + Drop>(
+    alloc: Global,
+    place: JournalPlace<'_, '_, F, W>,
+) -> Result<Option<i64>, ServerFileCause> {
     let mut journal = SystemJournal::open(alloc, place)?;
+    let found = FoundFiles {
+        older: read_part(alloc, &mut journal, Part::Older)?,
+        newer: read_part(alloc, &mut journal, Part::Newer)?,
+        beside: read_part(alloc, &mut journal, Part::Beside)?,
+    };
+    let floor = found_floor(&found);
     journal.remove(alloc)?;
-    Ok(())
+    Ok(floor)
 }

@@ -1,7 +1,7 @@
 //! The file of a server's numbers.
 use crate::metrics::MetricsWriter;
 use kdc_files::JournalPaths;
-use program::open_plain;
+use program::{LOCK_END, open_plain};
 use std::alloc::{AllocError, Global};
 use std::fs::{File, OpenFile, OpenOptions, Permissions};
 use std::io::{Error, ErrorKind, Read, Write};
@@ -12,6 +12,13 @@ use std::{fs, io};
 /// What a text of numbers begins with. Only a file that begins so is replaced.
 const HEAD: &[u8; 17] = b"# HELP kdcd_info ";
 
+/// What follows the path of a database in the names of its files. The last one is that of a new database, until it is
+/// renamed.
+const DATABASE_ENDS: &[&str] = &["", LOCK_END, ".new"];
+
+/// What follows the path of a journal in the names of its files.
+const JOURNAL_ENDS: &[&str] = &["", ".old", ".new", LOCK_END, ".sealed"];
+
 /// Everybody may read the numbers: what collects them runs as another user.
 const READABLE: u32 = 0o644;
 
@@ -20,6 +27,8 @@ const READABLE: u32 = 0o644;
 pub struct MetricsPaths<'a> {
     /// The path of that file.
     pub numbers: &'a str,
+    /// The path of the database.
+    pub db: &'a str,
     /// The path of the journal whose length is one of the numbers. `None` if there is no journal.
     pub journal: Option<&'a str>,
 }
@@ -33,6 +42,8 @@ pub struct MetricsFile<'a, F, W> {
     beside: String,
     /// The paths of the journal's files, if there is one.
     journal: Option<JournalPaths>,
+    /// Whether a file of the database or of the journal has one of the two paths, or would have it.
+    is_taken: bool,
     /// Where faults are logged.
     lines: W,
     /// Whether the last fault was logged, and no text was written since.
@@ -48,17 +59,26 @@ impl<'a, F: Files<File = File>, W: Write + Drop> MetricsFile<'a, F, W> {
         lines: W,
     ) -> Result<MetricsFile<'a, F, W>, AllocError> {
         let path = paths.numbers;
+        let beside = format!(in alloc; "{path}.new")?;
+        let is_taken = is_taken(path, &paths) || is_taken(beside.as_str(), &paths);
         Ok(MetricsFile {
             files,
             path,
-            beside: format!(in alloc; "{path}.new")?,
+            beside,
             journal: journal_paths(alloc, paths.journal)?,
+            is_taken,
             lines,
             is_said: false,
         })
     }
 
     fn replace(&self, text: &[u8]) -> io::Result<()> {
+        if self.is_taken {
+            return Err(Error::new(
+                ErrorKind::InvalidInput,
+                "this is the name of a file of the database or of the journal",
+            ));
+        }
         require_numbers(self.files, self.path)?;
         let beside = self.beside.as_str();
         remove_numbers(self.files, beside)?;
@@ -102,6 +122,25 @@ fn journal_paths(alloc: Global, journal: Option<&str>) -> Result<Option<JournalP
     }
 }
 
+/// Checks whether a path is that of a file of the database or of the journal.
+fn is_taken(path: &str, paths: &MetricsPaths<'_>) -> bool {
+    if is_named_after(path, paths.db, DATABASE_ENDS) {
+        return true;
+    }
+    match paths.journal {
+        Some(journal) => is_named_after(path, journal, JOURNAL_ENDS),
+        None => false,
+    }
+}
+
+/// Checks whether a path is another one with one of these ends.
+fn is_named_after(path: &str, other: &str, ends: &[&str]) -> bool {
+    match path.strip_prefix(other) {
+        Some(end) => ends.contains(&end),
+        None => false,
+    }
+}
+
 /// Removes the file at a path, if it has numbers.
 fn remove_numbers<F: Files>(files: &F, path: &str) -> io::Result<()> {
     require_numbers(files, path)?;
@@ -127,13 +166,10 @@ fn require_numbers<F: Files>(files: &F, path: &str) -> io::Result<()> {
     ))
 }
 
-/// Checks whether a file begins as a text of numbers does, or is cut before that.
+/// Checks whether a file begins as a text of numbers does.
 fn has_numbers(file: impl Read + Drop) -> io::Result<bool> {
     let mut file = file;
     let mut head = [0; HEAD.len()];
     let count = file.read(&mut head)?;
-    match head.get(..count) {
-        Some(begun) => Ok(HEAD.starts_with(begun)),
-        None => Ok(false),
-    }
+    Ok(count == HEAD.len() && head == *HEAD)
 }

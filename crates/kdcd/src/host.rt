@@ -3,9 +3,9 @@ ghost use Rattle.std.specs.Prelude.{None};
 
 use crate::args::journal_beside;
 use kdc_files::{
-    FileJournal, JournalBeginning, JournalPlace, Journals, KeyFile, OpenedJournals, RowsFile,
-    ServerFileCause, SystemJournal, begin_journal, open_journals, read_up_to, refuse_journal,
-    say_rights,
+    FileJournal, JournalBeginning, JournalPlace, Journals, KeyFile, Leftover, OpenedJournals,
+    RowsFile, ServerFileCause, SystemJournal, begin_journal, open_journals, read_up_to,
+    refuse_journal, say_rights,
 };
 use kdc_reports::{JournalNews, MetricsFile, MetricsPaths, Started};
 use kdc_sockets::{BindFault, SharedWriter, SocketWire};
@@ -136,17 +136,33 @@ impl<'a> Host for SystemHost<'a> {
         };
         let OpenedJournals { journals, files } = open_journals(alloc, place)?;
         self.held = Some(files);
-        Ok(journals)
+        // A reading removes no file.
+        let Journals {
+            boot,
+            found,
+            seal,
+            ..
+        } = journals;
+        Ok(Journals {
+            boot,
+            found,
+            seal,
+            removed: None,
+        })
     }
 
-    fn refuse_journal(&mut self, alloc: Global) -> Result<(), ServerFileCause> {
+    fn refuse_journal(
+        &mut self,
+        alloc: Global,
+        is_first: bool,
+    ) -> Result<Option<i64>, ServerFileCause> {
         let path = journal_beside(alloc, self.db)?;
         let place = JournalPlace {
             files: self.rt,
             path: path.as_str(),
             lines: self.errors.share()?,
         };
-        refuse_journal(alloc, place, self.removes_journal)
+        refuse_journal(alloc, place, leftover(is_first, self.removes_journal))
     }
 
     fn begin_journal(
@@ -194,6 +210,17 @@ impl<'a> Host for SystemHost<'a> {
     }
 }
 
+/// Returns what a start without a journal does with one that is beside the database.
+fn leftover(is_first: bool, removes: bool) -> Leftover {
+    if is_first {
+        Leftover::NotFirst
+    } else if removes {
+        Leftover::Removed
+    } else {
+        Leftover::Refused
+    }
+}
+
 /// The file of the numbers, if the options ask for one.
 fn metrics_of<'a>(
     rt: &'a HostRuntime,
@@ -205,6 +232,7 @@ fn metrics_of<'a>(
     };
     let paths = MetricsPaths {
         numbers: path,
+        db: options.db,
         journal: options.journal,
     };
     let file = MetricsFile::new(rt.alloc(), rt, paths, errors.share()?)?;

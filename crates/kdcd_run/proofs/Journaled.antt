@@ -1,16 +1,26 @@
 -- What processes did with the files of their journal is all that the law of restarts asks of these files.
-use Rattle.std.proofs.Common.{List, [], ◌∷◌, Option, ℕ, subst}
+use Rattle.std.proofs.Common.{◌≡◌, List, [], ◌∷◌, Option, ℕ, subst}
 use Rattle.krb_fields.specs.declared.moment.Moment.{Moment}
 use Rattle.replay.specs.declared.seen.Resumption.{Resumption}
 use Rattle.kdc_hub.specs.Hub.{HubState}
 use Rattle.kdc_hub.specs.Life.{Period}
+use Rattle.journal.specs.Decision.{Place, next_start, start_of}
 use Rattle.journal.specs.Holding.{IsSafe}
+use Rattle.journal.specs.declared.decision.Found.{Found}
+use Rattle.journal.specs.declared.decision.Found.TheVariants.{Nothing, Broken, Whole}
 use Rattle.journal.specs.Life.{IsLife, LivesHold, Stage, StagesFollow, past_after_all, past_of}
 use Rattle.journal.specs.World.{World}
 use Rattle.journal.specs.declared.decision.Start.{Start}
 use Rattle.journal.specs.declared.decision.Start.TheVariants.{Resumes, Refuses}
 use Rattle.kdcd_run.specs.Journaled.{AreJournaled, Journaled, KeepsAll, MayResume, OnJournal, OneTicketThroughJournals, ResumesWith, processes_in}
 use Rattle.kdcd_run.specs.Processes.{AreProcesses, FindsAll, MayStart, OneTicketThroughRestarts, known_after}
+
+-- a start that resumes found no turn that was cut
+resumes_next : (place : Place) (older newer beside : Found) (found : Resumption) (check : Option (List ℕ))
+    → Resumes found check ≡ start_of place older newer beside → Resumes found check ≡ next_start place older newer beside
+resumes_next place older Nothing beside found check is = absurd cc
+resumes_next place older (Broken lost) beside found check is = absurd cc
+resumes_next place older (Whole j) beside found check is = is
 
 module _ (laws : LivesHold) where
   module _ (at : Moment) (r : Resumption) (periods : List Period) (did : OnJournal) (w left found : World) (before : List Stage)
@@ -30,23 +40,26 @@ module _ (laws : LivesHold) where
           moment = finds.start.moment;
           older = finds.start.older;
           newer = finds.newer;
+          beside = finds.start.beside;
           older_found = finds.start.older_found;
           newer_found = finds.start.newer_found;
-          decided = finds.start.decided;
+          beside_found = finds.start.beside_found;
+          decided = resumes_next finds.start.place finds.start.older finds.newer finds.start.beside resumed check finds.start.decided;
         }
 
     may_start : (next : Moment) (start : Start) → MayResume (past_after_all (past_of did) before) found next start
         → MayStart (known_after at r periods) next start
-    may_start next (Refuses doubt) may = tt
+    may_start next (Refuses doubt floor) may = tt
     may_start next (Resumes resumed check) may = finds_all next resumed check may
 
   are_processes : (at : Moment) (hub : HubState) (r : Resumption) (periods : List Period) (did : OnJournal) (w : World) (ns : List Journaled)
       → AreJournaled at hub r periods did w ns → AreProcesses at hub r periods (processes_in ns)
   are_processes at hub r periods did w [] are = are
-  are_processes at hub r periods did w (n ∷ ns) (left, found, lived, keeps, life, follows, may, late, rest) = (
+  are_processes at hub r periods did w (n ∷ ns) (left, found, lived, keeps, life, follows, may, late, opens, rest) = (
     lived,
     late,
     may_start at r periods did w left found n.before keeps life follows n.process.at n.process.start may,
+    opens,
     are_processes n.process.at _ _ n.process.periods n.did found ns rest,
   )
 

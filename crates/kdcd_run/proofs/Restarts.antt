@@ -26,7 +26,7 @@ use Rattle.kdc_hub.specs.declared.rows.Look.TheVariants.{Unchanged, Changed, Fai
 use Rattle.journal.specs.declared.decision.Start.{Start}
 use Rattle.journal.specs.declared.decision.Start.TheVariants.{Resumes, Refuses}
 use Rattle.kdcd_run.specs.Handing.{HandsAllInLife}
-use Rattle.kdcd_run.specs.Processes.{AreProcesses, FindsAll, IsLate, MayStart, OneTicketThroughRestarts, Process, beginning, beginning_by, history, known_after, known_at}
+use Rattle.kdcd_run.specs.Processes.{AreProcesses, FindsAll, IsLate, MayStart, OneTicketThroughRestarts, OpensFrom, Process, beginning, beginning_by, history, known_after, known_at}
 use Rattle.kdcd_run.specs.Resuming.{known_before}
 
 -- ---- within one process nothing resumes
@@ -140,23 +140,26 @@ module _ (one_run : (start : HubState) (turns : List Turn) → IsOneRun start tu
     covers_next : (found : Resumption) (check : Option (List ℕ)) → FindsAll (known_after began r periods) p.at (Resumes found check)
         → IsLate (Resumes found check) (events_in hub (flat_map turns_of periods)) → Covers ended.issuing.kdc found
     covers_next found check finds (latest, up_to, under) c stamp spent =
-        finds.safe.knows finds.place finds.older finds.newer found check finds.older_found finds.newer_found (sym finds.decided) finds.late (latest -ℤ pos skew) under c stamp
+        finds.safe.knows finds.place finds.older finds.newer finds.beside found check finds.older_found finds.newer_found finds.beside_found (sym finds.decided) finds.late (latest -ℤ pos skew) under c stamp
         (covers_at_end began hub r periods latest covers lived up_to c stamp spent)
 
     next_with_all : (start : Start) → MayStart (known_after began r periods) p.at start → IsLate start (events_in hub (flat_map turns_of periods))
         → ResumesFollow ended.issuing.kdc (turn_events ended (beginning_by p start))
-    next_with_all (Refuses doubt) may late = (tt, tt)
+    next_with_all (Refuses doubt floor) may late = (tt, tt)
     next_with_all (Resumes found check) may late = (covers_next found check may late, tt)
 
   -- what the next process begins with covers its state
-  next_covers : (hub : HubState) (p : Process) (start : Start) → Covers (after_turn hub (beginning_by p start)).issuing.kdc (known_before (RestartAt p.at) start)
-  next_covers hub p (Refuses doubt) = begins.opened p.database p.limits (RestartAt p.at)
-  next_covers hub p (Resumes found check) = begins.resumed p.database p.limits found
+  next_covers : (hub : HubState) (p : Process) (start : Start) → OpensFrom p.at p.from start
+      → Covers (after_turn hub (beginning_by p start)).issuing.kdc (known_before (RestartAt p.at) start)
+  next_covers hub p (Refuses doubt floor) opens =
+      subst (λ f. Covers (after_turn hub (beginning_by p (Refuses doubt floor))).issuing.kdc (record { floor = f; seen = [] })) opens
+      (begins.opened p.database p.limits (RestartAt p.from))
+  next_covers hub p (Resumes found check) opens = begins.resumed p.database p.limits found
 
   all_follow : (at : Moment) (hub : HubState) (r : Resumption) (periods : List Period) (processes : List Process) → Covers hub.issuing.kdc r
       → AreProcesses at hub r periods processes → ResumesFollow hub.issuing.kdc (events_in hub (history periods processes))
   all_follow at hub r periods [] covers lived = follows_none hub.issuing.kdc _ (life_none hub periods)
-  all_follow at hub r periods (p ∷ ps) covers (lived, late, may, rest) =
+  all_follow at hub r periods (p ∷ ps) covers (lived, late, may, opens, rest) =
       let turns = flat_map turns_of periods in
       let ended = after_turns hub turns in
       let next = after_turn ended (beginning p) in
@@ -168,7 +171,7 @@ module _ (one_run : (start : HubState) (turns : List Turn) → IsOneRun start tu
       (follows_both ended.issuing.kdc (turn_events ended (beginning p)) (events_in next others)
       (next_with_all at hub r periods p covers lived p.start may late)
       (subst (λ (s : State). ResumesFollow s (events_in next others)) (turn_run ended (beginning p))
-      (all_follow p.at next (known_at p) p.periods ps (next_covers ended p p.start) rest)))))
+      (all_follow p.at next (known_at p) p.periods ps (next_covers ended p p.start opens) rest)))))
     where
       -- a turn alone
       turn_run : (start : HubState) (turn : Turn) → (after_turn start turn).issuing.kdc ≡ run start.issuing.kdc (turn_events start turn)

@@ -1,5 +1,5 @@
 -- The record of a host in memory.
-use Rattle.std.specs.Prelude.{ℕ, List, []}
+use Rattle.std.specs.Prelude.{ℕ, List, [], None}
 use Rattle.journal.specs.declared.decision.Found.TheVariants.{Nothing}
 use Rattle.kdcd_run.specs.Starting.{BeganJournal, Drew, HasNoJournal, Held, HostDid, ReadJournals, ReadRows, ReadSeed, Showed}
 use Rattle.kdc_files.specs.declared.journals.Journals.{Journals}
@@ -13,10 +13,15 @@ did_by (calls.ReadSeed path octets) = ReadSeed path octets
 did_by (calls.Drew octets) = Drew octets
 did_by (calls.Held udp tcp) = Held udp.items tcp.items
 did_by (calls.ReadJournals path journals) = ReadJournals path journals
-did_by calls.HasNoJournal = HasNoJournal
+did_by (calls.HasNoJournal removed) = HasNoJournal removed
 did_by (calls.Showed at) = Showed at
 did_by (calls.BeganJournal path beginning) = BeganJournal path beginning
 
 -- this boot, and no journals
 abbrev pub no_journals : List ℕ → Journals
-no_journals boot = record { boot = boot; older = Nothing; newer = Nothing; seal = [] }
+no_journals boot = record {
+  boot = boot;
+  found = record { older = Nothing; newer = Nothing; beside = Nothing };
+  seal = [];
+  removed = None;
+}

@@ -21,7 +21,7 @@ use Rattle.journal.specs.World.{World}
 use Rattle.journal.specs.declared.decision.Found.{Found}
 use Rattle.journal.specs.declared.decision.Start.{Start}
 use Rattle.journal.specs.declared.decision.Start.TheVariants.{Resumes, Refuses}
-use Rattle.kdcd_run.specs.Processes.{IsLate, Process, beginning, history, known_after, known_at}
+use Rattle.kdcd_run.specs.Processes.{IsLate, OpensFrom, Process, beginning, history, known_after, known_at}
 
 -- what a process did with its journal
 abbrev pub OnJournal : Type 0
@@ -50,7 +50,7 @@ pub record ResumesWith (past : Past) (w : World) (at : Moment) (found : Resumpti
   pub start : IsStart at found.floor newer (Resumes found check) w
 
 abbrev pub MayResume : Past → World → Moment → Start → Type 0
-MayResume past w at (Refuses doubt) = ⊤
+MayResume past w at (Refuses doubt floor) = ⊤
 MayResume past w at (Resumes found check) = ResumesWith past w at found check
 
 -- As `AreProcesses`, but of the files is said only what was done with them: the first process finds these.
@@ -64,6 +64,7 @@ AreJournaled at hub r periods did w (n ∷ ns) =
     × StagesFollow (known_after at r periods) (past_of did) n.before
     × MayResume (past_after_all (past_of did) n.before) found n.process.at n.process.start
     × IsLate n.process.start (events_in hub (flat_map turns_of periods))
+    × OpensFrom n.process.at n.process.from n.process.start
     × AreJournaled n.process.at (after_turn (after_turns hub (flat_map turns_of periods)) (beginning n.process)) (known_at n.process)
     n.process.periods n.did found ns
 

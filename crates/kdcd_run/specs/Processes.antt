@@ -19,22 +19,24 @@ use Rattle.kdc_hub.specs.History.{Reopened, Resumed, Turn, after_turn, after_tur
 use Rattle.kdc_hub.specs.Hub.{HubState}
 use Rattle.kdc_hub.specs.Rounds.{did_in}
 use Rattle.kdc_hub.specs.Life.{ArePeriods, Period, rounds_in, turns_of}
-use Rattle.journal.specs.Decision.{Place, start_of}
+use Rattle.journal.specs.Decision.{Place, next_start}
 use Rattle.journal.specs.Holding.{IsFound, IsSafe}
 use Rattle.journal.specs.World.{World}
 use Rattle.journal.specs.declared.decision.Found.{Found}
 use Rattle.journal.specs.declared.decision.Start.{Start}
 use Rattle.journal.specs.declared.decision.Start.TheVariants.{Resumes, Refuses}
 use Rattle.kdcd_run.specs.Handing.{all_seen}
-use Rattle.kdcd_run.specs.Resuming.{known_before}
+use Rattle.replay.specs.Opening.{opening_floor}
+use Rattle.kdcd_run.specs.Resuming.{known_before, raised_floor}
 use Rattle.kdcd_run.specs.Served.{handed_in}
 
--- A process that follows others: its rows, its limits, the moment of its start, what it made of the journals, its
--- random octets, whether it keeps accounts, and its life.
+-- A process that follows others: its rows, its limits, the moment of its start, the moment by which it opens if it
+-- refuses, what it made of the journals, its random octets, whether it keeps accounts, and its life.
 pub record Process : Type 0 where
   pub database : Principals
   pub limits : Limits
   pub at : Moment
+  pub from : Moment
   pub start : Start
   pub random : Stream
   pub accounts : Bool
@@ -43,10 +45,15 @@ pub record Process : Type 0 where
 -- how it begins
 abbrev pub beginning_by : Process → Start → Turn
 beginning_by p (Resumes r check) = Resumed p.database p.limits r p.random p.accounts
-beginning_by p (Refuses doubt) = Reopened p.database p.limits p.at p.random p.accounts
+beginning_by p (Refuses doubt floor) = Reopened p.database p.limits p.from p.random p.accounts
 
 abbrev pub beginning : Process → Turn
 beginning p = beginning_by p p.start
+
+-- It opens with the floor of its own clock, or with the one that the files ask for if that is above it.
+abbrev pub OpensFrom : Moment → Moment → Start → Type 0
+OpensFrom at from (Resumes r check) = ⊤
+OpensFrom at from (Refuses doubt floor) = opening_floor (Restart from) ≡ raised_floor (Restart at) floor
 
 -- what it begins with
 abbrev pub known_at : Process → Resumption
@@ -61,7 +68,7 @@ known_after at r periods = record {
 }
 
 -- A start reads the files that the process before it left: no start resumes with them without what that one knew. Times
--- below `low` are too old for this one too. It makes of them what `start_of` says.
+-- below `low` are too old for this one too. It makes of them what `next_start` says.
 pub record FindsAll (r : Resumption) (at : Moment) (start : Start) : Type 0 where
   pub world : World
   pub low : ℤ
@@ -71,20 +78,22 @@ pub record FindsAll (r : Resumption) (at : Moment) (start : Start) : Type 0 wher
   pub moment : place.at ≡ at
   pub older : Found
   pub newer : Found
+  pub beside : Found
   pub older_found : IsFound world.older older
   pub newer_found : IsFound world.newer newer
-  pub decided : start ≡ start_of place older newer
+  pub beside_found : IsFound world.beside beside
+  pub decided : start ≡ next_start place older newer beside
 
 -- A start that resumes has a floor that is at most the skew before each event of the process before it. So its clock
 -- may be behind that one's, where its floor makes up for it.
 abbrev pub IsLate : Start → List KdcEvent → Type 0
-IsLate (Refuses doubt) events = ⊤
+IsLate (Refuses doubt floor) events = ⊤
 IsLate (Resumes found check) events = (latest : ℤ) × AreUpTo latest events × ((latest -ℤ pos skew) ≤ℤ found.floor)
 
 -- A start may refuse for any reason, and it is no matter then what the journals hold. It resumes only with journals
 -- that hold all.
 abbrev pub MayStart : Resumption → Moment → Start → Type 0
-MayStart r at (Refuses doubt) = ⊤
+MayStart r at (Refuses doubt floor) = ⊤
 MayStart r at (Resumes found check) = FindsAll r at (Resumes found check)
 
 -- A process that started at this moment with this hub, knew this and lived so, and those that follow it.
@@ -94,6 +103,7 @@ AreProcesses at hub r periods (p ∷ ps) =
     ArePeriods None hub periods
     × IsLate p.start (events_in hub (flat_map turns_of periods))
     × MayStart (known_after at r periods) p.at p.start
+    × OpensFrom p.at p.from p.start
     × AreProcesses p.at (after_turn (after_turns hub (flat_map turns_of periods)) (beginning p)) (known_at p) p.periods ps
 
 -- the history of all of them

@@ -1,6 +1,8 @@
 -- Which replies a server withholds while it refuses all service tickets.
-use Rattle.std.specs.Prelude.{ℤ, Bool, true, false, ◌&&◌, int_lt, Option, Some, None}
+use Rattle.std.specs.Prelude.{ℤ, pos, ◌+◌, ◌+ℤ◌, Bool, true, false, ◌&&◌, int_lt, Option, Some, None}
+use Rattle.std.specs.Int.{int_min}
 use Rattle.std.specs.Ordering.{int_eq}
+use Rattle.krb_fields.specs.Skew.{skew}
 use Rattle.krb_fields.specs.declared.numbers.TheConstants.{KRB_AP_ERR_SKEW}
 use Rattle.krb_fields.specs.Code.{number_of}
 use Rattle.krb_fields.specs.declared.moment.Moment.{Moment}
@@ -40,9 +42,10 @@ abbrev pub quiet_withholds : Option ℤ → Moment → Action → Bool
 quiet_withholds (Some until) at action = int_lt at.sec until && sends_skew action
 quiet_withholds None at action = false
 
--- the second before which a quiet start withholds refusals
-abbrev pub quiet_until : Option StartRefused → Bool → Option ℤ
-quiet_until None is_quiet = None
-quiet_until (Some (ServedLater until)) is_quiet = None
-quiet_until (Some (All until)) true = Some until
-quiet_until (Some (All until)) false = None
+-- The second before which a quiet start withholds refusals: that up to which all are refused, and at most that up to
+-- which its own clock asks for it. What the files of a journal ask for beyond that is answered, so that it is noticed.
+abbrev pub quiet_until : Option StartRefused → Moment → Bool → Option ℤ
+quiet_until None at is_quiet = None
+quiet_until (Some (ServedLater until)) at is_quiet = None
+quiet_until (Some (All until)) at true = Some (int_min until (at.sec +ℤ pos (skew + 1)))
+quiet_until (Some (All until)) at false = None

@@ -26,7 +26,7 @@ pub record IsStarted (options : ServeOptions) (before after : Option (List HostD
   pub begins : Records middle (began (option_copied options.journal) beginning) after
   pub moment : at ≡ beginning.at
   pub floor_is : floor ≡ beginning.floor
-  pub found : news.journal ≡ found_at (option_copied options.journal) beginning.start
+  pub found : news.journal ≡ found_at (option_copied options.journal) beginning.start beginning.at
   pub refused : news.refused ≡ refused_at_start floor at.sec
 
 -- the rounds that the options ask for, or as many as no process serves

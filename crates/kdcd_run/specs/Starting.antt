@@ -1,5 +1,5 @@
 -- What a server asks of its host, its seed, and how its KDC is opened.
-use Rattle.std.specs.Prelude.{◌≡◌, ℕ, Bool, true, false, List, [], ◌∷◌, take, Option, Some, None}
+use Rattle.std.specs.Prelude.{◌≡◌, ℕ, ℤ, Bool, true, false, List, [], ◌∷◌, take, Option, Some, None}
 use Rattle.std.specs.declared.net.socket_addr.SocketAddr.{SocketAddr}
 use Rattle.rand_core.specs.Stream.{Stream}
 use Rattle.rand_core.specs.Steps.{steps_u32, stream_of}
@@ -15,14 +15,14 @@ use Rattle.kdc_files.specs.declared.journals.Journals.{Journals}
 -- A call of a host that succeeded, with its outcome: it read the rows of the database; it read the octets of the file
 -- of the seed at a path; the system gave random octets; sockets for datagrams and sockets that take connections are
 -- held at these addresses from then on; it holds the journal at a path, and read these; no journal is beside the
--- database; the clock showed a moment; the journal at a path began so.
+-- database, and what was removed there asked for this floor; the clock showed a moment; the journal at a path began so.
 pub data HostDid : Type 0 where
   ReadRows : Principals → HostDid
   ReadSeed : List ℕ → List ℕ → HostDid
   Drew : List ℕ → HostDid
   Held : List SocketAddr → List SocketAddr → HostDid
   ReadJournals : List ℕ → Journals → HostDid
-  HasNoJournal : HostDid
+  HasNoJournal : Option ℤ → HostDid
   Showed : Moment → HostDid
   BeganJournal : List ℕ → JournalBeginning → HostDid
 

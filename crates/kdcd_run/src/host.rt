@@ -1,5 +1,5 @@
 //! The host of a server.
-ghost use Rattle.std.specs.Prelude.{◌≡◌, ◌∷◌, [], List, Option, IfOk, true, false};
+ghost use Rattle.std.specs.Prelude.{◌≡◌, ◌∷◌, [], List, Option, IfOk, None, true, false};
 ghost use Rattle.kdc_hub.specs.Wire.{Records};
 ghost use Rattle.kdc_hub.specs.Recorded.{recorded_by_any};
 ghost use Rattle.kdc_files.specs.Recorded.{IsNew};
@@ -72,13 +72,21 @@ pub trait Host {
     /// Holds the journal at a path, and reads it with the one that went before it. From then on no other process
     /// appends to it.
     fn read_journals(&mut self, alloc: Global, path: &str) -> Result<Journals, ServerFileCause>
-        ensures { IfOk result (λ journals.
-            Records (recorded self.old) (ReadJournals path.now journals ∷ []) (recorded self.new)) };
+        ensures records { IfOk result (λ journals.
+            Records (recorded self.old) (ReadJournals path.now journals ∷ []) (recorded self.new)) }
+        // It removes none.
+        ensures kept { IfOk result (λ journals. journals.removed ≡ None) };
 
     /// Makes sure that no journal is beside the database, for a server that has none. One that is there refuses the
-    /// start, or is removed, as the options say.
-    fn refuse_journal(&mut self, alloc: Global) -> Result<(), ServerFileCause>
-        ensures { IfOk result (λ _. Records (recorded self.old) (HasNoJournal ∷ []) (recorded self.new)) };
+    /// start, or is removed, as the options say; it always refuses one that is to be the first. Returns the floor that
+    /// the removed files asked for, if they showed anything.
+    fn refuse_journal(
+        &mut self,
+        alloc: Global,
+        is_first: bool,
+    ) -> Result<Option<i64>, ServerFileCause>
+        ensures { IfOk result (λ removed.
+            Records (recorded self.old) (HasNoJournal removed ∷ []) (recorded self.new)) };
 
     /// Begins the journal at a path, or goes on with the one that was read.
     fn begin_journal(

@@ -8,7 +8,7 @@ ghost use Rattle.kdcd_run.specs.Starting.{BeganJournal, HasNoJournal, Held, Host
 
 use crate::host::{Host, StartNews};
 use crate::memory_sockets::MemorySockets;
-use journal::Found;
+use journal::{Found, FoundFiles};
 use kdc_files::{JournalBeginning, Journals, MemoryJournal, Record, ServerFileCause};
 use kdc_hub::{Event, Look, MemoryRows};
 use kdc_reports::MemoryMetrics;
@@ -43,8 +43,8 @@ pub enum HostCall {
         path: Octets,
         journals: Journals,
     },
-    /// It made sure that no journal is beside the database.
-    HasNoJournal,
+    /// It made sure that no journal is beside the database. What it removed asked for this floor.
+    HasNoJournal(Option<i64>),
     /// Its clock showed this moment.
     Showed(Moment),
     /// It began a journal at a path.
@@ -73,6 +73,8 @@ pub struct Given {
     pub looks: VecDeque<Look>,
     /// After how many calls a call of its journal fails, if one is to fail.
     pub keeps_before_fault: Option<u64>,
+    /// The floor that a journal beside its database asks for, if there is one.
+    pub leftover: Option<i64>,
 }
 
 /// A host that gives what it was given, records its calls, and has no journal before its start. For tests.
@@ -85,6 +87,7 @@ pub struct MemoryHost {
     coming: Option<VecDeque<(Moment, Event)>>,
     looks: Option<VecDeque<Look>>,
     keeps_before_fault: Option<u64>,
+    leftover: Option<i64>,
     calls: Record<HostCall>,
     /// What it announced last.
     announced: Option<StartNews>,
@@ -107,6 +110,7 @@ impl MemoryHost {
             coming: Some(given.coming),
             looks: Some(given.looks),
             keeps_before_fault: given.keeps_before_fault,
+            leftover: given.leftover,
             calls: Record::new(alloc),
             announced: None,
         }
@@ -185,9 +189,17 @@ impl Host for MemoryHost {
         Ok(journals)
     }
 
-    fn refuse_journal(&mut self, _alloc: Global) -> Result<(), ServerFileCause> {
-        self.note(Ok(HostCall::HasNoJournal));
-        Ok(())
+    fn refuse_journal(
+        &mut self,
+        _alloc: Global,
+        is_first: bool,
+    ) -> Result<Option<i64>, ServerFileCause> {
+        if is_first && self.leftover.is_some() {
+            return Err(ServerFileCause::NotFirst);
+        }
+        let removed = self.leftover;
+        self.note(Ok(HostCall::HasNoJournal(removed)));
+        Ok(removed)
     }
 
     fn begin_journal(
@@ -254,9 +266,13 @@ fn no_journals(alloc: Global) -> Result<Journals, AllocError>
 {
     Ok(Journals {
         boot: Octets::from_slice(alloc, BOOT)?,
-        older: Found::Nothing,
-        newer: Found::Nothing,
+        found: FoundFiles {
+            older: Found::Nothing,
+            newer: Found::Nothing,
+            beside: Found::Nothing,
+        },
         seal: Octets::new(Vec::new(alloc)),
+        removed: None,
     })
 }
 

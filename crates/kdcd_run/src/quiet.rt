@@ -5,15 +5,22 @@ ghost use Rattle.kdcd_run.specs.Quiet.{is_skew, is_skewed, quiet_until, quiet_wi
 use kdc_core::TgsOutcome;
 use kdc_hub::{Account, Action};
 use kdc_reports::Refused;
-use krb_fields::Moment;
 use krb_fields::numbers::KRB_AP_ERR_SKEW;
+use krb_fields::{Moment, SKEW};
 
-/// Returns the second before which refused requests get no reply, if the start is quiet.
-pub(crate) fn quiet_until(refused: Option<Refused>, is_quiet: bool) -> Option<i64>
-    ensures { result ≡ quiet_until refused is_quiet }
+/// Returns the second before which refused requests get no reply, if a start at this moment is quiet. It is at most the
+/// floor that the start's own clock asks for.
+pub(crate) fn quiet_until(refused: Option<Refused>, at: Moment, is_quiet: bool) -> Option<i64>
+    ensures { result ≡ quiet_until refused at is_quiet }
 {
     match refused {
-        Some(Refused::All(until)) => { if is_quiet { Some(until) } else { None } }
+        Some(Refused::All(until)) => {
+            if is_quiet {
+                Some(until.min(at.sec + SKEW + 1))
+            } else {
+                None
+            }
+        }
         Some(Refused::ServedLater(_)) => None,
         None => None,
     }

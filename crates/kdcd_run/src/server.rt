@@ -20,6 +20,7 @@ use journal::Start;
 use kdc_files::{JournalBeginning, JournalWriter};
 use kdc_hub::{Hub, Totals, Wire, serve_life};
 use kdc_reports::{JournalFound, LogNumbers, LogWriter, Tally, refused_at_start};
+use krb_fields::Moment;
 use rand_chacha::ChaCha20Rng;
 use std::alloc::Global;
 use std::io::Write;
@@ -107,7 +108,7 @@ pub fn start<'a, H: Host, L: LogWriter + Drop, E: Drop, T: Tally + Drop>(
         (hub_state chacha20 server.hub) server.wire.came.at server.wire.clock.floor
         server.news) }
     ensures quiet { IfOk result (λ server.
-        server.wire.quiet_until ≡ quiet_until server.news.refused options.now.is_quiet) }
+        server.wire.quiet_until ≡ quiet_until server.news.refused server.wire.came.at options.now.is_quiet) }
     ensures journal { IfOk result (λ server.
         H.Journal.is_there server.wire.journal ≡ is_some (option_copied options.now.journal)) }
     ensures log { IfOk result (λ server. server.wire.log ≡ outlets.log) }
@@ -120,13 +121,13 @@ pub fn start<'a, H: Host, L: LogWriter + Drop, E: Drop, T: Tally + Drop>(
         row_count,
     } = ready(alloc, host, options)?;
     let (at, floor) = (beginning.at, beginning.floor);
-    let found = found_at(options.journal, &beginning.start);
+    let found = found_at(options.journal, &beginning.start, at);
     let journal = begin_journal(alloc, host, options.journal, beginning)?;
     let refused = refused_at_start(floor, at);
     let times = StartTimes {
         at,
         floor,
-        quiet_until: quiet_until(refused, options.is_quiet),
+        quiet_until: quiet_until(refused, at, options.is_quiet),
     };
     Ok(Server {
         hub,
@@ -160,12 +161,12 @@ fn begin_journal<'a, H: Host>(
     }
 }
 
-/// Returns what a start made of its journal, if it has one.
-fn found_at(path: Option<&str>, start: &Start) -> Option<JournalFound>
-    ensures { result ≡ found_at (option_copied path.entry) start.now }
+/// Returns what a start at this moment made of its journal, if it has one.
+fn found_at(path: Option<&str>, start: &Start, at: Moment) -> Option<JournalFound>
+    ensures { result ≡ found_at (option_copied path.entry) start.now at }
 {
     match path {
-        Some(_) => Some(JournalFound::of(start)),
+        Some(_) => Some(JournalFound::of(start, at)),
         None => None,
     }
 }

@@ -88,6 +88,7 @@ impl<S> StartFault<'_, S> {
     pub fn refusal(&self) -> Option<&'static str> {
         match self {
             StartFault::File(_, fault) => fault.refusal(),
+            StartFault::NotFirst(_) => Some("NotFirst"),
             _ => None,
         }
     }

@@ -1,6 +1,6 @@
 //! Tests of the store over the system's files (`program`). Each removes its files at the end.
 use crate::expect::same;
-use program::{FileStore, NewMode, Store};
+use program::{FileStore, NewMode, Store, Written, folder_of, sync_folder};
 use std::fs::Permissions;
 use std::os::unix::fs::{MetadataExt, PermissionsExt};
 use std::{fs, io};
@@ -23,8 +23,8 @@ fn mode(rt: &HostRuntime, path: &str) -> io::Result<u32> {
 
 /// Returns whether a file that was written twice has the second content, and its mode.
 fn written_twice(rt: &HostRuntime, store: &mut Files<'_>) -> io::Result<(bool, u32)> {
-    store.write(rt.alloc(), WRITTEN, b"first, and longer")?;
-    store.write(rt.alloc(), WRITTEN, b"second")?;
+    store.write_unsynced(rt.alloc(), WRITTEN, b"first, and longer")?;
+    store.write_unsynced(rt.alloc(), WRITTEN, b"second")?;
     let mode = mode(rt, WRITTEN)?;
     Ok(match store.read(rt.alloc(), WRITTEN, 100)? {
         Some(octets) => (octets.as_slice() == b"second".as_slice(), mode),
@@ -32,26 +32,34 @@ fn written_twice(rt: &HostRuntime, store: &mut Files<'_>) -> io::Result<(bool, u
     })
 }
 
+/// Updates a file. Fails if it is not on the disk afterwards.
+fn update(rt: &HostRuntime, store: &mut Files<'_>, octets: &[u8], mode: NewMode) -> io::Result<()> {
+    match store.update(rt.alloc(), UPDATED, octets, mode)? {
+        Written::Synced => Ok(()),
+        Written::NotSynced(error) => Err(error),
+    }
+}
+
 /// Returns the mode of a file that others may read, after it is updated with its mode, after it is written anew, and
 /// after it is updated for its owner alone.
 fn modes_after(rt: &HostRuntime, store: &mut Files<'_>) -> io::Result<[u32; 3]> {
-    store.update(rt.alloc(), UPDATED, b"first", NewMode::Kept)?;
+    update(rt, store, b"first", NewMode::Kept)?;
     fs::set_permissions(rt, UPDATED, Permissions::from_mode(0o644))?;
-    store.update(rt.alloc(), UPDATED, b"second", NewMode::Kept)?;
+    update(rt, store, b"second", NewMode::Kept)?;
     let kept = mode(rt, UPDATED)?;
-    store.write(rt.alloc(), UPDATED, b"third")?;
+    store.write_unsynced(rt.alloc(), UPDATED, b"third")?;
     let written = mode(rt, UPDATED)?;
     fs::set_permissions(rt, UPDATED, Permissions::from_mode(0o644))?;
-    store.update(rt.alloc(), UPDATED, b"fourth", NewMode::OwnerOnly)?;
+    update(rt, store, b"fourth", NewMode::OwnerOnly)?;
     Ok([kept, written, mode(rt, UPDATED)?])
 }
 
 /// Returns the first byte of an absent file, of an empty one, and of one with three bytes.
 fn first_octets(rt: &HostRuntime, store: &mut Files<'_>) -> io::Result<[Option<u8>; 3]> {
     let absent = store.first_octet(rt.alloc(), BEGUN)?;
-    store.write(rt.alloc(), BEGUN, b"")?;
+    store.write_unsynced(rt.alloc(), BEGUN, b"")?;
     let empty = store.first_octet(rt.alloc(), BEGUN)?;
-    store.write(rt.alloc(), BEGUN, b"\x05\x02\x00")?;
+    store.write_unsynced(rt.alloc(), BEGUN, b"\x05\x02\x00")?;
     Ok([absent, empty, store.first_octet(rt.alloc(), BEGUN)?])
 }
 
@@ -59,7 +67,9 @@ fn first_octets(rt: &HostRuntime, store: &mut Files<'_>) -> io::Result<[Option<u
 /// afterwards.
 fn device(rt: &HostRuntime, store: &mut Files<'_>) -> io::Result<[bool; 3]> {
     let is_read = store.first_octet(rt.alloc(), "/dev/null").is_ok();
-    let is_written = store.write(rt.alloc(), "/dev/null", b"octets").is_ok();
+    let is_written = store
+        .write_unsynced(rt.alloc(), "/dev/null", b"octets")
+        .is_ok();
     Ok([
         is_read,
         is_written,
@@ -69,7 +79,7 @@ fn device(rt: &HostRuntime, store: &mut Files<'_>) -> io::Result<[bool; 3]> {
 
 /// Checks whether a file of six bytes is read under a limit.
 fn is_taken(rt: &HostRuntime, store: &mut Files<'_>, most: usize) -> io::Result<bool> {
-    store.write(rt.alloc(), LIMITED, b"octets")?;
+    store.write_unsynced(rt.alloc(), LIMITED, b"octets")?;
     Ok(store.read(rt.alloc(), LIMITED, most)?.is_some())
 }
 
@@ -123,5 +133,24 @@ fn files_are_written_read_and_locked(rt: HostRuntime) {
     }
     for path in [WRITTEN, UPDATED, BEGUN, LIMITED, "tested.locked.lock"] {
         same(&rt, &path, &fs::remove_file(&rt, path).is_ok(), &true);
+    }
+}
+
+#[test]
+fn the_folder_of_a_file_is_synced(rt: HostRuntime) {
+    for (path, folder) in [
+        ("name", "."),
+        ("./name", "."),
+        ("a/name", "a"),
+        ("a/b/name", "a/b"),
+        ("a//name", "a"),
+        ("/name", "/"),
+        ("/a/name", "/a"),
+        ("../name", ".."),
+    ] {
+        same(&rt, &path, &folder_of(path), &folder);
+    }
+    for (path, wanted) in [("name", true), ("/name", true), ("no.folder/name", false)] {
+        same(&rt, &path, &sync_folder(&rt, path).is_ok(), &wanted);
     }
 }

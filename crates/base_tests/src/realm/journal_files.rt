@@ -4,32 +4,85 @@ use crate::expect::same;
 use crate::realm::fixtures::{T, at};
 use crate::realm::journals::seen;
 use journal::{
-    Doubt, Found, JournalFile, JournalFiles, MemoryFiles, Part, Place, SealOutcome, Start,
-    WriteFailures, read_part, seal_journal, start_of,
+    Doubt, Found, FoundFiles, JournalFile, JournalFiles, Left, MemoryFiles, Part, Place,
+    SealOutcome, Start, WriteFailures, read_files, read_part, seal_journal, start_of,
 };
 use krb_elements::Octets;
 use krb_fields::Moment;
 use std::alloc::{AllocError, Global};
 
-/// How many calls on a server's files succeed, how many then fail, how many octets of an entry are there after those,
-/// and whether they leave a file half begun.
-type Failure = (u32, u32, usize, bool);
+/// How many calls on a server's files succeed, how many then fail, how many octets of a text are there after one of
+/// those, and how far it came if it was to begin a file.
+type Failure = (u32, u32, usize, Left);
 
-/// Whether each of three authenticators was kept, and with how many the next start resumes, if it does.
-type Kept = ([bool; 3], Option<usize>);
+/// Whether each of three authenticators was kept, if the server started; and what the next start makes of the files.
+type Kept = (Option<[bool; 3]>, Resumed);
 
+// The calls are: break the seal, begin a file; append an entry, append another one; then the file is full, so begin a
+// file that links to it, and append an entry. All three have the time T + 301, and the floor of the start is T + 301. A
+// file that is begun in place of entries has a floor above them.
 const FAILURES: &[(Failure, Kept)] = &[
     // None fails.
-    ((0, 0, 0, false), ([true, true, true], Some(3))),
+    (
+        (0, 0, 0, Left::Before),
+        (Some([true, true, true]), Ok((3, T + 301))),
+    ),
+    // The start can't begin a file. A part of it is beside; or there is nothing.
+    ((1, 1, 9, Left::Before), (None, Err(Doubt::Damaged))),
+    ((1, 1, 9, Left::Between), (None, Err(Doubt::Absent))),
+    // It did, but that may not be on the disk. So a file is begun again in place of the first entry.
+    (
+        (1, 1, 9, Left::InPlace),
+        (Some([true, true, true]), Ok((2, T + 302))),
+    ),
     // The second entry is cut, and a file is begun in place of both.
-    ((3, 1, 5, false), ([true, true, true], Some(1))),
+    (
+        (3, 1, 5, Left::Before),
+        (Some([true, true, true]), Ok((1, T + 302))),
+    ),
     // It is not there, and that file is begun with the next entry only.
-    ((3, 2, 0, false), ([true, false, true], Some(0))),
-    ((3, 2, 0, true), ([true, false, true], Some(0))),
-    // The last entry is not there, and no file can be begun: the start finds what was kept before.
-    ((4, 2, 0, false), ([true, true, false], Some(2))),
-    // It is cut, and no file can be begun.
-    ((4, 2, 9, false), ([true, true, false], None)),
+    (
+        (3, 2, 0, Left::Before),
+        (Some([true, false, true]), Ok((0, T + 302))),
+    ),
+    // The turn fails, and the journal goes on in the same file.
+    (
+        (4, 1, 9, Left::Before),
+        (Some([true, true, true]), Ok((3, T + 301))),
+    ),
+    // The turn is cut, and a file is begun in place of both.
+    (
+        (4, 1, 9, Left::Between),
+        (Some([true, true, true]), Ok((0, T + 302))),
+    ),
+    (
+        (4, 1, 9, Left::InPlace),
+        (Some([true, true, true]), Ok((0, T + 302))),
+    ),
+    // No file can be begun after that: there is the one beside alone.
+    (
+        (4, 2, 9, Left::Between),
+        (Some([true, true, false]), Err(Doubt::Damaged)),
+    ),
+    // The last entry is cut, and no file can be begun.
+    (
+        (5, 2, 9, Left::Before),
+        (Some([true, true, false]), Err(Doubt::Damaged)),
+    ),
+    // It is not there. The start finds what was kept before; or the older file was removed to make room; or the file
+    // that was begun is in place, and the older one is still there.
+    (
+        (5, 2, 0, Left::Before),
+        (Some([true, true, false]), Ok((2, T + 301))),
+    ),
+    (
+        (5, 2, 0, Left::Between),
+        (Some([true, true, false]), Err(Doubt::Unlinked)),
+    ),
+    (
+        (5, 2, 0, Left::InPlace),
+        (Some([true, true, false]), Ok((0, T + 302))),
+    ),
 ];
 
 #[test]
@@ -40,40 +93,48 @@ fn files_hold_what_was_kept(rt: HostRuntime) {
     }
 }
 
-/// Keeps three authenticators while files fail, and starts again.
-fn after(alloc: Global, failure: &Failure) -> Result<Kept, AllocError> {
-    let (good, bad, cut, tears) = *failure;
-    let mut files = MemoryFiles::new();
+fn fail(files: &mut MemoryFiles, failure: &Failure) {
+    let (good, bad, cut, left) = *failure;
     files.fail(WriteFailures {
         good,
         bad,
         cut,
-        tears,
+        left,
     });
+}
+
+/// Keeps three authenticators while files fail, and starts again.
+fn after(alloc: Global, failure: &Failure) -> Result<Kept, AllocError> {
+    let mut files = MemoryFiles::new();
+    fail(&mut files, failure);
     let mut journal = journal_in(alloc, files, b"boot")?;
     let kept = are_kept(alloc, &mut journal)?;
     let mut files = journal.into_files();
-    Ok((kept, resumed_in(alloc, &mut files, b"boot")?.ok()))
+    Ok((kept, resumed_in(alloc, &mut files, b"boot")?))
 }
 
-/// Starts where there is no journal, and keeps three authenticators. Returns which of them were kept.
+/// Starts where there is no journal, and keeps three authenticators. Returns which of them were kept, if it started.
 fn are_kept(
     alloc: Global,
     journal: &mut JournalFile<MemoryFiles>,
-) -> Result<[bool; 3], AllocError> {
+) -> Result<Option<[bool; 3]>, AllocError> {
     let absent = Start::Refuses {
         doubt: Doubt::Absent,
+        floor: None,
     };
     let begun = journal.start(alloc, at(0), &absent, &Found::Nothing, 0);
     if begun.is_err() {
-        return Err(AllocError);
+        return Ok(None);
     }
     let mut kept = [false; 3];
     for later in 0..3 {
         kept[later as usize] = is_kept(alloc, journal, at(301), later)?;
     }
-    Ok(kept)
+    Ok(Some(kept))
 }
+
+/// The size at which the files take turns: that of a header and of one entry and a part of another one.
+const FULL: u64 = 200;
 
 /// Returns a journal of a boot over these files.
 fn journal_in(
@@ -83,7 +144,7 @@ fn journal_in(
 ) -> Result<JournalFile<MemoryFiles>, AllocError> {
     let realm = Octets::from_slice(alloc, b"A.B")?;
     let boot = Octets::from_slice(alloc, boot)?;
-    Ok(JournalFile::new(files, realm, boot, T + 301, 1_000_000))
+    Ok(JournalFile::new(files, realm, boot, T + 301, FULL))
 }
 
 /// Keeps an authenticator with this number of microseconds. Returns whether that succeeded.
@@ -97,8 +158,10 @@ fn is_kept(
     Ok(journal.keep(alloc, at, &seen).is_ok())
 }
 
-/// With how many authenticators a start resumes, or why it doesn't.
-type Resumed = Result<usize, Doubt>;
+/// With how many authenticators a start resumes, and its floor; or why it doesn't.
+type Resumed = Result<(usize, i64), Doubt>;
+
+type Sealed = Result<(), Doubt>;
 
 #[test]
 fn a_sealed_journal_outlives_a_boot(rt: HostRuntime) {
@@ -107,21 +170,23 @@ fn a_sealed_journal_outlives_a_boot(rt: HostRuntime) {
         &rt,
         &"starts in three boots",
         &starts_in_boots(alloc),
-        &Ok([
-            // One authenticator was kept. Another boot refuses it, and can't seal it either.
-            Err(Doubt::OtherBoot),
-            Err(Doubt::OtherBoot),
-            // It is sealed in its own boot.
-            Ok(0),
-            Ok(1),
-            // The start broke the seal, and kept one more: a third boot refuses, and the second one resumes with both.
-            Err(Doubt::OtherBoot),
-            Ok(2),
-        ]),
+        &Ok((
+            [
+                // One authenticator was kept. Another boot refuses it.
+                Err(Doubt::OtherBoot),
+                Ok((1, T + 301)),
+                // The start broke the seal, and kept one more: a third boot refuses, and the second one resumes with
+                // both.
+                Err(Doubt::OtherBoot),
+                Ok((2, T + 301)),
+            ],
+            // Another boot can't seal it. It is sealed in its own boot.
+            [Err(Doubt::OtherBoot), Ok(())],
+        )),
     );
 }
 
-fn starts_in_boots(alloc: Global) -> Result<[Resumed; 6], AllocError> {
+fn starts_in_boots(alloc: Global) -> Result<([Resumed; 4], [Sealed; 2]), AllocError> {
     let mut files = kept_in(alloc, MemoryFiles::new(), b"boot", 0)?;
     let unsealed = resumed_in(alloc, &mut files, b"bott")?;
     let foreign = sealed_in(alloc, &mut files, b"bott")?;
@@ -130,26 +195,21 @@ fn starts_in_boots(alloc: Global) -> Result<[Resumed; 6], AllocError> {
     let mut files = kept_in(alloc, files, b"bott", 1)?;
     let third = resumed_in(alloc, &mut files, b"bout")?;
     let again = resumed_in(alloc, &mut files, b"bott")?;
-    Ok([unsealed, foreign, sealed, resumed, third, again])
+    Ok(([unsealed, resumed, third, again], [foreign, sealed]))
 }
 
 /// What a start in a boot finds.
 #[derive(Drop)]
 struct Files {
-    older: Found,
-    newer: Found,
+    found: FoundFiles,
     seal: Vec<u8>,
 }
 
 fn files_in(alloc: Global, files: &mut MemoryFiles) -> Result<Files, AllocError> {
-    let (Ok(older), Ok(newer), Ok(seal)) = (
-        read_part(alloc, files, Part::Older),
-        read_part(alloc, files, Part::Newer),
-        files.read_seal(alloc),
-    ) else {
+    let (Ok(found), Ok(seal)) = (read_files(alloc, files), files.read_seal(alloc)) else {
         return Err(AllocError);
     };
-    Ok(Files { older, newer, seal })
+    Ok(Files { found, seal })
 }
 
 fn start_in(alloc: Global, found: &Files, boot: &[u8]) -> Result<Start, AllocError> {
@@ -159,7 +219,7 @@ fn start_in(alloc: Global, found: &Files, boot: &[u8]) -> Result<Start, AllocErr
         seal: &found.seal,
         at: at(302),
     };
-    start_of(alloc, &place, &found.older, &found.newer)
+    start_of(alloc, &place, &found.found)
 }
 
 fn resumed_in(alloc: Global, files: &mut MemoryFiles, boot: &[u8]) -> Result<Resumed, AllocError> {
@@ -169,26 +229,26 @@ fn resumed_in(alloc: Global, files: &mut MemoryFiles, boot: &[u8]) -> Result<Res
 
 fn resumed(alloc: Global, found: &Files, boot: &[u8]) -> Result<Resumed, AllocError> {
     Ok(match start_in(alloc, found, boot)? {
-        Start::Resumes { resumption, .. } => Ok(resumption.seen.len()),
-        Start::Refuses { doubt } => Err(doubt),
+        Start::Resumes { resumption, .. } => Ok((resumption.seen.len(), resumption.floor)),
+        Start::Refuses { doubt, .. } => Err(doubt),
     })
 }
 
-/// Seals files. Returns 0 if that succeeds.
-fn sealed_in(alloc: Global, files: &mut MemoryFiles, boot: &[u8]) -> Result<Resumed, AllocError> {
+/// Seals files.
+fn sealed_in(alloc: Global, files: &mut MemoryFiles, boot: &[u8]) -> Result<Sealed, AllocError> {
     let found = files_in(alloc, files)?;
     seal(files, &found, boot)
 }
 
-fn seal(files: &mut MemoryFiles, found: &Files, boot: &[u8]) -> Result<Resumed, AllocError> {
+fn seal(files: &mut MemoryFiles, found: &Files, boot: &[u8]) -> Result<Sealed, AllocError> {
     let place = Place {
         realm: b"A.B",
         boot,
         seal: &found.seal,
         at: at(302),
     };
-    match seal_journal(files, &place, &found.older, &found.newer) {
-        Ok(SealOutcome::Sealed) => Ok(Ok(0)),
+    match seal_journal(files, &place, &found.found.older, &found.found.newer) {
+        Ok(SealOutcome::Sealed) => Ok(Ok(())),
         Ok(SealOutcome::Doubted(doubt)) => Ok(Err(doubt)),
         Err(_) => Err(AllocError),
     }
@@ -225,10 +285,114 @@ fn start_and_keep(
     boot: &[u8],
     cusec: u32,
 ) -> Result<(), AllocError> {
-    let start = start_in(alloc, found, boot)?;
-    let begun = journal.start(alloc, at(302), &start, &found.newer, 0);
-    if begun.is_err() || !is_kept(alloc, journal, at(302), cusec)? {
+    if !is_started(alloc, journal, found, boot, 0)? || !is_kept(alloc, journal, at(302), cusec)? {
         return Err(AllocError);
     }
     Ok(())
+}
+
+/// Starts in a boot with what was found. The newer file has this many octets. Returns whether that succeeded.
+fn is_started(
+    alloc: Global,
+    journal: &mut JournalFile<MemoryFiles>,
+    found: &Files,
+    boot: &[u8],
+    len: u64,
+) -> Result<bool, AllocError> {
+    let start = start_in(alloc, found, boot)?;
+    Ok(
+        journal
+            .start(alloc, at(302), &start, &found.found.newer, len)
+            .is_ok(),
+    )
+}
+
+/// Whether a start succeeded, whether the newer file is there, and what starts in two boots make of the files.
+type Begun = (bool, bool, Resumed, Resumed);
+
+/// The boot of a start that fails to begin a file, how far it came, and what follows. One authenticator was kept in
+/// `boot`, in a file that is full. So a start in that boot has the files take turns, and one in `bott` begins one in
+/// place of both, with the floor T + 301 that it is given.
+const BEGUN: &[(&[u8], Left, Begun)] = &[
+    (
+        b"boot",
+        Left::Before,
+        (true, true, Ok((1, T + 301)), Err(Doubt::OtherBoot)),
+    ),
+    // The next start finishes the turn.
+    (
+        b"boot",
+        Left::Between,
+        (true, false, Ok((1, T + 301)), Err(Doubt::OtherBoot)),
+    ),
+    (
+        b"boot",
+        Left::InPlace,
+        (true, true, Ok((1, T + 301)), Err(Doubt::OtherBoot)),
+    ),
+    (
+        b"bott",
+        Left::Before,
+        (false, true, Ok((1, T + 301)), Err(Doubt::OtherBoot)),
+    ),
+    (
+        b"bott",
+        Left::Between,
+        (false, true, Ok((1, T + 301)), Err(Doubt::OtherBoot)),
+    ),
+    (
+        b"bott",
+        Left::InPlace,
+        (true, true, Err(Doubt::OtherBoot), Ok((0, T + 301))),
+    ),
+];
+
+#[test]
+fn a_start_that_begins_no_file_loses_nothing(rt: HostRuntime) {
+    let alloc = rt.alloc();
+    for (boot, left, wanted) in BEGUN {
+        let given = (*boot, *left);
+        same(&rt, &given, &begun_in(alloc, *boot, *left), &Ok(*wanted));
+    }
+}
+
+/// Keeps an authenticator in `boot`, and has a start in a boot fail to begin a file.
+fn begun_in(alloc: Global, boot: &[u8], left: Left) -> Result<Begun, AllocError> {
+    let mut files = kept_in(alloc, MemoryFiles::new(), b"boot", 0)?;
+    let found = files_in(alloc, &mut files)?;
+    fail(&mut files, &(1, 1, 9, left));
+    begun_after(alloc, files, &found, boot)
+}
+
+fn begun_after(
+    alloc: Global,
+    files: MemoryFiles,
+    found: &Files,
+    boot: &[u8],
+) -> Result<Begun, AllocError> {
+    let mut journal = journal_in(alloc, files, boot)?;
+    let started = is_started(alloc, &mut journal, found, boot, FULL)?;
+    begun(alloc, &mut journal.into_files(), started)
+}
+
+fn begun(alloc: Global, files: &mut MemoryFiles, started: bool) -> Result<Begun, AllocError> {
+    let is_there = is_newer_there(alloc, files);
+    let here = resumed_in(alloc, files, b"boot")?;
+    let there = resumed_in(alloc, files, b"bott")?;
+    Ok((started, is_there, here, there))
+}
+
+fn is_newer_there(alloc: Global, files: &mut MemoryFiles) -> bool {
+    match read_part(alloc, files, Part::Newer) {
+        Ok(found) => is_file(&found),
+        Err(_) => false,
+    }
+}
+
+fn is_file(found: &Found) -> bool {
+    match found {
+        Found::Nothing => false,
+        Found::Broken(_) => true,
+        Found::Whole(_) => true,
+    }
 }

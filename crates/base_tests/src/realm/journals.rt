@@ -1,11 +1,11 @@
-//! Tests of journals (`journal`): their bytes, what is read if they were cut or changed, and what a start decides by
-//! them.
+//! Tests of journals (`journal`): their bytes, what is read if they were cut or changed, what a start decides by them,
+//! and the floor that a text asks for that is no whole journal.
 use crate::cryptography::fixtures::sized;
 use crate::expect::{are, bytes, holds, same};
 use crate::realm::fixtures::{T, at};
 use journal::{
-    Doubt, Found, JournalFault, Place, Start, Written, read_journal, start_of, write_beginning,
-    write_seen,
+    Doubt, FileText, Found, FoundFiles, Place, Start, Written, found_of, start_of, shown_in,
+    write_beginning, write_seen,
 };
 use krb_fields::{Moment, Name};
 use replay::Seen;
@@ -107,15 +107,18 @@ fn a_journal_has_these_bytes(rt: HostRuntime) {
     same(&rt, &"the octets", &found, &[true; 3]);
 }
 
+/// Returns what is found in a file with this text. It is as if there were no file if memory ran out.
 fn found(alloc: Global, text: &[u8]) -> Found {
-    match read_journal(alloc, text) {
-        Ok(journal) => Found::Whole(journal),
-        Err(JournalFault::Broken) => Found::Broken,
-        Err(JournalFault::Memory) => Found::Nothing,
+    let Ok(octets) = Vec::from_slice(alloc, text) else {
+        return Found::Nothing;
+    };
+    match found_of(alloc, &FileText::Octets(octets)) {
+        Ok(found) => found,
+        Err(AllocError) => Found::Nothing,
     }
 }
 
-fn found_of(alloc: Global, parts: &[&str]) -> Found {
+fn found_in(alloc: Global, parts: &[&str]) -> Found {
     match text(alloc, parts) {
         Ok(text) => found(alloc, &text),
         Err(AllocError) => Found::Nothing,
@@ -126,7 +129,7 @@ fn found_of(alloc: Global, parts: &[&str]) -> Found {
 fn count(found: &Found) -> Result<Option<usize>, AllocError> {
     match found {
         Found::Whole(journal) => Ok(Some(journal.entries.len())),
-        Found::Broken => Ok(None),
+        Found::Broken(_) => Ok(None),
         Found::Nothing => Err(AllocError),
     }
 }
@@ -146,7 +149,7 @@ const ORDERS: &[(&[&str], Option<usize>)] = &[
 fn a_journal_that_was_cut_or_changed_is_broken(rt: HostRuntime) {
     let alloc = rt.alloc();
     for (parts, wanted) in ORDERS {
-        same(&rt, parts, &count(&found_of(alloc, *parts)), &Ok(*wanted));
+        same(&rt, parts, &count(&found_in(alloc, *parts)), &Ok(*wanted));
     }
     match text(alloc, &[BEGINNING, FIRST, SECOND]) {
         Ok(mut text) => {
@@ -192,10 +195,11 @@ fn count_changed(
 /// A realm, a boot, a seal and a second.
 type Where = (&'static [u8], &'static [u8], &'static [u8], i64);
 
-/// The floor and the number of authenticators with which a start resumes, or why it can't.
-type Made = Result<(i64, usize), Doubt>;
+/// The floor and the number of authenticators with which a start resumes. Or why it can't, and the floor that its files
+/// ask for.
+type Made = Result<(i64, usize), (Doubt, Option<i64>)>;
 
-fn made(alloc: Global, place: &Where, older: &Found, newer: &Found) -> Result<Made, AllocError> {
+fn made(alloc: Global, place: &Where, found: &FoundFiles) -> Result<Made, AllocError> {
     let (realm, boot, seal, second) = place;
     let Some(at) = Moment::new(*second, 0) else {
         return Err(AllocError);
@@ -206,9 +210,9 @@ fn made(alloc: Global, place: &Where, older: &Found, newer: &Found) -> Result<Ma
         seal: *seal,
         at,
     };
-    Ok(match start_of(alloc, &place, older, newer)? {
+    Ok(match start_of(alloc, &place, found)? {
         Start::Resumes { resumption, .. } => Ok((resumption.floor, resumption.seen.len())),
-        Start::Refuses { doubt } => Err(doubt),
+        Start::Refuses { doubt, floor } => Err((doubt, floor)),
     })
 }
 
@@ -221,20 +225,34 @@ const EARLIER_SEAL: &[u8] = &[
     0xef, 0xf6, 0x85, 0x1b, 0x28, 0x5e, 0x9d, 0xb2, 0x8b, 0xe1, 0xc0, 0x78, 0xdd, 0xb5, 0x36, 0x6f,
 ];
 
-/// What a start with a whole journal does.
+/// What a start with a whole journal does. The last of its requests came at T + 2, so it asks for the floor T + 303.
 const STARTS: &[(Where, Made)] = &[
     ((b"A.B", b"boot", b"", T + 2), Ok((T + 301, 2))),
     ((b"A.B", b"boot", b"", T + 601), Ok((T + 301, 2))),
     ((b"A.B", b"boot", b"", T + 602), Ok((T + 302, 2))),
-    ((b"A.C", b"boot", b"", T + 2), Err(Doubt::OtherRealm)),
-    ((b"A.B", b"bott", b"", T + 2), Err(Doubt::OtherBoot)),
+    (
+        (b"A.C", b"boot", b"", T + 2),
+        Err((Doubt::OtherRealm, Some(T + 303))),
+    ),
+    (
+        (b"A.B", b"bott", b"", T + 2),
+        Err((Doubt::OtherBoot, Some(T + 303))),
+    ),
     // It was sealed before the boot, or it was sealed, and then there was one more entry, or one less.
     ((b"A.B", b"bott", SEAL, T + 2), Ok((T + 301, 2))),
     (
         (b"A.B", b"bott", EARLIER_SEAL, T + 2),
-        Err(Doubt::OtherBoot),
+        Err((Doubt::Damaged, Some(T + 303))),
     ),
-    ((b"A.C", b"boot", SEAL, T + 2), Err(Doubt::OtherRealm)),
+    (
+        (b"A.B", b"boot", EARLIER_SEAL, T + 2),
+        Err((Doubt::Damaged, Some(T + 303))),
+    ),
+    ((b"A.B", b"boot", SEAL, T + 2), Ok((T + 301, 2))),
+    (
+        (b"A.C", b"boot", EARLIER_SEAL, T + 2),
+        Err((Doubt::OtherRealm, Some(T + 303))),
+    ),
     // The clock is behind the journal.
     ((b"A.B", b"boot", b"", T + 1), Ok((T + 302, 2))),
     ((b"A.B", b"boot", b"", T - 1), Ok((T + 301, 2))),
@@ -250,30 +268,36 @@ fn linked(alloc: Global, floor: i64) -> Found {
 
 #[test]
 fn a_start_resumes_or_says_why_not(rt: HostRuntime) {
-    const HERE: Where = (b"A.B", b"boot", b"", T + 700);
     let alloc = rt.alloc();
-    let whole = found_of(alloc, &[BEGINNING, FIRST, SECOND]);
+    let whole = only(found_in(alloc, &[BEGINNING, FIRST, SECOND]));
     for (place, wanted) in STARTS {
-        same(
-            &rt,
-            place,
-            &made(alloc, place, &Found::Nothing, &whole),
-            &Ok(*wanted),
-        );
+        same(&rt, place, &made(alloc, place, &whole), &Ok(*wanted));
     }
-    holds(&rt, has_last_check(&whole), "the last check");
+    holds(&rt, has_last_check(&whole.newer), "the last check");
 }
 
-/// What may be in one of a journal's two files.
+/// Returns what is found if there is no other file than the newer one.
+fn only(newer: Found) -> FoundFiles {
+    FoundFiles {
+        older: Found::Nothing,
+        newer,
+        beside: Found::Nothing,
+    }
+}
+
+/// What may be in one of a journal's files.
 #[derive(Clone, Copy, Debug)]
 enum Content {
     Nothing,
+    /// What others may write.
+    Unusable,
+    /// The whole journal without its first entry.
     Broken,
     /// The whole journal.
     Whole,
     /// The journal without its last entry.
     Shorter,
-    /// A journal that links to the whole one.
+    /// A journal that links to the whole one. It was begun at T + 650.
     Linked,
     /// The same with a lower floor.
     LinkedLower,
@@ -282,38 +306,170 @@ enum Content {
 fn file_with(alloc: Global, content: Content) -> Found {
     match content {
         Content::Nothing => Found::Nothing,
-        Content::Broken => Found::Broken,
-        Content::Whole => found_of(alloc, &[BEGINNING, FIRST, SECOND]),
-        Content::Shorter => found_of(alloc, &[BEGINNING, FIRST]),
+        Content::Unusable => Found::Broken(None),
+        Content::Broken => found_in(alloc, &[BEGINNING, SECOND]),
+        Content::Whole => found_in(alloc, &[BEGINNING, FIRST, SECOND]),
+        Content::Shorter => found_in(alloc, &[BEGINNING, FIRST]),
         Content::Linked => linked(alloc, T + 301),
         Content::LinkedLower => linked(alloc, T + 300),
     }
 }
 
-/// What a start does with these in its older and its newer file.
-const PAIRS: &[(Content, Content, Made)] = &[
-    (Content::Whole, Content::Nothing, Err(Doubt::Absent)),
-    (Content::Whole, Content::Broken, Err(Doubt::Damaged)),
-    (Content::Whole, Content::Linked, Ok((T + 400, 2))),
-    (Content::Shorter, Content::Linked, Err(Doubt::Unlinked)),
-    (Content::Nothing, Content::Linked, Err(Doubt::Unlinked)),
-    (Content::Broken, Content::Linked, Err(Doubt::Unlinked)),
-    (Content::Whole, Content::LinkedLower, Err(Doubt::Unlinked)),
+/// What is in the older file, in the newer one, and beside.
+type Contents = (Content, Content, Content);
+
+/// What a start does with these files.
+const FILES: &[(Contents, Made)] = &[
+    (
+        (Content::Nothing, Content::Nothing, Content::Nothing),
+        Err((Doubt::Absent, None)),
+    ),
+    (
+        (Content::Whole, Content::Nothing, Content::Nothing),
+        Err((Doubt::Damaged, Some(T + 303))),
+    ),
+    (
+        (Content::Nothing, Content::Nothing, Content::Unusable),
+        Err((Doubt::Damaged, None)),
+    ),
+    (
+        (Content::Whole, Content::Nothing, Content::Linked),
+        Err((Doubt::Damaged, Some(T + 951))),
+    ),
+    (
+        (Content::Nothing, Content::Broken, Content::Nothing),
+        Err((Doubt::Damaged, Some(T + 301))),
+    ),
+    (
+        (Content::Whole, Content::Broken, Content::Unusable),
+        Err((Doubt::Damaged, Some(T + 303))),
+    ),
+    (
+        (Content::Whole, Content::Linked, Content::Nothing),
+        Ok((T + 400, 2)),
+    ),
+    // What is beside does not matter then.
+    (
+        (Content::Whole, Content::Linked, Content::Unusable),
+        Ok((T + 400, 2)),
+    ),
+    (
+        (Content::Shorter, Content::Linked, Content::Nothing),
+        Err((Doubt::Unlinked, Some(T + 951))),
+    ),
+    (
+        (Content::Nothing, Content::Linked, Content::Nothing),
+        Err((Doubt::Unlinked, Some(T + 951))),
+    ),
+    (
+        (Content::Broken, Content::Linked, Content::Nothing),
+        Err((Doubt::Unlinked, Some(T + 951))),
+    ),
+    (
+        (Content::Whole, Content::LinkedLower, Content::Nothing),
+        Err((Doubt::Unlinked, Some(T + 951))),
+    ),
+];
+
+fn files_with(alloc: Global, contents: &Contents) -> FoundFiles {
+    let (older, newer, beside) = *contents;
+    FoundFiles {
+        older: file_with(alloc, older),
+        newer: file_with(alloc, newer),
+        beside: file_with(alloc, beside),
+    }
+}
+
+#[test]
+fn a_start_with_all_files_resumes_or_says_why_not(rt: HostRuntime) {
+    const HERE: Where = (b"A.B", b"boot", b"", T + 700);
+    let alloc = rt.alloc();
+    for (contents, wanted) in FILES {
+        let found = made(alloc, &HERE, &files_with(alloc, contents));
+        same(&rt, contents, &found, &Ok(*wanted));
+    }
+}
+
+/// How many octets of the whole journal are there, which of them is changed, if one is, and the floor that is asked
+/// for. The header has 79 octets and the first entry 67; its last 18 are the check. It asks for T + 301, the
+/// entries ask for T + 302 and T + 303.
+const SHOWN: &[((usize, Option<usize>), Option<i64>)] = &[
+    ((216, None), Some(T + 303)),
+    ((215, None), Some(T + 302)),
+    ((146, None), Some(T + 302)),
+    ((145, None), Some(T + 301)),
+    ((79, None), Some(T + 301)),
+    ((78, None), None),
+    ((0, None), None),
+    // Where an entry is changed, it counts for nothing, and the one behind it still counts.
+    ((216, Some(150)), Some(T + 302)),
+    ((216, Some(100)), Some(T + 303)),
+    ((146, Some(100)), Some(T + 301)),
+    // So it is where the header is changed.
+    ((79, Some(10)), None),
+    ((146, Some(10)), Some(T + 302)),
+    // Where a check is changed, what follows from it does not count either.
+    ((79, Some(70)), None),
+    ((146, Some(70)), None),
+    ((216, Some(70)), Some(T + 303)),
+    ((216, Some(140)), Some(T + 301)),
 ];
 
 #[test]
-fn a_start_with_two_files_resumes_or_says_why_not(rt: HostRuntime) {
-    const HERE: Where = (b"A.B", b"boot", b"", T + 700);
+fn a_text_asks_for_a_floor(rt: HostRuntime) {
     let alloc = rt.alloc();
-    for (older, newer, wanted) in PAIRS {
-        let found = made(
-            alloc,
-            &HERE,
-            &file_with(alloc, *older),
-            &file_with(alloc, *newer),
-        );
-        same(&rt, &(*older, *newer), &found, &Ok(*wanted));
+    for (given, wanted) in SHOWN {
+        same(&rt, given, &shown(alloc, given), &Ok(*wanted));
     }
+    for (given, wanted) in LONE {
+        same(&rt, given, &told_after(alloc, given), &Ok(Some(*wanted)));
+    }
+}
+
+/// Returns the floor that the whole journal asks for after it is cut and changed.
+fn shown(alloc: Global, given: &(usize, Option<usize>)) -> Result<Option<i64>, AllocError> {
+    let (len, changed) = *given;
+    let mut text = text(alloc, &[BEGINNING, FIRST, SECOND])?;
+    text.truncate(len);
+    if let Some(place) = changed {
+        change(&mut text, place);
+    }
+    Ok(shown_in(&text))
+}
+
+/// Changes the octet at this place, if there is one.
+fn change(text: &mut [u8], place: usize) {
+    if place < text.len() {
+        text[place] ^= 1;
+    }
+}
+
+/// The last second that a time can have.
+const LAST: i64 = 253_402_300_799;
+
+/// The time of an entry and when its request came, in a text without a header, and the floor that it asks for.
+const LONE: &[((i64, i64), i64)] = &[
+    ((T, T + 100), T + 401),
+    ((T + 300, T), T + 301),
+    ((T + 301, T), T + 302),
+    ((T + 1_000, T), T + 1_001),
+    ((LAST - 301, LAST - 301), LAST),
+    ((LAST - 300, LAST - 300), LAST),
+    ((LAST, LAST), LAST),
+];
+
+/// Returns the floor that an entry asks for, behind the check that it follows.
+fn told_after(alloc: Global, given: &(i64, i64)) -> Result<Option<i64>, AllocError> {
+    let (ctime, came) = *given;
+    let (Some(at), check) = (Moment::new(came, 0), sized::<16>(CHECKS[0])) else {
+        return Err(AllocError);
+    };
+    let Some(entry) = write_seen(alloc, &check, at, &seen(alloc, ctime, 7)?)? else {
+        return Err(AllocError);
+    };
+    let mut text = Vec::from_slice(alloc, &check)?;
+    text.extend_from_slice(&entry.text)?;
+    Ok(shown_in(&text))
 }
 
 fn has_last_check(found: &Found) -> bool {

@@ -6,7 +6,7 @@ use Rattle.journal.specs.Appending.{HasTail}
 use Rattle.journal.specs.Holding.{IsKept, IsSafe, IsStart, known_by}
 use Rattle.journal.proofs.Keeps.{turned_kept}
 use Rattle.journal.proofs.Seals.{sealed_safe, sealed_start, unsealed}
-use Rattle.journal.proofs.Starts.{start_begins, start_fails, start_goes_on}
+use Rattle.journal.proofs.Starts.{start_fails, start_goes_on, start_in_place}
 use Rattle.journal.proofs.journal_file.JournalFile.start.Goals as goal
 
 pub returns-in-Some-clause-kept : goal.returns-in-Some-clause-kept
@@ -34,16 +34,16 @@ returns-in-Ok-clause-kept g c =
     let none : HasTail start newer None = search rules in
     let broken : IfSome (world c.unseal.new.self) (IsStart c.args.at floor newer start) =
     unsealed (IsStart c.args.at floor newer start) (λ w seal is. sealed_start c.args.at floor newer start w seal is) true (world c.args.self.now.files) (world c.unseal.new.self) c.in_default.ensures starts in
-    start_begins c.args.at floor newer start none _ c.args.self.now.floor floor_is c.in-Ok.tail (world c.unseal.new.self) (world c.begin.new.files) c.in-Ok.ensures broken
+    start_in_place c.args.at floor newer start none _ c.args.self.now.floor floor_is c.in-Ok.tail (world c.unseal.new.self) (world c.begin_in_place.new.files) c.in-Ok.ensures broken
 
 pub returns-in-Err-clause-safe : goal.returns-in-Err-clause-safe
 returns-in-Err-clause-safe g c =
     λ low r safe failed.
     unsealed (IsSafe low r) (λ w seal is. sealed_safe low r w seal is) false (g.F.JournalFiles.world c.args.self.now.files) (g.F.JournalFiles.world c.unseal.new.self) c.in-Err.ensures safe
 
-pub returns-in-Err-begin-clause-safe : goal.returns-in-Err-begin-clause-safe
-returns-in-Err-begin-clause-safe g c =
+pub returns-in-Err-begin_in_place-clause-safe : goal.returns-in-Err-begin_in_place-clause-safe
+returns-in-Err-begin_in_place-clause-safe g c =
     λ low r safe failed.
     let world = g.F.JournalFiles.world in
     let broken = unsealed (IsSafe low r) (λ w seal is. sealed_safe low r w seal is) true (world c.args.self.now.files) (world c.unseal.new.self) c.in_default.ensures safe in
-    start_fails low r (world c.unseal.new.self) c.in-Err-begin.failed.is_torn (world c.begin.new.files) broken c.in-Err-begin.ensures
+    start_fails low r _ c.args.self.now.floor (world c.unseal.new.self) (world c.begin_in_place.new.files) broken c.in-Err-begin_in_place.ensures

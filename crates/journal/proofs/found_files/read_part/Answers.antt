@@ -1,5 +1,5 @@
 use Rattle.journal.proofs.Keeps.{found_where}
-use Rattle.journal.proofs.journal_file.read_part.Goals as goal
+use Rattle.journal.proofs.found_files.read_part.Goals as goal
 
 pub returns-in-Ok-found_of-clause-found : goal.returns-in-Ok-found_of-clause-found
 returns-in-Ok-found_of-clause-found g c =
