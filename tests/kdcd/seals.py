@@ -99,7 +99,7 @@ def others(trial):
         trial.write("database.journal.sealed", text)
         at(trial, 41, boot)
         _, found, said = begun(trial, "--journal", buyer)
-        trial.same(what, (found, said), ("37", [OTHER_BOOT]))
+        trial.same(what, (found, said), ("37", [DAMAGED]))
     trial.write("database.journal.sealed", b"a file of somebody")
     seal(trial, 1, "refused NotJournal\n", NO_SEAL)
     trial.same("it stays", octets(trial, ".sealed"), b"a file of somebody")
