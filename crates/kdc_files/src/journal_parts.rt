@@ -124,7 +124,8 @@ fn check_short<F: Files>(
     judge_short(fs::metadata(files, path), most, part)
 }
 
-/// Refuses a path that has something else than the file of a seal. A link is something else, since the file is replaced.
+/// Refuses a path that has something else than the file of a seal. A link is something else too, since
+/// the file is replaced.
 fn check_seal<F: Files>(files: &F, path: &str) -> Result<(), ServerFileCause> {
     judge_short(
         fs::symlink_metadata(files, path),

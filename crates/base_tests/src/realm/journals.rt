@@ -4,7 +4,7 @@ use crate::cryptography::fixtures::sized;
 use crate::expect::{are, bytes, holds, same};
 use crate::realm::fixtures::{T, at};
 use journal::{
-    Doubt, FileText, Found, FoundFiles, Place, Start, Written, found_of, start_of, shown_in,
+    Doubt, FileText, Found, FoundFiles, Place, Start, Written, found_of, shown_in, start_of,
     write_beginning, write_seen,
 };
 use krb_fields::{Moment, Name};
