@@ -23,7 +23,8 @@ one_tlv a b x y la lb is =
 check_short : (check element : List ℕ) → length (check_of check element) < 2 ^ 32
 check_short check element = let short = length-take 16 (sha256 (check ++ element)) in omega (arith, short)
 
-pub one_checked : (c d a b x y : List ℕ) → length a < 2 ^ 32 → length b < 2 ^ 32 → checked c a ++ x ≡ checked d b ++ y → (a ≡ b) × (x ≡ y)
+pub one_checked : (c d a b x y : List ℕ) → length a < 2 ^ 32 → length b < 2 ^ 32 → checked c a ++ x ≡ checked d b ++ y
+    → (a ≡ b) × (x ≡ y)
 one_checked c d a b x y la lb is =
     let first = one_tlv a b (tlv 4 (check_of c a) ++ x) (tlv 4 (check_of d b) ++ y) la lb
     (sym (append_assoc (tlv 4 a) (tlv 4 (check_of c a)) x) ∙ (is ∙ append_assoc (tlv 4 b) (tlv 4 (check_of d b)) y)) in
@@ -31,7 +32,8 @@ one_checked c d a b x y la lb is =
     (first.0, second.1)
 
 -- a value that is written is one value
-pub one_value : {A : Type 0} (c : Codec A) (x y : A) → c.Spells x (written c x) → c.Spells y (written c y) → written c x ≡ written c y → x ≡ y
+pub one_value : {A : Type 0} (c : Codec A) (x y : A) → c.Spells x (written c x) → c.Spells y (written c y)
+    → written c x ≡ written c y → x ≡ y
 one_value {A} c x y sx sy is =
     let same = ok_is (x, []) (y, [])
     (sym (c.laws.element.reading.again x (written c x) [] sx) ∙ (ap (λ t. c.at (t ++ [])) is ∙ c.laws.element.reading.again y (written c y) [] sy)) in

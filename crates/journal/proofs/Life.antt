@@ -221,7 +221,8 @@ calls_unsealed (call ∷ calls) old new (next, step, rest) none =
 
 -- a start that resumes found no turn that was cut
 resumes_next : (place : Place) (older newer beside : Found) (found : Resumption) (check : Option (List ℕ))
-    → start_of place older newer beside ≡ Resumes found check → next_start place older newer beside ≡ Resumes found check
+    → start_of place older newer beside ≡ Resumes found check
+    → next_start place older newer beside ≡ Resumes found check
 resumes_next place older Nothing beside found check is = absurd cc
 resumes_next place older (Broken lost) beside found check is = absurd cc
 resumes_next place older (Whole j) beside found check is = is
@@ -378,7 +379,8 @@ starts_are_later place older Nothing beside found check is = absurd cc
 starts_are_later place older (Broken lost) beside found check is = absurd cc
 starts_are_later place older (Whole j) beside found check is = by_doubt (doubt_of place older j) is
   where
-    by_doubt : (doubt : Option Doubt) → start_by place older j beside doubt ≡ Resumes found check → (place.at.sec -ℤ pos skew) ≤ℤ found.floor
+    by_doubt : (doubt : Option Doubt) → start_by place older j beside doubt ≡ Resumes found check
+        → (place.at.sec -ℤ pos skew) ≤ℤ found.floor
     by_doubt (Some doubt) is = absurd cc
     by_doubt None is =
         subst (λ (r : Resumption). (place.at.sec -ℤ pos skew) ≤ℤ r.floor) (ap (resumption_or found) is)
@@ -406,7 +408,8 @@ next_boot_refuses w place older (Whole j) beside o n none other = by_doubt (doub
         let empty : length k.check ≡ 0 = ap length (sym seal ∙ none) in
         absurd (omega (arith, len, empty))
 
-    by_doubt : (doubt : Option Doubt) → doubt_of place older j ≡ doubt → (d : Doubt) × (floor : Option ℤ) × (start_by place older j beside (doubt_of place older j) ≡ Refuses d floor)
+    by_doubt : (doubt : Option Doubt) → doubt_of place older j ≡ doubt
+        → (d : Doubt) × (floor : Option ℤ) × (start_by place older j beside (doubt_of place older j) ≡ Refuses d floor)
     by_doubt (Some doubt) is = (doubt, found_floor older (Whole j) beside, ap (start_by place older j beside) is)
     by_doubt None is =
         let (k, same, either) = seals_hold.needed place older (Whole j) beside (resumption_of place older j) (goes_on_behind place older j) (ap (start_by place older j beside) is) in

@@ -35,7 +35,8 @@ seals_what_resumes place older (Whole j) beside check is = by_doubt (doubt_of pl
     by_doubt None is = (resumption_of place older j, goes_on_behind place older j, refl)
 
 third_fails : (a m b c : Bool) (x v y z : Doubt)
-    → (if a then Some x else (if m then Some v else (if b then Some y else (if c then Some z else None)))) ≡ None → b ≡ false
+    → (if a then Some x else (if m then Some v else (if b then Some y else (if c then Some z else None)))) ≡ None
+    → b ≡ false
 third_fails true m b c x v y z e = absurd cc
 third_fails false true b c x v y z e = absurd cc
 third_fails false false true c x v y z e = absurd cc
@@ -56,7 +57,8 @@ this_boot_or_sealed place older (Whole j) beside r behind is = (j, refl, by_doub
     by_test (inl boot) = inl (same_text j.header.boot place.boot.now (sym boot))
     by_test (inr seal) = inr (same_text place.seal.now j.check (sym seal))
 
-    by_doubt : (doubt : Option Doubt) → doubt_of place older j ≡ doubt → start_by place older j beside doubt ≡ Resumes r behind
+    by_doubt : (doubt : Option Doubt) → doubt_of place older j ≡ doubt
+        → start_by place older j beside doubt ≡ Resumes r behind
         → (j.header.boot ≡ place.boot.now) ⊎ (place.seal.now ≡ j.check)
     by_doubt (Some doubt) none is = absurd cc
     by_doubt None none is =
@@ -72,7 +74,8 @@ not_same : (a b : List ℕ) (test : Bool) → pointwise nat_eq a b ≡ test → 
 not_same a b true is not = absurd (not (same_text a b (sym is)))
 not_same a b false is not = refl
 
-second_holds : (a m : Bool) (x v : Doubt) (others : Option Doubt) → m ≡ true → (d : Doubt) × ((if a then Some x else (if m then Some v else others)) ≡ Some d)
+second_holds : (a m : Bool) (x v : Doubt) (others : Option Doubt) → m ≡ true
+    → (d : Doubt) × ((if a then Some x else (if m then Some v else others)) ≡ Some d)
 second_holds true m x v others e = (x, refl)
 second_holds false true x v others e = (v, refl)
 second_holds false false x v others e = absurd cc

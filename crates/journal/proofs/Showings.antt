@@ -90,7 +90,8 @@ over_since c floor second lt early = grind (arith, ints, clamps)
 over_one : (c : ℤ) → c <ℤ (c +ℤ pos 1)
 over_one c = grind (arith, ints)
 
-over_with : (c : ℤ) (floor : Option ℤ) (es : List Entry) → IsSomeAnd floor (λ f. c <ℤ f) → IsSomeAnd (floor_with floor es) (λ f. c <ℤ f)
+over_with : (c : ℤ) (floor : Option ℤ) (es : List Entry) → IsSomeAnd floor (λ f. c <ℤ f)
+    → IsSomeAnd (floor_with floor es) (λ f. c <ℤ f)
 over_with c floor [] over = over
 over_with c floor (e ∷ es) over = over_with c (greater floor (Some (entry_floor e))) es (over_first c floor (Some (entry_floor e)) over)
 
@@ -113,7 +114,8 @@ over_journal floor (x ∷ xs) e (suc k, lt, is) = over_journal (above floor x.ct
 -- ---- of each file, and of all three
 
 module _ (e : Entry) (early : e.ctime <ℤ last_second) where
-  over_text : (text : List ℕ) (found : Found) → FoundIn text found → ShowsEntry text e → IsSomeAnd (shown_by found) (λ f. e.ctime <ℤ f)
+  over_text : (text : List ℕ) (found : Found) → FoundIn text found → ShowsEntry text e
+      → IsSomeAnd (shown_by found) (λ f. e.ctime <ℤ f)
   over_text text Nothing found shows = absurd found
   over_text text (Broken floor) (none, shown, shows, is) (inl (j, spells, has)) = absurd (none j spells)
   over_text text (Broken floor) (none, shown, shows, is) (inr (not, other, others, has)) =
@@ -126,12 +128,14 @@ module _ (e : Entry) (early : e.ctime <ℤ last_second) where
       (over_journal all.header.floor all.entries e (subst (λ (x : Journal). Contains x.entries e) (one_journal text all j spells other) has))) early)
   over_text text (Whole k) (all, spells, is) (inr (not, other, others, has)) = absurd (not all spells)
 
-  over_file : (file : Option (List ℕ)) (found : Found) → IsReadOut file found → IsSomeAnd file (λ text. ShowsEntry text e)
+  over_file : (file : Option (List ℕ)) (found : Found) → IsReadOut file found
+      → IsSomeAnd file (λ text. ShowsEntry text e)
       → IsSomeAnd (shown_by found) (λ f. e.ctime <ℤ f)
   over_file None found read shows = absurd shows
   over_file (Some text) found read shows = over_text text found read shows
 
-  over_all : (w : World) (older newer beside : Found) → IsReadOut w.older older → IsReadOut w.newer newer → IsReadOut w.beside beside → FilesShow w e
+  over_all : (w : World) (older newer beside : Found) → IsReadOut w.older older → IsReadOut w.newer newer
+      → IsReadOut w.beside beside → FilesShow w e
       → IsSomeAnd (found_floor older newer beside) (λ f. e.ctime <ℤ f)
   over_all w older newer beside o n b (inl shows) =
       over_first e.ctime (shown_by older) (greater (shown_by newer) (shown_by beside)) (over_file w.older older o shows)
@@ -146,13 +150,15 @@ abbrev floor_or : Option ℤ → Start → Option ℤ
 floor_or otherwise (Resumes found check) = otherwise
 floor_or otherwise (Refuses doubt floor) = floor
 
-refused_floor : (place : Place) (older newer beside : Found) (doubt : Doubt) (floor : Option ℤ) → start_of place older newer beside ≡ Refuses doubt floor
+refused_floor : (place : Place) (older newer beside : Found) (doubt : Doubt) (floor : Option ℤ)
+    → start_of place older newer beside ≡ Refuses doubt floor
     → found_floor older newer beside ≡ floor
 refused_floor place older Nothing beside doubt floor is = ap (floor_or floor) is
 refused_floor place older (Broken lost) beside doubt floor is = ap (floor_or floor) is
 refused_floor place older (Whole j) beside doubt floor is = by_doubt (doubt_of place older j) is
   where
-    by_doubt : (d : Option Doubt) → start_by place older j beside d ≡ Refuses doubt floor → found_floor older (Whole j) beside ≡ floor
+    by_doubt : (d : Option Doubt) → start_by place older j beside d ≡ Refuses doubt floor
+        → found_floor older (Whole j) beside ≡ floor
     by_doubt (Some why) is = ap (floor_or floor) is
     by_doubt None is = absurd cc
 

@@ -58,8 +58,10 @@ cut_same a b x y is len = (
   sym (drop-append_seam a x) ∙ (ap (drop (length a)) is ∙ (ap (λ n. drop n (b ++ y)) len ∙ drop-append_seam b y)),
 )
 
-pub cut_here : (text front before rest : List ℕ) (place : ℕ) (e : Entry) → text ≡ (front ++ before) ++ rest → length (front ++ before) ≡ place
-    → length before ≡ 16 → StandsAt text place e → (after : List ℕ) × HasElement e × (rest ≡ checked before (written entry e) ++ after)
+pub cut_here : (text front before rest : List ℕ) (place : ℕ) (e : Entry) → text ≡ (front ++ before) ++ rest
+    → length (front ++ before) ≡ place
+    → length before ≡ 16 → StandsAt text place e
+    → (after : List ℕ) × HasElement e × (rest ≡ checked before (written entry e) ++ after)
 cut_here text front before rest place e is len sixteen stands =
     let whole = cut_same (front ++ before) (stands.front ++ stands.before) rest (checked stands.before (written entry e) ++ stands.rest)
     (sym is ∙ stands.text_is) (len ∙ sym stands.place_is) in
@@ -83,8 +85,10 @@ stands_behind text place e lt stands =
     let all : length stands.front + length stands.before ≡ place = sym (length-append stands.front stands.before) ∙ stands.place_is in
     absurd (omega (arith, lt, all, stands.sixteen))
 
-pub none_here : (text front before rest : List ℕ) (place : ℕ) → text ≡ (front ++ before) ++ rest → length (front ++ before) ≡ place
-    → length before ≡ 16 → ((e : Entry) (after : List ℕ) → HasElement e → rest ≡ checked before (written entry e) ++ after → ⊥)
+pub none_here : (text front before rest : List ℕ) (place : ℕ) → text ≡ (front ++ before) ++ rest
+    → length (front ++ before) ≡ place
+    → length before ≡ 16
+    → ((e : Entry) (after : List ℕ) → HasElement e → rest ≡ checked before (written entry e) ++ after → ⊥)
     → (e : Entry) → StandsAt text place e → ⊥
 none_here text front before rest place is len sixteen none e stands =
     let (after, has, found) = cut_here text front before rest place e is len sixteen stands in none e after has found
@@ -110,7 +114,8 @@ none_standing text place le lt none =
     none_here text (take (place - 16) (take place text)) (drop (place - 16) (take place text)) (drop place text) place (parts_are text place)
     (ap length (take-append-drop (place - 16) (take place text)) ∙ len.0) len.1 none
 
-pub one_standing : (text : List ℕ) (place : ℕ) → 16 ≤ place → place < length text → (e : Entry) (after : List ℕ) → HasElement e
+pub one_standing : (text : List ℕ) (place : ℕ) → 16 ≤ place → place < length text → (e : Entry) (after : List ℕ)
+    → HasElement e
     → drop place text ≡ checked (drop (place - 16) (take place text)) (written entry e) ++ after → StandsAt text place e
 one_standing text place le lt e after has is =
     let len = parts_len text place le lt in
@@ -129,7 +134,8 @@ one_standing text place le lt e after has is =
 more : (p place : ℕ) → place ≤ p → (p == place) ≡ false → place + 1 ≤ p
 more p place le not = grind (arith)
 
-pub one_on : (text : List ℕ) (place : ℕ) → ((e : Entry) → StandsAt text place e → ⊥) → (others : List Entry) → AreFrom text (place + 1) others
+pub one_on : (text : List ℕ) (place : ℕ) → ((e : Entry) → StandsAt text place e → ⊥) → (others : List Entry)
+    → AreFrom text (place + 1) others
     → AreFrom text place others
 unfolding AreFrom
 one_on text place none [] from = λ p le e stands. by_place p le e stands
@@ -174,16 +180,20 @@ pub record HasWalked (text : List ℕ) (from : ℕ) (first : Option ℤ) (place 
   pub goes_on : (others : List Entry) → AreFrom text place others → AreFrom text from (walked ++ others)
   pub within : place ≤ length text
 
-pub none_walked : (text : List ℕ) (from : ℕ) (first : Option ℤ) → from ≤ length text → HasWalked text from first from first
+pub none_walked : (text : List ℕ) (from : ℕ) (first : Option ℤ) → from ≤ length text
+    → HasWalked text from first from first
 none_walked text from first le = record { walked = []; floor_is = refl; goes_on = λ others are. are; within = le }
 
-floor_both : (first : Option ℤ) (es others : List Entry) → floor_with first (es ++ others) ≡ floor_with (floor_with first es) others
+floor_both : (first : Option ℤ) (es others : List Entry)
+    → floor_with first (es ++ others) ≡ floor_with (floor_with first es) others
 floor_both first [] others = refl
 floor_both first (e ∷ es) others = floor_both (greater first (Some (entry_floor e))) es others
 
-pub more_walked : (text : List ℕ) (from : ℕ) (first : Option ℤ) (place : ℕ) (floor : Option ℤ) → HasWalked text from first place floor
+pub more_walked : (text : List ℕ) (from : ℕ) (first : Option ℤ) (place : ℕ) (floor : Option ℤ)
+    → HasWalked text from first place floor
     → (next : ℕ) (raised : Option ℤ) (es : List Entry) → raised ≡ floor_with floor es → next ≤ length text
-    → ((others : List Entry) → AreFrom text next others → AreFrom text place (es ++ others)) → HasWalked text from first next raised
+    → ((others : List Entry) → AreFrom text next others → AreFrom text place (es ++ others))
+    → HasWalked text from first next raised
 more_walked text from first place floor w next raised es is le step = record {
   walked = w.walked ++ es;
   floor_is = is ∙ (ap (λ f. floor_with f es) w.floor_is ∙ sym (floor_both first w.walked es));
@@ -196,13 +206,15 @@ none_at_end : (text : List ℕ) (place : ℕ) → length text ≤ place → AreF
 unfolding AreFrom
 none_at_end text place le = λ p at e stands. absurd (omega (arith, le, at, (stands_within text p e stands).0))
 
-pub all_walked : (text : List ℕ) (from : ℕ) (first : Option ℤ) (place : ℕ) (floor : Option ℤ) → HasWalked text from first place floor
+pub all_walked : (text : List ℕ) (from : ℕ) (first : Option ℤ) (place : ℕ) (floor : Option ℤ)
+    → HasWalked text from first place floor
     → length text ≤ place → (es : List Entry) × AreFrom text from es × (floor ≡ floor_with first es)
 all_walked text from first place floor w le =
     (w.walked, subst (AreFrom text from) (append-nil w.walked) (w.goes_on [] (none_at_end text place le)), w.floor_is)
 
 -- the floor that one entry raises
-pub one_floor : (floor : Option ℤ) (asked : ℤ) (raised : Option ℤ) (e : Entry) → raised ≡ greater floor (Some asked) → asked ≡ entry_floor e
+pub one_floor : (floor : Option ℤ) (asked : ℤ) (raised : Option ℤ) (e : Entry) → raised ≡ greater floor (Some asked)
+    → asked ≡ entry_floor e
     → raised ≡ floor_with floor (e ∷ [])
 one_floor floor asked raised e is same = is ∙ ap (λ f. greater floor (Some f)) same
 

@@ -51,7 +51,8 @@ linked_by true foreign e = refl
 linked_by false foreign e = absurd cc
 
 none_holds : (a m b c : Bool) (x v y z : Doubt)
-    → (if a then Some x else (if m then Some v else (if b then Some y else (if c then Some z else None)))) ≡ None → c ≡ false
+    → (if a then Some x else (if m then Some v else (if b then Some y else (if c then Some z else None)))) ≡ None
+    → c ≡ false
 none_holds true m b c x v y z e = absurd cc
 none_holds false true b c x v y z e = absurd cc
 none_holds false false true c x v y z e = absurd cc
@@ -69,7 +70,8 @@ cut_goes_on place (Broken lost) j = refl
 cut_goes_on place (Whole before) j = refl
 
 by_doubt : (place : Place) (older beside : Found) (j : Journal) (doubt : Option Doubt) (r : Resumption) (check : Option (List ℕ))
-    → doubt_of place (cut_found older) (cut j) ≡ doubt → start_by place (cut_found older) (cut j) beside doubt ≡ Resumes r check
+    → doubt_of place (cut_found older) (cut j) ≡ doubt
+    → start_by place (cut_found older) (cut j) beside doubt ≡ Resumes r check
     → IsResumed place older j r check
 by_doubt place older beside j (Some doubt) r check none is = absurd cc
 by_doubt place older beside j None r check none is = record {
@@ -87,7 +89,8 @@ is_resumed place older beside j r check is = by_doubt place older beside j (doub
 
 -- with journals that hold all, a start knows all
 holds_known : (place : Place) (older beside : Found) (j : Journal) (low : ℤ) (kept found : Resumption) (check : Option (List ℕ)) → HaveSums older → HasSums j
-    → (is_linked j older ≡ true → HoldAll older j low kept) → start_of place (cut_found older) (Whole (cut j)) beside ≡ Resumes found check
+    → (is_linked j older ≡ true → HoldAll older j low kept)
+    → start_of place (cut_found older) (Whole (cut j)) beside ≡ Resumes found check
     → low ≤ℤ found.floor → (below : ℤ) → below ≤ℤ found.floor → Knows below kept found
 holds_known place older beside j low kept found check sums own hold is late below under =
     let resumed = is_resumed place older beside j found check is in
@@ -119,8 +122,10 @@ safe_by low kept w text is hold = record {
       (ap (λ o. next_start place o (cut_found fn) beside) (sym eo) ∙ (ap (λ n. next_start place older n beside) (sym en) ∙ starts)) late below under;
 }
   where
-    by_found : (place : Place) (older newer beside : Found) (found : Resumption) (check : Option (List ℕ)) → IsSpelled w.older older → IsSpelled (Some text) newer
-        → next_start place (cut_found older) (cut_found newer) beside ≡ Resumes found check → low ≤ℤ found.floor → (below : ℤ) → below ≤ℤ found.floor
+    by_found : (place : Place) (older newer beside : Found) (found : Resumption) (check : Option (List ℕ))
+        → IsSpelled w.older older → IsSpelled (Some text) newer
+        → next_start place (cut_found older) (cut_found newer) beside ≡ Resumes found check → low ≤ℤ found.floor
+        → (below : ℤ) → below ≤ℤ found.floor
         → Knows below kept found
     by_found place older Nothing beside found check o n starts late below under = absurd n
     by_found place older (Broken lost) beside found check o n starts late below under = absurd cc
@@ -161,8 +166,10 @@ other_resumes place older beside other j None found check starts = starts
 -- so another file beside leaves the files safe, if it does not seem to be that of a turn
 module _ (low : ℤ) (r : Resumption) (w : World) (safe : IsSafe low r w) (b : Option (List ℕ))
     (not_cut : w.newer ≡ None → (older beside : Found) → IsFound w.older older → IsFound b beside → goes_behind beside older ≡ false) where
-  by_newer : (place : Place) (older newer beside : Found) (found : Resumption) (check : Option (List ℕ)) → IsFound w.older older → IsFound w.newer newer
-      → IsFound b beside → next_start place older newer beside ≡ Resumes found check → low ≤ℤ found.floor → (below : ℤ) → below ≤ℤ found.floor
+  by_newer : (place : Place) (older newer beside : Found) (found : Resumption) (check : Option (List ℕ))
+      → IsFound w.older older → IsFound w.newer newer
+      → IsFound b beside → next_start place older newer beside ≡ Resumes found check → low ≤ℤ found.floor
+      → (below : ℤ) → below ≤ℤ found.floor
       → Knows below r found
   by_newer place older Nothing beside found check o n f starts late below under =
       absurd (uncut place older beside (goes_behind beside older) (not_cut (found_none w.newer n) older beside o f) found check starts)
@@ -202,7 +209,8 @@ not_behind j before none len =
     false_and (pointwise nat_eq before.check j.header.link) _
     (subst (λ l. pointwise nat_eq before.check l ≡ false) (sym none) (nothing_same before.check len))
 
-unlinked_older : (file : Option (List ℕ)) (older : Found) (j : Journal) → IsFound file older → j.header.link ≡ [] → goes_behind (Whole j) older ≡ false
+unlinked_older : (file : Option (List ℕ)) (older : Found) (j : Journal) → IsFound file older → j.header.link ≡ []
+    → goes_behind (Whole j) older ≡ false
 unlinked_older file older j (fo, so, eo) none = subst (λ o. goes_behind (Whole j) o ≡ false) (sym eo) (by_found fo so)
   where
     by_found : (fo : Found) → IsSpelled file fo → goes_behind (Whole j) (cut_found fo) ≡ false
@@ -211,12 +219,14 @@ unlinked_older file older j (fo, so, eo) none = subst (λ o. goes_behind (Whole 
     by_found (Whole k) so = not_behind j (cut k) none (spelled_len file k so)
 
 -- a part of a text that begins so
-part_link : (h : Header) (text part rest check : List ℕ) → BeginsJournal h text check → text ≡ part ++ rest → (j : Journal) → Spells part j → j.header ≡ h
+part_link : (h : Header) (text part rest check : List ℕ) → BeginsJournal h text check → text ≡ part ++ rest
+    → (j : Journal) → Spells part j → j.header ≡ h
 part_link h text part rest check begins is j spells =
     sym (onward part rest j (begun_journal h) spells (subst (λ t. Spells t (begun_journal h)) is (spells_begun h text check begins))).header_is
 
 module _ (h : Header) (text part rest check : List ℕ) (begins : BeginsJournal h text check) (none : h.link ≡ []) (is : text ≡ part ++ rest) where
-  unlinked_part : (file : Option (List ℕ)) (older beside : Found) → IsFound file older → IsFound (Some part) beside → goes_behind beside older ≡ false
+  unlinked_part : (file : Option (List ℕ)) (older beside : Found) → IsFound file older → IsFound (Some part) beside
+      → goes_behind beside older ≡ false
   unlinked_part file older beside o (fb, sb, eb) = subst (λ b. goes_behind b older ≡ false) (sym eb) (by_found fb sb)
     where
       by_found : (fb : Found) → IsSpelled (Some part) fb → goes_behind (cut_found fb) older ≡ false
@@ -225,12 +235,14 @@ module _ (h : Header) (text part rest check : List ℕ) (begins : BeginsJournal 
       by_found (Whole j) sb =
           unlinked_older file older (cut j) o (ap (λ (x : Header). x.link) (part_link h text part rest check begins is j sb) ∙ none)
 
-none_beside : (file : Option (List ℕ)) (older beside : Found) → IsFound file older → IsFound None beside → goes_behind beside older ≡ false
+none_beside : (file : Option (List ℕ)) (older beside : Found) → IsFound file older → IsFound None beside
+    → goes_behind beside older ≡ false
 none_beside file older beside o b = subst (λ x. goes_behind x older ≡ false) (sym (none_found beside b)) refl
 
 -- ---- a file that could not be begun
 
-beside_safe : (low : ℤ) (r : Resumption) (h : Header) (text check : List ℕ) (old new : World) → BeginsJournal h text check → h.link ≡ []
+beside_safe : (low : ℤ) (r : Resumption) (h : Header) (text check : List ℕ) (old new : World)
+    → BeginsJournal h text check → h.link ≡ []
     → IsSafe low r old → HasBeside text old new → IsSafe low r new
 beside_safe low r h text check old new begins none safe (inl same) = subst (IsSafe low r) (sym same) safe
 beside_safe low r h text check old new begins none safe (inr (inl gone)) =
@@ -241,7 +253,8 @@ beside_safe low r h text check old new begins none safe (inr (inr (part, rest, i
 
 -- without an older file a start finds no more than with one that is broken
 broken_start : (place : Place) (beside other : Found) (j : Journal) (lost : Option ℤ) (d : Option Doubt) (found : Resumption) (check : Option (List ℕ))
-    → start_by place Nothing j beside d ≡ Resumes found check → start_by place (Broken lost) j other d ≡ Resumes found check
+    → start_by place Nothing j beside d ≡ Resumes found check
+    → start_by place (Broken lost) j other d ≡ Resumes found check
 broken_start place beside other j lost (Some doubt) found check starts = absurd cc
 broken_start place beside other j lost None found check starts = starts
 
@@ -256,8 +269,10 @@ nothing_behind (Broken lost) = refl
 nothing_behind (Whole j) = refl
 
 module _ (low : ℤ) (r : Resumption) (old : World) (safe : IsSafe low r old) where
-  gone_by : (place : Place) (newer beside : Found) (found : Resumption) (check : Option (List ℕ)) → IsFound old.newer newer → IsFound old.beside beside
-      → next_start place Nothing newer beside ≡ Resumes found check → low ≤ℤ found.floor → (below : ℤ) → below ≤ℤ found.floor → Knows below r found
+  gone_by : (place : Place) (newer beside : Found) (found : Resumption) (check : Option (List ℕ))
+      → IsFound old.newer newer → IsFound old.beside beside
+      → next_start place Nothing newer beside ≡ Resumes found check → low ≤ℤ found.floor → (below : ℤ)
+      → below ≤ℤ found.floor → Knows below r found
   gone_by place Nothing beside found check n b starts late below under =
       absurd (uncut place Nothing beside (goes_behind beside Nothing) (nothing_behind beside) found check starts)
   gone_by place (Broken lost) beside found check n b starts late below under = absurd cc
@@ -291,9 +306,11 @@ unbegun_is_safe low r Roomy h text check InPlace old new begins none unlinked sa
 
 -- before it is finished, a start knows what it knows then
 module _ (low : ℤ) (r : Resumption) (w : World) (missing : w.newer ≡ None) (safe : IsSafe low r (finished w)) where
-  by_cut : (place : Place) (older beside : Found) (found : Resumption) (check : Option (List ℕ)) (b : Bool) → goes_behind beside older ≡ b
+  by_cut : (place : Place) (older beside : Found) (found : Resumption) (check : Option (List ℕ)) (b : Bool)
+      → goes_behind beside older ≡ b
       → IsFound w.older older → IsFound w.beside beside
-      → (if b then start_of place older beside Nothing else start_of place older Nothing beside) ≡ Resumes found check → low ≤ℤ found.floor → (below : ℤ)
+      → (if b then start_of place older beside Nothing else start_of place older Nothing beside) ≡ Resumes found check
+      → low ≤ℤ found.floor → (below : ℤ)
       → below ≤ℤ found.floor → Knows below r found
   by_cut place older beside found check false is o f starts late below under = absurd cc
   by_cut place older Nothing found check true is o f starts late below under = absurd cc
@@ -580,7 +597,8 @@ journal_or j (Broken lost) = j
 journal_or j (Whole k) = k
 
 -- a whole journal is what is left of one
-pub whole_found : (file : Option (List ℕ)) (j : Journal) → IsFound file (Whole j) → (all : Journal) × IsSpelled file (Whole all) × (j ≡ cut all)
+pub whole_found : (file : Option (List ℕ)) (j : Journal) → IsFound file (Whole j)
+    → (all : Journal) × IsSpelled file (Whole all) × (j ≡ cut all)
 whole_found file j (Nothing, s, is) = absurd cc
 whole_found file j (Broken lost, s, is) = absurd cc
 whole_found file j (Whole all, s, is) = (all, s, ap (journal_or j) is)
@@ -591,11 +609,13 @@ found_one file j k a b =
     let (others, t, same) = whole_found file k b in
     is ∙ (ap cut (by_file file all others s t) ∙ sym same)
   where
-    by_file : (file : Option (List ℕ)) (all others : Journal) → IsSpelled file (Whole all) → IsSpelled file (Whole others) → all ≡ others
+    by_file : (file : Option (List ℕ)) (all others : Journal) → IsSpelled file (Whole all)
+        → IsSpelled file (Whole others) → all ≡ others
     by_file None all others s t = absurd s
     by_file (Some text) all others s t = one_journal text others all t s
 
-link_not_first : (check link : List ℕ) → length check ≡ 16 → pointwise nat_eq check link ≡ true → pointwise nat_eq link [] ≡ true → ⊥
+link_not_first : (check link : List ℕ) → length check ≡ 16 → pointwise nat_eq check link ≡ true
+    → pointwise nat_eq link [] ≡ true → ⊥
 link_not_first [] link len a b = absurd (omega (arith, len))
 link_not_first (x ∷ xs) [] len a b = absurd cc
 link_not_first (x ∷ xs) (y ∷ ys) len a b = absurd cc
@@ -619,15 +639,18 @@ module _ (low : ℤ) (r : Resumption) (w : World) (safe : IsSafe low r w) (befor
       let resumed = is_resumed place older beside all found check (ap (λ k. start_of place (cut_found older) (Whole k) beside) (sym is) ∙ starts) in
       subst (λ (x : Journal). is_first x ≡ true) (sym is) (sym (linked all) ∙ resumed.linked)
 
-  goes_on_behind_it : (place : Place) (older beside : Found) (found : Resumption) (check : Option (List ℕ)) → IsFound w.older older
+  goes_on_behind_it : (place : Place) (older beside : Found) (found : Resumption) (check : Option (List ℕ))
+      → IsFound w.older older
       → start_of place older (Whole j) beside ≡ Resumes found check → goes_behind (Whole j) older ≡ true
   goes_on_behind_it place Nothing beside found check o starts = absurd (not_first (first_by place Nothing beside found check (λ k. refl) starts))
   goes_on_behind_it place (Broken lost) beside found check o starts =
       absurd (not_first (first_by place (Broken lost) beside found check (λ k. refl) starts))
   goes_on_behind_it place (Whole k) beside found check o starts = subst (λ x. is_behind j x ≡ true) (found_one w.older before k older_is o) behind
 
-  finished_by : (place : Place) (older newer beside : Found) (found : Resumption) (check : Option (List ℕ)) → IsFound w.older older → IsFound w.beside newer
-      → IsFound None beside → next_start place older newer beside ≡ Resumes found check → low ≤ℤ found.floor → (below : ℤ) → below ≤ℤ found.floor
+  finished_by : (place : Place) (older newer beside : Found) (found : Resumption) (check : Option (List ℕ))
+      → IsFound w.older older → IsFound w.beside newer
+      → IsFound None beside → next_start place older newer beside ≡ Resumes found check → low ≤ℤ found.floor
+      → (below : ℤ) → below ≤ℤ found.floor
       → Knows below r found
   finished_by place older Nothing beside found check o n b starts late below under =
       absurd (uncut place older beside (goes_behind beside older) (none_beside w.older older beside o b) found check starts)
