@@ -1,9 +1,12 @@
 #!/usr/bin/env python3
-"""Builds the library for C, crates/ap_accept_c/out/libap_accept_c.a, over the libraries below it that `rt ci` has
-proved in this copy and left in their folders. That takes a minute; `rt lib` would prove each of them again, since `rt
-ci` leaves no stamps. In a working copy, where `rt check` has built them, it runs `rt lib`.
+"""Builds the library for C, crates/ap_accept_c/out/libap_accept.a, with all that a program needs besides the C library:
+the proved functions of crates/ap_accept_c, those of the header (docs/ap_accept.c), and those that allocate.
 
-    python3 dev/c_library.py"""
+    python3 dev/c_library.py
+
+It builds over the libraries below the crate that `rt ci` has proved in this copy and left in their folders. That takes
+a minute; `rt lib` would prove each of them again, since `rt ci` leaves no stamps. In a working copy, where `rt check`
+has built them, it runs `rt lib`. Needs a C compiler: the one that CC names, or cc."""
 
 import argparse
 import importlib.util
@@ -12,10 +15,13 @@ import pathlib
 import shutil
 import subprocess
 import sys
+import tempfile
 
 TOP = pathlib.Path(__file__).resolve().parent.parent
 CRATE = TOP / "crates" / "ap_accept_c"
-LIBRARY = CRATE / "out" / "libap_accept_c.a"
+LIBRARY = CRATE / "out" / "libap_accept.a"
+# What `rt lib` makes, without the functions of the header.
+PROVED = CRATE / "out" / "libap_accept_c.a"
 
 
 def kit():
@@ -24,6 +30,21 @@ def kit():
     if not command:
         raise FileNotFoundError("the toolchain's command rt is not on the path")
     return pathlib.Path(os.path.realpath(command)).parent.parent
+
+
+def complete(proved, made):
+    """Makes the library of the archive of proved functions, by commands that must succeed."""
+    archiver = kit() / "toolchain" / "bin" / "llvm-ar"
+    with tempfile.TemporaryDirectory(prefix="c-library-") as folder:
+        checks, whole = pathlib.Path(folder, "ap_accept.o"), pathlib.Path(folder, made.name)
+        flags = ["-std=c99", "-O2", "-fPIC", "-Wall", "-Wextra", "-Werror", "-I", TOP / "docs"]
+        run(os.environ.get("CC", "cc"), *flags, "-c", "-o", checks, TOP / "docs" / "ap_accept.c")
+        run(archiver, "qcsL", whole, proved, checks, kit() / "c" / "liblibc_c.a")
+        shutil.copy(whole, made)
+
+
+def run(*words):
+    subprocess.run(list(map(str, words)), check=True)
 
 
 def main():
@@ -35,10 +56,14 @@ def main():
     spec.loader.exec_module(rtlib)
     crate = rtlib.Crate(str(CRATE), str(TOP), {})
     if all(each.is_built() for each in crate.below()):
-        sys.exit(subprocess.run(["rt", "lib"]).returncode)
-    words = crate.words(["--jobs", "1"], keeps=False)
-    how = ["--toolchain", str(kit() / "toolchain"), "--backend", "llvm", "-o", str(LIBRARY)]
-    sys.exit(subprocess.run([rtlib.RATTLE, "build", *words, *how]).returncode)
+        built = subprocess.run(["rt", "lib"]).returncode
+    else:
+        words = crate.words(["--jobs", "1"], keeps=False)
+        how = ["--toolchain", str(kit() / "toolchain"), "--backend", "llvm", "-o", str(PROVED)]
+        built = subprocess.run([rtlib.RATTLE, "build", *words, *how]).returncode
+    if not built:
+        complete(PROVED, LIBRARY)
+    sys.exit(built)
 
 
 if __name__ == "__main__":

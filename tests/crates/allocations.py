@@ -5,7 +5,8 @@ if memory ran out, and asserts what the second call returns and what the first o
 the C library forks at each allocation of a marked call (`refused_memory.c`): in the child this allocation fails, and
 the rest of the test has to pass. So one run of a test refuses all allocations of its calls.
 
-There is a check for each test with marks: how many calls it made, and how many allocations were refused."""
+There is a check for each test with marks. `marked_calls.txt` says which calls it makes, and how many allocations of
+each are refused: a call that is missing, or has fewer, is noticed."""
 
 import os
 import pathlib
@@ -20,6 +21,7 @@ from harness.tests import add, Test
 
 # The crates whose tests have marks.
 CRATES = ("base_tests", "exchange_tests")
+TABLE = pathlib.Path(__file__).with_name("marked_calls.txt")
 
 
 class Seen:
@@ -55,6 +57,21 @@ class Seen:
         return f"call {call}, allocation {allocation}, wait status {status}: {''.join(said).strip()[-200:]}"
 
 
+def marked_calls(crate):
+    """The table's rows of a crate: for each test the numbers of refusals of its calls."""
+    lines = "\n".join(line for line in TABLE.read_text().splitlines() if not line.startswith("#"))
+    rows = re.findall(r"^(\S+) (\S+):((?:\s+\d+)+)$", lines, re.M)
+    return {name: [int(number) for number in numbers.split()] for of, name, numbers in rows if of == crate}
+
+
+def difference(found, wanted):
+    """How the refusals of a test's calls differ from those of the table."""
+    if found == wanted:
+        return ""
+    place = next((at for at, both in enumerate(zip(found, wanted)) if both[0] != both[1]), min(len(found), len(wanted)))
+    return f"from call {place} on {found[place:place + 8]}, in the table {wanted[place:place + 8]}"
+
+
 def tests_in(program):
     ran = subprocess.run([program, "--list"], stdout=subprocess.PIPE, text=True, check=True)
     return re.findall(r"^(\S+): test$", ran.stdout, re.M)
@@ -76,10 +93,12 @@ def known(crate):
         library = refused_memory()
         with ThreadPoolExecutor(processors()) as pool:
             found = list(pool.map(lambda name: Seen(program, name, library), tests_in(program)))
-        for seen in filter(lambda seen: seen.refusals or seen.fault, found):
-            trial.note(f"{crate} {seen.name}: {len(seen.refusals)} calls, {sum(seen.refusals)} refusals", seen.ends())
-        if not any(seen.refusals for seen in found):
-            trial.note(f"{crate}: marked calls", "there are none")
+        wanted = marked_calls(crate)
+        for seen in filter(lambda seen: seen.refusals or seen.fault or seen.name in wanted, found):
+            fault = seen.ends() or difference(seen.refusals, wanted.get(seen.name, []))
+            trial.note(f"{crate} {seen.name}: {len(seen.refusals)} calls, {sum(seen.refusals)} refusals", fault)
+        missing = wanted.keys() - {seen.name for seen in found}
+        trial.note(f"{crate}: each test of the table", ", ".join(sorted(missing)) or "" if wanted else "there is none")
 
     add(Test(f"crates/allocations/{crate}", call, seconds=60))
 

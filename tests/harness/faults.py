@@ -1,12 +1,13 @@
 """Commands whose allocations fail, one in each run (`refused_memory.c`)."""
 
+import pathlib
 import re
+import shutil
+import tempfile
+from concurrent.futures import ThreadPoolExecutor
 
+from harness.processes import processors
 from harness.programs import refused_memory
-
-
-# How many allocations of each command fail, one in a run.
-PLACES = 12
 
 
 def refusing(trial):
@@ -22,42 +23,47 @@ def contents(folder):
     return {each.name: each.read_bytes() for each in kept}
 
 
-def sample(counted, places):
-    """`places` numbers from 1 to `counted`, including the first and the last."""
-    return sorted({1 + turn * (counted - 1) // max(1, places - 1) for turn in range(places)})
+class Refusals:
+    """Runs of a command in copies of a folder, each with another allocation that fails."""
 
+    def __init__(self, trial, words, given, status, out):
+        self.trial, self.words, self.given, self.status, self.out = trial, words, given, status, out
+        self.environment, self.before = refusing(trial), contents(trial.folder)
+        self.whole = trial.run(words, given=given, env=self.environment)
+        self.counted = int((trial.folder / "counted").read_text())
+        # Parts that differ from run to run are not compared.
+        self.after = contents(trial.folder).keys()
 
-def put_back(folder, before):
-    for name in contents(folder).keys() - before.keys():
-        (folder / name).unlink()
-    for name, octets in before.items():
-        (folder / name).write_bytes(octets)
+    def fault(self, template, number):
+        """What is wrong with the run in which this allocation fails, and whether all was done without it."""
+        with tempfile.TemporaryDirectory() as place:
+            folder = pathlib.Path(place, "copy")
+            shutil.copytree(template, folder)
+            environment = {**self.environment, "COUNTED": str(folder / "counted"), "REFUSED": str(number)}
+            ran = self.trial.run(self.words, given=self.given, env=environment, cwd=folder)
+            now = contents(folder)
+        if ran.status == 0 and ran.out in (self.whole.out, self.out) and now.keys() == self.after:
+            return "", True
+        is_said = ran.status == self.status and ran.err.endswith("out of memory\n")
+        if is_said and now.keys() == self.after or ran.status == self.status and now == self.before:
+            return "", False
+        changed = sorted(name for name in now.keys() | self.before.keys() if now.get(name) != self.before.get(name))
+        return f"{number}: {ran.fault(self.status)}, {ran.out[:80]!r}, {ran.err[:80]!r}, files {changed}", False
 
 
 def refuse_each(trial, words, given="", status=3, out=None):
-    """Lets allocations of a command fail, one in each run. The command ends with this status and leaves all files
-    unchanged, or does all of its work without that allocation, or prints `out`. Or all is done but the last line on
-    standard output: it ends with this status and says so."""
-    environment, before, faults, done = refusing(trial), contents(trial.folder), [], 0
-    whole = trial.run(words, given=given, env=environment)
-    if whole.status != 0:
-        return trial.note(words, whole.fault(0))
-    # Parts that differ from run to run are not compared.
-    after, counted = contents(trial.folder).keys(), int((trial.folder / "counted").read_text())
-    for number in sample(counted, PLACES):
-        put_back(trial.folder, before)
-        ran = trial.run(words, given=given, env={**environment, "REFUSED": str(number)})
-        is_whole = ran.status == 0 and ran.out in (whole.out, out) and contents(trial.folder).keys() == after
-        done += is_whole
-        is_said = ran.status == status and ran.err.endswith("standard output: out of memory\n")
-        is_silent = is_said and contents(trial.folder).keys() == after
-        if not (is_whole or is_silent) and (ran.status != status or contents(trial.folder) != before):
-            now = contents(trial.folder)
-            changed = sorted(name for name in now.keys() | before.keys() if now.get(name) != before.get(name))
-            faults.append(f"{number}: {ran.fault(status)}, {ran.out[:80]!r}, {ran.err[:80]!r}, files {changed}")
-    put_back(trial.folder, before)
-    trial.run(words, given=given)
+    """Lets each allocation of a command fail, one in a run. The command ends with this status and leaves all files
+    unchanged, or does all of its work without that allocation, or prints `out`. Or all is done but what is printed of
+    it: it ends with this status and says why."""
+    with tempfile.TemporaryDirectory() as place:
+        template = pathlib.Path(place, "template")
+        shutil.copytree(trial.folder, template, ignore=shutil.ignore_patterns("*.lock", "*.so", "counted", "log*"))
+        refusals = Refusals(trial, words, given, status, out)
+        if refusals.whole.status != 0:
+            return trial.note(words, refusals.whole.fault(0))
+        with ThreadPoolExecutor(processors()) as pool:
+            found = list(pool.map(lambda number: refusals.fault(template, number), range(1, refusals.counted + 1)))
     trial.note(
-        f"{words}: of {counted} allocations {len(sample(counted, PLACES))} refused, {done} without effect",
-        "; ".join(faults[:3])
+        f"{words}: each of {refusals.counted} allocations refused, {sum(done for _, done in found)} without effect",
+        "; ".join([fault for fault, _ in found if fault][:3])
     )

@@ -7,7 +7,7 @@ import shutil
 import sys
 import threading
 
-from c_library import LIBRARY, kit
+from c_library import LIBRARY
 from harness.programs import TOP
 from harness.stock_kdcs import fetched, unpacked
 from harness.tests import Given
@@ -123,6 +123,4 @@ class Machine:
                 if ran.returncode:
                     raise RuntimeError(f"the library for C is not built: {ran.stdout[-600:]}")
             for name in OVER_OURS:
-                self.compile(
-                    name, *[] if self.lacks_sanitizers else SANITIZERS, self.library, kit() / "c" / "liblibc_c.a"
-                )
+                self.compile(name, *[] if self.lacks_sanitizers else SANITIZERS, self.library)

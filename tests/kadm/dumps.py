@@ -22,7 +22,8 @@ class Hostile(Dumps):
         self.text = b"".join(self.lines)
 
     def each(self, what, texts, *flags):
-        self.all_of(what, texts, self.masters, self.stash, *flags)
+        """Imports each text. A changed byte may be one of krbtgt's attributes, by which nobody could log in."""
+        self.all_of(what, texts, self.masters, self.stash, "--whole-realm", *flags)
 
 
 @test("kadm", trial=Hostile, seconds=60)

@@ -4,7 +4,7 @@ from harness.faults import refuse_each
 from harness.tests import test
 
 
-@test("kadm", seconds=10)
+@test("kadm", seconds=400)
 def commands(trial):
     """Allocations of each command that fail."""
     trial.realm()

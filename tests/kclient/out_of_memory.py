@@ -4,7 +4,7 @@ from harness.faults import refuse_each
 from harness.tests import test
 
 
-@test("kadm", "kdcd", "kclient", seconds=5)
+@test("kadm", "kdcd", "kclient", seconds=30)
 def commands(trial):
     """Allocations of each command that fail."""
     trial.realm()

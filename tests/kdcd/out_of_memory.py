@@ -7,13 +7,15 @@ import resource
 import socket
 
 from harness import staged_realm as realm
-from harness.faults import PLACES, refuse_each, refusing
+from harness.faults import refuse_each, refusing
 from harness.processes import SLOWNESS
 from harness.server import Server
 from harness.stage import T, ask, Staged, turn
 from harness.tests import test
 from harness.wire import answer, place_of
 
+# How many allocations of a server fail while it serves four requests, but for one, one in a run.
+SERVED = 36
 
 def hold_memory(server, count):
     """Sends the front of a long request on each of this many connections. Returns them."""
@@ -65,12 +67,12 @@ def serving(trial):
     environment = refusing(trial)
     trial.run("kdcd serve --db database --udp 127.0.0.1:0 --tcp 127.0.0.1:0 --rounds 0 --first", env=environment)
     begun, faults, hurt = int((trial.folder / "counted").read_text()), [], 0
-    for number in range(1, 3 * PLACES):
+    for number in range(1, SERVED):
         server = Server(trial, environment={**environment, "REFUSED": str(begun + number)})
         found = [server.answer("v", 1) for _ in range(4)]
         status, lost = server.end(), len(found) - found.count("ticket")
         hurt += lost
         if lost > 1 or status != -15:
             faults.append(f"{number}: {found}, status {status}")
-    what = f"kdcd serve: {3 * PLACES - 1} failed allocations while it serves, which cost {hurt} tickets"
+    what = f"kdcd serve: {SERVED - 1} failed allocations while it serves, which cost {hurt} tickets"
     trial.note(what, "; ".join(faults[:3]))

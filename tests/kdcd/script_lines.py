@@ -1,8 +1,14 @@
 """The lines of a script: their forms and limits, and reads, writes and allocations that fail."""
 
+from concurrent.futures import ThreadPoolExecutor
+
 from harness.faults import refusing
+from harness.processes import processors
 from harness.tests import test
-from kdcd.scripts import DONE, FAILED, FAULT, K, MAX_INPUT, MAX_LINE, OPEN, ZEROS, key
+from kdcd.script_requests import (
+    BASIC, CLIENT_UNKNOWN, LENIENT_USER, PREAUTH_REQUIRED, SERVICE, TGS_REP, TGS_REQ, TICKET, USER
+)
+from kdcd.scripts import DONE, FAILED, FAULT, K, MAX_INPUT, MAX_LINE, OPEN, UP_FROM_64, ZEROS, ask, key
 
 # Lines that a script can't have.
 OTHER_FORMS = (
@@ -102,6 +108,13 @@ def forms(trial):
 MIXED, MIXED_PRINTED = f"open A.B 64 0 0 36000 0 {K}\nadd krbtgt/A.B {K}\nadd\n", "ok\nrefused Exists\nfault 3\n"
 # The most bytes that a read gives.
 PIECE = 7
+# Each kind of line, and each kind of reply, with what is printed.
+EVERY_KIND = (
+    (OPEN, "ok"), (ask(BASIC), CLIENT_UNKNOWN), *USER[1:], (ask(BASIC), PREAUTH_REQUIRED), (ask(BASIC[1:]), "none"),
+    *LENIENT_USER[2:], (ask(BASIC), TICKET), (f"keys u {key(1)}", "ok"), ("drop u 1", "ok"), ("remove u", "ok"),
+    ("remove u", "refused Absent"), (f"add / {K}", "refused BadName"), ("restart 0", "ok"),
+    *SERVICE, *[(ask(TGS_REQ, random=UP_FROM_64), TGS_REP)] * 2, ("add", "fault 19"),
+)
 
 
 def is_end(ran, statuses):
@@ -112,7 +125,7 @@ def is_end(ran, statuses):
 
 @test("kdcd", seconds=10)
 def failed_calls(trial):
-    """Reads, writes and allocations of a script that fail."""
+    """Reads and writes of a script that fail."""
     trial.enter("scripts")
     environment = refusing(trial)
 
@@ -121,9 +134,6 @@ def failed_calls(trial):
             ["kdcd", "script"], script, env={**environment, **{word: str(number) for word, number in numbers.items()}}
         )
 
-    counted = lambda: int((trial.folder / "counted").read_text())
-    run("")
-    begun = counted()
     trial.note("the lines in short reads", "" if is_end(run(PIECE=PIECE), [FAULT]) else "they end otherwise")
     # The last read of a run without a failure finds the end of the input.
     reads = range(-(-len(MIXED) // PIECE))
@@ -137,13 +147,36 @@ def failed_calls(trial):
         f"writes that fail after 0 to {len(failed) - 1} good ones",
         "" if is_well else f"{odd} end otherwise, and {failed} fail"
     )
-    run()
+
+
+@test("kdcd", seconds=10)
+def refused_allocations(trial):
+    """A script with each kind of line and reply, in runs in which one allocation fails."""
+    trial.enter("scripts")
+    environment, whole = refusing(trial), "".join(f"{printed}\n" for _, printed in EVERY_KIND)
+    script = "".join(f"{line}\n" for line, _ in EVERY_KIND)
+
+    def run(given, number=0):
+        """Runs a script, and returns what came of it, and how many allocations it made."""
+        counted = trial.folder / f"counted{number}"
+        numbers = {"COUNTED": str(counted), **({"REFUSED": str(number)} if number else {})}
+        ran = trial.run(["kdcd", "script"], given, env={**environment, **numbers})
+        return ran, int(counted.read_text())
+
+    def is_end(number):
+        """Whether the run printed a beginning of the text, or ended as it should; and whether it failed."""
+        ran, _ = run(script, number)
+        failed = ran.status == FAILED
+        return (failed and whole.startswith(ran.out) or (ran.status, ran.out) == (FAULT, whole)), failed
+
     # The first ones are those of the program's start.
-    numbers = range(begun + 1, counted() + 1)
-    ends = {number: run(REFUSED=number) for number in numbers}
-    odd = [number for number, ran in ends.items() if not is_end(ran, [FAULT, FAILED])]
-    failed = sum(ran.status == FAILED for ran in ends.values())
+    (_, begun), (_, ended) = run(""), run(script)
+    numbers = range(begun + 1, ended + 1)
+    with ThreadPoolExecutor(processors()) as pool:
+        ends = list(pool.map(is_end, numbers))
+    odd = [number for number, (is_well, _) in zip(numbers, ends) if not is_well]
+    failed = sum(failed for _, failed in ends)
     trial.note(
-        f"{len(numbers)} allocations that fail, which end {failed} runs",
-        f"{odd} end otherwise" if odd or not failed else ""
+        f"{len(EVERY_KIND)} lines of each kind: {len(numbers)} allocations refused, which end {failed} runs",
+        f"{odd[:5]} end otherwise" if odd or failed < len(EVERY_KIND) else ""
     )

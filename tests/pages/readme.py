@@ -1,8 +1,8 @@
-"""The lines of README.md that serve the realm of crates/kdcd/data, by the built `kdcd` in place of `rt try`; and those
-that make a first realm, in an empty folder and with the built programs on the path. Then our client logs in to both and
-gets the ticket. MIT's clients do so too, if they are on the path, and print what README.md has. Its lines of Rust, and
-those of docs/CLIENT_LIBRARY.md, must be in the programs and libraries that they show, which the gate builds. Only the
-port differs."""
+"""The lines of CONTRIBUTING.md that serve the realm of crates/kdcd/data, by the built `kdcd` in place of `rt try`; and
+those of README.md that make a first realm, in an empty folder and with the built programs on the path. Then our client
+logs in to both and gets the ticket. MIT's clients do so too, if they are on the path, and print what README.md has. Its
+lines of Rust, and those of docs/CLIENT_LIBRARY.md, must be in the programs and libraries that they show, which the gate
+builds. Only the port differs."""
 
 import os
 import re
@@ -17,13 +17,18 @@ from harness.wire import free_port
 
 PORT = "8888"
 SERVICE = "host/www.example.com"
+# MIT's clients in the realm of crates/kdcd/data.
+CLIENTS = (
+    "$ export KRB5_CONFIG=$PWD/data/krb5.conf", "$ kinit alice", f"$ kvno -k data/www.keytab {SERVICE}",
+    f"{SERVICE}@EXAMPLE.COM: kvno = 1, keytab entry valid",
+)
 # The files whose code the pages show.
 EXAMPLES = (f"{SERVICE_EXAMPLE}/src/main.rt", f"{LOGIN_EXAMPLE}/src/main.rt", "client_sockets/src/client.rt")
 
 
-def blocks(title):
+def blocks(title, page="README.md"):
     """The indented blocks of the section with this title, as lists of lines."""
-    section = (TOP / "README.md").read_text().partition(f"## {title}\n")[2].partition("\n## ")[0]
+    section = (TOP / page).read_text().partition(f"## {title}\n")[2].partition("\n## ")[0]
     indented = re.findall(r"(?:^(?:    .*)?\n)+", section, re.M)
     found = [[line[4:] for line in block.strip("\n").splitlines()] for block in indented]
     return [lines for lines in found if any(lines)]
@@ -46,9 +51,9 @@ def code(trial):
         )
 
 
-def serve_data(trial, first, clients):
-    """Serves the realm of the first command, in a copy of its folder and at another port, for as long as the client
-    takes."""
+def serve_data(trial, first):
+    """Serves the realm of the first command, in a copy of its folder and at another port, for as long as the clients
+    take."""
     port = str(free_port())
     folder, command = " ".join(first).replace("\\ ", "").partition(" rt try ")[::2]
     shutil.copytree(TOP / folder.removeprefix("cd ") / "data", trial.folder / "data")
@@ -61,9 +66,9 @@ def serve_data(trial, first, clients):
         f"kclient kvno {SERVICE} --cache cc --keytab data/www.keytab", 0, f"={SERVICE} kvno 1, keytab entry valid"
     )
     if shutil.which("kvno"):
-        log_in(trial, [f"$ {line}" for line in clients] + [f"{SERVICE}@EXAMPLE.COM: kvno = 1, keytab entry valid"])
+        log_in(trial, CLIENTS)
     else:
-        trial.leave("MIT's clients in the realm of README.md's first command, which are not on the path")
+        trial.leave("MIT's clients in the realm of crates/kdcd/data, which are not on the path")
     trial.environment["KRB5_CONFIG"] = usual
 
 
@@ -117,10 +122,10 @@ def with_path(trial):
 
 @test("kadm", "kdcd", "kclient", uses_stock=True)
 def data_realm(trial):
-    """The first command, which serves a realm of this repository."""
+    """The command that serves a realm of this repository."""
     with_path(trial)
     trial.enter("data_realm")
-    serve_data(trial, *blocks("Try it"))
+    serve_data(trial, *blocks("Build, prove, test", "CONTRIBUTING.md"))
 
 
 @test("kadm", "kdcd", "kclient", LOGIN_EXAMPLE, uses_stock=True)

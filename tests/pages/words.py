@@ -46,12 +46,12 @@ UNITS = (".service", ".path", ".conf", ".sh")
 WIDEST, WIDEST_OF_README = 120, 100
 # How many lines a page has at most, and all together.
 MOST_LINES = {
-    "CHANGELOG.md": 85, "CONTRIBUTING.md": 275, "README.md": 100, "docs/ADMINISTRATION.md": 245, "docs/CLIENT.md": 170,
+    "CHANGELOG.md": 90, "CONTRIBUTING.md": 275, "README.md": 100, "docs/ADMINISTRATION.md": 245, "docs/CLIENT.md": 170,
     "docs/CLIENT_LIBRARY.md": 125, "docs/DECISIONS.md": 215, "docs/FORMATS.md": 415, "docs/HOSTS.md": 95,
-    "docs/MAP.md": 150, "docs/OPERATIONS.md": 410, "docs/PERFORMANCE.md": 140, "docs/PROMISES.md": 510,
+    "docs/MAP.md": 150, "docs/OPERATIONS.md": 410, "docs/PERFORMANCE.md": 140, "docs/PROMISES.md": 517,
     "docs/PROTOCOL.md": 325, "SECURITY.md": 100, "docs/SERVICES.md": 180,
 }
-IN_ALL = 3490
+IN_ALL = 3502
 # How many lines a file of Python has at most.
 MOST_LINES_OF_PYTHON = 500
 # A link of a page, and a path of this repository that a page or a comment names.

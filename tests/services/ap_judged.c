@@ -28,27 +28,43 @@ static void expect(const char *what, long got, long wanted)
 	failures++;
 }
 
+/* An acceptor of a service that never ran before. */
+static int32_t opened(struct ap_acceptor *acceptor, const uint8_t *keytab, size_t length, uint32_t remembered,
+		      int64_t sec, uint32_t usec)
+{
+	return ap_open(AP_VERSION, acceptor, keytab, length, remembered, true, sec, usec);
+}
+
+static int32_t taken(struct ap_acceptor *acceptor, int64_t sec, uint32_t usec, const uint8_t *random,
+		     const uint8_t *ap_req, size_t length, struct ap_accepted *accepted)
+{
+	return ap_accept(acceptor, sec, usec, random, ap_req, length, accepted, sizeof *accepted);
+}
+
 static void opens(const uint8_t *keytab, size_t length)
 {
-	struct ap_acceptor acceptor = { 0 };
+	struct ap_acceptor acceptor = AP_ACCEPTOR_INIT;
 	const size_t beyond = (size_t)PTRDIFF_MAX + TOO_LONG;
 
-	expect("no acceptor", ap_open(NULL, keytab, length, 1, true, NOW, 0), AP_BAD_ARGUMENT);
-	expect("no keytab", ap_open(&acceptor, NULL, length, 1, true, NOW, 0), AP_BAD_ARGUMENT);
-	expect("a length too great", ap_open(&acceptor, keytab, beyond, 1, true, NOW, 0), AP_BAD_ARGUMENT);
-	expect("none remembered", ap_open(&acceptor, keytab, length, 0, true, NOW, 0), AP_BAD_ARGUMENT);
-	expect("too many remembered", ap_open(&acceptor, keytab, length, 65537, true, NOW, 0), AP_BAD_ARGUMENT);
-	expect("a second below 0", ap_open(&acceptor, keytab, length, 1, true, -1, 0), AP_BAD_ARGUMENT);
-	expect("a second too great", ap_open(&acceptor, keytab, length, 1, true, 253402300800, 0), AP_BAD_ARGUMENT);
-	expect("a microsecond too great", ap_open(&acceptor, keytab, length, 1, true, NOW, 1000000), AP_BAD_ARGUMENT);
-	expect("an empty keytab", ap_open(&acceptor, keytab, 0, 1, true, NOW, 0), AP_BAD_KEYTAB);
-	expect("a cut keytab", ap_open(&acceptor, keytab, length - 1, 1, true, NOW, 0), AP_BAD_KEYTAB);
+	expect("no acceptor", opened(NULL, keytab, length, 1, NOW, 0), AP_BAD_ARGUMENT);
+	expect("no keytab", opened(&acceptor, NULL, length, 1, NOW, 0), AP_BAD_ARGUMENT);
+	expect("a length too great", opened(&acceptor, keytab, beyond, 1, NOW, 0), AP_BAD_ARGUMENT);
+	expect("none remembered", opened(&acceptor, keytab, length, 0, NOW, 0), AP_BAD_ARGUMENT);
+	expect("too many remembered", opened(&acceptor, keytab, length, 65537, NOW, 0), AP_BAD_ARGUMENT);
+	expect("a second below 0", opened(&acceptor, keytab, length, 1, -1, 0), AP_BAD_ARGUMENT);
+	expect("a second too great", opened(&acceptor, keytab, length, 1, 253402300800, 0), AP_BAD_ARGUMENT);
+	expect("a microsecond too great", opened(&acceptor, keytab, length, 1, NOW, 1000000), AP_BAD_ARGUMENT);
+	expect("an older version", ap_open(2, &acceptor, keytab, length, 1, true, NOW, 0), AP_OTHER_VERSION);
+	expect("a later version", ap_open(4, &acceptor, keytab, length, 1, true, NOW, 0), AP_OTHER_VERSION);
+	expect("an empty keytab", opened(&acceptor, keytab, 0, 1, NOW, 0), AP_BAD_KEYTAB);
+	expect("no keytab, of no length", opened(&acceptor, NULL, 0, 1, NOW, 0), AP_BAD_KEYTAB);
+	expect("a cut keytab", opened(&acceptor, keytab, length - 1, 1, NOW, 0), AP_BAD_KEYTAB);
 	expect("still closed", ap_close(&acceptor), AP_CLOSED);
-	expect("the least and last", ap_open(&acceptor, keytab, length, 1, true, 253402300799, 999999), AP_DONE);
-	expect("open already", ap_open(&acceptor, keytab, length, 1, true, NOW, 0), AP_BAD_ARGUMENT);
+	expect("the least and last", opened(&acceptor, keytab, length, 1, 253402300799, 999999), AP_DONE);
+	expect("open already", opened(&acceptor, keytab, length, 1, NOW, 0), AP_BAD_ARGUMENT);
 	expect("closed", ap_close(&acceptor), AP_DONE);
 	expect("closed twice", ap_close(&acceptor), AP_CLOSED);
-	expect("the most", ap_open(&acceptor, keytab, length, 65536, false, 0, 0), AP_DONE);
+	expect("the most", ap_open(AP_VERSION, &acceptor, keytab, length, 65536, false, 0, 0), AP_DONE);
 	expect("closed again", ap_close(&acceptor), AP_DONE);
 	expect("no acceptor to close", ap_close(NULL), AP_BAD_ARGUMENT);
 }
@@ -71,16 +87,17 @@ static void accepts(struct ap_acceptor *acceptor, int32_t at_best)
 	const size_t beyond = (size_t)PTRDIFF_MAX + TOO_LONG;
 	struct ap_accepted accepted = { .authtime = 7 };
 
-	expect("no acceptor", ap_accept(NULL, NOW, 0, random, octets, 4, &accepted), AP_BAD_ARGUMENT);
-	expect("no random octets", ap_accept(acceptor, NOW, 0, NULL, octets, 4, &accepted), AP_BAD_ARGUMENT);
-	expect("no AP-REQ", ap_accept(acceptor, NOW, 0, random, NULL, 4, &accepted), AP_BAD_ARGUMENT);
-	expect("a length too great", ap_accept(acceptor, NOW, 0, random, octets, beyond, &accepted), AP_BAD_ARGUMENT);
-	expect("nowhere to go", ap_accept(acceptor, NOW, 0, random, octets, 4, NULL), AP_BAD_ARGUMENT);
+	expect("no acceptor", taken(NULL, NOW, 0, random, octets, 4, &accepted), AP_BAD_ARGUMENT);
+	expect("no random octets", taken(acceptor, NOW, 0, NULL, octets, 4, &accepted), AP_BAD_ARGUMENT);
+	expect("no AP-REQ", taken(acceptor, NOW, 0, random, NULL, 4, &accepted), AP_BAD_ARGUMENT);
+	expect("a length too great", taken(acceptor, NOW, 0, random, octets, beyond, &accepted), AP_BAD_ARGUMENT);
+	expect("nowhere to go", taken(acceptor, NOW, 0, random, octets, 4, NULL), AP_BAD_ARGUMENT);
 	expect("nothing written", accepted.authtime, 7);
-	expect("a second below 0", ap_accept(acceptor, -1, 0, random, octets, 4, &accepted), AP_BAD_ARGUMENT);
-	expect("a microsecond too great", ap_accept(acceptor, NOW, 1000000, random, octets, 4, &accepted), AP_BAD_ARGUMENT);
-	expect("no octets", ap_accept(acceptor, NOW, 0, random, octets, 0, &accepted), at_best);
-	expect("no AP-REQ's", ap_accept(acceptor, NOW, 0, random, octets, 4, &accepted), at_best);
+	expect("a second below 0", taken(acceptor, -1, 0, random, octets, 4, &accepted), AP_BAD_ARGUMENT);
+	expect("a microsecond too great", taken(acceptor, NOW, 1000000, random, octets, 4, &accepted), AP_BAD_ARGUMENT);
+	expect("no octets", taken(acceptor, NOW, 0, random, octets, 0, &accepted), at_best);
+	expect("no octets at all", taken(acceptor, NOW, 0, random, NULL, 0, &accepted), at_best);
+	expect("no AP-REQ's", taken(acceptor, NOW, 0, random, octets, 4, &accepted), at_best);
 	expect("all zero", accepted.authtime, 0);
 }
 
@@ -94,13 +111,65 @@ static void fetches(struct ap_acceptor *acceptor, int32_t at_best)
 	expect("no buffer", ap_octets(acceptor, AP_CLIENT_NAME, NULL, 4, &length), AP_BAD_ARGUMENT);
 	expect("a capacity too great", ap_octets(acceptor, AP_CLIENT_NAME, to, beyond, &length), AP_BAD_ARGUMENT);
 	expect("no length", ap_octets(acceptor, AP_CLIENT_NAME, to, 4, NULL), AP_BAD_ARGUMENT);
-	expect("no part 0", ap_octets(acceptor, (enum ap_part)0, to, 4, &length), AP_BAD_ARGUMENT);
-	expect("no part 7", ap_octets(acceptor, (enum ap_part)7, to, 4, &length), AP_BAD_ARGUMENT);
+	expect("no part 0", ap_octets(acceptor, 0, to, 4, &length), AP_BAD_ARGUMENT);
+	expect("no part 7", ap_octets(acceptor, 7, to, 4, &length), AP_BAD_ARGUMENT);
 	for (int part = AP_CLIENT_REALM; part <= AP_AP_REP; part++)
-		expect("nothing accepted", ap_octets(acceptor, (enum ap_part)part, to, 4, &length), at_best);
+		expect("nothing accepted", ap_octets(acceptor, (uint32_t)part, to, 4, &length), at_best);
 	expect("none", ap_octets(acceptor, AP_CLIENT_NAME, NULL, 0, &length), at_best);
 	expect("no length returned", (long)length, 0);
 	expect("nothing written", memcmp(to, "\1\2\3\4", 4), 0);
+}
+
+/* An acceptor that is none: every call says so, and leaves it. */
+static void forbids(struct ap_acceptor *acceptor, const uint8_t *keytab, size_t keytab_length)
+{
+	static const uint8_t random[16];
+	const struct ap_acceptor before = *acceptor;
+	struct ap_accepted accepted;
+	size_t length;
+
+	expect("none to open", opened(acceptor, keytab, keytab_length, 1, NOW, 0), AP_BAD_ARGUMENT);
+	expect("none to replace", ap_replace_keytab(acceptor, keytab, keytab_length), AP_BAD_ARGUMENT);
+	expect("none to accept", taken(acceptor, NOW, 0, random, keytab, keytab_length, &accepted), AP_BAD_ARGUMENT);
+	expect("none to copy from", ap_octets(acceptor, AP_CLIENT_NAME, NULL, 0, &length), AP_BAD_ARGUMENT);
+	expect("none to close", ap_close(acceptor), AP_BAD_ARGUMENT);
+	expect("it is as it was", memcmp(acceptor, &before, sizeof before), 0);
+}
+
+/* One that was never initialized, and a copy of one that is open. */
+static void knows_its_place(const uint8_t *keytab, size_t length)
+{
+	struct ap_acceptor acceptor = AP_ACCEPTOR_INIT, other;
+
+	memset(&other, UNWRITTEN, sizeof other);
+	forbids(&other, keytab, length);
+	expect("one to copy", opened(&acceptor, keytab, length, 1, NOW, 0), AP_DONE);
+	other = acceptor;
+	forbids(&other, keytab, length);
+	expect("the one that was copied", ap_close(&acceptor), AP_DONE);
+	expect("its size", (long)ap_size(), (long)sizeof acceptor);
+}
+
+/* The numbers go where the caller says that they have room. */
+static void writes_within(struct ap_acceptor *acceptor)
+{
+	static const uint8_t random[16];
+	struct {
+		struct ap_accepted accepted;
+		uint8_t behind[16];
+	} room;
+	const size_t size = sizeof room.accepted;
+
+	memset(&room, UNWRITTEN, sizeof room);
+	expect("too small", ap_accept(acceptor, NOW, 0, random, NULL, 0, &room.accepted, size - 1), AP_BAD_ARGUMENT);
+	expect("of no size", ap_accept(acceptor, NOW, 0, random, NULL, 0, &room.accepted, 0), AP_BAD_ARGUMENT);
+	expect("nothing is written", room.accepted.authtime == (int64_t)0xa5a5a5a5a5a5a5a5, 1);
+	expect("of its size", ap_accept(acceptor, NOW, 0, random, NULL, 0, &room.accepted, size), AP_NOT_AN_AP_REQ);
+	expect("zero to the end", room.accepted.unused[4], 0);
+	expect("nothing behind it", room.behind[0], UNWRITTEN);
+	expect("larger", ap_accept(acceptor, NOW, 0, random, NULL, 0, &room.accepted, size + 8), AP_NOT_AN_AP_REQ);
+	expect("zero behind the numbers", room.behind[7], 0);
+	expect("and no more", room.behind[8], UNWRITTEN);
 }
 
 /* Counts the bytes of the buffer that are unchanged, from this one on. */
@@ -117,15 +186,15 @@ static size_t unwritten(const uint8_t *to, size_t from, size_t end)
 static void keeps(const uint8_t *keytab, size_t keytab_length, const uint8_t *ap_req, size_t ap_req_length)
 {
 	static const uint8_t random[16], no_keys[2] = { 5, 2 };
-	struct ap_acceptor acceptor = { 0 };
+	struct ap_acceptor acceptor = AP_ACCEPTOR_INIT;
 	struct ap_accepted accepted = { .subkey_type = 7 };
 	uint8_t key[LONGEST_KEY + 1], again[LONGEST_KEY + 1];
 	size_t needed = 0, length = 0;
 	int64_t now = (int64_t)time(NULL);
 
 	memset(key, UNWRITTEN, sizeof(key));
-	expect("open for an AP-REQ", ap_open(&acceptor, keytab, keytab_length, 1024, true, now, 0), AP_DONE);
-	expect("accepted", ap_accept(&acceptor, now, 0, random, ap_req, ap_req_length, &accepted), AP_DONE);
+	expect("open for an AP-REQ", opened(&acceptor, keytab, keytab_length, 1024, now, 0), AP_DONE);
+	expect("accepted", taken(&acceptor, now, 0, random, ap_req, ap_req_length, &accepted), AP_DONE);
 	expect("no type of a subkey", accepted.subkey_type, 0);
 	expect("the key's length is asked for", ap_octets(&acceptor, AP_SESSION_KEY, NULL, 0, &needed), AP_TOO_SMALL);
 	expect("the key's length", needed == 16 || needed == 32, 1);
@@ -138,22 +207,60 @@ static void keeps(const uint8_t *keytab, size_t keytab_length, const uint8_t *ap
 	}
 	expect("no subkey", ap_octets(&acceptor, AP_SUBKEY, again, sizeof(again), &length), AP_ABSENT);
 	expect("no length of a subkey", (long)length, 0);
-	expect("a bad moment", ap_accept(&acceptor, -1, 0, random, ap_req, ap_req_length, &accepted), AP_BAD_ARGUMENT);
+	expect("a bad moment", taken(&acceptor, -1, 0, random, ap_req, ap_req_length, &accepted), AP_BAD_ARGUMENT);
 	expect("no numbers after a bad moment", (long)accepted.endtime, 0);
 	length = 7;
-	expect("a bad part", ap_octets(&acceptor, (enum ap_part)7, again, sizeof(again), &length), AP_BAD_ARGUMENT);
+	expect("a bad part", ap_octets(&acceptor, 7, again, sizeof(again), &length), AP_BAD_ARGUMENT);
 	expect("no length of a bad part", (long)length, 0);
 	expect("the key is still there", ap_octets(&acceptor, AP_SESSION_KEY, again, sizeof(again), &length), AP_DONE);
 	expect("it is the same", (long)length == (long)needed && memcmp(key, again, length) == 0, 1);
 	expect("a keytab without keys", ap_replace_keytab(&acceptor, no_keys, sizeof(no_keys)), AP_DONE);
 	expect("the key stays", ap_octets(&acceptor, AP_SESSION_KEY, again, sizeof(again), &length), AP_DONE);
-	expect("no key for it", ap_accept(&acceptor, now, 0, random, ap_req, ap_req_length, &accepted), AP_NOT_US);
+	expect("no key for it", taken(&acceptor, now, 0, random, ap_req, ap_req_length, &accepted), AP_NOT_US);
 	expect("no keytab", ap_replace_keytab(&acceptor, keytab, keytab_length - 1), AP_BAD_KEYTAB);
-	expect("still no key", ap_accept(&acceptor, now, 0, random, ap_req, ap_req_length, &accepted), AP_NOT_US);
+	expect("still no key", taken(&acceptor, now, 0, random, ap_req, ap_req_length, &accepted), AP_NOT_US);
 	expect("the keys again", ap_replace_keytab(&acceptor, keytab, keytab_length), AP_DONE);
-	expect("a repeat", ap_accept(&acceptor, now, 0, random, ap_req, ap_req_length, &accepted), AP_REPEAT);
+	expect("a repeat", taken(&acceptor, now, 0, random, ap_req, ap_req_length, &accepted), AP_REPEAT);
 	expect("nothing accepted last", ap_octets(&acceptor, AP_SESSION_KEY, again, sizeof(again), &length), AP_ABSENT);
 	expect("close after it", ap_close(&acceptor), AP_DONE);
+}
+
+/* What an acceptor accepted is a repeat for the one that resumes with what it saved. */
+static void survives(const uint8_t *keytab, size_t keytab_length, const uint8_t *ap_req, size_t ap_req_length)
+{
+	static const uint8_t random[16];
+	static uint8_t saved[LONGEST];
+	struct ap_acceptor acceptor = AP_ACCEPTOR_INIT;
+	struct ap_accepted accepted;
+	size_t needed = 0, length = 0;
+	int64_t now = (int64_t)time(NULL);
+
+	expect("nothing to save", ap_save(&acceptor, saved, LONGEST, &length), AP_CLOSED);
+	expect("open to save", opened(&acceptor, keytab, keytab_length, 1024, now, 0), AP_DONE);
+	expect("accepted before", taken(&acceptor, now, 0, random, ap_req, ap_req_length, &accepted), AP_DONE);
+	expect("the length that is saved", ap_save(&acceptor, NULL, 0, &needed), AP_TOO_SMALL);
+	expect("no buffer", ap_save(&acceptor, NULL, 1, &length), AP_BAD_ARGUMENT);
+	expect("no length", ap_save(&acceptor, saved, LONGEST, NULL), AP_BAD_ARGUMENT);
+	expect("saved", ap_save(&acceptor, saved, needed, &length), AP_DONE);
+	expect("its length", (long)length, (long)needed);
+	expect("open already", ap_resume(AP_VERSION, &acceptor, keytab, keytab_length, 9, saved, length), AP_BAD_ARGUMENT);
+	expect("close the one that saved", ap_close(&acceptor), AP_DONE);
+	expect("a version", ap_resume(2, &acceptor, keytab, keytab_length, 9, saved, length), AP_OTHER_VERSION);
+	expect("no room", ap_resume(AP_VERSION, &acceptor, keytab, keytab_length, 0, saved, length), AP_BAD_ARGUMENT);
+	expect("no keytab", ap_resume(AP_VERSION, &acceptor, NULL, 0, 9, saved, length), AP_BAD_KEYTAB);
+	expect("no bytes", ap_resume(AP_VERSION, &acceptor, keytab, keytab_length, 9, NULL, 0), AP_BAD_SAVED);
+	for (size_t at = 0; at < length; at++) {
+		expect("cut", ap_resume(AP_VERSION, &acceptor, keytab, keytab_length, 9, saved, at), AP_BAD_SAVED);
+		saved[at] ^= 1;
+		expect("damaged", ap_resume(AP_VERSION, &acceptor, keytab, keytab_length, 9, saved, length), AP_BAD_SAVED);
+		saved[at] ^= 1;
+	}
+	expect("resumed", ap_resume(AP_VERSION, &acceptor, keytab, keytab_length, 9, saved, length), AP_DONE);
+	expect("seen before", taken(&acceptor, now, 0, random, ap_req, ap_req_length, &accepted), AP_REPEAT);
+	expect("close the one that resumed", ap_close(&acceptor), AP_DONE);
+	expect("one that restarts", ap_open(AP_VERSION, &acceptor, keytab, keytab_length, 9, false, now, 0), AP_DONE);
+	expect("seen by none", taken(&acceptor, now, 0, random, ap_req, ap_req_length, &accepted), AP_SKEW);
+	expect("close the one that restarted", ap_close(&acceptor), AP_DONE);
 }
 
 /* The bytes for hexadecimal digits, and their number. */
@@ -187,7 +294,7 @@ static void texts(void)
 int main(int count, char **words)
 {
 	static uint8_t keytab[LONGEST], ap_req[LONGEST];
-	struct ap_acceptor acceptor = { 0 };
+	struct ap_acceptor acceptor = AP_ACCEPTOR_INIT;
 	FILE *file = count == 2 || count == 3 ? fopen(words[1], "rb") : NULL;
 	size_t length;
 
@@ -200,13 +307,17 @@ int main(int count, char **words)
 	replaces(&acceptor, keytab, length, AP_CLOSED);
 	accepts(&acceptor, AP_CLOSED);
 	fetches(&acceptor, AP_CLOSED);
-	expect("open", ap_open(&acceptor, keytab, length, 1, true, NOW, 0), AP_DONE);
+	knows_its_place(keytab, length);
+	expect("open", opened(&acceptor, keytab, length, 1, NOW, 0), AP_DONE);
+	writes_within(&acceptor);
 	replaces(&acceptor, keytab, length, AP_DONE);
 	accepts(&acceptor, AP_NOT_AN_AP_REQ);
 	fetches(&acceptor, AP_ABSENT);
 	expect("close", ap_close(&acceptor), AP_DONE);
-	if (count == 3)
+	if (count == 3) {
 		keeps(keytab, length, ap_req, octets_of(words[2], ap_req));
+		survives(keytab, length, ap_req, octets_of(words[2], ap_req));
+	}
 	texts();
 	printf("%d failed\n", failures);
 	return failures != 0;

@@ -1,12 +1,12 @@
 /*
  * A service in C that accepts AP-REQ messages, by docs/ap_accept.h.
  *
- *     ap_service KEYTAB PORT [first] [CONNECTIONS]
+ *     ap_service KEYTAB PORT [first] [save=FILE] [CONNECTIONS]
  *
  * It listens on 127.0.0.1, reads an AP-REQ on each connection, prints who sent it or why it is refused, and answers
- * with the AP-REP if the client asks for one. It ends after CONNECTIONS connections, or when a signal ends it. The word
- * first says that it never ran before; without it all clients are refused for 301 seconds (docs/SERVICES.md, 'Starts
- * and restarts').
+ * with the AP-REP if the client asks for one. It ends after CONNECTIONS connections, or at SIGTERM. When it ends,
+ * it saves in FILE what it accepted, and goes on with that the next time. The word first says that it never ran before.
+ * Without it and such a file all clients are refused for 301 seconds (docs/SERVICES.md, 'Starts and restarts').
  *
  * A connection has messages, each after its length in four bytes, the most significant first, as MIT's library writes
  * them (krb5_write_message). The client sends an AP-REQ and gets an AP-REP, or an empty message if it asked for none;
@@ -19,12 +19,15 @@
 #include "ap_accept.h"
 
 #include <arpa/inet.h>
+#include <fcntl.h>
 #include <netinet/in.h>
 #include <poll.h>
+#include <signal.h>
 #include <stdio.h>
 #include <stdlib.h>
 #include <string.h>
 #include <sys/random.h>
+#include <sys/select.h>
 #include <sys/socket.h>
 #include <time.h>
 #include <unistd.h>
@@ -152,11 +155,12 @@ static bool read_after_sendauth(const struct connection *connection, struct mess
 /* The bytes of a part, followed by a NUL; the caller frees them. NULL if there are none. */
 static char *part_of(struct ap_acceptor *acceptor, enum ap_part part, size_t *length)
 {
+	int32_t status = ap_octets(acceptor, part, NULL, 0, length);
 	char *octets;
 
-	if (ap_octets(acceptor, part, NULL, 0, length) != AP_TOO_SMALL)
+	if (status == AP_ABSENT)
 		return NULL;
-	octets = malloc(*length + 1);
+	octets = status == AP_TOO_SMALL || status == AP_DONE ? malloc(*length + 1) : NULL;
 	if (octets == NULL || ap_octets(acceptor, part, octets, *length, length) != AP_DONE)
 		stop("no memory");
 	octets[*length] = '\0';
@@ -220,7 +224,7 @@ static void serve(const struct connection *connection, struct ap_acceptor *accep
 	if (getrandom(random, sizeof(random), 0) != sizeof(random))
 		stop("no random octets");
 	at = now();
-	status = ap_accept(acceptor, at.sec, at.usec, random, message.octets, message.length, &accepted);
+	status = ap_accept(acceptor, at.sec, at.usec, random, message.octets, message.length, &accepted, sizeof accepted);
 	if (status != AP_DONE) {
 		ap_text(status, why, sizeof(why));
 		printf("refused %d: %s\n", status, why);
@@ -245,40 +249,131 @@ static int listen_on(const char *port)
 	return listener;
 }
 
-static void open_acceptor(struct ap_acceptor *acceptor, const char *path, bool is_first)
+/* A file's bytes, which the caller frees, and their number; NULL if it can't be read. */
+static uint8_t *file_at(const char *path, size_t *length)
 {
-	static struct message keytab;
-	struct moment at = now();
-	char why[128];
 	FILE *file = fopen(path, "rb");
-	int32_t status;
+	uint8_t *octets = NULL;
+	long end = -1;
 
 	if (file == NULL)
-		stop("the keytab can't be read");
-	keytab.length = fread(keytab.octets, 1, LONGEST_MESSAGE, file);
+		return NULL;
+	if (fseek(file, 0, SEEK_END) == 0 && (end = ftell(file)) >= 0 && fseek(file, 0, SEEK_SET) == 0)
+		octets = malloc((size_t)end + 1);
+	*length = octets == NULL ? 0 : fread(octets, 1, (size_t)end, file);
 	fclose(file);
-	status = ap_open(acceptor, keytab.octets, keytab.length, REMEMBERED, is_first, at.sec, at.usec);
+	return octets;
+}
+
+/* Goes on with what the service saved the last time. The file is gone before anything is accepted. */
+static int32_t resume(struct ap_acceptor *acceptor, const uint8_t *keytab, size_t keytab_length, const char *path)
+{
+	size_t length = 0;
+	uint8_t *saved = file_at(path, &length);
+	int32_t status = AP_BAD_SAVED;
+
+	if (saved != NULL && remove(path) == 0)
+		status = ap_resume(AP_VERSION, acceptor, keytab, keytab_length, REMEMBERED, saved, length);
+	free(saved);
+	return status;
+}
+
+static void open_acceptor(struct ap_acceptor *acceptor, const char *path, bool is_first, const char *saved)
+{
+	struct moment at = now();
+	char why[128];
+	size_t length = 0;
+	uint8_t *keytab = file_at(path, &length);
+	int32_t status = AP_BAD_SAVED;
+
+	if (keytab == NULL)
+		stop("the keytab can't be read");
+	if (saved != NULL)
+		status = resume(acceptor, keytab, length, saved);
+	if (status == AP_BAD_SAVED)
+		status = ap_open(AP_VERSION, acceptor, keytab, length, REMEMBERED, is_first, at.sec, at.usec);
+	free(keytab);
 	if (status != AP_DONE) {
 		ap_text(status, why, sizeof(why));
 		stop(why);
 	}
 }
 
+/* ---- ending */
+
+static volatile sig_atomic_t is_asked_to_end;
+
+static void ask_to_end(int number)
+{
+	(void)number;
+	is_asked_to_end = 1;
+}
+
+/* Waits for a connection. Returns false if the service is asked to end; only here does a signal come in. */
+static bool waits_for_one(int listener, const sigset_t *usual)
+{
+	fd_set listeners;
+	int ready;
+
+	do {
+		FD_ZERO(&listeners);
+		FD_SET(listener, &listeners);
+		ready = is_asked_to_end ? 0 : pselect(listener + 1, &listeners, NULL, NULL, NULL, usual);
+	} while (ready < 0 && !is_asked_to_end);
+	return ready > 0;
+}
+
+static sigset_t take_signals(void)
+{
+	struct sigaction end = { .sa_handler = ask_to_end };
+	sigset_t ending, usual;
+
+	sigemptyset(&ending);
+	sigaddset(&ending, SIGTERM);
+	if (sigprocmask(SIG_BLOCK, &ending, &usual) != 0 || sigaction(SIGTERM, &end, NULL) != 0)
+		stop("signals can't be taken");
+	return usual;
+}
+
+/* Saves what was accepted, whole or not at all. Without the file, the next start refuses all clients for a while. */
+static void save(struct ap_acceptor *acceptor, const char *path)
+{
+	char beside[4096];
+	size_t length = 0;
+	uint8_t *saved = NULL;
+	int file;
+
+	if (ap_save(acceptor, NULL, 0, &length) == AP_TOO_SMALL)
+		saved = malloc(length);
+	if (saved == NULL || ap_save(acceptor, saved, length, &length) != AP_DONE)
+		stop("no memory to save");
+	if ((size_t)snprintf(beside, sizeof beside, "%s.new", path) >= sizeof beside)
+		stop("the name is too long");
+	file = open(beside, O_WRONLY | O_CREAT | O_TRUNC, 0600);
+	if (file < 0 || write(file, saved, length) != (ssize_t)length || fsync(file) != 0 || rename(beside, path) != 0)
+		stop("what was accepted can't be saved");
+	close(file);
+	free(saved);
+}
+
 int main(int count, char **words)
 {
-	struct ap_acceptor acceptor = { 0 };
+	struct ap_acceptor acceptor = AP_ACCEPTOR_INIT;
 	bool is_first = count > 3 && strcmp(words[3], "first") == 0;
 	int at = is_first ? 4 : 3, listener;
+	const char *saved = count > at && strncmp(words[at], "save=", 5) == 0 ? words[at++] + 5 : NULL;
 	long connections = -1;
+	sigset_t usual;
 
 	if (count < 3 || count > at + 1)
-		stop("ap_service KEYTAB PORT [first] [CONNECTIONS]");
+		stop("ap_service KEYTAB PORT [first] [save=FILE] [CONNECTIONS]");
 	if (count > at)
 		connections = atol(words[at]);
 	setvbuf(stdout, NULL, _IOLBF, 0);
-	open_acceptor(&acceptor, words[1], is_first);
+	usual = take_signals();
+	open_acceptor(&acceptor, words[1], is_first, saved);
 	listener = listen_on(words[2]);
-	for (; connections != 0; connections -= connections > 0) {
+	for (; connections != 0 && waits_for_one(listener, &usual); connections -= connections > 0) {
 		struct connection connection = { .socket = accept(listener, NULL, NULL), .end = milliseconds() + MOST_MILLISECONDS };
 		if (connection.socket < 0)
 			continue;
@@ -286,6 +381,8 @@ int main(int count, char **words)
 		close(connection.socket);
 	}
 	close(listener);
+	if (saved != NULL)
+		save(&acceptor, saved);
 	ap_close(&acceptor);
 	return 0;
 }

@@ -208,6 +208,34 @@ def without_mit(programs, folder):
     expect("what the service says of a peer that sends a byte every half second", service.line(), "no message")
     expect(f"{took:.1f} seconds of such a peer, where 10 are due", 9.9 <= took <= 11 + 2 * SLOWNESS, True)
     service.end()
+    goes_on(programs, place)
+
+
+def goes_on(programs, place):
+    """Ends services by SIGTERM. Each goes on with what the one before saved: it accepts a client at once, and refuses
+    what that one accepted. One whose file is damaged refuses everybody."""
+    saved, requests = place.path("saved"), [OwnRequest(place, SERVICE, None, ()).digits for _ in range(3)]
+    seen = accepted().replace("TYPE", "18")
+    ends_after(programs, place, ["first"], [(requests[0], seen)])
+    expect("who may read what is saved", os.stat(saved).st_mode & 0o777, 0o600)
+    ends_after(programs, place, [], [(requests[1], seen), (requests[0], re.escape(REPEAT))])
+    with open(saved, "r+b") as file:
+        file.write(b"damaged")
+    ends_after(programs, place, [], [(requests[2], re.escape(SKEW))])
+
+
+def ends_after(programs, place, words, turns):
+    """Runs a service, tries requests, each with a pattern for what it then says, and ends the service by SIGTERM."""
+    port, saved = free_port(), place.path("saved")
+    words = [programs["ap_service"], place.path("keytab"), str(port), *words, f"save={saved}"]
+    service = Lines(*words, errors=True)
+    for digits, pattern in turns:
+        asked(port, bytes.fromhex(digits))
+        line = service.line()
+        expect(f"what the service says, {line!r}", bool(re.fullmatch(pattern, line)), True)
+        expect("whether the file is there while the service runs", os.path.exists(saved), False)
+    service.process.terminate()
+    service.end()
 
 
 def asked(port, request):

@@ -29,7 +29,7 @@ retain_none : (p : Stamp → Bool) → ((q x : Stamp) → stamp_cmp q x ≡ Equa
 retain_none p alike = same_map stamp_total stamp_exact _ _ (λ q. get-retain_keys map.empty p q (alike q) ∙ ap (λ o. cond (p q) o None) (get-empty stamp_cmp q) ∙ neither (p q) ∙ sym (get-empty stamp_cmp q))
 
 -- filtering no pairs leaves none
-none_from : (second : ℤ) → map.retain_keys (map.empty {X = ⊤} {R = stamp_cmp}) (is_from second) ≡ map.empty
+pub none_from : (second : ℤ) → map.retain_keys (map.empty {X = ⊤} {R = stamp_cmp}) (is_from second) ≡ map.empty
 none_from second = retain_none (is_from second) (λ q x t. ap (is_from second) (sym (stamp_exact q x t)))
 
 no_more : (n : ℕ) → nat_le 1 n ≡ false → n ≡ 0

@@ -35,9 +35,9 @@ cache_stored clients c m client = ap (λ o. unwrap_or o (empty_cache clients.flo
     inside false = refl
 
 pub clients_stored : (state : State) (s : Components) (clients : Clients) (service : Components) → clients_of (with_clients state s clients) service ≡ cond (eq_by_cmp name_cmp service s) clients (clients_of state service)
-clients_stored state s clients service = ap (λ o. unwrap_or o (opened_clients state.opening)) (get-insert name_total state.services s clients service) ∙ inside (eq_by_cmp name_cmp service s)
+clients_stored state s clients service = ap (λ o. unwrap_or o (opened_clients state.floor)) (get-insert name_total state.services s clients service) ∙ inside (eq_by_cmp name_cmp service s)
   where
-    inside : (b : Bool) → unwrap_or (cond b (Some clients) (map.get state.services service)) (opened_clients state.opening) ≡ cond b clients (clients_of state service)
+    inside : (b : Bool) → unwrap_or (cond b (Some clients) (map.get state.services service)) (opened_clients state.floor) ≡ cond b clients (clients_of state service)
     inside true = refl
     inside false = refl
 

@@ -5,3 +5,7 @@ pub mod Frame
 pub mod Once
 pub mod Unseen
 pub mod Ruling
+pub mod Listed
+pub mod Putting
+pub mod Taking
+pub mod Resuming

@@ -21,7 +21,7 @@ use Rattle.ap_accept.specs.Presented.{presented}
 use Rattle.ap_accept.specs.Reply.{asks_reply}
 use Rattle.ap_accept.specs.StageLaws.{recorded_staged, request_staged}
 use Rattle.ap_accept.specs.Stages.{cache_refusal, if_presented, refusal_by, seen_by, seen_if, unless_seen}
-use Rattle.ap_accept.specs.Run.{AcceptedOnce, Call, Event, Accept, Replace, accepted_at, accepted_in, after_call, after_event, is_party, stamp_if}
+use Rattle.ap_accept.specs.Run.{AcceptedOnce, Call, Event, Accept, Replace, Resume, accepted_at, accepted_in, after_call, after_event, is_party, stamp_if}
 use Rattle.ap_accept.specs.State.{cache_of}
 use Rattle.ap_presented.specs.Validity.{ticket_terms}
 use Rattle.ap_accept.specs.Validity.{validity_rules}
@@ -132,10 +132,12 @@ module _ (service client : Components) where
   stays_on : (state : State) (event : Event) (s : Stamp) → IsSettled (cache_of state service client) s tt → IsSettled (cache_of (after_event after_call state event) service client) s tt
   stays_on state (Accept call) s held = stays_settled state call s held
   stays_on state (Replace keytab) s held = held
+  stays_on state (Resume keytab options) s held = held
 
   settles_on : (state : State) (event : Event) → IfSome (accepted_at service client state event) (Settles state (after_event after_call state event))
   settles_on state (Accept call) = found_request state call.at.sec call.confounder (request_of call.octets)
   settles_on state (Replace keytab) = tt
+  settles_on state (Resume keytab options) = tt
 
 pub accepted_once : AcceptedOnce
 accepted_once state realm sname client events =

@@ -41,7 +41,7 @@ higher low high ctime le h = grind (arith, ints)
 alike : (second : ℤ) (q x : Stamp) → stamp_cmp q x ≡ Equal → is_from second x ≡ is_from second q
 alike second q x t = ap (is_from second) (sym (stamp_exact q x t))
 
-retain_twice : (m : Pairs) (low high : ℤ) → low ≤ℤ high → map.retain_keys (map.retain_keys m (is_from low)) (is_from high) ≡ map.retain_keys m (is_from high)
+pub retain_twice : (m : Pairs) (low high : ℤ) → low ≤ℤ high → map.retain_keys (map.retain_keys m (is_from low)) (is_from high) ≡ map.retain_keys m (is_from high)
 retain_twice m low high le = same_map stamp_total stamp_exact _ _ (λ q.
     get-retain_keys (map.retain_keys m (is_from low)) (is_from high) q (alike high q)
     ∙ ap (λ o. cond (is_from high q) o None) (get-retain_keys m (is_from low) q (alike low q))

@@ -19,8 +19,8 @@ use Rattle.ap_accept.specs.Clients.{floor_for, hour}
 use Rattle.ap_accept.specs.Contents.{authenticator_in, contents, entry_in, presented_in, service_of, session_key_in, ticket_in, verdict_in, with_ticket}
 use Rattle.ap_accept.specs.Reply.{asks_reply}
 use Rattle.ap_accept.specs.Rules.{first_row, rows}
-use Rattle.ap_accept.specs.Run.{DropsUnseen, Event, Accept, Replace, IsFrom, Steady, after_call, after_keeping, answers, is_party, keeping, keeping_if}
-use Rattle.ap_accept.specs.State.{cache_of, with_keytab}
+use Rattle.ap_accept.specs.Run.{DropsUnseen, Event, Accept, Replace, Resume, IsFrom, Steady, after_call, after_keeping, answers, is_party, keeping, keeping_if}
+use Rattle.ap_accept.specs.State.{cache_of, renewed, with_keytab}
 use Rattle.ap_accept.specs.declared.options.AcceptorOptions.{AcceptorOptions}
 use Rattle.ap_accept.specs.declared.presented.Presented.{Presented}
 use Rattle.ap_accept.specs.declared.state.State.{State}
@@ -116,6 +116,7 @@ module _ (second now high : ℤ) (s t : State) (alike : Alike second s t) (le : 
 abbrev Follows : ℤ → Event → Type 0
 Follows second (Accept call) = second ≤ℤ (call.at.sec -ℤ pos skew)
 Follows second (Replace keytab) = ⊤
+Follows second (Resume keytab options) = ⊤
 
 abbrev Follow : ℤ → List Event → Type 0
 Follow second events = AllByRecursion (Follows second) events
@@ -127,6 +128,7 @@ follow_on : (second now : ℤ) (events : List Event) → Follow second events �
 follow_on second now [] follow steady = tt
 follow_on second now (Accept call ∷ events) follow steady = (least second now call.at.sec follow.0 steady.0, follow_on second now events follow.1 steady.1)
 follow_on second now (Replace keytab ∷ events) follow steady = (tt, follow_on second now events follow.1 steady.1)
+follow_on second now (Resume keytab options ∷ events) follow steady = (tt, follow_on second now events follow.1 steady.1)
 
 max_left : (a b : ℤ) → a ≤ℤ int_max a b
 max_left a b = grind (arith, ints, clamps)
@@ -137,6 +139,10 @@ max_right a b = grind (arith, ints, clamps)
 -- the same keys in place of the old ones
 alike_with : (second : ℤ) (s t : State) (keytab : List KeytabEntry) → Alike second s t → Alike second (with_keytab s keytab) (with_keytab t keytab)
 alike_with second s t keytab alike = record { keytab = refl; options = alike.options; caches = alike.caches }
+
+-- the same keys and options
+alike_renewed : (second : ℤ) (s t : State) (keytab : List KeytabEntry) (options : AcceptorOptions) → Alike second s t → Alike second (renewed s keytab options) (renewed t keytab options)
+alike_renewed second s t keytab options alike = record { keytab = refl; options = refl; caches = alike.caches }
 
 all_same : (second : ℤ) (s t : State) (events : List Event) → Alike second s t → Follow second events → Steady events → answers after_call s events ≡ answers after_keeping t events
 all_same second s t [] alike follow steady = refl
@@ -151,6 +157,8 @@ all_same second s t (Accept call ∷ events) alike follow steady =
     λ i. here i ∷ later i
 all_same second s t (Replace keytab ∷ events) alike follow steady =
     all_same second (with_keytab s keytab) (with_keytab t keytab) events (alike_with second s t keytab alike) follow.1 steady
+all_same second s t (Resume keytab options ∷ events) alike follow steady =
+    all_same second (renewed s keytab options) (renewed t keytab options) events (alike_renewed second s t keytab options alike) follow.1 steady
 
 an_hour_before : (now at : ℤ) → (now -ℤ pos hour) ≤ℤ at → floor_for now ≤ℤ (at -ℤ pos skew)
 an_hour_before now at le = omega (arith, ints)
@@ -162,6 +170,7 @@ follow_first : (now : ℤ) (events : List Event) → AllByRecursion (IsFrom (now
 follow_first now [] steady = tt
 follow_first now (Accept call ∷ events) steady = (an_hour_before now call.at.sec steady.0, follow_first now events steady.1)
 follow_first now (Replace keytab ∷ events) steady = (tt, follow_first now events steady.1)
+follow_first now (Resume keytab options ∷ events) steady = (tt, follow_first now events steady.1)
 
 pub drops_unseen : DropsUnseen
 drops_unseen state [] steady = refl
@@ -169,3 +178,4 @@ drops_unseen state (Accept call ∷ events) steady =
     all_same (floor_for call.at.sec) state state (Accept call ∷ events) (record { keytab = refl; options = refl; caches = λ service client. refl })
     (first_itself call.at.sec, follow_first call.at.sec events steady.0) steady
 drops_unseen state (Replace keytab ∷ events) steady = drops_unseen (with_keytab state keytab) events steady
+drops_unseen state (Resume keytab options ∷ events) steady = drops_unseen (renewed state keytab options) events steady

@@ -8,10 +8,8 @@ use Rattle.krb_fields.specs.Skew.{skew}
 use Rattle.lists.specs.Values.{retain_values}
 use Rattle.replay.specs.Failures.{no_failures}
 use Rattle.replay.specs.ReplayCache.{verdict}
-use Rattle.replay.specs.Opening.{opened_cache}
 use Rattle.replay.specs.Stamp.{Stamp, is_from}
 use Rattle.replay.specs.declared.cache.ReplayCache.{ReplayCache}
-use Rattle.replay.specs.declared.opening.Opening.{Opening}
 use Rattle.ap_accept.specs.declared.clients.Clients.{Clients}
 
 -- the replay caches of a service's clients, by name
@@ -29,9 +27,9 @@ cache_among floor caches client = unwrap_or (map.get caches client) (empty_cache
 abbrev pub cache_in : Clients → Components → ReplayCache ⊤
 cache_in clients client = cache_among clients.floor clients.caches client
 
--- the clients of a service that has accepted nothing since the acceptor started
-abbrev pub opened_clients : Opening → Clients
-opened_clients opening = record { floor = (opened_cache {T = ⊤} opening).floor; caches = map.empty }
+-- the clients of a service that has accepted nothing since the acceptor started with this floor
+abbrev pub opened_clients : ℤ → Clients
+opened_clients floor = record { floor = floor; caches = map.empty }
 
 abbrev pub with_cache : Clients → Components → ReplayCache ⊤ → Clients
 with_cache clients client cache = record clients { caches = map.insert clients.caches client cache }

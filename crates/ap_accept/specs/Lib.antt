@@ -3,6 +3,8 @@ pub mod Authenticators
 pub mod Presented
 pub mod Clients
 pub mod State
+pub mod Stamps
+pub mod Saved
 pub mod Validity
 pub mod Reply
 pub mod Contents

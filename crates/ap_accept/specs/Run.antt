@@ -10,9 +10,10 @@ use Rattle.replay.specs.Run.{collected, EachOnce}
 use Rattle.replay.specs.Stamp.{Stamp}
 use Rattle.ap_accept.specs.Accepts.{accepts, recorded_by, recording_clients, stamp_of}
 use Rattle.ap_accept.specs.Clients.{hour}
-use Rattle.ap_accept.specs.State.{with_clients, with_keytab}
+use Rattle.ap_accept.specs.State.{renewed, with_clients, with_keytab}
 use Rattle.ap_accept.specs.declared.accepted.Accepted.{Accepted}
 use Rattle.ap_accept.specs.declared.fault.ApFault.{ApFault}
+use Rattle.ap_accept.specs.declared.options.AcceptorOptions.{AcceptorOptions}
 use Rattle.ap_accept.specs.declared.presented.Presented.{Presented}
 use Rattle.ap_accept.specs.declared.state.State.{State}
 
@@ -22,10 +23,12 @@ pub record Call : Type 0 where
   pub confounder : List ℕ
   pub octets : List ℕ
 
--- a call, or a keytab that replaces the keys
+-- a call; a keytab that replaces the keys; or a later process with a keytab and options, which resumes with what this
+-- one saved
 pub data Event : Type 0 where
   Accept : Call → Event
   Replace : List KeytabEntry → Event
+  Resume : List KeytabEntry → AcceptorOptions → Event
 
 abbrev pub after_call : State → Call → State
 after_call state call = (accepts state call.at call.confounder call.octets).state
@@ -34,6 +37,7 @@ after_call state call = (accepts state call.at call.confounder call.octets).stat
 abbrev pub after_event : (State → Call → State) → State → Event → State
 after_event after state (Accept call) = after state call
 after_event after state (Replace keytab) = with_keytab state keytab
+after_event after state (Resume keytab options) = renewed state keytab options
 
 -- what is presented is for this service, from this client
 abbrev pub is_party : Components → Components → Presented → Bool
@@ -57,9 +61,11 @@ accepted_for service client state call =
 abbrev pub accepted_at : Components → Components → State → Event → Option Stamp
 accepted_at service client state (Accept call) = accepted_for service client state call
 accepted_at service client state (Replace keytab) = None
+accepted_at service client state (Resume keytab options) = None
 
--- In every list of calls, at any moments, and with any keytabs that replace the keys between them, no authenticator is
--- accepted twice for the same ticket realm, service and client. An authenticator is known by its ctime and cusec.
+-- In every list of calls, at any moments, and with any keytabs that replace the keys and any processes that resume
+-- between them, no authenticator is accepted twice for the same ticket realm, service and client. An authenticator is
+-- known by its ctime and cusec.
 abbrev pub AcceptedOnce : Type 0
 AcceptedOnce =
     (state : State) (realm : List ℕ) (sname client : Components) (events : List Event)
@@ -84,17 +90,20 @@ answers after state [] = []
 answers after state (Accept call ∷ events) =
     (accepts state call.at call.confounder call.octets).answer ∷ answers after (after state call) events
 answers after state (Replace keytab ∷ events) = answers after (with_keytab state keytab) events
+answers after state (Resume keytab options ∷ events) = answers after (renewed state keytab options) events
 
 -- a call is not before this second
 abbrev pub IsFrom : ℤ → Event → Type 0
 IsFrom second (Accept call) = second ≤ℤ call.at.sec
 IsFrom second (Replace keytab) = ⊤
+IsFrom second (Resume keytab options) = ⊤
 
 -- no call is more than an hour earlier than a call before it
 abbrev pub Steady : List Event → Type 0
 Steady [] = ⊤
 Steady (Accept call ∷ events) = AllByRecursion (IsFrom (call.at.sec -ℤ pos hour)) events × Steady events
 Steady (Replace keytab ∷ events) = Steady events
+Steady (Resume keytab options ∷ events) = Steady events
 
 -- For all steady calls, an acceptor that drops old entries answers as one that drops nothing.
 abbrev pub DropsUnseen : Type 0

@@ -116,7 +116,7 @@ fn cache_refusal(
         (is_beyond_clock_skew (cache_for state.now presented.now).floor at.sec presented.now.authenticator.ctime ≡ false) }
     ensures new { IfNone result (map.get (cache_for state.now presented.now).pairs (stamp_of presented.now) ≡ None) }
 {
-    let opened = Clients::opened(alloc, state.opening);
+    let opened = Clients::opened(alloc, state.floor);
     let clients = state.clients(&presented.service, &opened);
     let empty = empty_cache(alloc, clients.floor);
     let cache = clients.cache(&presented.ticket.cname, &empty);

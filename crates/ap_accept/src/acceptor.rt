@@ -6,11 +6,12 @@ ghost use Rattle.ap_accept.specs.Accepts.{accepts, code_by, recorded_by, request
 ghost use Rattle.ap_accept.specs.Accepts.{IsParty, IsService};
 ghost use Rattle.ap_accept.specs.Clients.{IsKeptOrDropped, SaysTheSame, hour};
 ghost use Rattle.ap_accept.specs.Reply.{IsApReply};
+ghost use Rattle.ap_accept.specs.Saved.{resumed, Fails, Saves};
 ghost use Rattle.ap_accept.specs.State.{clients_of, cache_of, opened, with_keytab};
 
 use crate::accepted::Accepted;
 use crate::accepting::accept;
-use crate::fault::ApFault;
+use crate::fault::{ApFault, ResumeFault};
 use crate::options::AcceptorOptions;
 use crate::state::State;
 use cred_files::Keytab;
@@ -50,6 +51,34 @@ impl Acceptor {
         Ok(Acceptor {
             state: State::open(alloc, keytab, options, opening),
         })
+    }
+
+    /// Returns the bytes from which a later process resumes, as long as this one accepts nothing more.
+    pub fn save(&self, alloc: Global) -> Result<Vec<u8>, AllocError>
+        ensures { IfOk result (λ bytes. Saves self.now bytes.items) }
+    {
+        self.state.save(alloc)
+    }
+
+    /// Returns an acceptor that goes on with what another saved, also with other keys and options. It refuses what that
+    /// one would refuse as a repeat.
+    ///
+    /// Bytes may be used once, and only if nothing was accepted since they were made: what is accepted in between can
+    /// be accepted again. So remove the file that holds them before the first [`Acceptor::accept`]. Where there are no
+    /// such bytes, or they are damaged, call [`Acceptor::open`] with [`Opening::Restart`].
+    pub fn resume(
+        alloc: Global,
+        keytab: Keytab,
+        options: AcceptorOptions,
+        bytes: &[u8],
+    ) -> Result<Acceptor, ResumeFault>
+        ensures resumed { IfOk result (λ acceptor. resumed keytab options bytes.now ≡ Some acceptor) }
+        ensures fault { IfErr result (λ fault. Fails fault (resumed keytab options bytes.now)) }
+    {
+        match State::resume(alloc, keytab, options, bytes) {
+            Ok(state) => Ok(Acceptor { state }),
+            Err(fault) => Err(fault),
+        }
     }
 
     /// Replaces the keys with those of this keytab, and allocates nothing.

@@ -6,11 +6,16 @@ ghost use Rattle.replay.specs.ReplayCache.{recorded};
 ghost use Rattle.ap_accept.specs.Accepts.{stamp_of};
 ghost use Rattle.ap_accept.specs.Clients.{empty_cache, floor_for, lasts, drop_expired, cache_among, cache_in};
 ghost use Rattle.ap_accept.specs.Clients.{opened_clients, with_cache};
+ghost use Rattle.ap_accept.specs.Saved.{clients};
 
+use crate::client::Client;
+use crate::fault::ResumeFault;
 use crate::presented::Presented;
+use crate::saved::{Saved, put_list, put_second, take_list};
+use crate::saved_reader::SavedReader;
 use krb_fields::{Moment, Name, SKEW};
 use principal_rows::{NameMap, ValueTest};
-use replay::{Failures, Opening, Pairs, ReplayCache};
+use replay::ReplayCache;
 use std::alloc::{AllocError, Global};
 
 /// In seconds. At most once an hour, the acceptor drops entries that can't be replayed any more. It drops only what is
@@ -24,17 +29,16 @@ pub struct Clients {
     /// below this. All dropped entries lie below it.
     pub floor: i64,
     /// By the client's name, the replay cache of each client that has one of its own.
-    pub caches: NameMap<ReplayCache<()>>,
+    pub caches: NameMap<Client>,
 }
 
 impl Clients {
-    /// Returns the clients of a service that has accepted nothing since the acceptor started.
-    pub fn opened(alloc: Global, opening: Opening) -> Clients
-        ensures { result ≡ opened_clients opening }
+    /// Returns the clients of a service that has accepted nothing since the acceptor started with this floor.
+    pub fn opened(alloc: Global, floor: i64) -> Clients
+        ensures { result ≡ opened_clients floor }
     {
-        let cache: ReplayCache<()> = ReplayCache::opened(alloc, opening);
         Clients {
-            floor: cache.floor,
+            floor,
             caches: NameMap::new(alloc),
         }
     }
@@ -45,7 +49,7 @@ impl Clients {
         ensures { result.now ≡ cache_in self.now client.now.components }
     {
         match self.caches.get(client) {
-            Some(cache) => cache,
+            Some(client) => client.cache(),
             None => empty,
         }
     }
@@ -97,17 +101,13 @@ fn floor_for(at: Moment) -> i64
 pub fn empty_cache(alloc: Global, floor: i64) -> ReplayCache<()>
     ensures { result ≡ empty_cache floor }
 {
-    ReplayCache {
-        failures: Failures::none(),
-        floor,
-        pairs: Pairs::new(alloc),
-    }
+    ReplayCache::empty(alloc, floor)
 }
 
 /// Records an authenticator among the replay caches of a service's clients.
 fn record_among(
     alloc: Global,
-    caches: &mut NameMap<ReplayCache<()>>,
+    caches: &mut NameMap<Client>,
     floor: i64,
     at: Moment,
     presented: &Presented,
@@ -125,7 +125,7 @@ fn record_among(
     ensures err { OnErr result (caches.new ≡ caches.old) }
 {
     let client = &presented.ticket.cname;
-    let mut cache = empty_cache(alloc, floor);
+    let mut cache = Client::empty(alloc, floor);
     if caches.replace(client, &mut cache) {
         let done = record_in(&mut cache, at, presented);
         let _ = caches.replace(client, &mut cache);
@@ -137,11 +137,7 @@ fn record_among(
 }
 
 /// Records an authenticator in the replay cache of its client.
-fn record_in(
-    cache: &mut ReplayCache<()>,
-    at: Moment,
-    presented: &Presented,
-) -> Result<(), AllocError>
+fn record_in(cache: &mut Client, at: Moment, presented: &Presented) -> Result<(), AllocError>
     requires timely { is_beyond_clock_skew cache.old.floor at.sec presented.now.authenticator.ctime ≡ false }
     requires new { map.get cache.old.pairs (stamp_of presented.now) ≡ None }
     ensures ok { OnOk result (cache.new ≡ recorded cache.old at.sec (stamp_of presented.now) tt) }
@@ -149,7 +145,7 @@ fn record_in(
 {
     let ctime = presented.authenticator.ctime.seconds();
     let cusec = presented.authenticator.cusec.get();
-    cache.record_seen(at, ctime, cusec, ())
+    cache.record_seen(at, ctime, cusec)
 }
 
 /// The test for replay caches that refuse more than an empty one with this floor.
@@ -158,10 +154,29 @@ struct Lasting {
     floor: i64,
 }
 
-impl ValueTest<ReplayCache<()>> for Lasting {
+impl ValueTest<Client> for Lasting {
     ghost passes = { λ lasting m. lasts lasting.floor m };
 
-    fn passes(&self, cache: &ReplayCache<()>) -> bool {
+    fn passes(&self, client: &Client) -> bool {
+        let cache = client.cache();
         cache.floor > self.floor || cache.pairs.has_from(self.floor, 1)
+    }
+}
+
+impl Saved for Clients {
+    ghost at = { clients };
+
+    fn take(alloc: Global, reader: &mut SavedReader<'_>) -> Result<Clients, ResumeFault> {
+        let floor = reader.read_second()?;
+        let caches = take_list(alloc, reader)?;
+        Ok(Clients {
+            floor,
+            caches: NameMap::from_entries(caches)?,
+        })
+    }
+
+    fn put(&self, out: &mut Vec<u8>) -> Result<(), AllocError> {
+        put_second(out, self.floor)?;
+        put_list(out, self.caches.entries())
     }
 }

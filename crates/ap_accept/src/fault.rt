@@ -1,9 +1,10 @@
-//! Errors of a call that accepts an AP-REQ.
+//! Errors of calls of an acceptor.
 ghost use Rattle.std.specs.Prelude.{◌≡◌};
 ghost use Rattle.ap_accept.specs.declared.fault.ApFault.TheVariants.{Refused, Memory};
+ghost use Rattle.ap_accept.specs.declared.fault.ResumeFault.TheVariants as resuming;
 
 use ap_presented::ApRefusal;
-use std::alloc::AllocError;
+use std::alloc::{AllocError, AllocFailed};
 use std::error::Error;
 use std::fmt;
 
@@ -43,5 +44,41 @@ impl From<AllocError> for ApFault {
 
     fn from(_error: AllocError) -> ApFault {
         ApFault::Memory
+    }
+}
+
+/// Why an acceptor did not resume.
+#[derive(Clone, Copy, Debug, PartialEq, Eq)]
+pub enum ResumeFault {
+    /// The bytes are not those of a saved acceptor, or they are damaged.
+    NotSaved,
+    /// Memory ran out.
+    Memory,
+}
+
+impl fmt::Display for ResumeFault {
+    fn fmt<W: fmt::Write>(&self, f: &mut fmt::Formatter<W>) -> fmt::Result {
+        f.write_str(match self {
+            ResumeFault::NotSaved => "the bytes are not those of a saved acceptor",
+            ResumeFault::Memory => "out of memory",
+        })
+    }
+}
+
+impl Error for ResumeFault {}
+
+impl From<AllocError> for ResumeFault {
+    ghost from_gives = { λ _ fault. fault ≡ resuming.Memory };
+
+    fn from(_error: AllocError) -> ResumeFault {
+        ResumeFault::Memory
+    }
+}
+
+impl<T: Drop> From<AllocFailed<T>> for ResumeFault {
+    ghost from_gives = { λ _ fault. fault ≡ resuming.Memory };
+
+    fn from(_error: AllocFailed<T>) -> ResumeFault {
+        ResumeFault::Memory
     }
 }

@@ -14,16 +14,18 @@
 //! | [`Acceptor::open`] | an acceptor for the services of a keytab |
 //! | [`Acceptor::accept`] | the client, keys and ticket of an AP-REQ ([`Accepted`]), or its refusal |
 //! | [`Acceptor::replace`] | replaces the keytab; the replay caches stay |
+//! | [`Acceptor::save`], [`Acceptor::resume`] | bytes of the replay caches; an acceptor that goes on with them |
 //!
 //! Nothing here sends or waits, draws random bytes or reads a clock: the caller supplies the moment and the confounder.
 //! It does not decide what a client may do, does not check the authenticator's checksum, and protects no later message.
-//! The replay caches are in memory alone: [`Opening`] says what a start does about those of the process before.
+//! A process that was not saved loses its replay caches: [`Opening`] says what the next start does about them.
 #![tactic(auto)]
 
 mod accepted;
 mod accepting;
 mod acceptor;
 mod authenticators;
+mod client;
 mod clients;
 mod fault;
 mod laws;
@@ -32,13 +34,16 @@ mod presented;
 mod receipt;
 mod recording;
 mod replies;
+mod saved;
+mod saved_reader;
+mod saving;
 mod state;
 mod validity;
 
 pub use accepted::Accepted;
 pub use acceptor::Acceptor;
 pub use ap_presented::ApRefusal;
-pub use fault::ApFault;
+pub use fault::{ApFault, ResumeFault};
 pub use laws::{accepted_once, drops_unseen};
 pub use options::AcceptorOptions;
 pub use replay::Opening;

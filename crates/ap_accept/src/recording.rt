@@ -15,7 +15,7 @@ use std::alloc::{AllocError, Global};
 impl State {
     /// Returns the clients of a service, or `opened` if it has none yet.
     pub fn clients<'s>(&'s self, service: &Name, opened: &'s Clients) -> &'s Clients
-        requires { opened.now ≡ opened_clients self.now.opening }
+        requires { opened.now ≡ opened_clients self.now.floor }
         ensures { result.now ≡ clients_of self.now service.now.components }
     {
         match self.services.get(service) {
@@ -40,7 +40,7 @@ impl State {
         ensures err { OnErr result (self.new ≡ self.old) }
     {
         let service = &presented.service;
-        let mut clients = Clients::opened(alloc, self.opening);
+        let mut clients = Clients::opened(alloc, self.floor);
         if self.services.replace(service, &mut clients) {
             let done = clients.record_seen(alloc, at, presented);
             let _ = self.services.replace(service, &mut clients);

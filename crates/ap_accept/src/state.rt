@@ -8,15 +8,16 @@ use principal_rows::NameMap;
 use replay::Opening;
 use std::alloc::Global;
 
-/// The state of an acceptor. A service without an entry in `services` has the empty caches that `opening` prescribes.
+/// The state of an acceptor.
 #[derive(Drop)]
 pub struct State {
     /// The services' keys, which decrypt the tickets.
     pub keytab: Keytab,
     /// The options that the acceptor was opened with.
     pub options: AcceptorOptions,
-    /// Whether the acceptor opened for the first time, or again, and when.
-    pub opening: Opening,
+    /// The floor of a service without an entry in `services`: an authenticator whose ctime, in seconds since 1970, is
+    /// below it is too old.
+    pub floor: i64,
     /// The map's key is the service's realm, followed by the components of its name.
     pub services: NameMap<Clients>,
 }
@@ -31,7 +32,7 @@ impl State {
         State {
             keytab,
             options,
-            opening,
+            floor: opening.floor(),
             services: NameMap::new(alloc),
         }
     }

@@ -5,7 +5,7 @@ use Rattle.cred_files.specs.Reading.{IsReadUnlessMemory}
 use Rattle.cred_files.specs.declared.fault.CredFault.{CredFault}
 use Rattle.cred_files.specs.declared.fault.CredFault.TheVariants.{BadMagic, Truncated, BadEntry, TooLate, Absent, Memory}
 use Rattle.cred_files.specs.declared.keytab_entry.KeytabEntry.{KeytabEntry}
-use Rattle.ap_accept_c.specs.Service.{IsKeytabFault, IsOpenFault, IsRekeyed}
+use Rattle.ap_accept_c.specs.Service.{IsKeytabFault, IsOpenFault, IsRekeyed, IsResumeFault}
 use Rattle.ap_accept_c.specs.Status.{status_of_keytab}
 use Rattle.ap_accept_c.specs.declared.service.Service.{Service}
 use Rattle.ap_accept_c.specs.declared.status.Status.{Status}
@@ -33,7 +33,22 @@ not_opened statuses.TooSmall octets remembered h = h
 not_opened statuses.BadKeytab octets remembered h = h
 not_opened statuses.Closed octets remembered h = h
 not_opened statuses.Absent octets remembered h = h
+not_opened statuses.BadSaved octets remembered h = h
 not_opened (statuses.Refused refusal) octets remembered h = h
+
+-- nor does one resume
+pub not_resumed : (status : Status) (octets : List ℕ) (remembered : ℕ) (saved : List ℕ) → IsKeytabFault status octets
+    → IsResumeFault status octets remembered saved
+not_resumed statuses.Done octets remembered saved h = h
+not_resumed statuses.NotAnApReq octets remembered saved h = h
+not_resumed statuses.NoMemory octets remembered saved h = h
+not_resumed statuses.BadArgument octets remembered saved h = absurd h
+not_resumed statuses.TooSmall octets remembered saved h = h
+not_resumed statuses.BadKeytab octets remembered saved h = h
+not_resumed statuses.Closed octets remembered saved h = h
+not_resumed statuses.Absent octets remembered saved h = h
+not_resumed statuses.BadSaved octets remembered saved h = absurd h
+not_resumed (statuses.Refused refusal) octets remembered saved h = h
 
 -- and no keys are replaced by it
 pub not_replaced : (status : Status) (old new : Service) (octets : List ℕ) → new ≡ old → IsKeytabFault status octets
@@ -46,4 +61,5 @@ not_replaced statuses.TooSmall old new octets same h = (same, h)
 not_replaced statuses.BadKeytab old new octets same h = (same, h)
 not_replaced statuses.Closed old new octets same h = (same, h)
 not_replaced statuses.Absent old new octets same h = (same, h)
+not_replaced statuses.BadSaved old new octets same h = (same, h)
 not_replaced (statuses.Refused refusal) old new octets same h = (same, h)

@@ -7,7 +7,7 @@ use Rattle.ap_accept.specs.declared.accepted.Accepted.{Accepted}
 use Rattle.ap_accept_c.specs.Buffers.{IsGiven}
 use Rattle.ap_accept_c.specs.Numbers.{numbers_if}
 use Rattle.ap_accept_c.specs.Part.{octets_of}
-use Rattle.ap_accept_c.specs.Service.{IsOpened, IsOpenFault, IsRekeyed, IsTaken}
+use Rattle.ap_accept_c.specs.Service.{IsOpened, IsOpenFault, IsRekeyed, IsResumed, IsResumeFault, IsSaved, IsTaken}
 use Rattle.ap_accept_c.specs.Status.{number_of}
 use Rattle.ap_accept_c.specs.declared.numbers.Numbers.{Numbers}
 use Rattle.ap_accept_c.specs.declared.part.Part.{Part}
@@ -27,6 +27,23 @@ IsOpeningOf status new keytab remembered opening = (new ≡ None) × IsOpenFault
 abbrev pub IsOpening : Status → Option Service → Option Service → List ℕ → ℕ → Opening → Type 0
 IsOpening status (Some old) new keytab remembered opening = (status ≡ BadArgument) × (new ≡ Some old)
 IsOpening status None new keytab remembered opening = IsOpeningOf status new keytab remembered opening
+
+-- ---- resuming, and saving
+
+abbrev pub IsResumingOf : Status → Option Service → List ℕ → ℕ → List ℕ → Type 0
+IsResumingOf Done (Some new) keytab remembered saved = IsResumed new keytab remembered saved
+IsResumingOf Done None keytab remembered saved = ⊥
+IsResumingOf status new keytab remembered saved = (new ≡ None) × IsResumeFault status keytab remembered saved
+
+-- an open acceptor doesn't change
+abbrev pub IsResuming : Status → Option Service → Option Service → List ℕ → ℕ → List ℕ → Type 0
+IsResuming status (Some old) new keytab remembered saved = (status ≡ BadArgument) × (new ≡ Some old)
+IsResuming status None new keytab remembered saved = IsResumingOf status new keytab remembered saved
+
+-- a closed acceptor has nothing to save
+abbrev pub IsSaving : Status → Option Service → List ℕ → List ℕ → ℕ → Type 0
+IsSaving status (Some service) old new len = IsSaved status service.acceptor old new len
+IsSaving status None old new len = (status ≡ Closed) × (new ≡ old) × (len ≡ 0)
 
 -- ---- replacing the keys
 

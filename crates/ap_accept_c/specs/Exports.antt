@@ -6,7 +6,7 @@ use Rattle.krb_fields.specs.declared.moment.Moment.{Moment}
 use Rattle.replay.specs.declared.opening.Opening.{Opening}
 use Rattle.replay.specs.declared.opening.Opening.TheVariants.{First, Restart}
 use Rattle.ap_accept_c.specs.Buffers.{texted}
-use Rattle.ap_accept_c.specs.Calls.{IsAccepted, IsClosing, IsFetched, IsOpening, IsReplacing, Numbered}
+use Rattle.ap_accept_c.specs.Calls.{IsAccepted, IsClosing, IsFetched, IsOpening, IsReplacing, IsResuming, IsSaving, Numbered}
 use Rattle.ap_accept_c.specs.Part.{part_numbered}
 use Rattle.ap_accept_c.specs.declared.numbers.Numbers.{Numbers}
 use Rattle.ap_accept_c.specs.declared.part.Part.{Part}
@@ -47,6 +47,12 @@ pub record IsAcceptedAt (status : Status) (old new : Option Service) (sec : ℤ)
 abbrev pub IsOpenCall : ℤ → Option Service → Option Service → List ℕ → ℕ → Bool → ℤ → ℕ → Type 0
 IsOpenCall n old new keytab remembered is_first sec usec =
     Numbered n (λ status. IsOpenAt status old new keytab remembered is_first sec usec)
+
+abbrev pub IsResumeCall : ℤ → Option Service → Option Service → List ℕ → ℕ → List ℕ → Type 0
+IsResumeCall n old new keytab remembered saved = Numbered n (λ status. IsResuming status old new keytab remembered saved)
+
+abbrev pub IsSaveCall : ℤ → Option Service → List ℕ → List ℕ → ℕ → Type 0
+IsSaveCall n service old new len = Numbered n (λ status. IsSaving status service old new len)
 
 abbrev pub IsReplaceCall : ℤ → Option Service → Option Service → List ℕ → Type 0
 IsReplaceCall n old new keytab = Numbered n (λ status. IsReplacing status old new keytab)

@@ -1,16 +1,19 @@
 -- An acceptor with the AP-REQ that it accepted last: how it opens, and what a call does to it.
-use Rattle.std.specs.Prelude.{◌≡◌, ◌≤◌, ℕ, List, None, Err, IsSome}
+use Rattle.std.specs.Prelude.{◌≡◌, ◌≤◌, ℕ, List, length, Some, None, Err, IsSome}
 use Rattle.std.specs.Result.{result_ok}
 use Rattle.cred_files.specs.Keytab.{IsKeytab}
 use Rattle.cred_files.specs.declared.keytab_entry.KeytabEntry.{KeytabEntry}
 use Rattle.replay.specs.declared.opening.Opening.{Opening}
 use Rattle.ap_accept.specs.Accepts.{Answer}
+use Rattle.ap_accept.specs.Saved.{held_in, resumed, Saves}
 use Rattle.ap_accept.specs.State.{opened, with_keytab}
+use Rattle.ap_accept.specs.declared.state.State.{State}
+use Rattle.ap_accept_c.specs.Buffers.{IsGiven}
 use Rattle.ap_accept.specs.declared.fault.ApFault.TheVariants as faults
 use Rattle.ap_accept_c.specs.declared.service.Service.{Service}
 use Rattle.ap_accept_c.specs.declared.status.Status.{Status}
 use Rattle.ap_accept_c.specs.declared.status.Status.TheVariants.{Done, NotAnApReq, NoMemory, BadArgument, BadKeytab}
-use Rattle.ap_accept_c.specs.declared.status.Status.TheVariants.{Refused}
+use Rattle.ap_accept_c.specs.declared.status.Status.TheVariants.{BadSaved, Refused}
 
 -- it has the keys of the keytab that the bytes encode, and has accepted nothing
 pub record IsOpened (service : Service) (octets : List ℕ) (limit : ℕ) (opening : Opening) : Type 0 where
@@ -29,6 +32,29 @@ IsKeytabFault status octets = ⊥
 abbrev pub IsOpenFault : Status → List ℕ → ℕ → Type 0
 IsOpenFault BadArgument octets remembered = (1 ≤ remembered) × (remembered ≤ 65536) → ⊥
 IsOpenFault status octets remembered = IsKeytabFault status octets
+
+-- it goes on with what another acceptor saved, with the keys of the keytab that the bytes encode
+pub record IsResumed (service : Service) (octets : List ℕ) (limit : ℕ) (saved : List ℕ) : Type 0 where
+  pub keys : IsKeytab service.acceptor.keytab octets
+  pub acceptor : resumed service.acceptor.keytab service.acceptor.options saved ≡ Some service.acceptor
+  pub remembered : service.acceptor.options.remembered ≡ limit
+  pub accepted : service.accepted ≡ None
+
+-- the same as for opening, or nothing was saved as these bytes
+abbrev pub IsResumeFault : Status → List ℕ → ℕ → List ℕ → Type 0
+IsResumeFault BadSaved octets remembered saved = held_in saved ≡ None
+IsResumeFault status octets remembered saved = IsOpenFault status octets remembered
+
+-- bytes are copied to the buffer from which a later process resumes as this acceptor
+pub record IsSavedIn (status : Status) (state : State) (old new : List ℕ) (len : ℕ) : Type 0 where
+  pub bytes : List ℕ
+  pub saves : Saves state bytes
+  pub given : IsGiven status bytes old new
+  pub long : len ≡ length bytes
+
+abbrev pub IsSaved : Status → State → List ℕ → List ℕ → ℕ → Type 0
+IsSaved NoMemory state old new len = (new ≡ old) × (len ≡ 0)
+IsSaved status state old new len = IsSavedIn status state old new len
 
 -- it has the keys of the keytab that the bytes encode, and is otherwise as it was
 pub record HasKeytab (old new : Service) (octets : List ℕ) : Type 0 where

@@ -4,11 +4,13 @@ use Rattle.krb_fields.specs.Code as codes
 use Rattle.ap_presented.specs.Refusal.{code_of}
 use Rattle.ap_accept.specs.declared.fault.ApFault.{ApFault}
 use Rattle.ap_accept.specs.declared.fault.ApFault.TheVariants as faults
+use Rattle.ap_accept.specs.declared.fault.ResumeFault.{ResumeFault}
+use Rattle.ap_accept.specs.declared.fault.ResumeFault.TheVariants as resuming
 use Rattle.cred_files.specs.declared.fault.CredFault.{CredFault}
 use Rattle.cred_files.specs.declared.fault.CredFault.TheVariants as files
 use Rattle.ap_accept_c.specs.declared.status.Status.{Status}
 use Rattle.ap_accept_c.specs.declared.status.Status.TheVariants.{Done, NotAnApReq, NoMemory, BadArgument, TooSmall}
-use Rattle.ap_accept_c.specs.declared.status.Status.TheVariants.{BadKeytab, Closed, Absent, Refused}
+use Rattle.ap_accept_c.specs.declared.status.Status.TheVariants.{BadKeytab, Closed, Absent, BadSaved, Refused}
 
 -- negsuc n is the number -n - 1
 abbrev pub number_of : Status → ℤ
@@ -20,12 +22,17 @@ number_of TooSmall = negsuc 3
 number_of BadKeytab = negsuc 4
 number_of Closed = negsuc 5
 number_of Absent = negsuc 6
+number_of BadSaved = negsuc 8
 number_of (Refused refusal) = codes.number_of (code_of refusal)
 
 abbrev pub status_of : ApFault → Status
 status_of faults.NotAnApReq = NotAnApReq
 status_of (faults.Refused refusal) = Refused refusal
 status_of faults.Memory = NoMemory
+
+abbrev pub status_of_resuming : ResumeFault → Status
+status_of_resuming resuming.NotSaved = BadSaved
+status_of_resuming resuming.Memory = NoMemory
 
 -- why a keytab could not be read
 abbrev pub status_of_keytab : CredFault → Status

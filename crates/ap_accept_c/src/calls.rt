@@ -1,10 +1,10 @@
 //! The calls from C, as operations on a `Holder`.
 ghost use Rattle.std.specs.Prelude.{◌≡◌, None, IfOk, IfErr};
-ghost use Rattle.ap_accept_c.specs.Calls.{IsAccepted, IsClosing, IsFetched, IsOpening, IsReplacing};
+ghost use Rattle.ap_accept_c.specs.Calls.{IsAccepted, IsClosing, IsFetched, IsOpening, IsReplacing, IsResuming, IsSaving};
 ghost use Rattle.ap_accept_c.specs.Exports.{opening_at, IsAcceptedAt, IsFetchPart, IsOpenAt};
 ghost use Rattle.ap_accept_c.specs.Holder.{IsHolder};
 ghost use Rattle.ap_accept_c.specs.Part.{part_numbered};
-ghost use Rattle.ap_accept_c.specs.Service.{IsOpened, IsOpenFault};
+ghost use Rattle.ap_accept_c.specs.Service.{IsOpened, IsOpenFault, IsResumed, IsResumeFault};
 
 use crate::buffers::Given;
 use crate::holder::Holder;
@@ -109,6 +109,60 @@ fn boxed(
         Ok(service) => Ok(service),
         Err(_) => Err(Status::NoMemory),
     }
+}
+
+/// Opens a closed acceptor, which goes on with what another one saved.
+pub fn resume(
+    holder: &mut Holder,
+    alloc: Global,
+    keytab: &[u8],
+    remembered: u32,
+    saved: &[u8],
+) -> Status
+    requires { IsHolder holder.old }
+    ensures holder { IsHolder holder.new }
+    ensures resumed { IsResuming result holder.old.held.value holder.new.held.value keytab.now remembered saved.now }
+{
+    if holder.is_open {
+        return Status::BadArgument;
+    }
+    match boxed_again(alloc, keytab, remembered, saved) {
+        Ok(service) => {
+            holder.put(service);
+            Status::Done
+        }
+        Err(status) => status,
+    }
+}
+
+fn boxed_again(
+    alloc: Global,
+    keytab: &[u8],
+    remembered: u32,
+    saved: &[u8],
+) -> Result<Box<Service>, Status>
+    ensures resumed { IfOk result (λ service. IsResumed service.value keytab.now remembered saved.now) }
+    ensures fault { IfErr result (λ status. IsResumeFault status keytab.now remembered saved.now) }
+{
+    let service = Service::resume(alloc, keytab, remembered, saved)?;
+    match Box::new(alloc, service) {
+        Ok(service) => Ok(service),
+        Err(_) => Err(Status::NoMemory),
+    }
+}
+
+/// Copies the bytes from which a later process resumes.
+pub fn save(holder: &mut Holder, alloc: Global, to: &mut [u8]) -> Given
+    requires { IsHolder holder.old }
+    ensures holder { IsHolder holder.new × (holder.new.held.value ≡ holder.old.held.value) }
+    ensures saved { IsSaving result.status holder.old.held.value to.old to.new result.len }
+{
+    let Some(service) = holder.take(alloc) else {
+        return Given::none(Status::Closed);
+    };
+    let given = service.save(alloc, to);
+    holder.put(service);
+    given
 }
 
 /// Replaces the keys of an open acceptor. Its replay caches stay.

@@ -1,10 +1,10 @@
-//! The functions that C calls, as `docs/ap_accept.h` declares them. In C a slice is a pointer and a length, and an
-//! allocator is nothing.
+//! The functions that `docs/ap_accept.c` calls, which has those of the header. In C a slice is a pointer and a length,
+//! and an allocator is nothing.
 //!
-//! Null pointers and lengths above PTRDIFF_MAX can't be checked here; the header's inline functions check for them.
+//! Null pointers and lengths above PTRDIFF_MAX can't be checked here; the callers check for them.
 ghost use Rattle.std.specs.Prelude.{◌≡◌, None};
 ghost use Rattle.ap_accept_c.specs.Exports.{IsAcceptCall, IsCloseCall, IsFetchCall, IsOpenCall, IsReplaceCall};
-ghost use Rattle.ap_accept_c.specs.Exports.{IsTextCall};
+ghost use Rattle.ap_accept_c.specs.Exports.{IsResumeCall, IsSaveCall, IsTextCall};
 ghost use Rattle.ap_accept_c.specs.Holder.{IsHolder};
 
 use crate::buffers::give_text;
@@ -15,12 +15,13 @@ use crate::numbers::Numbers;
 use crate::texts::text_of;
 use std::alloc::Global;
 
-/// The AP_VERSION of the header. It rises with each change of what the header declares.
-const VERSION: u32 = 2;
+/// The AP_VERSION of the header. The names of these functions have it too, so that a program that was compiled with an
+/// older header is not linked.
+const VERSION: u32 = 3;
 
 /// Opens a closed acceptor with the bytes of a keytab.
 #[unsafe(no_mangle)]
-pub extern "C" fn ap_accept_c_open(
+pub extern "C" fn ap_accept_c_v3_open(
     alloc: Global,
     holder: &mut Holder,
     keytab: &[u8],
@@ -34,9 +35,42 @@ pub extern "C" fn ap_accept_c_open(
     calls::open_at(holder, alloc, keytab, start).number()
 }
 
+/// Opens a closed acceptor with the bytes of a keytab, to go on with what another one saved.
+#[unsafe(no_mangle)]
+pub extern "C" fn ap_accept_c_v3_resume(
+    alloc: Global,
+    holder: &mut Holder,
+    keytab: &[u8],
+    saved: &[u8],
+    remembered: u32,
+) -> i32
+    requires { IsHolder holder.old }
+    ensures holder { IsHolder holder.new }
+    ensures resumed { IsResumeCall result holder.old.held.value holder.new.held.value keytab.now remembered saved.now }
+{
+    calls::resume(holder, alloc, keytab, remembered, saved).number()
+}
+
+/// Copies the bytes from which a later process resumes, and sets `len` to their number.
+#[unsafe(no_mangle)]
+pub extern "C" fn ap_accept_c_v3_save(
+    alloc: Global,
+    holder: &mut Holder,
+    to: &mut [u8],
+    len: &mut usize,
+) -> i32
+    requires { IsHolder holder.old }
+    ensures holder { IsHolder holder.new × (holder.new.held.value ≡ holder.old.held.value) }
+    ensures saved { IsSaveCall result holder.old.held.value to.old to.new len.new }
+{
+    let given = calls::save(holder, alloc, to);
+    *len = given.len;
+    given.status.number()
+}
+
 /// Replaces the keys of an open acceptor with those in the bytes of a keytab.
 #[unsafe(no_mangle)]
-pub extern "C" fn ap_accept_c_replace_keytab(
+pub extern "C" fn ap_accept_c_v3_replace_keytab(
     alloc: Global,
     holder: &mut Holder,
     keytab: &[u8],
@@ -50,7 +84,7 @@ pub extern "C" fn ap_accept_c_replace_keytab(
 
 /// Accepts the bytes of an AP-REQ, or returns the code of the rule that refuses them.
 #[unsafe(no_mangle)]
-pub extern "C" fn ap_accept_c_accept(
+pub extern "C" fn ap_accept_c_v3_accept(
     alloc: Global,
     holder: &mut Holder,
     time: &Time,
@@ -70,7 +104,7 @@ pub extern "C" fn ap_accept_c_accept(
 
 /// Copies a part of the AP-REQ that was accepted last, and sets `len` to its length.
 #[unsafe(no_mangle)]
-pub extern "C" fn ap_accept_c_octets(
+pub extern "C" fn ap_accept_c_v3_octets(
     alloc: Global,
     holder: &mut Holder,
     part: u32,
@@ -88,7 +122,7 @@ pub extern "C" fn ap_accept_c_octets(
 
 /// Closes an acceptor and frees its replay caches.
 #[unsafe(no_mangle)]
-pub extern "C" fn ap_accept_c_close(alloc: Global, holder: &mut Holder) -> i32
+pub extern "C" fn ap_accept_c_v3_close(alloc: Global, holder: &mut Holder) -> i32
     requires { IsHolder holder.old }
     ensures holder { IsHolder holder.new × (holder.new.held.value ≡ None) }
     ensures closed { IsCloseCall result holder.old.held.value }
@@ -98,15 +132,15 @@ pub extern "C" fn ap_accept_c_close(alloc: Global, holder: &mut Holder) -> i32
 
 /// Returns the version of the library.
 #[unsafe(no_mangle)]
-pub extern "C" fn ap_accept_c_version() -> u32
-    ensures { result ≡ 2 }
+pub extern "C" fn ap_accept_c_v3_version() -> u32
+    ensures { result ≡ 3 }
 {
     VERSION
 }
 
 /// Writes the text for a status to a buffer, and returns its length.
 #[unsafe(no_mangle)]
-pub extern "C" fn ap_accept_c_text(number: i32, to: &mut [u8]) -> usize
+pub extern "C" fn ap_accept_c_v3_text(number: i32, to: &mut [u8]) -> usize
     ensures { IsTextCall result to.old to.new }
 {
     give_text(text_of(number).as_bytes(), to)

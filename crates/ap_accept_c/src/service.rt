@@ -4,7 +4,8 @@ ghost use Rattle.ap_accept.specs.Accepts.{accepts};
 ghost use Rattle.cred_files.specs.Keytab.{IsKeytab};
 ghost use Rattle.ap_accept_c.specs.Calls.{IsFetchedFrom, IsFetchedOf};
 ghost use Rattle.ap_accept_c.specs.Part.{octets_of};
-ghost use Rattle.ap_accept_c.specs.Service.{IsKeytabFault, IsOpened, IsOpenFault, IsRekeyed, IsTaken};
+ghost use Rattle.ap_accept_c.specs.Service.{IsKeytabFault, IsOpened, IsOpenFault, IsRekeyed, IsResumed, IsResumeFault};
+ghost use Rattle.ap_accept_c.specs.Service.{IsSaved, IsTaken};
 
 use crate::buffers::{Given, give};
 use crate::part::Part;
@@ -47,6 +48,44 @@ impl Service {
             acceptor: Acceptor::open(alloc, keytab, options, opening)?,
             accepted: None,
         })
+    }
+
+    /// Opens a service with the keys in the bytes of a keytab, which goes on with what another one saved. `remembered`
+    /// is 1 to 65,536.
+    pub fn resume(
+        alloc: Global,
+        keytab: &[u8],
+        remembered: u32,
+        saved: &[u8],
+    ) -> Result<Service, Status>
+        ensures resumed { IfOk result (λ service. IsResumed service keytab.now remembered saved.now) }
+        ensures fault { IfErr result (λ status. IsResumeFault status keytab.now remembered saved.now) }
+    {
+        if !(1..=65_536).contains(&remembered) {
+            return Err(Status::BadArgument);
+        }
+        let keytab = match keytab_in(alloc, keytab) {
+            Ok(keytab) => keytab,
+            Err(status) => return Err(status),
+        };
+        let options = AcceptorOptions { remembered };
+        match Acceptor::resume(alloc, keytab, options, saved) {
+            Ok(acceptor) => Ok(Service {
+                acceptor,
+                accepted: None,
+            }),
+            Err(fault) => Err(Status::of_resume_fault(fault)),
+        }
+    }
+
+    /// Copies the bytes from which a later process resumes.
+    pub fn save(&self, alloc: Global, to: &mut [u8]) -> Given
+        ensures { IsSaved result.status self.now.acceptor to.old to.new result.len }
+    {
+        match self.acceptor.save(alloc) {
+            Ok(bytes) => give(bytes.as_slice(), to),
+            Err(error) => Given::none(Status::from(error)),
+        }
     }
 
     /// Replaces the keys with those in the bytes of a keytab. Changes nothing if it can't read them.

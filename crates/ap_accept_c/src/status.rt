@@ -1,9 +1,9 @@
 //! The results of calls from C.
 ghost use Rattle.std.specs.Prelude.{◌≡◌};
-ghost use Rattle.ap_accept_c.specs.Status.{number_of, status_of, status_of_keytab};
+ghost use Rattle.ap_accept_c.specs.Status.{number_of, status_of, status_of_keytab, status_of_resuming};
 ghost use Rattle.ap_accept_c.specs.declared.status.Status.TheVariants as statuses;
 
-use ap_accept::{ApFault, ApRefusal};
+use ap_accept::{ApFault, ApRefusal, ResumeFault};
 use cred_files::CredFault;
 use std::alloc::AllocError;
 
@@ -16,7 +16,7 @@ pub enum Status {
     NotAnApReq,
     /// Memory ran out.
     NoMemory,
-    /// A pointer is null, a number is out of its range, or the acceptor is open already.
+    /// A number is out of its range, or the acceptor is open already.
     BadArgument,
     /// The buffer is too small for the part.
     TooSmall,
@@ -26,6 +26,8 @@ pub enum Status {
     Closed,
     /// There is no such part.
     Absent,
+    /// The bytes are not those of a saved acceptor.
+    BadSaved,
     /// A rule of RFC 4120, section 3.2.3, refuses the request.
     Refused(ApRefusal),
 }
@@ -44,6 +46,7 @@ impl Status {
             Status::BadKeytab => -5,
             Status::Closed => -6,
             Status::Absent => -7,
+            Status::BadSaved => -9,
             Status::Refused(refusal) => refusal.code().number(),
         }
     }
@@ -56,6 +59,16 @@ impl Status {
             ApFault::NotAnApReq => Status::NotAnApReq,
             ApFault::Refused(refusal) => Status::Refused(refusal),
             ApFault::Memory => Status::NoMemory,
+        }
+    }
+
+    /// Returns the status for an acceptor that did not resume.
+    pub fn of_resume_fault(fault: ResumeFault) -> Status
+        ensures { result ≡ status_of_resuming fault }
+    {
+        match fault {
+            ResumeFault::NotSaved => Status::BadSaved,
+            ResumeFault::Memory => Status::NoMemory,
         }
     }
 

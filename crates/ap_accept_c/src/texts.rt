@@ -8,11 +8,14 @@ pub fn text_of(number: i32) -> &'static str {
         0 => "done",
         -1 => "the bytes do not encode an AP-REQ",
         -2 => "out of memory",
-        -3 => "a pointer is null, a number is out of its range, or the acceptor is open already",
+        -3 =>
+            "a null pointer, a number out of its range, or an acceptor that is open already or no acceptor",
         -4 => "the buffer is too small",
         -5 => "the bytes are not a keytab",
         -6 => "the acceptor is closed",
         -7 => "there is no such part",
+        -8 => "the library does not serve programs of this version of its header",
+        -9 => "the bytes are not those of a saved acceptor",
         numbers::KDC_ERR_ETYPE_NOSUPP =>
             "KDC_ERR_ETYPE_NOSUPP: a key has an encryption type that is not supported",
         numbers::KDC_ERR_SVC_UNAVAILABLE =>

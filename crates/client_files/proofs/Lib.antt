@@ -1,2 +1,3 @@
+mod ConfigLaws
 mod HeldCaches
 mod NewCaches

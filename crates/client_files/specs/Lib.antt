@@ -1,2 +1,5 @@
+pub mod CachePaths
 pub mod Caches
+pub mod Clocks
+pub mod Configs
 pub mod Holding

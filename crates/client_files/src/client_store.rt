@@ -1,9 +1,11 @@
-//! What a client requires of its files beyond a [`Store`]: who owns them, what a folder contains, and how to remove a
-//! file.
-ghost use Rattle.std.specs.Prelude.{◌≡◌, OnErr, OnOk, option_map};
+//! What a client requires of its files beyond a [`Store`]: who owns them, what a folder contains, how to remove a file,
+//! and the clock's moment.
+ghost use Rattle.std.specs.Prelude.{◌≡◌, IfOk, OnErr, OnOk, option_map};
+ghost use Rattle.client_files.specs.Clocks.{IsShown};
 ghost use Rattle.program.specs.World.{without_file};
 
-use program::{FileStore, MemoryStore, Store, is_own, own_user};
+use krb_fields::Moment;
+use program::{FileStore, MemoryStore, Store, is_own, now, own_user};
 use std::alloc::{AllocError, Global};
 use std::fs::File;
 use std::io::{Error, ErrorKind, IsTerminal};
@@ -34,6 +36,11 @@ pub trait ClientStore: Store {
     fn user(&mut self) -> io::Result<u32>
         ensures unchanged { Self.world self.new ≡ Self.world self.old };
 
+    /// Returns the moment that the clock shows.
+    fn moment(&mut self) -> io::Result<Moment>
+        ensures shown { IfOk result (λ at. IsShown (Self.world self.old) at) }
+        ensures unchanged { Self.world self.new ≡ Self.world self.old };
+
     /// Removes a file.
     fn remove(&mut self, alloc: Global, path: &str) -> io::Result<()>
         ensures removed { OnOk result (
@@ -58,6 +65,10 @@ where
 
     fn user(&mut self) -> io::Result<u32> {
         own_user(self.files())
+    }
+
+    fn moment(&mut self) -> io::Result<Moment> {
+        now(self.files())
     }
 
     fn remove(&mut self, _alloc: Global, path: &str) -> io::Result<()> {
@@ -115,6 +126,17 @@ impl ClientStore for MemoryStore {
 
     fn user(&mut self) -> io::Result<u32> {
         Ok(MEMORY_USER)
+    }
+
+    /// The clock of files in memory shows whole seconds.
+    fn moment(&mut self) -> io::Result<Moment> {
+        let Ok(seconds) = i64::try_from(self.seconds()?) else {
+            return Err(Error::from(ErrorKind::InvalidData));
+        };
+        match Moment::new(seconds, 0) {
+            Some(at) => Ok(at),
+            None => Err(Error::from(ErrorKind::InvalidData)),
+        }
     }
 
     fn remove(&mut self, alloc: Global, path: &str) -> io::Result<()> {

@@ -1,5 +1,10 @@
 //! A `krb5.conf`: its text with the files that it includes, its default realm, and the KDCs of a realm.
-ghost use Rattle.std.specs.Prelude.{◌≡◌};
+ghost use Rattle.std.specs.Prelude.{◌≡◌, ◌==◌, ◌<◌, ◌^◌, ◌↔◌, IfOk, IfSome, IsSome, map};
+ghost use Rattle.std.specs.Str.Parse.{IsNumeral, digits_value};
+ghost use Rattle.client_files.specs.Configs.{ArePlaces, ArePlacesOf, IsDefaultRealm, IsHostPlace, IsHostText, IsNamed, IsPlace};
+ghost use Rattle.client_files.specs.Configs.{HasPort, IsShownAs};
+ghost use Rattle.krb_fields.specs.NameText.{component_text};
+ghost use Rattle.std.specs.List.{after_first, before_first};
 
 use crate::client_store::{ClientStore, PathKind};
 use crate::environment::Defaults;
@@ -9,19 +14,31 @@ use client_login::KdcPlace;
 use cred_files::Principal;
 use krb_elements::KerberosString;
 use krb_fields::{component_to_text, is_component};
-use krb5_conf::{default_realm, kdc_address, kdcs, library_settings};
+use krb5_conf::{Included, default_realm, kdc_address, kdcs, library_settings};
 use program::{FileCause, LONGEST_FILE, read_file};
 use std::alloc::{AllocError, Global};
+use std::marker::Model;
+use text_fields::number_u32;
 
-/// A `krb5.conf`.
+/// A `krb5.conf`. Contracts see its text, in which the lines of an included file replace the line that includes it.
 #[derive(Drop)]
 pub struct Config {
     path: String,
-    /// The lines of an included file replace the line that includes it.
     text: Vec<u8>,
     /// What was passed over, a line for each.
     notes: String,
 }
+
+impl Model for Config {
+    ghost use Rattle.std.specs.Prelude.{ℕ, List};
+
+    ghost Value = { List ℕ };
+
+    ghost view = { λ c. c.text.items };
+}
+
+/// What is wrong with a path that is included and is not UTF-8.
+const PATH_NOT_UTF8: &str = "a krb5.conf includes this path, which is not UTF-8";
 
 /// How deep files may include each other.
 const MOST_DEEP: usize = 3;
@@ -52,7 +69,7 @@ impl Config {
         for _ in 0..MOST_DEEP {
             reading = with_included(alloc, store, reading)?;
         }
-        note_deeper(&mut reading)?;
+        note_deeper(alloc, &mut reading)?;
         let Reading { text, notes } = reading;
         Ok(Config {
             path: String::from_str(alloc, path)?,
@@ -94,7 +111,9 @@ impl Config {
     }
 
     /// Returns the default realm.
-    pub fn default_realm(&self, alloc: Global) -> Result<KerberosString, Fault> {
+    pub fn default_realm(&self, alloc: Global) -> Result<KerberosString, Fault>
+        ensures { IfOk result (λ realm. IsDefaultRealm self.now realm) }
+    {
         match default_realm(alloc, &self.text)? {
             Some(realm) if is_component(realm) => Ok(KerberosString::from_slice(alloc, realm)?),
             Some(_) => Err(Fault::new(alloc, self.path.as_str(), Cause::BadRealm)),
@@ -103,7 +122,9 @@ impl Config {
     }
 
     /// Returns the principal that a text names: `alice@EXAMPLE.COM`, or `alice` of the default realm.
-    pub fn principal(&self, alloc: Global, text: &str) -> Result<Principal, Fault> {
+    pub fn principal(&self, alloc: Global, text: &str) -> Result<Principal, Fault>
+        ensures { IfOk result (λ principal. IsNamed self.now text.now principal) }
+    {
         match text.split_once('@') {
             Some((name, realm)) => principal_of(alloc, text, name, realm),
             None => Ok(Principal {
@@ -114,13 +135,10 @@ impl Config {
     }
 
     /// Returns where the KDCs of a realm are, at least one. It looks up no name.
-    pub fn kdcs(&self, alloc: Global, realm: &[u8]) -> Result<Vec<KdcPlace>, Fault> {
-        let mut places = Vec::new(alloc);
-        for text in &kdcs(alloc, &self.text, realm)? {
-            if !text.is_empty() {
-                places.push(place_of(alloc, text)?)?;
-            }
-        }
+    pub fn kdcs(&self, alloc: Global, realm: &[u8]) -> Result<Vec<KdcPlace>, Fault>
+        ensures { IfOk result (λ places. ArePlacesOf self.now realm.now places.items) }
+    {
+        let places = places_of(alloc, &kdcs(alloc, &self.text, realm)?)?;
         if !places.is_empty() {
             return Ok(places);
         }
@@ -163,33 +181,31 @@ fn push_line<T: ClientStore>(
 ) -> Result<(), Fault>
     ensures unchanged { T.world store.new ≡ T.world store.old }
 {
-    match included_by(line) {
-        Some(Included::Folder(folder)) => push_folder(alloc, store, whole, folder),
-        Some(Included::File(path)) => push_file(alloc, store, whole, path),
+    match Included::read(line) {
+        Some(Included::Folder(folder)) => {
+            push_folder(alloc, store, whole, included_path(alloc, folder)?)
+        }
+        Some(Included::File(path)) => push_file(alloc, store, whole, included_path(alloc, path)?),
         None => push_text(alloc, whole, line),
     }
 }
 
-/// What a line includes.
-#[derive(Clone, Copy)]
-enum Included<'a> {
-    File(&'a str),
-    Folder(&'a str),
-}
-
-/// Returns what a line includes; `None` if it is another line.
-fn included_by(line: &[u8]) -> Option<Included<'_>> {
-    let text = str::from_utf8(line).unwrap_or("");
-    match behind(text, "includedir") {
-        Some(folder) => Some(Included::Folder(folder)),
-        None => Some(Included::File(behind(text, "include")?)),
+/// Returns the path that a line includes.
+fn included_path(alloc: Global, path: &[u8]) -> Result<&str, Fault> {
+    match str::from_utf8(path) {
+        Ok(path) => Ok(path),
+        Err(_) => {
+            let shown = component_to_text(alloc, path)?;
+            Err(Fault::of(shown, Cause::BadSetting(PATH_NOT_UTF8)))
+        }
     }
 }
 
 /// Notes the lines that are included too deep. A file that includes itself ends in such a line.
-fn note_deeper(reading: &mut Reading) -> Result<(), AllocError> {
+fn note_deeper(alloc: Global, reading: &mut Reading) -> Result<(), AllocError> {
     for line in reading.text.split(|octet| *octet == b'\n') {
-        if let Some(Included::File(path) | Included::Folder(path)) = included_by(line) {
+        if let Some(Included::File(path) | Included::Folder(path)) = Included::read(line) {
+            let path = component_to_text(alloc, path)?;
             writeln!(
                 reading.notes,
                 "{path}: it is included more than {MOST_DEEP} deep, as by a file that includes itself, so it is passed over"
@@ -207,16 +223,6 @@ fn push_text(alloc: Global, whole: &mut Reading, text: &[u8]) -> Result<(), Faul
     }
     whole.text.extend_from_slice(text)?;
     Ok(whole.text.push(b'\n')?)
-}
-
-/// Returns what follows a word and a space at the start of a line.
-fn behind<'a>(line: &'a str, word: &str) -> Option<&'a str> {
-    let rest = line.strip_prefix(word)?;
-    let path = rest.trim();
-    if path.len() == rest.len() {
-        return None;
-    }
-    Some(path)
 }
 
 fn push_folder<T: ClientStore>(
@@ -284,23 +290,87 @@ fn push_file<T: ClientStore>(
 /// The port of a KDC (RFC 4120, section 7.2.1).
 const KDC_PORT: u16 = 88;
 
-/// Returns where a KDC is that a text names.
-fn place_of(alloc: Global, text: &[u8]) -> Result<KdcPlace, AllocError> {
-    if let Some(address) = kdc_address(alloc, text)? {
-        return KdcPlace::of_address(alloc, address);
+/// Returns where the KDCs are that texts name.
+fn places_of(alloc: Global, texts: &[&[u8]]) -> Result<Vec<KdcPlace>, AllocError>
+    ensures { IfOk result (λ places. ArePlaces (map (λ text. text.now) texts.now) places.items) }
+{
+    let mut places = Vec::new(alloc);
+    for text in texts {
+        places.push(place_of(alloc, text)?)?;
     }
-    // A text that is not UTF-8 is no name of a host: what is shown in its place has no address.
+    Ok(places)
+}
+
+/// Returns where the KDC is that a text names.
+fn place_of(alloc: Global, text: &[u8]) -> Result<KdcPlace, AllocError>
+    ensures { IfOk result (λ place. IsPlace text.now place) }
+{
+    match kdc_address(alloc, text)? {
+        Some(address) => KdcPlace::of_address(alloc, address),
+        None => host_place(alloc, text),
+    }
+}
+
+/// Returns the place of a host. A text that is not UTF-8 is no name of a host: what is shown in its place has no
+/// address.
+fn host_place(alloc: Global, text: &[u8]) -> Result<KdcPlace, AllocError>
+    ensures { IfOk result (λ place. IsHostPlace text.now place) }
+{
     let shown = component_to_text(alloc, text)?;
-    let (host, port) = host_and_port(str::from_utf8(text).unwrap_or(shown.as_str()));
-    KdcPlace::of_host(alloc, host, port)
+    let Host { name, port } = host_and_port(text_or(text, shown.as_str()));
+    KdcPlace::of_host(alloc, name, port)
+}
+
+/// Returns the bytes as text if they are UTF-8, and else what is shown in their place.
+fn text_or<'a>(octets: &'a [u8], shown: &'a str) -> &'a str
+    requires { shown.now ≡ component_text octets.now }
+    ensures { IsShownAs octets.entry.now result.now }
+{
+    match str::from_utf8(octets) {
+        Ok(text) => text,
+        Err(_) => shown,
+    }
+}
+
+/// A host and a port of it.
+#[derive(Clone, Copy)]
+struct Host<'a> {
+    name: &'a str,
+    port: u16,
 }
 
 /// Returns a host's name, and the port after it, or else that of a KDC.
-fn host_and_port(text: &str) -> (&str, u16) {
-    if let Some((host, port)) = text.rsplit_once(':')
-        && let Ok(port) = port.parse()
-    {
-        return (host, port);
+fn host_and_port(text: &str) -> Host<'_>
+    ensures { IsHostText text.now result.name.now result.port }
+{
+    match host_with_port(text) {
+        Some(host) => host,
+        None => Host {
+            name: text,
+            port: KDC_PORT,
+        },
     }
-    (text, KDC_PORT)
+}
+
+/// Returns a host's name, and the port after it; `None` if there is no port.
+fn host_with_port(text: &str) -> Option<Host<'_>>
+    ensures there { IsSome result ↔ HasPort text.now }
+    ensures name { IfSome result (λ host. host.name.now ≡ before_first (λ b. b == 0x3A) text.now) }
+    ensures port { IfSome result (λ host. host.port ≡ digits_value 10 (after_first (λ b. b == 0x3A) text.now)) }
+{
+    match text.split_once(':') {
+        Some((name, port)) => match port_in(port) {
+            Some(port) => Some(Host { name, port }),
+            None => None,
+        },
+        None => None,
+    }
+}
+
+/// Reads a port.
+fn port_in(text: &str) -> Option<u16>
+    ensures read { IsSome result ↔ (IsNumeral 10 text.now × (digits_value 10 text.now < 2 ^ 16)) }
+    ensures value { IfSome result (λ port. port ≡ digits_value 10 text.now) }
+{
+    u16::try_from(number_u32(text)?).ok()
 }

@@ -1,5 +1,6 @@
 //! Where a client's files are, by the environment.
-ghost use Rattle.std.specs.Prelude.{◌≡◌};
+ghost use Rattle.std.specs.Prelude.{◌≡◌, IfOk, string_bytes};
+ghost use Rattle.client_files.specs.CachePaths.{IsDefaultCache};
 
 use crate::client_store::ClientStore;
 use crate::configs::Config;
@@ -33,6 +34,7 @@ impl<'a> Defaults<'a> {
     /// Returns the path of the cache: that of `KRB5CCNAME`, or else of the `krb5.conf`, or else the user's own, which
     /// MIT's and Heimdal's clients use too.
     pub fn cache_path<T: ClientStore>(&self, alloc: Global, store: &mut T) -> Result<String, Fault>
+        ensures named { IfOk result (λ path. IsDefaultCache self.now.cache (string_bytes path)) }
         ensures unchanged { T.world store.new ≡ T.world store.old }
     {
         match self.cache {

@@ -129,7 +129,9 @@ pub fn at<T: Drop>(alloc: Global, subject: &str, found: Result<T, Cause>) -> Res
 }
 
 /// Returns what was read or written, or the fault of the file.
-pub fn at_file<T: Drop>(alloc: Global, done: Result<T, FileFault<'_>>) -> Result<T, Fault> {
+pub fn at_file<T: Drop>(alloc: Global, done: Result<T, FileFault<'_>>) -> Result<T, Fault>
+    ensures { IfOk result (λ value. done.entry ≡ Ok value) }
+{
     match done {
         Ok(value) => Ok(value),
         Err(fault) => Err(Fault::of_file(alloc, fault)),

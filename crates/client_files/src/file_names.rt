@@ -1,4 +1,7 @@
 //! The names of caches and keytabs: a path, or `FILE:` and a path, as MIT's and Heimdal's tools accept them.
+ghost use Rattle.std.specs.Prelude.{◌≡◌, IfOk};
+ghost use Rattle.client_files.specs.CachePaths.{path_in};
+
 use crate::faults::Fault;
 
 /// Where a name comes from.
@@ -43,15 +46,19 @@ impl NameOf {
 
 /// Returns the path in a name, or what is wrong with the name. A word and a colon at the start give the type of the
 /// name. To name a path that begins like that, put a slash before the colon, as in `./a:b`.
-pub fn path_in(name: &str, of: NameOf) -> Result<&str, Fault> {
+pub fn path_in(name: &str, of: NameOf) -> Result<&str, Fault>
+    ensures { IfOk result (λ path. path.now ≡ path_in name.now) }
+{
     match name.split_once(':') {
-        Some(("FILE", path)) => path_there(path, of),
+        Some((front, path)) if front == "FILE" => path_there(path, of),
         Some((front, _)) if !front.contains('/') => Err(Fault::usage(of.other_type())),
         _ => path_there(name, of),
     }
 }
 
-fn path_there(path: &str, of: NameOf) -> Result<&str, Fault> {
+fn path_there(path: &str, of: NameOf) -> Result<&str, Fault>
+    ensures { IfOk result (λ there. there.now ≡ path.now) }
+{
     if path.is_empty() {
         return Err(Fault::usage(of.no_path()));
     }

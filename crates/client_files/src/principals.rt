@@ -1,11 +1,16 @@
 //! Principals that texts name.
+ghost use Rattle.std.specs.Prelude.{IfOk};
+ghost use Rattle.krb_fields.specs.NameText.{IsComponentText, IsNameText};
+
 use crate::faults::{Cause, Fault, at};
 use cred_files::Principal;
 use krb_fields::{Name, component_from_text, component_to_text};
 use std::alloc::{AllocError, Global};
 
 /// Returns the name that a text spells, such as `host/www.example.com`.
-pub fn name_of(alloc: Global, text: &str) -> Result<Name, Fault> {
+pub fn name_of(alloc: Global, text: &str) -> Result<Name, Fault>
+    ensures { IfOk result (λ name. IsNameText name.components text.now) }
+{
     at(
         alloc,
         text,
@@ -19,7 +24,10 @@ pub(crate) fn principal_of(
     text: &str,
     name: &str,
     realm: &str,
-) -> Result<Principal, Fault> {
+) -> Result<Principal, Fault>
+    ensures name { IfOk result (λ principal. IsNameText principal.name.components name.now) }
+    ensures realm { IfOk result (λ principal. IsComponentText principal.realm realm.now) }
+{
     let realm = at(
         alloc,
         text,

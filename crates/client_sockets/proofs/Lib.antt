@@ -1,1 +1,3 @@
+mod Granting
+mod LoggingIn
 mod Same

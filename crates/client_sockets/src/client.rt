@@ -1,19 +1,24 @@
-//! A client by its name, over the system's files, clock and sockets.
-ghost use Rattle.std.specs.Prelude.{◌≡◌, IfOk, IfSome};
+//! A client by its name, over a network and a store.
+ghost use Rattle.std.specs.Prelude.{◌≡◌, ◌≢◌, IfOk, IfSome, None, OnErr, OnOk, option_copied};
 ghost use Rattle.client_core.specs.Taken.{AreSame};
+ghost use Rattle.client_files.specs.Clocks.{IsShown};
+ghost use Rattle.client_login.specs.Places.{AreWithin};
+ghost use Rattle.client_login.specs.Replies.{IsExchanged};
 ghost use Rattle.client_login.specs.Verifying.{IsTicketOf};
+ghost use Rattle.krb_fields.specs.Granting.{tgs_name};
+ghost use Rattle.client_files.specs.Configs.{ArePlacesOf, IsNamed};
+ghost use Rattle.client_sockets.specs.Clients.{IsGrantedFor, IsGrantedIn, IsLoggedIn, IsSeeded, IsServiceIn};
 
 use crate::socket_network::SocketNetwork;
 use client_files::{
-    Cause, Config, Defaults, Fault, at_file, at_password, name_of, principal_text, read_keytab,
+    Cause, ClientStore, Config, Defaults, Fault, at_file, at_password, name_of, principal_text,
+    read_keytab,
 };
-use client_login::{KdcClient, Kdcs, Login, LoginFault, Password, Secret, Transports};
+use client_login::{AnyMessage, KdcClient, Kdcs, Login, LoginFault, Password, Secret, Transports};
 use cred_files::{Credential, Keytab, Principal};
 use krb_elements::Octets;
 use krb_fields::{Moment, Name, component_to_text, tgs_name};
-use program::{
-    CLOCK, FileCause, FileStore, STANDARD_INPUT, Variable, ask_password, draw_seed, now,
-};
+use program::{CLOCK, FileCause, FileStore, STANDARD_INPUT, Variable, ask_password, draw_seed};
 use rand_chacha::ChaCha20Rng;
 use rand_core::SeedableRng;
 use std::alloc::Global;
@@ -23,45 +28,83 @@ use std::marker::Model;
 /// A client of a realm. It asks the KDCs that the `krb5.conf` in force names, and keeps its ticket-granting ticket
 /// (TGT) in memory. All its errors name what is to blame: a KDC, a file or a principal.
 ///
-/// Each call reads the computer's clock and waits for the KDCs for at most 30 seconds. It never takes a KDC's clock.
+/// Each call reads the clock and waits for the KDCs for at most 30 seconds. It never takes a KDC's clock.
 #[derive(Drop)]
-pub struct Client<'a> {
-    rt: &'a HostRuntime,
-    kdc: KdcClient<SocketNetwork<'a, HostRuntime>>,
+pub struct Client<X, T> {
+    kdc: KdcClient<X>,
+    store: T,
     rng: ChaCha20Rng,
     login: Login,
     tgt: Option<Credential>,
 }
 
-impl<'a> Model for Client<'a> {
-    ghost use Rattle.std.specs.Prelude.{IfSome};
+/// A client over the system's sockets, clock and files.
+pub type SystemClient<'a> = Client<SocketNetwork<'a, HostRuntime>, FileStore<'a, HostRuntime>>;
+
+impl<X, T> Model for Client<X, T> {
+    ghost use Rattle.std.specs.Prelude.{◌≡◌, IfSome};
     ghost use Rattle.client_core.specs.Taken.{AreSame};
-    ghost use Rattle.cred_files.specs.declared.principal.Principal.{Principal};
+    ghost use Rattle.krb_fields.specs.Granting.{tgs_name};
+    ghost use Rattle.client_sockets.specs.Clients.{ClientState};
 
-    ghost Value = { Principal };
+    ghost Value = { ClientState T };
 
-    ghost view = { λ c. c.login.client };
+    ghost view = { λ c. record {
+      principal = c.login.client;
+      request = c.login.request;
+      places = c.kdc.kdcs.places.items;
+      generator = c.rng;
+      tgt = c.tgt;
+      store = c.store;
+    } };
 
-    // The TGT is the principal's.
-    ghost invariant = { λ c. IfSome c.tgt (λ tgt.
+    // It asks for tickets of its realm's ticket-granting service, and its own is the principal's.
+    ghost invariant = { λ c. (c.login.service ≡ tgs_name c.login.client.realm) × IfSome c.tgt (λ tgt.
         AreSame tgt.client.realm tgt.client.name c.login.client.realm c.login.client.name) };
 }
 
-impl<'a> Client<'a> {
-    /// Opens a client for a principal: `alice@EXAMPLE.COM`, or `alice` of the default realm. Reads the `krb5.conf` that
-    /// `KRB5_CONFIG` names, or else `/etc/krb5.conf`: the KDCs, the default realm, and what the first ticket is to be.
-    /// Sends nothing.
-    pub fn open(rt: &'a HostRuntime, principal: &str) -> Result<Client<'a>, Fault> {
+impl<'a> Client<SocketNetwork<'a, HostRuntime>, FileStore<'a, HostRuntime>> {
+    /// Opens a client over the system's sockets, clock and files, for a principal: `alice@EXAMPLE.COM`, or `alice` of
+    /// the default realm. Reads the `krb5.conf` that `KRB5_CONFIG` names, or else `/etc/krb5.conf`: the KDCs, the
+    /// default realm, and what the first ticket is to be. Sends nothing.
+    pub fn open(rt: &'a HostRuntime, principal: &str) -> Result<SystemClient<'a>, Fault> {
+        let variable = env::var(rt, "KRB5_CONFIG");
+        let defaults = Defaults {
+            cache: Variable::Absent,
+            config: Variable::new(&variable)?,
+            user: Variable::Absent,
+        };
         let alloc = rt.alloc();
-        let config = read_config(rt)?;
-        let login = login_of(alloc, &config, principal)?;
+        let mut store = FileStore::new(rt);
+        let config = Config::read(alloc, &mut store, &defaults)?;
+        Client::over(alloc, SocketNetwork::new(rt), store, &config, principal)
+    }
+}
+
+impl<X: AnyMessage + Drop, T: ClientStore + Drop> Client<X, T> {
+    /// Opens a client for a principal as [`SystemClient::open`] does, over a network, a store with its files and its
+    /// clock, and what a `krb5.conf` says.
+    pub fn over(
+        alloc: Global,
+        network: X,
+        mut store: T,
+        config: &Config,
+        principal: &str,
+    ) -> Result<Client<X, T>, Fault>
+        ensures principal { IfOk result (λ client. IsNamed config.entry.now principal.entry.now client.principal) }
+        ensures places { IfOk result (λ client.
+            ArePlacesOf config.entry.now client.principal.realm client.places) }
+        ensures seeded { IfOk result (λ client. IsSeeded (T.world store) client.generator) }
+        ensures tgt { IfOk result (λ client. client.tgt ≡ None) }
+        ensures world { IfOk result (λ client. T.world client.store ≡ T.world store) }
+    {
+        let login = login_of(alloc, config, principal)?;
         let places = config.kdcs(alloc, login.client.realm.as_slice())?;
-        let kdcs = Kdcs::new(SocketNetwork::new(rt), places, Transports::UdpFirst);
-        let kdc = KdcClient::new(alloc, kdcs, clock(rt)?);
-        let seed = at_file(alloc, draw_seed(&mut FileStore::new(rt)))?;
+        let at = clock(alloc, &mut store)?;
+        let seed = at_file(alloc, draw_seed(&mut store))?;
         Ok(Client {
-            rt,
-            kdc,
+            kdc: KdcClient::new(alloc, Kdcs::new(network, places, Transports::UdpFirst), at),
+            store,
             rng: ChaCha20Rng::from_seed(seed),
             login,
             tgt: None,
@@ -70,26 +113,29 @@ impl<'a> Client<'a> {
 
     /// Returns the client's principal.
     pub fn principal(&self) -> &Principal
-        ensures { result.now ≡ self.now }
+        ensures { result.now ≡ self.now.principal }
     {
         &self.login.client
     }
 
     /// Returns the TGT that the last login got.
     pub fn tgt(&self) -> Option<&Credential>
-        ensures client { IfSome result (λ tgt.
-            AreSame tgt.now.client.realm tgt.now.client.name self.now.realm self.now.name) }
+        ensures tgt { option_copied result ≡ self.now.tgt }
+        ensures client { IfSome result (λ tgt. AreSame tgt.now.client.realm tgt.now.client.name
+            self.now.principal.realm self.now.principal.name) }
     {
         self.tgt.as_ref()
     }
 
     /// Asks for the password at the terminal, or else reads the first line of standard input.
-    pub fn ask_password(&self) -> Result<Secret, Fault> {
-        let alloc = self.rt.alloc();
+    pub fn ask_password(&mut self) -> Result<Secret, Fault>
+        ensures client { self.new ≡ record self.old { store = self.new.store } }
+        ensures world { T.world self.new.store ≡ T.world self.old.store }
+    {
+        let alloc = self.kdc.alloc;
         let name = self.login.client.name.to_text(alloc)?;
         let realm = component_to_text(alloc, self.login.client.realm.as_slice())?;
-        let mut store = FileStore::new(self.rt);
-        let octets = ask_password(alloc, &mut store, name.as_str(), realm.as_str());
+        let octets = ask_password(alloc, &mut self.store, name.as_str(), realm.as_str());
         Ok(Secret::Password(Password {
             octets: Octets::new(at_password(alloc, STANDARD_INPUT, octets)?),
             least_count: None,
@@ -97,16 +143,27 @@ impl<'a> Client<'a> {
     }
 
     /// Reads a keytab: the client's own for a login, or a service's for [`Client::verify`].
-    pub fn read_keytab(&self, path: &str) -> Result<Keytab, Fault> {
-        read_keytab(self.rt.alloc(), &mut FileStore::new(self.rt), path)
+    pub fn read_keytab(&mut self, path: &str) -> Result<Keytab, Fault>
+        ensures client { self.new ≡ record self.old { store = self.new.store } }
+        ensures world { T.world self.new.store ≡ T.world self.old.store }
+    {
+        read_keytab(self.kdc.alloc, &mut self.store, path)
     }
 
-    /// Logs in: gets a TGT with a password or a keytab.
+    /// Logs in: gets a TGT with a password or a keytab. Forgets the TGT of an earlier login first, so after an `Err`
+    /// there is none.
     pub fn log_in(&mut self, secret: &Secret) -> Result<(), Fault>
-        ensures principal { self.new ≡ self.old }
+        ensures ok { OnOk result (IsLoggedIn (IsExchanged X.finds self.old.places X.carries X.answers)
+            (T.world self.old.store) secret.now self.old self.new.tgt) }
+        ensures err { OnErr result (self.new.tgt ≡ None) }
+        ensures principal { self.new.principal ≡ self.old.principal }
+        ensures request { self.new.request ≡ self.old.request }
+        ensures within { AreWithin X.finds self.old.places self.new.places }
+        ensures world { T.world self.new.store ≡ T.world self.old.store }
     {
-        let alloc = self.rt.alloc();
-        self.kdc.set_clock(clock(self.rt)?);
+        self.tgt = None;
+        let alloc = self.kdc.alloc;
+        self.kdc.set_clock(clock(alloc, &mut self.store)?);
         match self.kdc.log_in(&mut self.rng, &self.login, secret) {
             Ok(tgt) => {
                 self.tgt = Some(tgt);
@@ -118,11 +175,18 @@ impl<'a> Client<'a> {
 
     /// Gets a ticket for a service of the client's realm, such as `host/www.example.com`, with the TGT.
     pub fn ticket(&mut self, service: &str) -> Result<Credential, Fault>
-        ensures principal { self.new ≡ self.old }
+        ensures ok { IfOk result (λ credential. IsGrantedFor
+            (IsExchanged X.finds self.old.places X.carries X.answers)
+            (T.world self.old.store) self.old service.now credential) }
+        ensures principal { self.new.principal ≡ self.old.principal }
+        ensures request { self.new.request ≡ self.old.request }
+        ensures tgt { self.new.tgt ≡ self.old.tgt }
+        ensures within { AreWithin X.finds self.old.places self.new.places }
+        ensures world { T.world self.new.store ≡ T.world self.old.store }
     {
-        let alloc = self.rt.alloc();
+        let alloc = self.kdc.alloc;
         let name = name_of(alloc, service)?;
-        self.kdc.set_clock(clock(self.rt)?);
+        self.kdc.set_clock(clock(alloc, &mut self.store)?);
         let Some(tgt) = &self.tgt else {
             return Err(self.fault(Cause::NoLogin));
         };
@@ -142,13 +206,21 @@ impl<'a> Client<'a> {
     pub fn verify(&mut self, keytab: &Keytab) -> Result<Credential, Fault>
         // A key of the keytab decrypts the ticket, to the client and the session key of the KDC's reply.
         ensures ok { IfOk result (λ credential. IsTicketOf keytab.now credential) }
+        // It was got with the TGT of the last login, for a service of the keytab.
+        ensures granted { IfOk result (λ credential. IsGrantedIn
+            (IsExchanged X.finds self.old.places X.carries X.answers)
+            (T.world self.old.store) self.old keytab.now credential) }
         // That client is the one that was opened.
-        ensures client { IfOk result (λ credential.
-            AreSame credential.client.realm credential.client.name self.old.realm self.old.name) }
-        ensures principal { self.new ≡ self.old }
+        ensures client { IfOk result (λ credential. AreSame credential.client.realm credential.client.name
+            self.old.principal.realm self.old.principal.name) }
+        ensures principal { self.new.principal ≡ self.old.principal }
+        ensures request { self.new.request ≡ self.old.request }
+        ensures tgt { self.new.tgt ≡ self.old.tgt }
+        ensures within { AreWithin X.finds self.old.places self.new.places }
+        ensures world { T.world self.new.store ≡ T.world self.old.store }
     {
-        let alloc = self.rt.alloc();
-        self.kdc.set_clock(clock(self.rt)?);
+        let alloc = self.kdc.alloc;
+        self.kdc.set_clock(clock(alloc, &mut self.store)?);
         let Some(tgt) = &self.tgt else {
             return Err(self.fault(Cause::NoLogin));
         };
@@ -163,14 +235,14 @@ impl<'a> Client<'a> {
 
     /// Returns the fault for what concerns the client's principal.
     fn fault(&self, cause: Cause) -> Fault {
-        match principal_text(self.rt.alloc(), &self.login.client) {
+        match principal_text(self.kdc.alloc, &self.login.client) {
             Ok(subject) => Fault::of(subject, cause),
             Err(error) => Fault::from(error),
         }
     }
 
     fn login_fault(&self, fault: LoginFault) -> Fault {
-        let alloc = self.rt.alloc();
+        let alloc = self.kdc.alloc;
         match principal_text(alloc, &self.login.client) {
             Ok(client) => Fault::of_login(alloc, &self.kdc.kdcs, client.as_str(), fault),
             Err(error) => Fault::from(error),
@@ -185,19 +257,11 @@ fn service_fault<X>(alloc: Global, kdcs: &Kdcs<X>, service: &Name, fault: LoginF
     }
 }
 
-/// Reads the `krb5.conf` in force.
-fn read_config(rt: &HostRuntime) -> Result<Config, Fault> {
-    let variable = env::var(rt, "KRB5_CONFIG");
-    let defaults = Defaults {
-        cache: Variable::Absent,
-        config: Variable::new(&variable)?,
-        user: Variable::Absent,
-    };
-    Config::read(rt.alloc(), &mut FileStore::new(rt), &defaults)
-}
-
 /// Returns the login of a principal, for the first ticket that the `krb5.conf` asks for.
-fn login_of(alloc: Global, config: &Config, principal: &str) -> Result<Login, Fault> {
+fn login_of(alloc: Global, config: &Config, principal: &str) -> Result<Login, Fault>
+    ensures client { IfOk result (λ login. IsNamed config.now principal.now login.client) }
+    ensures service { IfOk result (λ login. login.service ≡ tgs_name login.client.realm) }
+{
     let client = config.principal(alloc, principal)?;
     Ok(Login {
         service: tgs_name(alloc, client.realm.as_slice())?,
@@ -206,19 +270,25 @@ fn login_of(alloc: Global, config: &Config, principal: &str) -> Result<Login, Fa
     })
 }
 
-/// Returns the moment that the computer's clock shows.
-fn clock(rt: &HostRuntime) -> Result<Moment, Fault> {
-    match now(rt) {
+/// Returns the moment that the store's clock shows.
+fn clock<T: ClientStore>(alloc: Global, store: &mut T) -> Result<Moment, Fault>
+    ensures shown { IfOk result (λ at. IsShown (T.world store.old) at) }
+    ensures unchanged { T.world store.new ≡ T.world store.old }
+{
+    match store.moment() {
         Ok(at) => Ok(at),
         Err(error) => {
             let cause = Cause::File(FileCause::Failed(error));
-            Err(Fault::new(rt.alloc(), CLOCK, cause))
+            Err(Fault::new(alloc, CLOCK, cause))
         }
     }
 }
 
 /// Returns the first principal of the client's realm in a keytab, unless it is the client: its key shows nothing.
-fn service_in<'k>(keytab: &'k Keytab, client: &Principal) -> Option<&'k Name> {
+#[tactic(auto, using(crate::proofs::Same::contained))]
+fn service_in<'k>(keytab: &'k Keytab, client: &Principal) -> Option<&'k Name>
+    ensures { IfSome result (λ name. IsServiceIn keytab.entry.now client.now name.now) }
+{
     for entry in keytab.entries() {
         if entry.realm.as_slice() == client.realm.as_slice() {
             return other_than(client, &entry.name);
@@ -227,7 +297,10 @@ fn service_in<'k>(keytab: &'k Keytab, client: &Principal) -> Option<&'k Name> {
     None
 }
 
-fn other_than<'k>(client: &Principal, name: &'k Name) -> Option<&'k Name> {
+fn other_than<'k>(client: &Principal, name: &'k Name) -> Option<&'k Name>
+    ensures name { IfSome result (λ other. other.now ≡ name.entry.now) }
+    ensures other { IfSome result (λ other. other.now.components ≢ client.now.name.components) }
+{
     if name.is_same(&client.name) {
         return None;
     }

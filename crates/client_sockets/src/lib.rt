@@ -21,5 +21,5 @@ mod deadline;
 mod socket_network;
 mod stream;
 
-pub use client::Client;
+pub use client::{Client, SystemClient};
 pub use socket_network::{LONGEST_REPLY, SocketNetwork};

@@ -9,6 +9,7 @@ pub mod Hash
 pub mod Sealing
 pub mod ReadyKey
 pub mod Suite
+pub mod Assigned
 -- laws that the implementations and proofs cite; readers of a contract don't need them
 pub mod RandomBlocks
 pub mod Sizes

@@ -4,7 +4,7 @@
 #![tactic(auto)]
 
 use client_files::Fault;
-use client_sockets::Client;
+use client_sockets::{Client, SystemClient};
 use cred_files::Credential;
 use program::{Status, open_missing_streams};
 use std::process::ExitCode;
@@ -46,7 +46,7 @@ fn get_ticket(
 /// Logs in and gets the ticket of a service. It verifies the login before that: the person who typed the password may
 /// also have answered in the KDC's place.
 fn verified_ticket(
-    client: &mut Client<'_>,
+    client: &mut SystemClient<'_>,
     service: &str,
     keytab: &str,
 ) -> Result<Credential, Fault> {

@@ -1,6 +1,8 @@
 //! Tests of a KDC (`kdc_core`) for the realm `A.B`: runs of events, with databases that are replaced, tidying, and
-//! resuming, and runs that continue after memory ran out. Other requests are tried over `kdcd script`.
+//! resuming; runs that continue after memory ran out, and single calls that are repeated after it (`handled`). Other
+//! requests are tried over `kdcd script`.
 use crate::fixtures::{BEGIN, END, JUDGED, holds, mark, octets};
+use crate::handled::are_handled;
 use crate::kdc_runs::{KeyBytes, RUNS, Run};
 use crate::messages::message;
 use enctypes::{Etype, Key};
@@ -272,7 +274,7 @@ fn is_outcome(alloc: Global, reply: &[u8], outcome: &str) -> Result<bool, Fail> 
     }
 }
 
-fn has_come(alloc: Global, reply: &Option<Vec<u8>>, outcome: &str) -> Result<bool, Fail> {
+pub fn has_come(alloc: Global, reply: &Option<Vec<u8>>, outcome: &str) -> Result<bool, Fail> {
     match reply {
         Some(reply) => is_outcome(alloc, reply, outcome),
         None => Ok(outcome == "-"),
@@ -342,34 +344,51 @@ fn is_added(alloc: Global, kdc: &mut Kdc) -> Result<bool, Fail> {
     Ok(has_only_tgs(kdc, &addition.name, &tgs) && is_added_once(alloc, kdc, &addition))
 }
 
+/// The calls that answer the requests of a run.
+#[derive(Clone, Copy)]
+enum Calls {
+    /// One call of `Kdc::run` for all events.
+    Run,
+    /// A call of `Kdc::handle` for each request.
+    Handle,
+}
+
 /// Runs the events over a KDC. Only this function drops one: each place with a drop takes long to prove.
-fn is_run_of(alloc: Global, run: &Run, events: &[Event], words: &[&str]) -> Result<bool, Fail> {
+fn is_run_of(
+    alloc: Global,
+    run: &Run,
+    events: &[Event],
+    words: &[&str],
+    calls: Calls,
+) -> Result<bool, Fail> {
     let (_, tgs_key, lock_after, _) = run;
     let mut kdc = opened(alloc, *tgs_key, *lock_after)?;
     if events.is_empty() {
-        is_added(alloc, &mut kdc)
-    } else {
-        is_run(alloc, &mut kdc, events, words)
+        return is_added(alloc, &mut kdc);
+    }
+    match calls {
+        Calls::Run => is_run(alloc, &mut kdc, events, words),
+        Calls::Handle => are_handled(alloc, &mut kdc, events, words),
     }
 }
 
-fn is_right_of(alloc: Global, run: &Run, words: &[&str]) -> Result<bool, Fail> {
+fn is_right_of(alloc: Global, run: &Run, words: &[&str], calls: Calls) -> Result<bool, Fail> {
     let mut events = Vec::new(alloc);
     match push_events(alloc, &mut events, words) {
-        Ok(()) => is_run_of(alloc, run, &events, words),
+        Ok(()) => is_run_of(alloc, run, &events, words, calls),
         Err(fail) => Err(fail),
     }
 }
 
-fn is_right(alloc: Global, run: &Run) -> Result<bool, Fail> {
+fn is_right(alloc: Global, run: &Run, calls: Calls) -> Result<bool, Fail> {
     let (_, _, _, text) = run;
     let words: Vec<&str> = text.split_whitespace().collect(alloc)?;
-    is_right_of(alloc, run, &words)
+    is_right_of(alloc, run, &words, calls)
 }
 
-fn expect_runs(rt: &(impl AllocGlobal + Abort), runs: &[Run]) -> Result<(), Fail> {
-    for run in runs {
-        let is_right = is_right(rt.alloc(), run)?;
+fn expect_runs(rt: &(impl AllocGlobal + Abort), calls: Calls) -> Result<(), Fail> {
+    for run in RUNS {
+        let is_right = is_right(rt.alloc(), run, calls)?;
         holds(rt, is_right, run.0);
         mark(rt.alloc(), JUDGED);
     }
@@ -378,5 +397,10 @@ fn expect_runs(rt: &(impl AllocGlobal + Abort), runs: &[Run]) -> Result<(), Fail
 
 #[test]
 fn each_event_gets_its_reply(rt: HostRuntime) -> Result<(), Fail> {
-    expect_runs(&rt, RUNS)
+    expect_runs(&rt, Calls::Run)
+}
+
+#[test]
+fn each_request_gets_its_reply_alone(rt: HostRuntime) -> Result<(), Fail> {
+    expect_runs(&rt, Calls::Handle)
 }

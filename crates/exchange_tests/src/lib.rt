@@ -2,7 +2,7 @@
 //!
 //! | modules | what they test |
 //! |---|---|
-//! | `kdcs`, `streams` | runs of events of a KDC (`kdc_runs`); streams cut into messages |
+//! | `kdcs`, `streams` | runs of events of a KDC (`kdc_runs`), requests alone (`handled`); streams cut into messages |
 //! | `hubs`, `hub_steps` | the hub; its steps that run out of memory |
 //! | `runs` | a server over a host in memory |
 //! | `lines`, `outcome_lines` | the lines of its log; those for each rule and each outcome |
@@ -33,6 +33,8 @@ mod conf_realms;
 mod contents;
 #[cfg(test)]
 mod fixtures;
+#[cfg(test)]
+mod handled;
 #[cfg(test)]
 mod hub_steps;
 #[cfg(test)]

@@ -134,7 +134,7 @@ test_above j before sums test =
           (all_above before.header.floor before.entries);
     }
 
-second_of : (a b : Bool) → (a && b) ≡ true → b ≡ true
+pub second_of : (a b : Bool) → (a && b) ≡ true → b ≡ true
 second_of true b e = e
 second_of false b e = absurd cc
 
@@ -165,7 +165,7 @@ with_entries j others check = record {
   high = above_all j.header.floor (j.entries ++ others);
 }
 
-held_more : (floor : ℤ) (es more : List Entry) (s : Seen) → IsHeld floor es s → IsHeld floor (es ++ more) s
+pub held_more : (floor : ℤ) (es more : List Entry) (s : Seen) → IsHeld floor es s → IsHeld floor (es ++ more) s
 held_more floor es more s (inl lt) = inl lt
 held_more floor es more s (inr has) =
     inr (subst (λ l. Contains l s) (sym (map-append seen_of es more)) (Contains-append_left (map seen_of es) (map seen_of more) s has))
@@ -262,7 +262,7 @@ module _ (before newer : Journal) where
   floor_if true a = same_le newer.header.floor
   floor_if false a = (a refl).floor_above
 
-held_alone : (older : Found) (newer : Journal) → HaveSums older → is_linked newer older ≡ true → (s : Seen)
+pub held_alone : (older : Found) (newer : Journal) → HaveSums older → is_linked newer older ≡ true → (s : Seen)
     → IsHeld (floor_behind newer older) (entries_behind newer older) s → IsHeld newer.header.floor newer.entries s
 held_alone Nothing newer sums linked s held = held
 held_alone (Broken lost) newer sums linked s held = held
@@ -336,7 +336,7 @@ pub floor_on_stays : (floor : ℤ) (newer : Journal) → floor ≤ℤ floor_on f
 floor_on_stays floor newer = max_first floor newer.high
 
 -- what two journals hold is below a floor that is above all of the newer one
-below_high : (high : ℤ) (newer : Journal) (s : Seen) → IsAbove high (held_in newer) → IsHeld newer.header.floor newer.entries s → s.ctime <ℤ high
+pub below_high : (high : ℤ) (newer : Journal) (s : Seen) → IsAbove high (held_in newer) → IsHeld newer.header.floor newer.entries s → s.ctime <ℤ high
 below_high high newer s a (inl lt) = lt_le s.ctime newer.header.floor high lt a.floor_above
 below_high high newer s a (inr has) = All-contains (λ (x : Seen). x.ctime <ℤ high) (map seen_of newer.entries) s a.times_above has
 

@@ -1,15 +1,14 @@
 -- What each call of a running server keeps, where the world is recorded.
-use Rattle.std.proofs.Common.{◌≡◌, inl, inr, ℕ, ℤ, true, false, List, [], ◌++◌, Option, Some, None, Result, Ok, Err, option_map, refl, sym, ap, subst}
-use Rattle.std.proofs.lemmas.List.{append-nil}
+use Rattle.std.proofs.Common.{◌≡◌, inl, inr, ℕ, ℤ, ◌<ℤ◌, true, false, List, [], Option, Some, None, Result, Ok, Err, refl, sym, ap, subst}
 use Rattle.std.specs.Prelude.{IfSome, is_some, is_ok}
 use Rattle.krb_fields.specs.declared.moment.Moment.{Moment}
 use Rattle.replay.specs.declared.seen.Resumption.{Resumption}
 use Rattle.replay.specs.declared.seen.Seen.{Seen}
 use Rattle.std.specs.Prelude.{⊤}
 use Rattle.journal.specs.Appending.{AppendsPart, BeginsFile, FoundBy, FoundIn, HasKeptOne, HasMended, HasTurned, MayFail, MayKeep, MayTurn, kept_by}
-use Rattle.journal.specs.Keeping.{BeginsJournal, begun}
+use Rattle.journal.specs.Keeping.{BeginsJournal, KeepsEntry, begun}
 use Rattle.journal.specs.Decision.{Place}
-use Rattle.journal.specs.Holding.{IsAbove, IsFound, IsKept, IsLacking, IsRaised, IsSafe, IsWhole, kept_after, with_one}
+use Rattle.journal.specs.Holding.{FilesHave, IsAbove, IsFound, IsKept, IsLacking, IsOver, IsRaised, IsSafe, IsWhole, kept_after, with_one}
 use Rattle.journal.specs.declared.files.Part.{Part}
 use Rattle.journal.specs.World.{file_in, HasPart, IsInPlace, IsLeft, IsRead, Leaves, World, with_file}
 use Rattle.journal.specs.declared.decision.Found.{Found}
@@ -21,7 +20,9 @@ use Rattle.journal.specs.declared.files.Left.TheVariants.{Before, Between, InPla
 use Rattle.journal.specs.declared.files.FileText.{FileText}
 use Rattle.journal.specs.declared.files.FileText.TheVariants as texts
 use Rattle.journal.specs.declared.journal_file.Tail.{Tail}
+use Rattle.std.proofs.lemmas.List.Elements.{All-contains}
 use Rattle.journal.proofs.Held.{rises_above, stays_above}
+use Rattle.journal.proofs.Remaining.{longer_over, more_there, placed_has, placed_only, raised_over, turn_over, turn_there, unplaced_over, unplaced_there, whole_has, whole_over}
 use Rattle.journal.proofs.Worlds.{longer_safe, turn_safe, unbegun_is_safe, whole_anew, whole_before, whole_one, whole_safe, whole_turned}
 
 -- no world stays none
@@ -36,19 +37,12 @@ unrecorded_failed place floor link how left P new (inr file) = unrecorded new P 
 
 -- ---- nothing was done
 
-pub same_part : (w : Option World) → AppendsPart w w
-same_part None = ([], refl)
-same_part (Some w) = ([], ([], [], refl, same w.newer))
-  where
-    with_newer : Option (List ℕ) → World
-    with_newer newer = record w { newer = newer }
+pub same_part : (check : List ℕ) (at : Moment) (seen : Seen) (old new : Option World) → new ≡ old → AppendsPart check at seen old new
+same_part check at seen old new same = inl same
 
-    same : (newer : Option (List ℕ)) → with_newer newer ≡ with_newer (option_map (λ front. front ++ []) newer)
-    same None = refl
-    same (Some text) = ap (λ t. with_newer (Some t)) (sym (append-nil text))
-
-pub part_left : (text : List ℕ) (old new : Option World) → Leaves (HasPart text) old new → AppendsPart old new
-part_left text old new left = (text, left)
+pub part_left : (check : List ℕ) (at : Moment) (seen : Seen) (more next : List ℕ) (old new : Option World) → KeepsEntry check at seen more next
+    → Leaves (HasPart more) old new → AppendsPart check at seen old new
+part_left check at seen more next old new keeps left = inr (more, next, keeps, left)
 
 -- ---- files take turns
 
@@ -71,10 +65,20 @@ turned low all place floor tail (Some w) (Some next) (Some n) (inr file) whole =
 )
 turned low all place floor tail (Some w) None new (left, inl (before, same)) whole =
     subst (λ x. IfSome x (λ n. IsKept low all all n None floor)) (sym same)
-    (record { safe = whole_safe low all w tail.check floor whole; above_kept = whole.above_all_seen; above_all_seen = whole.above_all_seen })
+    (record {
+      safe = whole_safe low all w tail.check floor whole;
+      have = whole_has low all w tail.check floor whole;
+      over = whole_over low all w tail.check floor whole;
+      above_kept = whole.above_all_seen;
+      above_all_seen = whole.above_all_seen;
+    })
 turned low all place floor tail (Some w) None None (left, inr file) whole = absurd file.leaves
 turned low all place floor tail (Some w) None (Some n) (left, inr file) whole = record {
   safe = turn_safe low all w tail.check floor whole place file.at_floor file.text file.check left n file.floor_is file.begins file.leaves;
+  have = λ seen has.
+      turn_there low all w tail.check floor whole place file.at_floor file.floor_is file.text file.check file.begins left n file.leaves seen
+      (whole_has low all w tail.check floor whole seen has);
+  over = turn_over low all w tail.check floor whole place file.at_floor file.floor_is file.text file.check file.begins left n file.leaves;
   above_kept = whole.above_all_seen;
   above_all_seen = whole.above_all_seen;
 }
@@ -113,9 +117,20 @@ appended low all at seen floor raised rises tail w (Some next) (Some n) one whol
   subst (λ x. IsWhole low (with_one all seen) x next.check raised) (sym one.leaves)
       (whole_one low all w tail.check floor whole at seen one.more next.check one.keeps raised rises),
 )
-appended low all at seen floor raised rises tail w None None (text, left) whole = absurd left
-appended low all at seen floor raised rises tail w None (Some n) (text, (part, rest, is, left)) whole = record {
+appended low all at seen floor raised rises tail w None new (inl same) whole =
+    subst (λ x. IfSome x (λ n. IsKept low all (with_one all seen) n None raised)) (sym same)
+    (record {
+      safe = whole_safe low all w tail.check floor whole;
+      have = whole_has low all w tail.check floor whole;
+      over = raised_over floor raised seen w rises (whole_over low all w tail.check floor whole);
+      above_kept = raised_still floor raised all seen rises whole.above_all_seen;
+      above_all_seen = raised_above floor raised all seen rises whole.above_all_seen;
+    })
+appended low all at seen floor raised rises tail w None None (inr (more, next, keeps, left)) whole = absurd left
+appended low all at seen floor raised rises tail w None (Some n) (inr (more, next, keeps, (part, rest, is, left))) whole = record {
   safe = subst (IsSafe low all) (sym left) (longer_safe low all w tail.check floor whole part);
+  have = λ s has. subst (λ x. FilesHave x s) (sym left) (more_there w part s (whole_has low all w tail.check floor whole s has));
+  over = subst (IsOver raised) (sym left) (longer_over low all w tail.check floor whole at seen more next part rest keeps is raised rises);
   above_kept = raised_still floor raised all seen rises whole.above_all_seen;
   above_all_seen = raised_above floor raised all seen rises whole.above_all_seen;
 }
@@ -131,6 +146,8 @@ appended_kept low kept all at seen floor raised rises None old next new (none, s
     still None is = tt
     still (Some w) is = record {
       safe = is.safe;
+      have = is.have;
+      over = raised_over floor raised seen w rises is.over;
       above_kept = raised_still floor raised kept seen rises is.above_kept;
       above_all_seen = raised_above floor raised all seen rises is.above_all_seen;
     }
@@ -138,7 +155,8 @@ appended_kept low kept all at seen floor raised rises (Some tail) None next new 
   where
     none_kept : (next : Option Tail) → HasKeptOne at seen tail None next new → IfSome new (λ w. IsKept low (kept_after next kept (with_one all seen)) (with_one all seen) w next raised)
     none_kept (Some next) one = unrecorded new _ one.leaves
-    none_kept None (text, left) = unrecorded new _ left
+    none_kept None (inl same) = unrecorded new _ same
+    none_kept None (inr (more, next, keeps, left)) = unrecorded new _ left
 appended_kept low kept all at seen floor raised rises (Some tail) (Some w) next new step (same, whole) =
     subst (λ k. IfSome new (λ w. IsKept low (kept_after next k (with_one all seen)) (with_one all seen) w next raised)) (sym same)
     (appended low all at seen floor raised rises tail w next new step whole)
@@ -187,6 +205,10 @@ pub in_place_lacks : (how : Begun) → IsReplaced how → (low : ℤ) (kept all 
     → floor ≡ Some f → BeginsJournal (begun place f []) text check → IsAbove f kept → IsAbove f all → IsInPlace how text w n → IsLacking low kept all n floor
 in_place_lacks how so low kept all place floor f text check w n is begins above_kept above_all left = record {
   safe = whole_safe low kept n check (Some f) (whole_anew low kept n place f text check above_kept begins (in_place_text how so text w n left));
+  have = λ seen has.
+      placed_has place f text check begins n (in_place_text how so text w n left) seen
+      (All-contains (λ (s : Seen). s.ctime <ℤ f) kept.seen seen above_kept.times_above has);
+  over = subst (λ o. IsOver o n) (sym is) (λ seen has. placed_only place f text check begins n (in_place_text how so text w n left) seen has);
   above_kept = subst (λ o. IfSome o (λ f. IsAbove f kept)) (sym is) above_kept;
   above_all_seen = subst (λ o. IfSome o (λ f. IsAbove f all)) (sym is) above_all;
 }
@@ -197,11 +219,15 @@ mend_fails : (low : ℤ) (kept all : Resumption) (place : Place) (floor : Option
     → IsLacking low kept all n floor
 mend_fails low kept all place floor Before w n f text check is begins left lacks = record {
   safe = unbegun_is_safe low kept Roomy (begun place f []) text check Before w n begins refl tt lacks.safe left;
+  have = λ seen has. unplaced_there Roomy text Before w n tt left seen (lacks.have seen has);
+  over = unplaced_over Roomy text Before w n tt left floor lacks.over;
   above_kept = lacks.above_kept;
   above_all_seen = lacks.above_all_seen;
 }
 mend_fails low kept all place floor Between w n f text check is begins left lacks = record {
   safe = unbegun_is_safe low kept Roomy (begun place f []) text check Between w n begins refl tt lacks.safe left;
+  have = λ seen has. unplaced_there Roomy text Between w n tt left seen (lacks.have seen has);
+  over = unplaced_over Roomy text Between w n tt left floor lacks.over;
   above_kept = lacks.above_kept;
   above_all_seen = lacks.above_all_seen;
 }

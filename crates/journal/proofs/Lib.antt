@@ -6,7 +6,9 @@ mod Spellings
 mod Lengths
 pub mod Held
 mod Worlds
+mod Remaining
 mod Keeps
+mod Staying
 mod Findings
 mod Recent
 mod Starts
@@ -14,3 +16,4 @@ mod Heads
 mod Seals
 mod Showings
 mod Life
+mod Lasting

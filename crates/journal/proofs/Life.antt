@@ -27,11 +27,10 @@ use Rattle.journal.specs.Appending.{kept_by}
 use Rattle.journal.specs.Decision.{Place, doubt_of, doubt_without, floor_behind, found_floor, goes_on_behind, is_early, next_start, resumption_of, start_by, start_of}
 use Rattle.journal.specs.Finding.{AreFound}
 use Rattle.journal.specs.declared.decision.FoundFiles.{FoundFiles}
-use Rattle.journal.proofs.Showings.{shown_is_refused}
 use Rattle.journal.specs.Holding.{IsAbove, IsFound, IsKept, IsSafe, IsStart, known_by}
 use Rattle.replay.specs.Run.{with_any}
 use Rattle.journal.specs.declared.process.Asked.{Asked}
-use Rattle.journal.specs.Life.{AllIsKept, AreCalls, Call, Follows, IsBegun, IsCall, IsKeptIn, IsLater, IsProcess, IsSafeAfter, IsStage, JournalState, KeptIsRefused, LeavesNoSeal, LivesHold, NextBootRefuses, Past, Process, ProcessIsSafe, Serves, Stage, StagesFollow, StartsAreLater, StaysSafe}
+use Rattle.journal.specs.Life.{AllIsKept, AreCalls, Call, Follows, IsBegun, IsCall, IsKeptIn, IsLater, IsProcess, IsSafeAfter, IsStage, JournalState, KeptIsRefused, LeavesNoSeal, NextBootRefuses, Past, Process, ProcessIsSafe, Serves, Stage, StagesFollow, StartsAreLater, StaysSafe}
 use Rattle.journal.specs.Life.{all_after, kept_by_process, kept_in, past_after, past_after_all, past_of, result_of, seen_asked, seen_in}
 use Rattle.journal.specs.Life.Call.{Keep, Mend}
 use Rattle.journal.specs.Life.Stage.{Ran, Finished, Sealed, Lost}
@@ -180,7 +179,7 @@ above_within floor r a c s is = by_part (either_of (int_lt s.0 r.floor) (is_some
 
 -- ---- the calls of one process
 
-calls_kept : (low : ℤ) (kept all : Resumption) (calls : List Call) (old new : JournalState) → AreCalls calls old new → IsKeptIn low kept all old
+pub calls_kept : (low : ℤ) (kept all : Resumption) (calls : List Call) (old new : JournalState) → AreCalls calls old new → IsKeptIn low kept all old
     → (more : Resumption) × IsKeptIn low (kept_in kept all calls) more new
 unfolding kept_in
 calls_kept low kept all [] old new same is = (all, subst (IsKeptIn low kept all) (sym same) is)
@@ -280,7 +279,7 @@ module _ (p : Process) (old new : World) (is : IsProcess p old new) where
 
 -- ---- a life
 
-process_is_safe : ProcessIsSafe
+pub process_is_safe : ProcessIsSafe
 process_is_safe p old new begun is = process_safe p old new is begun
 
 stage_safe : (r : Resumption) (past : Past) (stage : Stage) (old new : World) → IsSafeAfter r past old → IsStage stage old new → Follows r past stage
@@ -292,13 +291,13 @@ stage_safe r past Finished old new safe (finds, same) follows here =
 stage_safe r past Sealed old new safe (seal, same) follows here = subst (IsSafe past.low r) (sym same) (sealed_safe past.low r old seal (safe here))
 stage_safe r past Lost old new safe is follows here = absurd (false≢true (sym here))
 
-stays_safe : StaysSafe
+pub stays_safe : StaysSafe
 unfolding past_after_all StagesFollow
 stays_safe r past [] old new safe same follows = subst (IsSafeAfter r past) (sym same) safe
 stays_safe r past (stage ∷ life) old new safe (next, is, rest) follows =
     stays_safe r (past_after past stage) life next new (stage_safe r past stage old next safe is follows.0) rest follows.1
 
-leaves_no_seal : LeavesNoSeal
+pub leaves_no_seal : LeavesNoSeal
 leaves_no_seal p old new begun is = no_seal p old new is begun
 
 -- ---- each authenticator that was kept is refused
@@ -322,7 +321,7 @@ spent_itself r seen has =
     subst (λ l. is_spent (resumed_cache (record { floor = r.floor; seen = l }) c) (stamp_seen seen) ≡ true) (append_assoc before (seen ∷ []) after ∙ sym is)
     (extended_holds c upto r.floor after (same_le r.floor) (stamp_seen seen) (last_spent c first r.floor seen (own_name seen)))
 
-kept_is_refused : KeptIsRefused
+pub kept_is_refused : KeptIsRefused
 kept_is_refused p life before after new begun is lives follows place older newer beside found check o n b starts late seen has =
     let kept = kept_by_process p in
     let safe = stays_safe kept (past_of p) life after new (λ here. process_is_safe p before after begun is) lives follows late.0 in
@@ -360,7 +359,7 @@ all_in kept all (call ∷ calls) last ok =
     ∙ one_more_seen all call (seen_in (calls ++ last ∷ []))
     ∙ ap (with_all all) (sym (first_seen call (calls ++ last ∷ [])))
 
-all_is_kept : AllIsKept
+pub all_is_kept : AllIsKept
 all_is_kept r calls last ok = all_in r r calls last ok
 
 -- ---- starts
@@ -374,7 +373,7 @@ not_below : (at floor high : ℤ) (early : Bool)
 not_below at floor high true = grind (arith, ints, clamps)
 not_below at floor high false = grind (arith, ints, clamps)
 
-starts_are_later : StartsAreLater
+pub starts_are_later : StartsAreLater
 starts_are_later place older Nothing beside found check is = absurd cc
 starts_are_later place older (Broken lost) beside found check is = absurd cc
 starts_are_later place older (Whole j) beside found check is = by_doubt (doubt_of place older j) is
@@ -396,7 +395,7 @@ found_len file j (Nothing, s, is) = absurd cc
 found_len file j (Broken lost, s, is) = absurd cc
 found_len file j (Whole all, s, is) = ap (λ f. length (check_or [] f)) is ∙ spelled_len file all s
 
-next_boot_refuses : NextBootRefuses
+pub next_boot_refuses : NextBootRefuses
 next_boot_refuses w place older Nothing beside o n none other = (doubt_without older beside, found_floor older Nothing beside, refl)
 next_boot_refuses w place older (Broken lost) beside o n none other = (Damaged, found_floor older (Broken lost) beside, refl)
 next_boot_refuses w place older (Whole j) beside o n none other = by_doubt (doubt_of place older j) refl
@@ -522,15 +521,3 @@ start_made place found start (Some w) are decided = λ floor is.
       decided = decided;
       floor = is;
     }
-
-pub lives_hold : LivesHold
-lives_hold = record {
-  safe = process_is_safe;
-  stays = stays_safe;
-  refused = kept_is_refused;
-  all_kept = all_is_kept;
-  later = starts_are_later;
-  no_seal = leaves_no_seal;
-  next_boot = next_boot_refuses;
-  shown = shown_is_refused;
-}

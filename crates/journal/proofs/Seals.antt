@@ -9,7 +9,7 @@ use Rattle.journal.specs.Appending.{BeginsFile, HasMended, MayFail, MayKeep, May
 use Rattle.journal.specs.Decision.{Place, doubt_of, found_floor, goes_on_behind, is_missealed, is_other_boot, is_other_realm, is_sealed, is_unlinked, resumption_of, seal_by, start_by, start_of}
 use Rattle.journal.specs.Holding.{IsStart}
 use Rattle.journal.specs.Sealing.{MissealedRefuses, SealIsSafe, SealsHold, SealsWhatResumes, ThisBootOrSealed}
-use Rattle.journal.specs.World.{HasBeside, HasPart, IsLeft, Leaves, SameSeal, Unseals, World, with_seal, without_older}
+use Rattle.journal.specs.World.{HasBeside, HasPart, IsLeft, Leaves, SameSeal, Unseals, World, with_seal, roomier}
 use Rattle.journal.specs.declared.decision.Doubt.{Doubt}
 use Rattle.journal.specs.declared.decision.Found.{Found}
 use Rattle.journal.specs.declared.decision.Found.TheVariants.{Nothing, Broken, Whole}
@@ -174,7 +174,7 @@ left_stays : (how : Begun) (text : List ℕ) (left : Left) (w n : World) → IsL
 left_stays how text Before w n is = beside_stays text w n is
 left_stays Linked text Between w n is = ap (λ (w : World). w.seal) is
 left_stays Anew text Between w n is = beside_stays text w n is
-left_stays Roomy text Between w n is = beside_stays text (without_older w) n is
+left_stays Roomy text Between w n is = beside_stays text (roomier w) n is
 left_stays Linked text InPlace w n is = ap (λ (w : World). w.seal) is
 left_stays Anew text InPlace w n (inl is) = ap (λ (w : World). w.seal) is
 left_stays Anew text InPlace w n (inr is) = ap (λ (w : World). w.seal) is
@@ -198,9 +198,10 @@ pub append_stays : (at : Moment) (seen : Seen) (tail : Option Tail) (old : Optio
     → MayKeep at seen tail old next new → Leaves SameSeal old new
 append_stays at seen None old next new (none, same) = stays_if_same old new same
 append_stays at seen (Some tail) old (Some next) new one = by_world _ (λ w n is. ap (λ (w : World). w.seal) is) old new one.leaves
-append_stays at seen (Some tail) old None new (text, part) = by_world (HasPart text) one old new part
+append_stays at seen (Some tail) old None new (inl same) = stays_if_same old new same
+append_stays at seen (Some tail) old None new (inr (more, next, keeps, part)) = by_world (HasPart more) one old new part
   where
-    one : (w n : World) → HasPart text w n → n.seal ≡ w.seal
+    one : (w n : World) → HasPart more w n → n.seal ≡ w.seal
     one w n (front, rest, is, step) = ap (λ (w : World). w.seal) step
 
 pub mend_stays : (place : Place) (floor : Option ℤ) (old : Option World) (next : Option Tail) (new : Option World) → HasMended place floor old next new

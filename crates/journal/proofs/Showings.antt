@@ -24,12 +24,12 @@ use Rattle.journal.proofs.Walks.{cut_here}
 
 -- ---- a text shows one thing
 
-stands_one : (text : List ℕ) (place : ℕ) (e x : Entry) → StandsAt text place e → StandsAt text place x → e ≡ x
+pub stands_one : (text : List ℕ) (place : ℕ) (e x : Entry) → StandsAt text place e → StandsAt text place x → e ≡ x
 stands_one text place e x a b =
     let (after, has, is) = cut_here text a.front a.before (checked a.before (written entry e) ++ a.rest) place x a.text_is a.place_is a.sixteen b in
     one_value entry e x a.has.0 has.0 (one_checked a.before a.before (written entry e) (written entry x) a.rest after a.has.1 has.1 is).0
 
-one_place : (p q : ℕ) → (p < q → ⊥) → (q < p → ⊥) → p ≡ q
+pub one_place : (p q : ℕ) → (p < q → ⊥) → (q < p → ⊥) → p ≡ q
 one_place p q a b = by_test (nat_lt p q) (nat_lt q p) refl refl
   where
     by_test : (s t : Bool) → nat_lt p q ≡ s → nat_lt q p ≡ t → p ≡ q
@@ -50,7 +50,7 @@ from_one text n (e ∷ es) (x ∷ xs) (p, le, free, stands, rest) (q, at, none, 
     (subst (λ (y : Entry). AreFrom text (q + element_length (written entry y)) es) same
     (subst (λ n. AreFrom text (n + element_length (written entry e)) es) place rest)) others)
 
-head_one : (text : List ℕ) (a b : Option Header) → IsHead text a → IsHead text b → a ≡ b
+pub head_one : (text : List ℕ) (a b : Option Header) → IsHead text a → IsHead text b → a ≡ b
 head_one text None None a b = refl
 head_one text None (Some k) a b = absurd (a k b)
 head_one text (Some h) None a b = absurd (b h a)
@@ -74,23 +74,23 @@ over_max c a b lt = grind (arith, ints, clamps)
 over_other : (c a b : ℤ) → c <ℤ b → c <ℤ int_max a b
 over_other c a b lt = grind (arith, ints, clamps)
 
-over_first : (c : ℤ) (a b : Option ℤ) → IsSomeAnd a (λ f. c <ℤ f) → IsSomeAnd (greater a b) (λ f. c <ℤ f)
+pub over_first : (c : ℤ) (a b : Option ℤ) → IsSomeAnd a (λ f. c <ℤ f) → IsSomeAnd (greater a b) (λ f. c <ℤ f)
 over_first c None b over = absurd over
 over_first c (Some f) None over = over
 over_first c (Some f) (Some g) over = over_max c f g over
 
-over_second : (c : ℤ) (a b : Option ℤ) → IsSomeAnd b (λ f. c <ℤ f) → IsSomeAnd (greater a b) (λ f. c <ℤ f)
+pub over_second : (c : ℤ) (a b : Option ℤ) → IsSomeAnd b (λ f. c <ℤ f) → IsSomeAnd (greater a b) (λ f. c <ℤ f)
 over_second c None b over = over
 over_second c (Some f) None over = absurd over
 over_second c (Some f) (Some g) over = over_other c f g over
 
-over_since : (c floor second : ℤ) → c <ℤ floor → c <ℤ last_second → c <ℤ floor_since floor second
+pub over_since : (c floor second : ℤ) → c <ℤ floor → c <ℤ last_second → c <ℤ floor_since floor second
 over_since c floor second lt early = grind (arith, ints, clamps)
 
-over_one : (c : ℤ) → c <ℤ (c +ℤ pos 1)
+pub over_one : (c : ℤ) → c <ℤ (c +ℤ pos 1)
 over_one c = grind (arith, ints)
 
-over_with : (c : ℤ) (floor : Option ℤ) (es : List Entry) → IsSomeAnd floor (λ f. c <ℤ f)
+pub over_with : (c : ℤ) (floor : Option ℤ) (es : List Entry) → IsSomeAnd floor (λ f. c <ℤ f)
     → IsSomeAnd (floor_with floor es) (λ f. c <ℤ f)
 over_with c floor [] over = over
 over_with c floor (e ∷ es) over = over_with c (greater floor (Some (entry_floor e))) es (over_first c floor (Some (entry_floor e)) over)
@@ -150,7 +150,7 @@ abbrev floor_or : Option ℤ → Start → Option ℤ
 floor_or otherwise (Resumes found check) = otherwise
 floor_or otherwise (Refuses doubt floor) = floor
 
-refused_floor : (place : Place) (older newer beside : Found) (doubt : Doubt) (floor : Option ℤ)
+pub refused_floor : (place : Place) (older newer beside : Found) (doubt : Doubt) (floor : Option ℤ)
     → start_of place older newer beside ≡ Refuses doubt floor
     → found_floor older newer beside ≡ floor
 refused_floor place older Nothing beside doubt floor is = ap (floor_or floor) is

@@ -184,7 +184,7 @@ pub none_walked : (text : List ℕ) (from : ℕ) (first : Option ℤ) → from �
     → HasWalked text from first from first
 none_walked text from first le = record { walked = []; floor_is = refl; goes_on = λ others are. are; within = le }
 
-floor_both : (first : Option ℤ) (es others : List Entry)
+pub floor_both : (first : Option ℤ) (es others : List Entry)
     → floor_with first (es ++ others) ≡ floor_with (floor_with first es) others
 floor_both first [] others = refl
 floor_both first (e ∷ es) others = floor_both (greater first (Some (entry_floor e))) es others

@@ -14,10 +14,10 @@ use Rattle.replay.specs.declared.seen.Seen.{Seen}
 use Rattle.journal.specs.Decision.{Place, above, doubt_of, entries_behind, floor_behind, floor_on, goes_behind, goes_on_behind, is_behind, is_early, is_first, is_foreign, is_linked, is_missealed, is_other_boot, is_other_realm, is_unlinked, next_start, resumed_floor, resumption_of, seen_of, start_by, start_of}
 use Rattle.krb_elements.specs.Codec.{written}
 use Rattle.journal.specs.Forms.{Entry, Header, entry, header}
-use Rattle.journal.specs.Holding.{FinishedIsSafe, HasSums, HoldAll, HoldsOn, IsAbove, IsFound, IsHeld, IsSafe, IsSpelled, IsWhole, KeptIsSafe, Knows, Spells, UnbegunIsSafe, cut, cut_found, held_in, with_one}
+use Rattle.journal.specs.Holding.{FinishedIsSafe, HasSums, HoldAll, IsAbove, IsFound, IsHeld, IsSafe, IsSpelled, IsWhole, KeptIsSafe, Knows, Spells, UnbegunIsSafe, cut, cut_found, held_in, with_one}
 use Rattle.journal.specs.Texts.{check_of, header_check, last_check}
 use Rattle.journal.specs.Keeping.{BeginsJournal, KeepsEntry, begun}
-use Rattle.journal.specs.World.{HasBeside, IsLeft, World, finished, with_beside, with_file, with_more, without_older}
+use Rattle.journal.specs.World.{HasBeside, IsLeft, World, finished, older_left, roomier, with_beside, with_file, with_more, without_older}
 use Rattle.journal.specs.declared.decision.Doubt.{Doubt}
 use Rattle.journal.specs.declared.decision.Found.{Found}
 use Rattle.journal.specs.declared.decision.Found.TheVariants.{Nothing, Broken, Whole}
@@ -139,7 +139,7 @@ none_found found (Broken lost, s, is) = absurd s
 none_found found (Whole j, s, is) = absurd s
 
 -- what is found as no file is none
-found_none : (file : Option (List ℕ)) → IsFound file Nothing → file ≡ None
+pub found_none : (file : Option (List ℕ)) → IsFound file Nothing → file ≡ None
 found_none None f = refl
 found_none (Some text) (Nothing, s, is) = absurd s
 found_none (Some text) (Broken lost, s, is) = absurd cc
@@ -292,6 +292,14 @@ module _ (low : ℤ) (r : Resumption) (old : World) (safe : IsSafe low r old) wh
         gone_by place newer beside found check n b (ap (λ x. next_start place x newer beside) (sym (none_found older o)) ∙ starts) late below under;
   }
 
+-- more room leaves the files safe
+roomier_safe : (low : ℤ) (r : Resumption) (w : World) → IsSafe low r w → IsSafe low r (roomier w)
+roomier_safe low r w safe = by_newer w.newer refl
+  where
+    by_newer : (newer : Option (List ℕ)) → w.newer ≡ newer → IsSafe low r (record w { older = older_left newer w.older })
+    by_newer (Some text) is = older_gone low r w safe
+    by_newer None is = safe
+
 pub unbegun_is_safe : UnbegunIsSafe
 unbegun_is_safe low r Linked h text check left old new begins none unlinked safe is = absurd unlinked
 unbegun_is_safe low r Anew h text check Before old new begins none unlinked safe is = beside_safe low r h text check old new begins none safe is
@@ -299,7 +307,7 @@ unbegun_is_safe low r Anew h text check Between old new begins none unlinked saf
 unbegun_is_safe low r Anew h text check InPlace old new begins none unlinked safe is = absurd unlinked
 unbegun_is_safe low r Roomy h text check Before old new begins none unlinked safe is = beside_safe low r h text check old new begins none safe is
 unbegun_is_safe low r Roomy h text check Between old new begins none unlinked safe is =
-    beside_safe low r h text check (without_older old) new begins none (older_gone low r old safe) is
+    beside_safe low r h text check (roomier old) new begins none (roomier_safe low r old safe) is
 unbegun_is_safe low r Roomy h text check InPlace old new begins none unlinked safe is = absurd unlinked
 
 -- ---- a turn that was cut
@@ -471,7 +479,7 @@ whole_anew low all w place f text next above_it begins newer_is =
 
 -- ---- a start
 
-text_found : (file : Option (List ℕ)) (j : Journal) → IsSpelled file (Whole j) → (text : List ℕ) × (file ≡ Some text) × Spells text j
+pub text_found : (file : Option (List ℕ)) (j : Journal) → IsSpelled file (Whole j) → (text : List ℕ) × (file ≡ Some text) × Spells text j
 text_found None j f = absurd f
 text_found (Some text) j f = (text, refl, f)
 
@@ -711,6 +719,3 @@ module _ (low : ℤ) (all : Resumption) (w : World) (check : List ℕ) (floor : 
   turn_safe place f text next InPlace new is begins left =
       subst (IsSafe low all) (sym left)
       (whole_safe low all (with_file Linked text w) next (Some f) (whole_turned low all w check floor whole place f is text next begins))
-
-pub holds_on : HoldsOn
-holds_on = record { kept = kept_is_safe; unbegun = unbegun_is_safe; finished = finished_is_safe }

@@ -65,13 +65,15 @@ pub record AppendsOne (check : List ℕ) (at : Moment) (seen : Seen) (next : Lis
   pub keeps : KeepsEntry check at seen more next
   pub leaves : Leaves (λ o n. n ≡ with_more o more) old new
 
--- or a part of some text
-abbrev pub AppendsPart : Option World → Option World → Type 0
-AppendsPart old new = (text : List ℕ) × Leaves (HasPart text) old new
+-- or a part of it, or nothing
+abbrev pub AppendsPart : List ℕ → Moment → Seen → Option World → Option World → Type 0
+AppendsPart check at seen old new =
+    (new ≡ old)
+    ⊎ ((more : List ℕ) × (next : List ℕ) × KeepsEntry check at seen more next × Leaves (HasPart more) old new)
 
 abbrev pub HasAppended : {E : Type 0} → Moment → Seen → Tail → Option World → Result Tail E → Option World → Type 0
 HasAppended at seen tail old (Ok next) new = AppendsOne tail.check at seen next.check old new
-HasAppended at seen tail old (Err fault) new = AppendsPart old new
+HasAppended at seen tail old (Err fault) new = AppendsPart tail.check at seen old new
 
 -- ---- with the end of the file
 
@@ -88,7 +90,7 @@ MayTurn place floor None old next new = (next ≡ None) × (new ≡ old)
 
 abbrev pub HasKeptOne : Moment → Seen → Tail → Option World → Option Tail → Option World → Type 0
 HasKeptOne at seen tail old (Some next) new = AppendsOne tail.check at seen next.check old new
-HasKeptOne at seen tail old None new = AppendsPart old new
+HasKeptOne at seen tail old None new = AppendsPart tail.check at seen old new
 
 abbrev pub MayKeep : Moment → Seen → Option Tail → Option World → Option Tail → Option World → Type 0
 MayKeep at seen (Some tail) old next new = HasKeptOne at seen tail old next new

@@ -3,6 +3,7 @@
 use Rattle.std.specs.Prelude.{◌≡◌, ◌⊎◌, ℕ, ℤ, ◌≤ℤ◌, ◌<ℤ◌, ⊤, true, List, [], ◌∷◌, ◌++◌, map, Option, Some, None}
 use Rattle.std.specs.Prelude.{All, Bool, Contains, IfSome, is_some}
 use Rattle.std.specs.Int.{int_max}
+use Rattle.std.specs.Option.{IsSomeAnd}
 use Rattle.krb_fields.specs.Name.{Components}
 use Rattle.krb_fields.specs.declared.moment.Moment.{Moment}
 use Rattle.replay.specs.Resumed.{Holds, resumed_cache}
@@ -13,7 +14,7 @@ use Rattle.journal.specs.Decision.{Place, above, above_all, entries_behind, floo
 use Rattle.journal.specs.Decision.{recent, seen_of, start_of}
 use Rattle.journal.specs.Forms.{Entry, Header}
 use Rattle.journal.specs.Keeping.{BeginsJournal}
-use Rattle.journal.specs.World.{IsLeft, World, finished}
+use Rattle.journal.specs.World.{IsLeft, Leaves, World, finished}
 use Rattle.journal.specs.declared.files.Begun.{Begun}
 use Rattle.journal.specs.declared.files.Begun.TheVariants.{Linked, Anew, Roomy}
 use Rattle.journal.specs.declared.files.Left.{Left}
@@ -51,6 +52,34 @@ held_in j = record { floor = j.header.floor; seen = map seen_of j.entries }
 -- one more authenticator
 abbrev pub with_one : Resumption → Seen → Resumption
 with_one r seen = record { floor = r.floor; seen = r.seen ++ seen ∷ [] }
+
+-- ---- what files have
+
+-- A text begins as a journal, whatever is behind that, and has this authenticator: it is that of an entry there, or its
+-- time is below the floor of the header.
+pub record TextHas (text : List ℕ) (seen : Seen) : Type 0 where
+  pub header : Header
+  pub entries : List Entry
+  pub rest : List ℕ
+  pub text_is : text ≡ journal_text header entries ++ rest
+  pub has_header : HasHeader header
+  pub have_elements : HaveElements entries
+  pub held : IsHeld header.floor entries seen
+
+abbrev pub FileHas : Seen → Option (List ℕ) → Type 0
+FileHas seen file = IsSomeAnd file (λ text. TextHas text seen)
+
+-- The newer file has it. Or there is none, and the older one has it.
+abbrev pub FilesHave : World → Seen → Type 0
+FilesHave w seen = FileHas seen w.newer ⊎ ((w.newer ≡ None) × FileHas seen w.older)
+
+-- the floor, if there is one, is above each that they have
+abbrev pub IsOver : Option ℤ → World → Type 0
+IsOver floor w = IfSome floor (λ f. (seen : Seen) → FilesHave w seen → seen.ctime <ℤ f)
+
+-- if they had this one, they still have it
+abbrev pub StillThere : Seen → Option World → Option World → Type 0
+StillThere seen old new = Leaves (λ o n. FilesHave o seen → FilesHave n seen) old new
 
 -- ---- what is found in files
 
@@ -138,9 +167,12 @@ pub record IsWhole (low : ℤ) (all : Resumption) (w : World) (check : List ℕ)
   pub above_newer : IfSome floor (λ f. IsAbove f (held_in newer))
   pub above_all_seen : IfSome floor (λ f. IsAbove f all)
 
--- Something could not be kept. What was kept before is safe, and the floor is above all.
+-- Something could not be kept. What was kept before is safe, and the files have it. The floor is above all, and above
+-- all that the files have.
 pub record IsLacking (low : ℤ) (kept all : Resumption) (w : World) (floor : Option ℤ) : Type 0 where
   pub safe : IsSafe low kept w
+  pub have : (seen : Seen) → Contains kept.seen seen → FilesHave w seen
+  pub over : IsOver floor w
   pub above_kept : IfSome floor (λ f. IsAbove f kept)
   pub above_all_seen : IfSome floor (λ f. IsAbove f all)
 
@@ -173,6 +205,11 @@ abbrev pub known_by : ℤ → Start → Resumption
 known_by floor (Resumes r check) = r
 known_by floor (Refuses doubt found) = record { floor = floor; seen = [] }
 
+-- It counts an authenticator that it does not resume with, if its floor is above it.
+abbrev pub Counts : Start → ℤ → Seen → Type 0
+Counts (Resumes r check) floor seen = ⊤
+Counts (Refuses doubt found) floor seen = seen.ctime <ℤ floor
+
 -- a start at this moment, which made this of the files that it found
 pub record IsStart (at : Moment) (at_floor : ℤ) (newer : Found) (start : Start) (w : World) : Type 0 where
   pub place : Place
@@ -202,7 +239,12 @@ abbrev pub KeptIsSafe : Type 0
 KeptIsSafe = (low : ℤ) (kept all : Resumption) (w : World) (tail : Option Tail) (floor : Option ℤ)
     → IsKept low kept all w tail floor → IsSafe low kept w
 
--- Nor does one after a file that links to none could not be begun, by whomever, unless it is in place.
+-- And the files have it.
+abbrev pub KeptIsThere : Type 0
+KeptIsThere = (low : ℤ) (kept all : Resumption) (w : World) (tail : Option Tail) (floor : Option ℤ)
+    → IsKept low kept all w tail floor → (seen : Seen) → Contains kept.seen seen → FilesHave w seen
+
+-- Nor does one resume without it after a file that links to none could not be begun, by whomever, unless it is in place.
 abbrev pub UnbegunIsSafe : Type 0
 UnbegunIsSafe = (low : ℤ) (r : Resumption) (how : Begun) (h : Header) (text check : List ℕ) (left : Left) (old new : World)
     → BeginsJournal h text check → h.link ≡ [] → IsUnlinked how left
@@ -216,5 +258,6 @@ FinishedIsSafe = (low : ℤ) (r : Resumption) (w : World) (older newer beside : 
 
 pub record HoldsOn : Type 0 where
   pub kept : KeptIsSafe
+  pub there : KeptIsThere
   pub unbegun : UnbegunIsSafe
   pub finished : FinishedIsSafe

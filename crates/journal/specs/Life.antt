@@ -12,7 +12,7 @@ use Rattle.replay.specs.declared.seen.Seen.{Seen}
 use Rattle.journal.specs.Appending.{FoundIn, kept_by}
 use Rattle.journal.specs.Decision.{Place, is_cut, last_second, next_start, start_of}
 use Rattle.journal.specs.Forms.{Entry}
-use Rattle.journal.specs.Holding.{IsAbove, IsFound, IsKept, IsSafe, IsStart, Spells, known_by, with_one}
+use Rattle.journal.specs.Holding.{Counts, FilesHave, IsAbove, IsFound, IsKept, IsSafe, IsStart, Spells, StillThere, known_by, with_one}
 use Rattle.journal.specs.Showing.{Shows, Shown}
 use Rattle.journal.specs.World.{Leaves, SameSeal, World, finished, with_seal}
 use Rattle.journal.specs.declared.decision.Doubt.{Doubt}
@@ -48,6 +48,9 @@ pub record IsBegun (at : Moment) (newer : Found) (start : Start) (ok : Bool) (ol
       → IsKeptIn (at.sec -ℤ pos skew) (known_by floor start) (known_by floor start) new
   pub safe : (low : ℤ) (r : Resumption) → IfSome old.files (IsSafe low r) → ok ≡ false → IfSome new.files (IsSafe low r)
   pub broken : ok ≡ true → IfSome new.files (λ w. w.seal ≡ [])
+  pub there : ok ≡ true → (floor : ℤ) (before : Seen) → old.floor ≡ Some floor → IfSome old.files (IsStart at floor newer start)
+      → Counts start floor before → StillThere before old.files new.files
+  pub stays : (before : Seen) → ok ≡ false → StillThere before old.files new.files
 
 -- A call on a journal that began, and its result: an authenticator is handed over, or nothing new is.
 pub data Call : Type 0 where
@@ -68,6 +71,8 @@ pub record IsCall (call : Call) (old new : JournalState) : Type 0 where
   pub kept : (low : ℤ) (kept all : Resumption) → IsKeptIn low kept all old
       → IsKeptIn low (kept_by (result_of call) kept (all_after all call)) (all_after all call) new
   pub seal : Leaves SameSeal old.files new.files
+  pub there : (low : ℤ) (kept all : Resumption) → IsKeptIn low kept all old → (before : Seen)
+      → StillThere before old.files new.files
 
 abbrev pub AreCalls : List Call → JournalState → JournalState → Type 0
 AreCalls [] old new = new ≡ old
@@ -236,7 +241,18 @@ NextBootRefuses = (w : World) (place : Place) (older newer beside : Found) → I
     → place.seal.now ≡ [] → ((j : Journal) → newer ≡ Whole j → j.header.boot ≡ place.boot.now → ⊥)
     → (doubt : Doubt) × (floor : Option ℤ) × (start_of place older newer beside ≡ Refuses doubt floor)
 
--- ---- a start that refuses
+-- ---- what the files still have
+
+-- The floor of each start that refused counts it, and the files were never lost.
+abbrev pub StageCounts : Seen → Stage → Type 0
+StageCounts seen (Ran p) = p.has_begun ≡ true → Counts p.start p.floor seen
+StageCounts seen Finished = ⊤
+StageCounts seen Sealed = ⊤
+StageCounts seen Lost = ⊥
+
+unfoldable pub AllCount : Seen → List Stage → Type 0
+AllCount seen [] = ⊤
+AllCount seen (stage ∷ life) = StageCounts seen stage × AllCount seen life
 
 -- What was read of a file, and not only what may be found in it: a file that others may write is not read.
 abbrev pub IsReadOut : Option (List ℕ) → Found → Type 0
@@ -244,6 +260,25 @@ IsReadOut None Nothing = ⊤
 IsReadOut None (Broken floor) = ⊥
 IsReadOut None (Whole j) = ⊥
 IsReadOut (Some text) found = FoundIn text found
+
+-- Whatever calls failed, and wherever it was killed, the files have what a process kept.
+abbrev pub LeavesThere : Type 0
+LeavesThere = (p : Process) (old new : World) → p.has_begun ≡ true → IsProcess p old new → (seen : Seen)
+    → Contains (kept_by_process p).seen seen → FilesHave new seen
+
+-- And they have it after any stages that follow.
+abbrev pub StaysThere : Type 0
+StaysThere = (seen : Seen) (life : List Stage) (old new : World) → FilesHave old seen → IsLife life old new
+    → AllCount seen life → FilesHave new seen
+
+-- So a start that then refuses counts it: its floor is above it, unless it is of the last second of the year 9999.
+abbrev pub ThereIsCounted : Type 0
+ThereIsCounted = (w : World) (place : Place) (older newer beside : Found) (doubt : Doubt) (floor : Option ℤ)
+    → IsReadOut w.older older → IsReadOut w.newer newer → IsReadOut w.beside beside
+    → next_start place older newer beside ≡ Refuses doubt floor
+    → (seen : Seen) → FilesHave w seen → seen.ctime <ℤ last_second → IsSomeAnd floor (λ f. seen.ctime <ℤ f)
+
+-- ---- a start that refuses
 
 -- A file shows the entries of its journal; or, if it is no whole one, those that are still in it.
 abbrev pub ShowsEntry : List ℕ → Entry → Type 0
@@ -273,4 +308,7 @@ pub record LivesHold : Type 0 where
   pub later : StartsAreLater
   pub no_seal : LeavesNoSeal
   pub next_boot : NextBootRefuses
+  pub leaves : LeavesThere
+  pub there : StaysThere
+  pub counted : ThereIsCounted
   pub shown : ShownIsRefused

@@ -64,6 +64,14 @@ with_newer text w = record { newer = Some text; older = w.older; beside = None; 
 abbrev pub without_older : World → World
 without_older w = record w { older = None }
 
+-- to make room, the older file is removed if the newer one is there
+abbrev pub older_left : Option (List ℕ) → Option (List ℕ) → Option (List ℕ)
+older_left (Some newer) older = None
+older_left None older = older
+
+abbrev pub roomier : World → World
+roomier w = record w { older = older_left w.newer w.older }
+
 -- Both files are as they were. The one beside them is as it was too, or it is gone, or it has a part of this text, from
 -- its front.
 abbrev pub HasBeside : List ℕ → World → World → Type 0
@@ -72,12 +80,13 @@ HasBeside text old new =
     ⊎ ((new ≡ with_beside None old)
     ⊎ ((part : List ℕ) × (rest : List ℕ) × (text ≡ part ++ rest) × (new ≡ with_beside (Some part) old)))
 
--- Halfway, the newer file has become the older one, and the text is beside; or the older one was removed first.
+-- Halfway, the newer file has become the older one, and the text is beside; or there is more room, and so much of the
+-- text is beside.
 abbrev pub IsBetween : Begun → List ℕ → World → World → Type 0
 IsBetween Linked text old new =
     new ≡ record { newer = None; older = old.newer; beside = Some text; seal = old.seal }
 IsBetween Anew text old new = HasBeside text old new
-IsBetween Roomy text old new = HasBeside text (without_older old) new
+IsBetween Roomy text old new = HasBeside text (roomier old) new
 
 -- The text is in place, but the system may not have that on the disk, and the older file may still be there.
 abbrev pub IsInPlace : Begun → List ℕ → World → World → Type 0

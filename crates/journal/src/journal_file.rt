@@ -3,9 +3,10 @@ ghost use Rattle.std.specs.Prelude.{◌≡◌, ◌-ℤ◌, ℤ, pos, true, false
 ghost use Rattle.std.specs.Result.{is_ok};
 ghost use Rattle.krb_fields.specs.Skew.{skew};
 ghost use Rattle.replay.specs.declared.seen.Resumption.{Resumption};
+ghost use Rattle.replay.specs.declared.seen.Seen.{Seen as SeenBefore};
 ghost use Rattle.journal.specs.Appending.{HasAppended, HasBegun, HasMended, HasTail, MayKeep, MayTurn};
 ghost use Rattle.journal.specs.Appending.{HasKeptOne, HasStarted, HasTurned, kept_by};
-ghost use Rattle.journal.specs.Holding.{HasKept, IsRaised, IsSafe, IsStart, is_whole, known_by, with_one};
+ghost use Rattle.journal.specs.Holding.{Counts, HasKept, IsRaised, IsSafe, IsStart, StillThere, is_whole, known_by, with_one};
 ghost use Rattle.journal.specs.Keeping.{BeginsJournal, begun};
 ghost use Rattle.journal.specs.World.{Leaves, SameSeal};
 
@@ -118,9 +119,15 @@ impl<F: JournalFiles> JournalFile<F> {
             → IfSome (F.world self.old.files) (IsStart at floor newer.now start.now)
             → HasKept F.world (at.sec -ℤ pos skew) (known_by floor start.now) (known_by floor start.now)
             self.new.files self.new.tail self.new.floor) }
+        // What they had they still have, if a floor with which it does not resume is above that.
+        ensures there { IfOk result (λ _. (floor : ℤ) (before : SeenBefore) → self.old.floor ≡ Some floor
+            → IfSome (F.world self.old.files) (IsStart at floor newer.now start.now)
+            → Counts start.now floor before → StillThere before (F.world self.old.files) (F.world self.new.files)) }
         // And if it fails, no other start resumes without what the files held.
         ensures safe { (low : ℤ) (r : Resumption) → IfSome (F.world self.old.files) (IsSafe low r)
             → is_ok result ≡ false → IfSome (F.world self.new.files) (IsSafe low r) }
+        ensures stays { (before : SeenBefore) → is_ok result ≡ false
+            → StillThere before (F.world self.old.files) (F.world self.new.files) }
         // No seal is left, so a start in another boot refuses.
         ensures broken { IfOk result (λ _. IfSome (F.world self.new.files) (λ w. w.seal ≡ [])) }
     {
@@ -164,6 +171,10 @@ impl<F: JournalFiles> JournalFile<F> {
             → HasKept F.world low kept all self.old.files self.old.tail self.old.floor
             → HasKept F.world low (kept_by result kept (with_one all seen.now)) (with_one all seen.now)
             self.new.files self.new.tail self.new.floor }
+        // What the files had they still have.
+        ensures there { (low : ℤ) (kept all : Resumption)
+            → HasKept F.world low kept all self.old.files self.old.tail self.old.floor
+            → (before : SeenBefore) → StillThere before (F.world self.old.files) (F.world self.new.files) }
         ensures whole { is_whole self.new ≡ is_ok result }
         // It never seals the journal.
         ensures seal { Leaves SameSeal (F.world self.old.files) (F.world self.new.files) }
@@ -193,6 +204,9 @@ impl<F: JournalFiles> JournalFile<F> {
         ensures kept { (low : ℤ) (kept all : Resumption)
             → HasKept F.world low kept all self.old.files self.old.tail self.old.floor
             → HasKept F.world low (kept_by result kept all) all self.new.files self.new.tail self.new.floor }
+        ensures there { (low : ℤ) (kept all : Resumption)
+            → HasKept F.world low kept all self.old.files self.old.tail self.old.floor
+            → (before : SeenBefore) → StillThere before (F.world self.old.files) (F.world self.new.files) }
         ensures whole { is_whole self.new ≡ is_ok result }
         // If there is nothing to make good, it does nothing.
         ensures still { is_whole self.old ≡ true → is_ok result ≡ true }

@@ -1,7 +1,7 @@
 //! The files of a journal, in memory.
 ghost use Rattle.std.specs.Prelude.{◌≡◌, ◌++◌, ℕ, List, [], Some, None, IfOk, OnErr, OnOk, option_map, vec_items};
 ghost use Rattle.std.specs.Result.{is_ok};
-ghost use Rattle.journal.specs.World.{Appends, BeginsAs, Finishes, HasBeside, IsBetween, IsInPlace, IsLeft, IsRead, Leaves, file_in, with_file, with_more};
+ghost use Rattle.journal.specs.World.{Appends, BeginsAs, Finishes, HasBeside, IsBetween, IsInPlace, IsLeft, IsRead, Leaves, file_in, roomier, with_file, with_more};
 ghost use Rattle.journal.specs.MemoryWorld.{memory_world, seal_in};
 
 use crate::files::{BeginFault, Begun, FileText, JournalFiles, Left, News, Part};
@@ -99,7 +99,16 @@ impl MemoryFiles {
                 self.beside = Some(octets);
             }
             Begun::Anew => self.beside = None,
-            Begun::Roomy => self.older = None,
+            Begun::Roomy => self.make_room(),
+        }
+    }
+
+    /// Removes the older file, if the newer one is there.
+    fn make_room(&mut self)
+        ensures { memory_world self.new ≡ roomier (memory_world self.old) }
+    {
+        if self.newer.is_some() {
+            self.older = None;
         }
     }
 

@@ -6,7 +6,7 @@ use Rattle.program.specs.declared.faults.FileCause.{FileCause}
 use Rattle.program.specs.declared.faults.FileCause.TheVariants.{LongFile, ShortSeed, Failed}
 use Rattle.kadm.specs.Batches.{IsBatchDone}
 use Rattle.kadm_changes.specs.Stops.{IsFailed, IsFailure}
-use Rattle.kadm.specs.Ends.{IsEnd, IsFileCauseStatus, IsCommandEnd, IsCommandStopped, IsStatusOf, IsStopped, IsDone, IsKindDone, IsTried, IsWriteDone}
+use Rattle.kadm.specs.Ends.{IsEnd, IsFileCauseStatus, IsCommandEnd, IsCommandStopped, IsStatusOf, IsStopped, IsDone, IsKindDone, IsPrinted, IsTried, IsWriteDone}
 use Rattle.kadm_changes.specs.Words.{Text}
 use Rattle.kadm.specs.Words.{Spells}
 use Rattle.kadm_changes.specs.declared.target.Target.{Target}
@@ -23,7 +23,7 @@ use Rattle.kadm_changes.specs.declared.stop.Stop.TheVariants as stops
 -- ---- commands that write
 
 pub batch_write : {E : Type 0} (r : Result Bool E) (before : Option World) (target : Target) (keep : Bool) (after : Option World)
-    → IfOk r (λ whole. IsBatchDone before target.db.now keep whole after) → IfOk r (λ whole. IsWriteDone before target (writes.Batch keep) whole after)
+    → IfOk r (λ whole. IsBatchDone before target.whole_realm target.db.now keep whole after) → IfOk r (λ whole. IsWriteDone before target (writes.Batch keep) whole after)
 batch_write (Ok true) before target keep after done = done
 batch_write (Ok false) before target keep after (keeps, tried) = (ap writes.Batch keeps, tried)
 batch_write (Err e) before target keep after done = tt
@@ -33,25 +33,33 @@ batch_write (Err e) before target keep after done = tt
 pub write_done : (before : Option World) (command : Command) (write : WriteCommand) (after : Option World)
     → command.kind ≡ kinds.Write write → IsWriteDone before command.target write true after → IsDone before command after
 write_done before command write after is done =
-    subst (λ kind. IsKindDone before command.target.db.now command.target.etypes.items kind after) (sym is) done
+    subst (λ kind. IsKindDone before command.target kind after) (sym is) done
 
 pub write_tried : (before : Option World) (command : Command) (write : WriteCommand) (after : Option World)
     → command.kind ≡ kinds.Write write → IsWriteDone before command.target write false after → IsTried before command after
 write_tried before command write after is (keeps, tried) = (is ∙ ap kinds.Write keeps, tried)
 
+pub write_refused : (before : Option World) (command : Command) (write : WriteCommand) (after : Option World)
+    → command.kind ≡ kinds.Write write → IsWriteDone before command.target write false after
+    → IsCommandEnd before command statuses.Refused after
+write_refused before command write after is tried = inr (write_tried before command write after is tried)
+
 pub print_end : {E : Type 0} (r : Result Status E) (before : Option World) (command : Command) (print : PrintCommand) (after : Option World)
-    → command.kind ≡ kinds.Print print → after ≡ before → IfOk r (λ status. status ≡ statuses.Done) → IfOk r (λ status. IsCommandEnd before command status after)
-print_end (Ok status) before command print after is same done =
-    subst (λ s. IsCommandEnd before command s after) (sym done)
-    (subst (λ kind. IsKindDone before command.target.db.now command.target.etypes.items kind after) (sym is) same)
-print_end (Err e) before command print after is same done = tt
+    → command.kind ≡ kinds.Print print → after ≡ before → IfOk r (λ status. IsPrinted status print) → IfOk r (λ status. IsCommandEnd before command status after)
+print_end (Ok statuses.Done) before command print after is same printed =
+    subst (λ kind. IsKindDone before command.target kind after) (sym is) same
+print_end (Ok statuses.Refused) before command print after is same printed = inl same
+print_end (Ok statuses.Usage) before command print after is same printed = absurd printed
+print_end (Ok statuses.Failed) before command print after is same printed = absurd printed
+print_end (Err e) before command print after is same printed = tt
 
 -- ---- words
 
 pub spelled_end : {E : Type 0} (r : Result Status E) (words : List Text) (before : Option World) (command : Command) (after : Option World)
     → Spells words command → IfOk r (λ status. IsCommandEnd before command status after) → IfOk r (λ status. IsEnd words before status after)
 spelled_end (Ok statuses.Done) words before command after spelled done = inr (command, spelled, done)
-spelled_end (Ok statuses.Refused) words before command after spelled tried = inr (command, spelled, tried)
+spelled_end (Ok statuses.Refused) words before command after spelled (inl same) = inl same
+spelled_end (Ok statuses.Refused) words before command after spelled (inr tried) = inr (command, spelled, tried)
 spelled_end (Ok statuses.Usage) words before command after spelled none = absurd none
 spelled_end (Ok statuses.Failed) words before command after spelled (inl done) = inr (inl (command, spelled, done))
 spelled_end (Ok statuses.Failed) words before command after spelled (inr tried) = inr (inr (command, spelled, tried))

@@ -1,3 +1,5 @@
 mod Batching
 mod Ending
+mod Naming
+mod Opening
 mod Reading

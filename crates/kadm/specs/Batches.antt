@@ -17,6 +17,6 @@ abbrev pub IsLineRead : Option World → BatchLine → Type 0
 IsLineRead world line = IfSome line.password (λ found. IsFound world found)
 
 -- the changes of all lines, or of some of them if it keeps going
-abbrev pub IsBatchDone : Option World → Text → Bool → Bool → Option World → Type 0
-IsBatchDone before db keep_going true after = Batched before db after
-IsBatchDone before db keep_going false after = (keep_going ≡ true) × Tried before db after
+abbrev pub IsBatchDone : Option World → Bool → Text → Bool → Bool → Option World → Type 0
+IsBatchDone before whole_realm db keep_going true after = Batched before whole_realm db after
+IsBatchDone before whole_realm db keep_going false after = (keep_going ≡ true) × Tried before whole_realm db after

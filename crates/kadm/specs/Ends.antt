@@ -1,11 +1,11 @@
 -- How a command line ends, and what it leaves.
-use Rattle.std.specs.Prelude.{◌≡◌, ◌⊎◌, ℕ, Bool, true, false, List, Option}
-use Rattle.enctypes.specs.declared.etype.Etype.{Etype}
+use Rattle.std.specs.Prelude.{◌≡◌, ◌⊎◌, Bool, true, false, List, Option, Some, codes}
 use Rattle.program.specs.World.{World}
 use Rattle.program.specs.declared.faults.FileCause.{FileCause}
 use Rattle.program.specs.declared.faults.FileCause.TheVariants.{LongFile, ShortSeed, Failed}
 use Rattle.kadm_changes.specs.Stops.{IsFailed}
-use Rattle.kadm_changes.specs.Words.{Text, path_of}
+use Rattle.kadm_changes.specs.Realm.{StaysOpen}
+use Rattle.kadm_changes.specs.Words.{Text, has_flag, path_of, value_of}
 use Rattle.kadm.specs.Words.{Spells, asks_help}
 use Rattle.kadm_changes.specs.Worlds.{MadeFromDump, MadeRealm, Updated, WroteKeytab}
 use Rattle.kadm.specs.Lines.{Batched, Tried}
@@ -13,6 +13,8 @@ use Rattle.kadm_changes.specs.declared.target.Target.{Target}
 use Rattle.kadm.specs.declared.commands.Command.{Command}
 use Rattle.kadm.specs.declared.commands.CommandKind.{CommandKind}
 use Rattle.kadm.specs.declared.commands.CommandKind.TheVariants.{Print, Write}
+use Rattle.kadm.specs.declared.printing.PrintCommand.{PrintCommand}
+use Rattle.kadm.specs.declared.printing.PrintCommand.TheVariants as prints
 use Rattle.kadm.specs.declared.writing.WriteCommand.{WriteCommand}
 use Rattle.kadm.specs.declared.writing.WriteCommand.TheVariants as writes
 use Rattle.program.specs.declared.status.Status.{Status}
@@ -40,39 +42,51 @@ IsStatusOf NotInBatch status = status ≡ statuses.Refused
 IsStatusOf (Refused refusal) status = status ≡ statuses.Refused
 IsStatusOf (File fault) status = IsFileCauseStatus fault.cause status
 
+-- the status of a command that prints: only `lint --check` says by it what it found
+abbrev pub IsPrinted : Status → PrintCommand → Type 0
+IsPrinted statuses.Done print = Unit {0}
+IsPrinted statuses.Refused (prints.Lint lint) = lint.check ≡ true
+IsPrinted statuses.Refused (prints.List list) = ⊥
+IsPrinted statuses.Refused (prints.Show name) = ⊥
+IsPrinted statuses.Usage print = ⊥
+IsPrinted statuses.Failed print = ⊥
+
 -- ---- what is done
 
 -- the effect of each command, from the world before it to the one after it
-abbrev pub CommandLeaves : Option World → List ℕ → List Etype → WriteCommand → Option World → Type 0
-CommandLeaves before db etypes (writes.Init new) after = MadeRealm before db etypes new.realm.now (path_of new.seed) after
-CommandLeaves before db etypes (writes.Update update) after = Updated before db etypes update after
-CommandLeaves before db etypes (writes.Batch keep_going) after = Batched before db after
-CommandLeaves before db etypes (writes.Keytab to) after = WroteKeytab before db to after
-CommandLeaves before db etypes (writes.Dump from) after = MadeFromDump before db from after
+abbrev pub CommandLeaves : Option World → Target → WriteCommand → Option World → Type 0
+CommandLeaves before target (writes.Init new) after =
+    MadeRealm before target.db.now target.etypes.items new.realm.now (path_of new.seed) after
+CommandLeaves before target (writes.Update update) after =
+    Updated before target.whole_realm target.db.now target.etypes.items update after
+CommandLeaves before target (writes.Batch keep_going) after = Batched before target.whole_realm target.db.now after
+CommandLeaves before target (writes.Keytab to) after = WroteKeytab before target.db.now to after
+CommandLeaves before target (writes.Dump from) after = MadeFromDump before target.whole_realm target.db.now from after
 
-abbrev pub IsKindDone : Option World → List ℕ → List Etype → CommandKind → Option World → Type 0
-IsKindDone before db etypes (Print what) after = after ≡ before
-IsKindDone before db etypes (Write write) after = CommandLeaves before db etypes write after
+abbrev pub IsKindDone : Option World → Target → CommandKind → Option World → Type 0
+IsKindDone before target (Print what) after = after ≡ before
+IsKindDone before target (Write write) after = CommandLeaves before target write after
 
 abbrev pub IsDone : Option World → Command → Option World → Type 0
-IsDone before command after = IsKindDone before command.target.db.now command.target.etypes.items command.kind after
+IsDone before command after = IsKindDone before command.target command.kind after
 
 -- the command is a batch that keeps going, and some of its lines were done
-abbrev pub IsWriteTried : Option World → List ℕ → WriteCommand → Option World → Type 0
-IsWriteTried before db write after = (write ≡ writes.Batch true) × Tried before db after
+abbrev pub IsWriteTried : Option World → Target → WriteCommand → Option World → Type 0
+IsWriteTried before target write after = (write ≡ writes.Batch true) × Tried before target.whole_realm target.db.now after
 
 -- all was done, or some lines of a batch were
 abbrev pub IsWriteDone : Option World → Target → WriteCommand → Bool → Option World → Type 0
-IsWriteDone before target write true after = CommandLeaves before target.db.now target.etypes.items write after
-IsWriteDone before target write false after = IsWriteTried before target.db.now write after
+IsWriteDone before target write true after = CommandLeaves before target write after
+IsWriteDone before target write false after = IsWriteTried before target write after
 
 -- the command is a batch that keeps going, and some of its lines were done
 abbrev pub IsTried : Option World → Command → Option World → Type 0
-IsTried before command after = (command.kind ≡ Write (writes.Batch true)) × Tried before command.target.db.now after
+IsTried before command after =
+    (command.kind ≡ Write (writes.Batch true)) × Tried before command.target.whole_realm command.target.db.now after
 
 abbrev pub IsCommandEnd : Option World → Command → Status → Option World → Type 0
 IsCommandEnd before command statuses.Done after = IsDone before command after
-IsCommandEnd before command statuses.Refused after = IsTried before command after
+IsCommandEnd before command statuses.Refused after = (after ≡ before) ⊎ IsTried before command after
 IsCommandEnd before command statuses.Usage after = ⊥
 IsCommandEnd before command statuses.Failed after = IsDone before command after ⊎ IsTried before command after
 
@@ -103,3 +117,10 @@ IsEnd words before statuses.Refused after = (after ≡ before) ⊎ IsSpelledTrie
 IsEnd words before statuses.Usage after = after ≡ before
 IsEnd words before statuses.Failed after =
     (after ≡ before) ⊎ (IsSpelledDone words before after ⊎ IsSpelledTried words before after)
+
+-- without `--whole-realm` nobody is kept out of the realm who was let in: whatever the status, krbtgt/REALM in the
+-- database is disabled, denied, expired or limited to tickets of less than five minutes only if it was before
+abbrev pub KeepsOpen : List Text → Option World → Option World → Type 0
+KeepsOpen words before after =
+    has_flag words (codes "--whole-realm") ≡ false → (db : Text) → value_of words (codes "--db") ≡ Some db
+    → StaysOpen db before after

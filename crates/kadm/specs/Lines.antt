@@ -14,45 +14,46 @@ use Rattle.kadm.specs.Words.{Spells, in_batch}
 -- ---- the database
 
 -- the change that was ordered is made
-abbrev pub IsCommandMade : Option World → Command → Principals → Principals → Type 0
-IsCommandMade world command p new =
-    (update : Update) × (command.kind ≡ kinds.Write (writes.Update update)) × IsUpdated world command.target.etypes.items update p new
+abbrev pub IsCommandMade : Option World → Bool → Command → Principals → Principals → Type 0
+IsCommandMade world whole command p new =
+    (update : Update) × (command.kind ≡ kinds.Write (writes.Update update))
+    × IsUpdated world whole command.target.etypes.items update p new
 
 -- the change that words spell is made
-abbrev pub IsSpelledMade : Option World → List Text → Principals → Principals → Type 0
-IsSpelledMade world words p new = (command : Command) × Spells words command × IsCommandMade world command p new
+abbrev pub IsSpelledMade : Option World → Bool → List Text → Principals → Principals → Type 0
+IsSpelledMade world whole words p new = (command : Command) × Spells words command × IsCommandMade world whole command p new
 
 -- the same for a line of a batch
-abbrev pub IsLineDone : Option World → Text → List Text → Principals → Principals → Type 0
-IsLineDone world db line p new = IsSpelledMade world (in_batch db line) p new
+abbrev pub IsLineDone : Option World → Bool → Text → List Text → Principals → Principals → Type 0
+IsLineDone world whole db line p new = IsSpelledMade world whole (in_batch db line) p new
 
 -- all of them, one after another
-abbrev pub AreDone : Option World → Text → List (List Text) → Principals → Principals → Type 0
-AreDone world db [] p new = new ≡ p
-AreDone world db (line ∷ lines) p new = (next : Principals) × IsLineDone world db line p next × AreDone world db lines next new
+abbrev pub AreDone : Option World → Bool → Text → List (List Text) → Principals → Principals → Type 0
+AreDone world whole db [] p new = new ≡ p
+AreDone world whole db (line ∷ lines) p new = (next : Principals) × IsLineDone world whole db line p next × AreDone world whole db lines next new
 
 -- each of them, or what it changes is left as it was
-abbrev pub AreTried : Option World → Text → List (List Text) → Principals → Principals → Type 0
-AreTried world db [] p new = new ≡ p
-AreTried world db (line ∷ lines) p new =
-    (next : Principals) × (IsLineDone world db line p next ⊎ (next ≡ p)) × AreTried world db lines next new
+abbrev pub AreTried : Option World → Bool → Text → List (List Text) → Principals → Principals → Type 0
+AreTried world whole db [] p new = new ≡ p
+AreTried world whole db (line ∷ lines) p new =
+    (next : Principals) × (IsLineDone world whole db line p next ⊎ (next ≡ p)) × AreTried world whole db lines next new
 
 -- a run over the lines: all were done, or it keeps going and some were
-abbrev pub IsRun : Option World → Text → Bool → List (List Text) → Principals → Principals → Bool → Type 0
-IsRun world db keep_going lines p new true = AreDone world db lines p new
-IsRun world db keep_going lines p new false = (keep_going ≡ true) × AreTried world db lines p new
+abbrev pub IsRun : Option World → Bool → Text → Bool → List (List Text) → Principals → Principals → Bool → Type 0
+IsRun world whole db keep_going lines p new true = AreDone world whole db lines p new
+IsRun world whole db keep_going lines p new false = (keep_going ≡ true) × AreTried world whole db lines p new
 
 -- a line was done, or is left and the run is no longer whole
-abbrev pub IsTurn : Option World → Text → List Text → Bool → Principals → Principals → Bool → Type 0
-IsTurn world db line whole p new whole_then =
-    (IsLineDone world db line p new × (whole_then ≡ whole)) ⊎ ((new ≡ p) × (whole_then ≡ false))
+abbrev pub IsTurn : Option World → Bool → Text → List Text → Bool → Principals → Principals → Bool → Type 0
+IsTurn world allowed db line whole p new whole_then =
+    (IsLineDone world allowed db line p new × (whole_then ≡ whole)) ⊎ ((new ≡ p) × (whole_then ≡ false))
 
 -- ---- the files
 
 -- the changes of all lines of the input, one after another
-abbrev pub Batched : Option World → List ℕ → Option World → Type 0
-Batched before db after = (lines : List (List Text)) × Rewritten before db (AreDone before db lines) after
+abbrev pub Batched : Option World → Bool → List ℕ → Option World → Type 0
+Batched before whole db after = (lines : List (List Text)) × Rewritten before db (AreDone before whole db lines) after
 
 -- those of some of them
-abbrev pub Tried : Option World → List ℕ → Option World → Type 0
-Tried before db after = (lines : List (List Text)) × Rewritten before db (AreTried before db lines) after
+abbrev pub Tried : Option World → Bool → List ℕ → Option World → Type 0
+Tried before whole db after = (lines : List (List Text)) × Rewritten before db (AreTried before whole db lines) after

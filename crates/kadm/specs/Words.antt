@@ -1,8 +1,8 @@
 -- The words of a command line, and the command that they spell.
-use Rattle.std.specs.Prelude.{◌≡◌, ◌&&◌, ◌||◌, Bool, true, false, not, List, [], ◌∷◌, slice_get}
+use Rattle.std.specs.Prelude.{◌≡◌, ◌==◌, ◌++◌, ◌&&◌, ◌||◌, Bool, true, false, not, List, [], ◌∷◌, slice_get}
 use Rattle.std.specs.Prelude.{Option, Some, None, is_some, unwrap_or, codes, bytes_eq, if◌then◌else◌}
 use Rattle.std.specs.Str.Parse.{IsNumeral, digits_value}
-use Rattle.kadm_changes.specs.Words.{Text, path_of, texts, value_of}
+use Rattle.kadm_changes.specs.Words.{Text, has_flag, path_of, texts, value_of}
 use Rattle.kadm_changes.specs.declared.changes.ChangeArgs.{ChangeArgs}
 use Rattle.kadm_changes.specs.declared.changes.ChangeArgs.TheVariants.{Drop, DropOlder, Policy, Remove}
 use Rattle.kadm_changes.specs.declared.granting.Grant.{Grant}
@@ -20,11 +20,6 @@ use Rattle.kadm.specs.declared.writing.WriteCommand.{WriteCommand}
 use Rattle.kadm.specs.declared.writing.WriteCommand.TheVariants as writes
 
 -- ---- words
-
--- the option is there, as a flag without a value
-abbrev pub has_flag : List Text → Text → Bool
-has_flag [] flag = false
-has_flag (word ∷ others) flag = bytes_eq word flag || has_flag others flag
 
 -- the name of the subcommand, after that of the program
 abbrev pub command_of : List Text → Option Text
@@ -45,10 +40,61 @@ abbrev pub with_db : Option Text → List Text → List Text
 with_db None words = words
 with_db (Some db) words = if lacks_db words then behind_command db words else words
 
+-- ---- names without --name
+
+-- the commands that are about principals by their names
+abbrev pub takes_names : Text → Bool
+takes_names command =
+    bytes_eq command (codes "add") || (bytes_eq command (codes "passwd") || (bytes_eq command (codes "random")
+    || (bytes_eq command (codes "drop") || (bytes_eq command (codes "policy") || (bytes_eq command (codes "remove")
+    || (bytes_eq command (codes "keytab") || bytes_eq command (codes "show")))))))
+
+-- the options of these commands whose value is the next word
+abbrev pub takes_text : Text → Bool
+takes_text word =
+    bytes_eq word (codes "--password-file") || (bytes_eq word (codes "--set") || (bytes_eq word (codes "--field")
+    || bytes_eq word (codes "--value")))
+
+abbrev pub takes_value : Text → Bool
+takes_value word =
+    bytes_eq word (codes "--db") || (bytes_eq word (codes "--name") || (bytes_eq word (codes "--types")
+    || (bytes_eq word (codes "--expires") || (bytes_eq word (codes "--seed") || (bytes_eq word (codes "--version")
+    || (bytes_eq word (codes "--out") || takes_text word))))))
+
+-- a word that begins with a hyphen
+abbrev pub is_option : Text → Bool
+is_option [] = false
+is_option (octet ∷ octets) = octet == 0x2D
+
+-- a word that is neither an option nor the value of one is a name
+abbrev pub is_name : Bool → Text → Bool
+is_name is_value word = not is_value && not (is_option word)
+
+abbrev pub spelled : Bool → Text → List Text
+spelled is_value word = if is_name is_value word then codes "--name" ∷ word ∷ [] else word ∷ []
+
+abbrev pub is_value_next : Bool → Text → Bool
+is_value_next is_value word = not is_value && takes_value word
+
+abbrev pub named : Bool → List Text → List Text
+named is_value [] = []
+named is_value (word ∷ others) = spelled is_value word ++ named (is_value_next is_value word) others
+
+-- `kadm show alice` is `kadm show --name alice`
+abbrev pub behind_names : Text → List Text → List Text
+behind_names command others = if takes_names command then named false others else others
+
+abbrev pub with_names : List Text → List Text
+with_names (program ∷ command ∷ others) = program ∷ command ∷ behind_names command others
+with_names words = words
+
 -- the words of a line of a batch, as a command line with the batch's database
+abbrev pub batch_words : Text → List Text → List Text
+batch_words db [] = codes "kadm" ∷ []
+batch_words db (command ∷ others) = codes "kadm" ∷ command ∷ codes "--db" ∷ db ∷ others
+
 abbrev pub in_batch : Text → List Text → List Text
-in_batch db [] = codes "kadm" ∷ []
-in_batch db (command ∷ others) = codes "kadm" ∷ command ∷ codes "--db" ∷ db ∷ others
+in_batch db line = with_names (batch_words db line)
 
 -- the help or the version is asked for
 abbrev pub asks_help : List Text → Bool
@@ -125,7 +171,9 @@ abbrev pub IsPrintSpelled : List Text → PrintCommand → Type 0
 IsPrintSpelled words (prints.List list) =
     (command_of words ≡ Some (codes "list")) × (path_of list.like ≡ value_of words (codes "--like"))
     × (list.long ≡ has_flag words (codes "--long")) × (list.json ≡ has_flag words (codes "--json"))
-IsPrintSpelled words prints.Lint = command_of words ≡ Some (codes "lint")
+IsPrintSpelled words (prints.Lint lint) =
+    (command_of words ≡ Some (codes "lint")) × (lint.check ≡ has_flag words (codes "--check"))
+    × (lint.json ≡ has_flag words (codes "--json"))
 IsPrintSpelled words (prints.Show name) =
     (command_of words ≡ Some (codes "show")) × (value_of words (codes "--name") ≡ Some name.now)
 
@@ -133,7 +181,8 @@ abbrev pub IsKindSpelled : List Text → CommandKind → Type 0
 IsKindSpelled words (kinds.Print print) = IsPrintSpelled words print
 IsKindSpelled words (kinds.Write write) = IsWriteSpelled words write
 
--- the command that the words of a command line spell: its database, and what to do with it
+-- the command that the words of a command line spell: its database, whether it may end the whole realm, and what to do
 pub record Spells (words : List Text) (command : Command) : Type 0 where
   pub db : value_of words (codes "--db") ≡ Some command.target.db.now
+  pub whole_realm : command.target.whole_realm ≡ has_flag words (codes "--whole-realm")
   pub kind : IsKindSpelled words command.kind

@@ -5,17 +5,18 @@ ghost use Rattle.kadm_changes.specs.Words.{texts};
 ghost use Rattle.kadm.specs.Batches.{IsBatchDone, IsLineRead, line_text, line_texts};
 ghost use Rattle.kadm.specs.Lines.{AreDone, IsLineDone, IsCommandMade, IsRun, IsSpelledMade, IsTurn};
 
-use crate::commands::{Command, CommandKind, read_args, read_command};
+use crate::commands::{Command, CommandKind, WHOLE_REALM, read_args, read_command};
 use crate::outcome::Outcome;
 use crate::reports::report;
 use crate::usage::{CommandFault, report_command_fault, report_fault};
-use crate::words::{has_flag, in_batch, is_given};
+use crate::words::{in_batch, is_given};
 use crate::writing::WriteCommand;
 use clap::ArgMatches;
 use clap::error::Error;
 use kadm_changes::{
     Context, Draft, FoundPassword, NAME, Note, Stop, Subject, Target, begin_line, find_password,
-    lock_database, read_database, update_in_batch, value_of, write_database,
+    has_flag, lock_database, read_database, report_realm, update_in_batch, value_of,
+    write_database,
 };
 use program::{FileCause, FileFault, STANDARD_INPUT, Status, Store};
 use std::alloc::{AllocError, Global};
@@ -36,6 +37,9 @@ const KEEP_MODE: &str = "--keep-mode";
 
 /// What is said of it.
 const NO_MODE: &str = "--keep-mode is an option of batch itself, and not of its lines";
+
+/// What is said of a line that has `--whole-realm`.
+const NO_WHOLE_REALM: &str = "--whole-realm is an option of batch itself, and not of its lines";
 
 /// What a terminal shows before each line.
 const PROMPT: &str = "kadm> ";
@@ -69,6 +73,8 @@ struct Batch<'a> {
     lines: &'a [BatchLine],
     /// Whether a line that is not done leaves the others.
     keep_going: bool,
+    /// Whether the lines may end the whole realm.
+    whole_realm: bool,
 }
 
 /// Runs the commands on the lines of standard input. It reads them, and the files of their passwords, before it locks
@@ -79,7 +85,7 @@ pub(crate) fn run_batch<'p, T: Store, W: Write, E: Write>(
     target: &Target<'p>,
     keep_going: bool,
 ) -> Result<Outcome, Stop<'p>>
-    ensures done { IfOk result (λ end. IsBatchDone (T.world store.old) target.now.db.now keep_going end.whole (T.world store.new)) }
+    ensures done { IfOk result (λ end. IsBatchDone (T.world store.old) target.now.whole_realm target.now.db.now keep_going end.whole (T.world store.new)) }
     ensures unchanged { OnErr result (T.world store.new ≡ T.world store.old) }
 {
     let alloc = context.alloc;
@@ -92,10 +98,14 @@ pub(crate) fn run_batch<'p, T: Store, W: Write, E: Write>(
         db: target.db,
         lines: &lines,
         keep_going,
+        whole_realm: target.whole_realm,
     };
     let whole = run_lines(context, store, &batch, &mut draft)?;
     let written = write_database(alloc, store, &locked, &draft.database)?;
     let _ = context.errors.write_all(&context.notes);
+    if target.whole_realm {
+        report_realm(alloc, &mut context.errors, &draft.database);
+    }
     Ok(Outcome { whole, written })
 }
 
@@ -196,7 +206,7 @@ fn password_of<T: Store>(
 
 /// Checks whether the parser takes the words of a line.
 fn is_line(alloc: Global, words: &[&str]) -> bool {
-    read_args(alloc, words).is_ok() && !has_flag(words, KEEP_MODE)
+    read_args(alloc, words).is_ok() && !has_flag(words, KEEP_MODE) && !has_flag(words, WHOLE_REALM)
 }
 
 /// Reads the file of the password that a command takes.
@@ -229,7 +239,7 @@ fn run_lines<T: Store, W: Write, E: Write>(
     draft: &mut Draft,
 ) -> Result<bool, Stop<'static>>
     requires read { All (IsLineRead (T.world store.old)) batch.now.lines.now }
-    ensures run { IfOk result (λ whole. IsRun (T.world store.old) batch.now.db.now batch.now.keep_going
+    ensures run { IfOk result (λ whole. IsRun (T.world store.old) batch.now.whole_realm batch.now.db.now batch.now.keep_going
         (line_texts batch.now.lines.now) draft.old.database draft.new.database whole) }
     ensures unchanged { T.world store.new ≡ T.world store.old }
 {
@@ -248,14 +258,14 @@ fn run_all<T: Store, W: Write, E: Write>(
     draft: &mut Draft,
 ) -> Result<(), Stop<'static>>
     requires read { All (IsLineRead (T.world store.old)) batch.now.lines.now }
-    ensures done { OnOk result (AreDone (T.world store.old) batch.now.db.now (line_texts batch.now.lines.now)
+    ensures done { OnOk result (AreDone (T.world store.old) batch.now.whole_realm batch.now.db.now (line_texts batch.now.lines.now)
         draft.old.database draft.new.database) }
     ensures unchanged { T.world store.new ≡ T.world store.old }
 {
     let mut rest = batch.lines;
     while let [line, others @ ..] = rest {
         report_progress(context, store, line.number);
-        if let Some(status) = run_line(context, store, batch.db, line, draft)? {
+        if let Some(status) = run_line(context, store, batch, line, draft)? {
             let _ = writeln!(
                 context.errors,
                 "kadm: line {}: nothing was written",
@@ -285,7 +295,7 @@ fn run_each<T: Store, W: Write, E: Write>(
     draft: &mut Draft,
 ) -> Result<bool, Stop<'static>>
     requires read { All (IsLineRead (T.world store.old)) batch.now.lines.now }
-    ensures run { IfOk result (λ whole. IsRun (T.world store.old) batch.now.db.now true (line_texts batch.now.lines.now)
+    ensures run { IfOk result (λ whole. IsRun (T.world store.old) batch.now.whole_realm batch.now.db.now true (line_texts batch.now.lines.now)
         draft.old.database draft.new.database whole) }
     ensures unchanged { T.world store.new ≡ T.world store.old }
 {
@@ -293,7 +303,7 @@ fn run_each<T: Store, W: Write, E: Write>(
     let mut rest = batch.lines;
     while let [line, others @ ..] = rest {
         report_progress(context, store, line.number);
-        whole = try_line(context, store, batch.db, line, whole, draft)?;
+        whole = try_line(context, store, batch, line, whole, draft)?;
         rest = others;
     }
     Ok(whole)
@@ -303,13 +313,13 @@ fn run_each<T: Store, W: Write, E: Write>(
 fn try_line<T: Store, W: Write, E: Write>(
     context: &mut Context<W, E>,
     store: &mut T,
-    db: &str,
+    batch: &Batch<'_>,
     line: &BatchLine,
     whole: bool,
     draft: &mut Draft,
 ) -> Result<bool, Stop<'static>>
     requires read { IsLineRead (T.world store.old) line.now }
-    ensures turn { IfOk result (λ whole_then. IsTurn (T.world store.old) db.now (line_text line.now)
+    ensures turn { IfOk result (λ whole_then. IsTurn (T.world store.old) batch.now.whole_realm batch.now.db.now (line_text line.now)
         whole draft.old.database draft.new.database whole_then) }
     ensures unchanged { T.world store.new ≡ T.world store.old }
 {
@@ -319,7 +329,7 @@ fn try_line<T: Store, W: Write, E: Write>(
         alloc: draft.alloc,
         database,
     };
-    match run_line(context, store, db, line, &mut changed)? {
+    match run_line(context, store, batch, line, &mut changed)? {
         None => {
             *draft = changed;
             Ok(whole)
@@ -332,16 +342,16 @@ fn try_line<T: Store, W: Write, E: Write>(
 fn run_line<T: Store, W: Write, E: Write>(
     context: &mut Context<W, E>,
     store: &mut T,
-    db: &str,
+    batch: &Batch<'_>,
     line: &BatchLine,
     draft: &mut Draft,
 ) -> Result<Option<Status>, Stop<'static>>
     requires read { IsLineRead (T.world store.old) line.now }
-    ensures done { IfOk result (λ end. IfNone end (IsLineDone (T.world store.old) db.now
+    ensures done { IfOk result (λ end. IfNone end (IsLineDone (T.world store.old) batch.now.whole_realm batch.now.db.now
         (line_text line.now) draft.old.database draft.new.database)) }
     ensures unchanged { T.world store.new ≡ T.world store.old }
 {
-    let words = in_batch(context.alloc, db, &line.words)?;
+    let words = in_batch(context.alloc, batch.db, &line.words)?;
     let subject = Subject {
         words: &words,
         line: Some(line.number),
@@ -351,6 +361,7 @@ fn run_line<T: Store, W: Write, E: Write>(
         store,
         &subject,
         draft,
+        batch.whole_realm,
         line.password.as_ref(),
     ) {
         Ok(note) => {
@@ -383,16 +394,17 @@ fn run_words<'a, T: Store, E: Write>(
     store: &mut T,
     subject: &Subject<'a>,
     draft: &mut Draft,
+    whole: bool,
     found: Option<&FoundPassword>,
 ) -> Result<Option<Note>, Stop<'a>>
     requires found { IsFoundIn (T.world store.old) found }
-    ensures done { OnOk result (IsSpelledMade (T.world store.old) (texts subject.now.words.now) draft.old.database draft.new.database) }
+    ensures done { OnOk result (IsSpelledMade (T.world store.old) whole (texts subject.now.words.now) draft.old.database draft.new.database) }
     ensures unchanged { T.world store.new ≡ T.world store.old }
 {
     let matches = read_args(draft.alloc, subject.words);
     check_words(errors, subject, &matches)?;
     match read_command(draft.alloc, subject.words) {
-        Ok(command) => run_command(store, &command, draft, found),
+        Ok(command) => run_command(store, &command, draft, whole, found),
         Err(fault) => {
             begin_line(errors, subject);
             Err(report_command_fault(errors, fault))
@@ -400,8 +412,8 @@ fn run_words<'a, T: Store, E: Write>(
     }
 }
 
-/// Reports what is wrong with the words of a line, as the parser finds it. Also refuses `--keep-mode`, which a line
-/// can't keep: the batch writes the file.
+/// Reports what is wrong with the words of a line, as the parser finds it. Also refuses the options of the batch
+/// itself: the batch writes the file, and who starts it says whether it may end the whole realm.
 fn check_words<E: Write>(
     errors: &mut E,
     subject: &Subject<'_>,
@@ -413,11 +425,23 @@ fn check_words<E: Write>(
             Err(report_fault(errors, error))
         }
         Ok(_) if has_flag(subject.words, KEEP_MODE) => {
-            begin_line(errors, subject);
-            Err(report_command_fault(errors, CommandFault::BadValue(NO_MODE)))
+            Err(refused_option(errors, subject, NO_MODE))
+        }
+        Ok(_) if has_flag(subject.words, WHOLE_REALM) => {
+            Err(refused_option(errors, subject, NO_WHOLE_REALM))
         }
         Ok(_) => Ok(()),
     }
+}
+
+/// Reports an option that a line must not have. Returns how the line ends.
+fn refused_option<E: Write>(
+    errors: &mut E,
+    subject: &Subject<'_>,
+    fault: &'static str,
+) -> Stop<'static> {
+    begin_line(errors, subject);
+    report_command_fault(errors, CommandFault::BadValue(fault))
 }
 
 /// Makes a change that a line asks for.
@@ -425,15 +449,16 @@ fn run_command<'a, T: Store>(
     store: &mut T,
     command: &Command<'a>,
     draft: &mut Draft,
+    whole: bool,
     found: Option<&FoundPassword>,
 ) -> Result<Option<Note>, Stop<'a>>
     requires found { IsFoundIn (T.world store.old) found }
-    ensures done { OnOk result (IsCommandMade (T.world store.old) command.now draft.old.database draft.new.database) }
+    ensures done { OnOk result (IsCommandMade (T.world store.old) whole command.now draft.old.database draft.new.database) }
     ensures unchanged { T.world store.new ≡ T.world store.old }
 {
     match command.kind {
         CommandKind::Write(WriteCommand::Update(update)) => {
-            update_in_batch(store, draft, &command.target.etypes, update, found)
+            update_in_batch(store, draft, &command.target.etypes, whole, update, found)
         }
         _ => Err(Stop::NotInBatch),
     }

@@ -4,14 +4,16 @@ ghost use Rattle.std.specs.Prelude.{◌≡◌, IfOk, IfSome, Some, codes};
 ghost use Rattle.kadm_changes.specs.Words.{path_of, texts, value_of};
 ghost use Rattle.kadm.specs.Words.{IsChangeSpelled, IsPasswordGrant, IsRandomGrant, IsRowSpelled, IsWriteSpelled, command_of};
 
-use crate::options::{ANY_PASSWORDS, DATABASE, KEEPS_MODE, NAME, NAMES, PASSWORD, REPLACES, TYPES};
+use crate::options::{
+    ANY_PASSWORDS, DATABASE, KEEPS_MODE, NAME, NAMES, PASSWORD, REPLACES, TYPES, WHOLE_REALM,
+};
 use crate::settings::sets_some;
 use crate::usage::{CommandFault, NO_COMMAND, required, setting_fault};
-use crate::words::{has_flag, is_given};
+use crate::words::is_given;
 use crate::writing::WriteCommand;
 use kadm_changes::{
     ChangeArgs, Changes, DumpArgs, Grant, KEYTAB, PasswordArgs, PasswordGrant, RandomGrant,
-    RowArgs, RowUpdate, Update, value_of,
+    RowArgs, RowUpdate, Update, has_flag, value_of,
 };
 use program::{FlagRow, OptionRow, SubcommandRow, Times};
 use text_fields::{FIELD_NAMES, number_u32};
@@ -22,13 +24,20 @@ pub(crate) const CHANGES: &[SubcommandRow] = &[
         name: "add",
         about: "Adds a principal with keys made from a password, or with random keys",
         options: &[DATABASE, NAME, PASSWORD, TYPES, EXPIRES],
-        flags: &[RANDOMS, SERVICES, DISABLEDS, ANY_PASSWORDS, KEEPS_MODE],
+        flags: &[
+            RANDOMS,
+            SERVICES,
+            DISABLEDS,
+            PASTS,
+            ANY_PASSWORDS,
+            KEEPS_MODE,
+        ],
     },
     SubcommandRow {
         name: "passwd",
         about: "Gives a principal new keys made from a password; clears a `password_expires` that is past",
         options: &[DATABASE, NAME, PASSWORD, TYPES],
-        flags: &[REPLACES, ANY_PASSWORDS, KEEPS_MODE],
+        flags: &[REPLACES, ANY_PASSWORDS, WHOLE_REALM, KEEPS_MODE],
     },
     SubcommandRow {
         name: "random",
@@ -40,7 +49,7 @@ pub(crate) const CHANGES: &[SubcommandRow] = &[
         name: "import",
         about: "Adds a principal with its keys from a keytab, in all their versions; or makes the database of a realm from a dump of MIT's",
         options: &[DATABASE, IMPORTED_NAME, IMPORTED_KEYTAB, TYPES, DUMP, STASH],
-        flags: &[SKIPS, KEEPS_MODE],
+        flags: &[SKIPS, WHOLE_REALM, KEEPS_MODE],
     },
     SubcommandRow {
         name: "drop",
@@ -52,13 +61,13 @@ pub(crate) const CHANGES: &[SubcommandRow] = &[
         name: "policy",
         about: "Sets fields of the policies of principals",
         options: &[DATABASE, NAMES, SET, FIELD, VALUE],
-        flags: &[KEEPS_MODE],
+        flags: &[PASTS, WHOLE_REALM, KEEPS_MODE],
     },
     SubcommandRow {
         name: "batch",
         about: "Runs commands from standard input, one on each line and without --db, and writes the database once: if one is refused, none is done",
         options: &[DATABASE],
-        flags: &[KEEPS_GOING, KEEPS_MODE],
+        flags: &[KEEPS_GOING, WHOLE_REALM, KEEPS_MODE],
     },
     SubcommandRow {
         name: "remove",
@@ -92,6 +101,11 @@ const SERVICES: FlagRow = FlagRow {
 const DISABLEDS: FlagRow = FlagRow {
     name: "disabled",
     help: "Adds the principal disabled: it can't log in until `policy` sets disabled to false",
+};
+
+const PASTS: FlagRow = FlagRow {
+    name: "past",
+    help: "Accepts a time of `expires` or `password_expires` that is past",
 };
 
 const SEED: OptionRow = OptionRow {

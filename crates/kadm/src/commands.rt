@@ -5,12 +5,12 @@ ghost use Rattle.kadm.specs.Words.{IsKindSpelled, Spells, command_of};
 
 use crate::printing::{PrintCommand, print_of, with_prints};
 use crate::usage::{CommandFault, NO_COMMAND};
-use crate::words::{command_of, has_flag};
+use crate::words::command_of;
 use crate::writing::{WriteCommand, with_changes, with_later_changes, write_of};
 use clap::error::Error;
 use clap::{ArgMatches, Command as Parser};
 use enctypes::Etype;
-use kadm_changes::{DB, Target, value_of};
+use kadm_changes::{DB, Target, has_flag, value_of};
 use program::NewMode;
 use std::alloc::{AllocError, Global};
 use text_fields::{offered, read_etypes};
@@ -34,6 +34,9 @@ and two lower case hexadecimal digits.";
 
 const NO_TYPES: &str = "\
 --types takes the numbers 18, 17, 20 and 19, each at most once, separated by commas";
+
+/// The option that allows a command to end the whole realm.
+pub(crate) const WHOLE_REALM: &str = "--whole-realm";
 
 /// What one command line asks for.
 #[derive(Drop)]
@@ -85,6 +88,7 @@ pub(crate) fn read_command<'a>(
         db,
         etypes,
         mode: mode_of(words),
+        whole_realm: has_flag(words, WHOLE_REALM),
     };
     Ok(Command { target, kind })
 }

@@ -75,3 +75,23 @@ pub(crate) fn behind_name(line: &[u8]) -> &[u8] {
         None => line,
     }
 }
+
+/// Returns the object of a line of `lint`: `NAME FINDING DETAIL.. # MEND`.
+pub(crate) fn json_finding(alloc: Global, line: &str) -> Result<Vec<u8>, AllocError> {
+    let (found, mend) = line.split_once(" # ").unwrap_or((line, ""));
+    let (name, rest) = found.split_once(' ').unwrap_or((found, ""));
+    let (finding, detail) = rest.split_once(' ').unwrap_or((rest, ""));
+    let mut out = Writer::new(Vec::new(alloc));
+    out.begin_object()?;
+    for (key, text) in [
+        ("name", name),
+        ("finding", finding),
+        ("detail", detail),
+        ("mend", mend),
+    ] {
+        out.key(key)?;
+        out.string(text)?;
+    }
+    out.end_object()?;
+    Ok(out.into_inner())
+}

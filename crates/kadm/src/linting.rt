@@ -1,6 +1,7 @@
 //! The command that prints what an administrator should check.
 ghost use Rattle.std.specs.Prelude.{◌≡◌};
 
+use crate::json_lines::json_finding;
 use enctypes::Etype;
 use kadm_changes::{Context, Stop, read_database};
 use krb_fields::Name;
@@ -8,23 +9,36 @@ use principal_rows::Row;
 use principals::Database;
 use program::{FileRights, RIGHTS_OF_OTHERS, Store, file_rights, read_clock};
 use std::alloc::{AllocError, Global};
-use std::io;
 use std::io::Write;
 use text_fields::{UtcDate, is_past, shell_word};
 
 /// The user who may work on any file.
 const ROOT: u32 = 0;
 
+/// The least `greatest_life` of `krbtgt/REALM`, in seconds.
+const LEAST_LIFE: u32 = 300;
+
 /// The first component of the names of ticket-granting services.
 const KRBTGT: &[u8] = b"krbtgt";
 
+/// How to print what is found.
+#[derive(Clone, Copy)]
+pub(crate) struct LintArgs {
+    /// Whether the status says that there is a line.
+    pub check: bool,
+    /// Whether a line is an object of JSON.
+    pub json: bool,
+}
+
 /// Prints a line for each thing to check, with the command that mends it behind a `#`: first those of the file, which
-/// begin with `@database`, as no name does, and then those of principals, in the order of the names' texts.
+/// begin with `@database`, as no name does, and then those of principals, in the order of the names' texts. No command
+/// removes a principal or lets one in that can't log in. Returns whether there is a line.
 pub(crate) fn print_lint<'p, T: Store, W: Write, E: Write>(
     context: &mut Context<W, E>,
     store: &mut T,
     db: &'p str,
-) -> Result<(), Stop<'p>>
+    lint: LintArgs,
+) -> Result<bool, Stop<'p>>
     ensures unchanged { T.world store.new ≡ T.world store.old }
 {
     let database = read_database(context, store, db)?;
@@ -36,7 +50,7 @@ pub(crate) fn print_lint<'p, T: Store, W: Write, E: Write>(
         db: &word,
         now,
     };
-    print_findings(context, &place, rights, &database)
+    print_findings(context, &place, rights, &database, lint.json)
 }
 
 fn print_findings<'p, W: Write, E: Write>(
@@ -44,16 +58,28 @@ fn print_findings<'p, W: Write, E: Write>(
     place: &Place<'_>,
     rights: FileRights,
     database: &Database,
-) -> Result<(), Stop<'p>> {
+    json: bool,
+) -> Result<bool, Stop<'p>> {
     let of_file = file_findings(place.alloc, place.db, rights)?;
-    print_lines(&of_file, &mut context.out)?;
+    print_lines(place.alloc, &of_file, json, &mut context.out)?;
     let of_principals = findings(place, database)?;
-    Ok(print_lines(&of_principals, &mut context.out)?)
+    print_lines(place.alloc, &of_principals, json, &mut context.out)?;
+    Ok(!of_file.is_empty() || !of_principals.is_empty())
 }
 
-fn print_lines<W: Write>(lines: &[String], out: &mut W) -> io::Result<()> {
+fn print_lines<'p, W: Write>(
+    alloc: Global,
+    lines: &[String],
+    json: bool,
+    out: &mut W,
+) -> Result<(), Stop<'p>> {
     for line in lines {
-        writeln!(out, "{line}")?;
+        if json {
+            out.write_all(&json_finding(alloc, line)?)?;
+            writeln!(out)?;
+        } else {
+            writeln!(out, "{line}")?;
+        }
     }
     Ok(())
 }
@@ -95,13 +121,15 @@ struct Subject<'a> {
     row: &'a Row,
     /// The options of a command that say which principal it is, as words of a shell.
     options: &'a str,
+    /// Whether it is the realm's ticket-granting service, which every login needs.
+    is_tgs: bool,
 }
 
 fn findings(place: &Place<'_>, database: &Database) -> Result<Vec<String>, AllocError> {
     let mut lines = Vec::new(place.alloc);
     for i in 0..database.len() {
         if let Some((name, row)) = database.at(i) {
-            push_findings(place, &mut lines, name, row)?;
+            push_findings(place, &mut lines, name, row, is_tgs(name, database.realm()))?;
         }
     }
     // no text of a name has a byte as low as the space after it, so lines have the order of names
@@ -115,6 +143,7 @@ fn push_findings(
     lines: &mut Vec<String>,
     name: &Name,
     row: &Row,
+    is_tgs: bool,
 ) -> Result<(), AllocError> {
     let (alloc, db) = (place.alloc, place.db);
     let text = name.to_text(alloc)?;
@@ -124,10 +153,41 @@ fn push_findings(
         name: &text,
         row,
         options: &options,
+        is_tgs,
     };
+    push_realm(alloc, lines, &subject)?;
     push_times(alloc, lines, &subject, place.now)?;
     push_keys(alloc, lines, &subject)?;
     push_service(alloc, lines, &subject, name)
+}
+
+/// Adds what keeps everybody in the realm from logging in, by the policy of the ticket-granting service.
+fn push_realm(
+    alloc: Global,
+    lines: &mut Vec<String>,
+    subject: &Subject<'_>,
+) -> Result<(), AllocError> {
+    if !subject.is_tgs {
+        return Ok(());
+    }
+    let (name, options) = (subject.name, subject.options);
+    let policy = subject.row.policy;
+    for (is, word, setting) in [
+        (policy.disabled, "realm_disabled", "disabled=false"),
+        (!policy.service, "realm_denied", "service=true"),
+        (
+            policy.greatest_life < LEAST_LIFE,
+            "realm_short",
+            "greatest_life=10h",
+        ),
+    ] {
+        if is {
+            lines.push(format!(in alloc;
+                "{name} {word} # kadm policy {options} --set {setting}"
+            )?)?;
+        }
+    }
+    Ok(())
 }
 
 /// Adds the times of a principal that have passed.
@@ -137,20 +197,42 @@ fn push_times(
     subject: &Subject<'_>,
     now: u64,
 ) -> Result<(), AllocError> {
-    let (name, options) = (subject.name, subject.options);
+    let name = subject.name;
     let policy = subject.row.policy;
-    for (word, time, command) in [
-        ("expired", policy.expires, "remove"),
-        ("password_expired", policy.password_expires, "passwd"),
+    for (word, time, mend) in [
+        ("expired", policy.expires, expired_mend(alloc, subject)?),
+        (
+            "password_expired",
+            policy.password_expires,
+            password_mend(alloc, subject)?,
+        ),
     ] {
         if let Some(second) = time
             && is_past(second, now)
         {
             let date = UtcDate(second);
-            lines.push(format!(in alloc; "{name} {word} {date} # kadm {command} {options}")?)?;
+            lines.push(format!(in alloc; "{name} {word} {date} # kadm {mend}")?)?;
         }
     }
     Ok(())
+}
+
+/// Returns the command that mends a principal that has expired: it stays out. Only `krbtgt/REALM` is let in again.
+fn expired_mend(alloc: Global, subject: &Subject<'_>) -> Result<String, AllocError> {
+    let options = subject.options;
+    if subject.is_tgs {
+        return format!(in alloc; "policy {options} --set expires=never");
+    }
+    format!(in alloc; "policy {options} --set disabled=true --set expires=never")
+}
+
+/// Returns the command that mends a password that has expired. A service's keys are random ones: it has none.
+fn password_mend(alloc: Global, subject: &Subject<'_>) -> Result<String, AllocError> {
+    let options = subject.options;
+    if subject.row.policy.service {
+        return format!(in alloc; "policy {options} --set password_expires=never");
+    }
+    format!(in alloc; "passwd {options}")
 }
 
 /// Adds the risks of a principal's keys. A principal for which there are no tickets needs no older key.
@@ -216,11 +298,21 @@ fn push_service(
             "{text} may_be_service # kadm policy {options} --field service --value false"
         )?)?,
         Some(host) if is_odd(host) => {
-            lines.push(format!(in alloc; "{text} odd_host # kadm remove {options}")?)?
+            lines.push(format!(in alloc;
+                "{text} odd_host # kadm policy {options} --field service --value false"
+            )?)?
         }
         Some(_) => (),
     }
     Ok(())
+}
+
+/// Checks whether a name is that of the realm's own ticket-granting service.
+fn is_tgs(name: &Name, realm: &[u8]) -> bool {
+    match name.components.as_slice() {
+        [service, host] => service.as_slice() == KRBTGT && host.as_slice() == realm,
+        _ => false,
+    }
 }
 
 /// Checks whether a name is that of a ticket-granting service.

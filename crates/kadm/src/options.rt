@@ -47,6 +47,11 @@ pub(crate) const ANY_PASSWORDS: FlagRow = FlagRow {
     help: "Accepts a password that is empty or ends in a carriage return",
 };
 
+pub(crate) const WHOLE_REALM: FlagRow = FlagRow {
+    name: "whole-realm",
+    help: "Allows a change of krbtgt/REALM after which nobody can log in, or its password can be guessed",
+};
+
 pub(crate) const KEEPS_MODE: FlagRow = FlagRow {
     name: "keep-mode",
     help: "Leaves the mode of the changed file as it is; by default only its owner may then read and write it",

@@ -2,14 +2,14 @@
 ghost use Rattle.std.specs.Prelude.{◌≡◌, IfOk, IfSome, Some};
 ghost use Rattle.kadm_changes.specs.Words.{texts};
 ghost use Rattle.kadm.specs.Words.{IsPrintSpelled, command_of};
-ghost use Rattle.program.specs.declared.status.Status.TheVariants.{Done};
+ghost use Rattle.kadm.specs.Ends.{IsPrinted};
+ghost use Rattle.kadm.specs.declared.printing.PrintCommand.TheVariants as prints;
 
-use crate::linting::print_lint;
+use crate::linting::{LintArgs, print_lint};
 use crate::listing::{ListArgs, print_list, print_row};
 use crate::options::{DATABASE, NAME};
-use crate::words::has_flag;
 use clap::Command as Parser;
-use kadm_changes::{Context, Stop, value_of};
+use kadm_changes::{Context, Stop, has_flag, value_of};
 use program::{FlagRow, OptionRow, Status, Store, SubcommandRow, Times, with_subcommands};
 use std::alloc::{AllocError, Global};
 use std::convert::AsStr;
@@ -27,7 +27,7 @@ const PRINTS: &[SubcommandRow] = &[
         name: "lint",
         about: "Prints what to check, with the command that mends it: rights on the file, what has expired, weak or older keys, and tickets for users",
         options: &[DATABASE],
-        flags: &[],
+        flags: &[CHECKS, JSON_FINDINGS],
     },
     SubcommandRow {
         name: "show",
@@ -54,6 +54,16 @@ const JSONS: FlagRow = FlagRow {
     help: "Prints each line as a JSON object, with the columns by their names",
 };
 
+const CHECKS: FlagRow = FlagRow {
+    name: "check",
+    help: "Ends with status 1 if there is a line, for a job that looks each night",
+};
+
+const JSON_FINDINGS: FlagRow = FlagRow {
+    name: "json",
+    help: "Prints each line as a JSON object, with name, finding, detail and mend",
+};
+
 /// Adds the commands that only print.
 pub(crate) fn with_prints<'a>(alloc: Global, kadm: Parser<'a>) -> Result<Parser<'a>, AllocError> {
     with_subcommands(alloc, kadm, PRINTS)
@@ -65,7 +75,7 @@ pub(crate) enum PrintCommand<'a> {
     /// A line for each principal.
     List(ListArgs<'a>),
     /// A line for each oddity of a principal.
-    Lint,
+    Lint(LintArgs),
     Show { name: &'a str },
 }
 
@@ -79,7 +89,10 @@ pub(crate) fn print_of<'a>(command: &str, words: &'a [&'a str]) -> Option<PrintC
             long: has_flag(words, "--long"),
             json: has_flag(words, "--json"),
         })),
-        "lint" => Some(PrintCommand::Lint),
+        "lint" => Some(PrintCommand::Lint(LintArgs {
+            check: has_flag(words, "--check"),
+            json: has_flag(words, "--json"),
+        })),
         "show" => Some(PrintCommand::Show {
             name: value_of(words, "--name")?,
         }),
@@ -94,13 +107,32 @@ pub(crate) fn run_print<'a, T: Store, W: Write, E: Write>(
     db: &'a str,
     print: PrintCommand<'a>,
 ) -> Result<Status, Stop<'a>>
-    ensures done { IfOk result (λ status. status ≡ Done) }
+    ensures printed { IfOk result (λ status. IsPrinted status print.entry) }
     ensures unchanged { T.world store.new ≡ T.world store.old }
 {
     match print {
-        PrintCommand::List(list) => print_list(context, store, db, list)?,
-        PrintCommand::Lint => print_lint(context, store, db)?,
-        PrintCommand::Show { name } => print_row(context, store, db, name)?,
+        PrintCommand::List(list) => {
+            print_list(context, store, db, list)?;
+            Ok(Status::Done)
+        }
+        PrintCommand::Lint(lint) => {
+            let found = print_lint(context, store, db, lint)?;
+            Ok(lint_status(lint, found))
+        }
+        PrintCommand::Show { name } => {
+            print_row(context, store, db, name)?;
+            Ok(Status::Done)
+        }
     }
-    Ok(Status::Done)
+}
+
+/// Returns the status of `lint`. Lines are no refusal unless they are asked for as one.
+fn lint_status(lint: LintArgs, found: bool) -> Status
+    ensures { IsPrinted result (prints.Lint lint) }
+{
+    if lint.check && found {
+        Status::Refused
+    } else {
+        Status::Done
+    }
 }

@@ -1,5 +1,5 @@
 //! Why a command is refused, in one word and in a sentence.
-use kadm_changes::Reason;
+use kadm_changes::{RealmEnd, Reason};
 use principals::ChangeFault;
 use text_fields::keytab_text;
 
@@ -23,7 +23,8 @@ pub(crate) fn reason_word(reason: Reason) -> &'static str {
         Reason::LongPassword => "LongPassword",
         Reason::NoPassword => "NoPassword",
         Reason::BadTime => "BadTime",
-        Reason::ServesAll => "Protected",
+        Reason::Past => "Past",
+        Reason::EndsRealm(_) | Reason::EndedRealm => "Protected",
         Reason::NoVersion => "Absent",
         Reason::IsDatabase => "IsDatabase",
         Reason::IsLock => "IsLock",
@@ -55,7 +56,12 @@ pub(crate) fn reason_text(reason: Reason) -> &'static str {
             "standard input has the commands; name the password's file by `--password-file`"
         }
         Reason::BadTime => "this time is past the end of the year 9999",
-        Reason::ServesAll => "cannot deny tickets for it: without them nobody can log in",
+        Reason::Past => "this time is past; `--past` allows it",
+        Reason::EndsRealm(end) => end_text(end),
+        Reason::EndedRealm => {
+            "nobody could log in: krbtgt/REALM is disabled, expired or no service, or its tickets \
+             last less than 300 seconds; `--whole-realm` takes it as it is"
+        }
         Reason::NoVersion => "it has no keys of this version",
         Reason::IsDatabase => "a lock is beside it, so it may be a database; name another file",
         Reason::IsLock => "a file whose name ends in `.lock` is a lock; name another file",
@@ -68,6 +74,23 @@ pub(crate) fn reason_text(reason: Reason) -> &'static str {
         Reason::BadDump => "this is not a dump that MIT's kdb5_util writes, of version 5 to 8",
         Reason::BadStash => "this is not MIT's stash file with the master key of the dump",
         Reason::NoPlace => "what is listed has no place in a database; `--skip` leaves it out",
+    }
+}
+
+/// Returns the explanation of a change that would end the whole realm.
+fn end_text(end: RealmEnd) -> &'static str {
+    match end {
+        RealmEnd::Denied => "cannot deny tickets for it: without them nobody can log in",
+        RealmEnd::Disabled => "cannot disable it: nobody could log in; `--whole-realm` does it",
+        RealmEnd::Expired => "cannot let it expire: nobody could log in; `--whole-realm` does it",
+        RealmEnd::Short => {
+            "cannot limit its tickets to less than 300 seconds: nobody could log in; \
+             `--whole-realm` does it"
+        }
+        RealmEnd::Guessable => {
+            "cannot make its keys from a password: anyone who logs in could try passwords on its \
+             tickets; `random` gives it random keys"
+        }
     }
 }
 

@@ -9,6 +9,7 @@ use kadm_changes::{Context, KEYTAB, NAME, Reason, Refusal, Stop, Subject, begin_
 use program::{FileCause, Status, print_failure, print_refusal};
 use std::io;
 use std::io::Write;
+use text_fields::{Setting, UtcDate, setting_of};
 
 /// Reports why a command ended early: a word for programs on standard output, and the subject and reason on
 /// standard error. Returns the status.
@@ -92,9 +93,29 @@ fn report_refusal<E: Write>(errors: &mut E, subject: &Subject<'_>, refusal: Refu
         name_imported(errors, subject, value);
     }
     let _ = writeln!(errors, "{value}: {text}");
-    if let Reason::BadName | Reason::BadRealm = refusal.reason {
-        let _ = explain_spelling(errors, value);
+    let _ = match refusal.reason {
+        Reason::BadName | Reason::BadRealm => explain_spelling(errors, value),
+        Reason::Past => explain_number(errors, value),
+        _ => Ok(()),
+    };
+}
+
+/// Explains a time that is a number of eight digits: it was meant as a date.
+fn explain_number<E: Write>(errors: &mut E, word: &str) -> io::Result<()> {
+    let Some(Setting::Time(_, Some(second))) = setting_of("expires", word) else {
+        return Ok(());
+    };
+    if word.len() != 8 || !word.bytes().all(|octet| octet.is_ascii_digit()) {
+        return Ok(());
     }
+    let (Some(year), Some(month), Some(day)) = (word.get(..4), word.get(4..6), word.get(6..)) else {
+        return Ok(());
+    };
+    writeln!(
+        errors,
+        "kadm: as a number of seconds it is {}; write the date as {year}-{month}-{day}",
+        UtcDate(second)
+    )
 }
 
 /// Explains how to write the characters of a name that have to be escaped.

@@ -1,8 +1,8 @@
 //! One command line: from its words to the files.
 ghost use Rattle.std.specs.Prelude.{◌≡◌, IfErr, IfOk, OnErr, map, string_bytes, true};
 ghost use Rattle.kadm_changes.specs.Words.{path_of, texts};
-ghost use Rattle.kadm.specs.Ends.{IsCommandEnd, IsCommandStopped, IsEnd, IsStopped};
-ghost use Rattle.kadm.specs.Words.{asks_help, with_db};
+ghost use Rattle.kadm.specs.Ends.{IsCommandEnd, IsCommandStopped, IsEnd, IsStopped, KeepsOpen};
+ghost use Rattle.kadm.specs.Words.{asks_help, with_db, with_names};
 ghost use Rattle.program.specs.declared.status.Status.TheVariants.{Failed};
 
 use crate::commands::{Command, CommandKind, read_args, read_command};
@@ -11,7 +11,7 @@ use crate::outcome::Outcome;
 use crate::printing::run_print;
 use crate::reports::{report, report_unsynced};
 use crate::usage::{report_command_fault, report_fault};
-use crate::words::{asks_help, with_db, words_of};
+use crate::words::{asks_help, with_db, with_names, words_of};
 use crate::writing::{write_files, written_path};
 use kadm_changes::{Context, Progress, Stop, Subject};
 use program::{Status, Store, Written};
@@ -34,6 +34,7 @@ pub(crate) struct CommandLine<'a> {
 /// the words to `errors`. `Done` means that what the words ask for was done, or that they ask for help. Otherwise the
 /// files are unchanged, but for two cases: the words ask for a batch that keeps going (`Refused`), or all was done, and
 /// then only the printing or the sync of a folder failed (`Failed`).
+#[tactic(auto, using(crate::proofs::Opening::unchanged_open))]
 pub(crate) fn kadm_run<T: Store, W: Write + Drop, E: Write + Drop>(
     alloc: Global,
     line: CommandLine<'_>,
@@ -41,7 +42,8 @@ pub(crate) fn kadm_run<T: Store, W: Write + Drop, E: Write + Drop>(
     writer: W,
     errors: E,
 ) -> Status
-    ensures { IsEnd (with_db (path_of line.entry.db) (map string_bytes line.entry.args.now)) (T.world store.old) result (T.world store.new) }
+    ensures ended { IsEnd (with_db (path_of line.entry.db) (with_names (map string_bytes line.entry.args.now))) (T.world store.old) result (T.world store.new) }
+    ensures open { KeepsOpen (with_db (path_of line.entry.db) (with_names (map string_bytes line.entry.args.now))) (T.world store.old) (T.world store.new) }
 {
     let Ok(words) = words_with_db(alloc, line) else {
         return Status::Failed;
@@ -66,12 +68,14 @@ pub(crate) fn kadm_run<T: Store, W: Write + Drop, E: Write + Drop>(
     run_and_report(&mut context, store, &words).unwrap_or(Status::Failed)
 }
 
-/// Returns the words of a command line, with the database that is its default if they name none.
+/// Returns the words of a command line, with `--name` before its names, and with the database that is its default if
+/// they name none.
 fn words_with_db<'a>(alloc: Global, line: CommandLine<'a>) -> Result<Vec<&'a str>, AllocError>
-    ensures { IfOk result (λ words. texts words.items ≡ with_db (path_of line.entry.db) (map string_bytes line.entry.args.now)) }
+    ensures { IfOk result (λ words. texts words.items ≡ with_db (path_of line.entry.db) (with_names (map string_bytes line.entry.args.now))) }
 {
     let words = words_of(alloc, line.args)?;
-    with_db(alloc, words, line.db)
+    let named = with_names(alloc, &words)?;
+    with_db(alloc, named, line.db)
 }
 
 /// Returns the status, or the error of a failed write to the output.
@@ -140,7 +144,7 @@ fn asks<'a, W: Write, E: Write>(
 }
 
 /// Runs a command that was read. One that writes prints `ok` if all was done and is on the disk.
-#[tactic(auto, using(crate::proofs::Ending::write_done, crate::proofs::Ending::write_tried, crate::proofs::Ending::print_end))]
+#[tactic(auto, using(crate::proofs::Ending::write_done, crate::proofs::Ending::write_tried, crate::proofs::Ending::write_refused, crate::proofs::Ending::print_end))]
 fn run_command<'a, T: Store, W: Write, E: Write>(
     context: &mut Context<W, E>,
     store: &mut T,

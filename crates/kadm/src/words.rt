@@ -1,10 +1,11 @@
 //! The words of a command line.
-ghost use Rattle.std.specs.Prelude.{◌≡◌, ◌++◌, [], IfOk, OnOk, bytes_eq, codes, is_some, map, option_map, string_bytes};
+ghost use Rattle.std.specs.Prelude.{◌≡◌, ◌++◌, [], IfOk, OnOk, bytes_eq, false, codes, is_some, map, option_map, string_bytes};
 ghost use Rattle.std.specs.Prelude.{unwrap_or};
 ghost use Rattle.kadm_changes.specs.Words.{path_of, texts, value_of};
-ghost use Rattle.kadm.specs.Words.{asks_help, behind_command, command_of, has_flag, in_batch, lacks_db, with_db};
+ghost use Rattle.kadm.specs.Words.{asks_help, batch_words, behind_command, behind_names, command_of, in_batch, is_name};
+ghost use Rattle.kadm.specs.Words.{is_option, is_value_next, lacks_db, named, spelled, takes_names, takes_text, takes_value, with_db, with_names};
 
-use kadm_changes::{DB, value_of};
+use kadm_changes::{DB, has_flag, value_of};
 use std::alloc::{AllocError, Global};
 
 /// The word that asks for the help of the command after it.
@@ -17,6 +18,121 @@ pub(crate) fn words_of(alloc: Global, args: &[String]) -> Result<Vec<&str>, Allo
     let mut words = Vec::new(alloc);
     push_all(&mut words, args)?;
     Ok(words)
+}
+
+/// Returns the words of a command line, in which a word alone is a name: `kadm show alice` is `kadm show --name alice`.
+pub(crate) fn with_names<'a>(alloc: Global, words: &[&'a str]) -> Result<Vec<&'a str>, AllocError>
+    ensures { IfOk result (λ all. texts all.items ≡ with_names (texts words.now)) }
+{
+    let mut all = Vec::new(alloc);
+    let [program, command, others @ ..] = words else {
+        all.extend_from_slice(words)?;
+        return Ok(all);
+    };
+    all.push(*program)?;
+    all.push(*command)?;
+    push_behind(&mut all, command, others)?;
+    Ok(all)
+}
+
+/// Adds the words after a command.
+fn push_behind<'a>(
+    all: &mut Vec<&'a str>,
+    command: &str,
+    others: &[&'a str],
+) -> Result<(), AllocError>
+    ensures { OnOk result (texts all.new.items ≡ texts all.old.items ++ behind_names command.now (texts others.now)) }
+{
+    if takes_names(command) {
+        return push_named(all, others);
+    }
+    all.extend_from_slice(others)?;
+    Ok(())
+}
+
+/// Checks whether a command is one of those that are about principals by their names.
+fn takes_names(command: &str) -> bool
+    ensures { result ≡ takes_names command.now }
+{
+    command == "add"
+        || command == "passwd"
+        || command == "random"
+        || command == "drop"
+        || command == "policy"
+        || command == "remove"
+        || command == "keytab"
+        || command == "show"
+}
+
+/// Adds the words, with `--name` before each that is neither an option nor its value.
+fn push_named<'a>(all: &mut Vec<&'a str>, words: &[&'a str]) -> Result<(), AllocError>
+    ensures { OnOk result (texts all.new.items ≡ texts all.old.items ++ named false (texts words.now)) }
+{
+    let mut rest = words;
+    let mut is_value = false;
+    while let [word, others @ ..] = rest {
+        push_word(all, word, is_value)?;
+        is_value = is_value_next(word, is_value);
+        rest = others;
+    }
+    Ok(())
+}
+
+/// Adds a word, with `--name` before it if it is neither an option nor the value of one.
+fn push_word<'a>(all: &mut Vec<&'a str>, word: &'a str, is_value: bool) -> Result<(), AllocError>
+    ensures { OnOk result (texts all.new.items ≡ texts all.old.items ++ spelled is_value word.now) }
+{
+    if is_name(word, is_value) {
+        all.push("--name")?;
+        all.push(word)?;
+        return Ok(());
+    }
+    all.push(word)?;
+    Ok(())
+}
+
+/// Checks whether a word is neither an option nor the value of one.
+fn is_name(word: &str, is_value: bool) -> bool
+    ensures { result ≡ is_name is_value word.now }
+{
+    !is_value && !is_option(word)
+}
+
+/// Checks whether a word is an option: it begins with a hyphen.
+fn is_option(word: &str) -> bool
+    ensures { result ≡ is_option word.now }
+{
+    match word.as_bytes() {
+        [octet, ..] => *octet == b'-',
+        [] => false,
+    }
+}
+
+/// Checks whether the word after this one is the value of an option.
+fn is_value_next(word: &str, is_value: bool) -> bool
+    ensures { result ≡ is_value_next is_value word.now }
+{
+    !is_value && takes_value(word)
+}
+
+/// Checks whether a word is an option whose value is the next word.
+fn takes_value(word: &str) -> bool
+    ensures { result ≡ takes_value word.now }
+{
+    word == "--db"
+        || word == "--name"
+        || word == "--types"
+        || word == "--expires"
+        || word == "--seed"
+        || word == "--version"
+        || word == "--out"
+        || takes_text(word)
+}
+
+fn takes_text(word: &str) -> bool
+    ensures { result ≡ takes_text word.now }
+{
+    word == "--password-file" || word == "--set" || word == "--field" || word == "--value"
 }
 
 /// Returns the words with this database after the command, if they name none.
@@ -81,6 +197,17 @@ pub(crate) fn in_batch<'a>(
 ) -> Result<Vec<&'a str>, AllocError>
     ensures { IfOk result (λ words. texts words.items ≡ in_batch db.now (map string_bytes line.now)) }
 {
+    let words = batch_words(alloc, db, line)?;
+    with_names(alloc, &words)
+}
+
+fn batch_words<'a>(
+    alloc: Global,
+    db: &'a str,
+    line: &'a [String],
+) -> Result<Vec<&'a str>, AllocError>
+    ensures { IfOk result (λ words. texts words.items ≡ batch_words db.now (map string_bytes line.now)) }
+{
     let mut words = Vec::new(alloc);
     words.push("kadm")?;
     if let [command, others @ ..] = line {
@@ -117,20 +244,6 @@ pub(crate) fn is_given(words: &[&str], option: &str) -> bool
         Some(_) => true,
         None => false,
     }
-}
-
-/// Checks whether an option without a value is there.
-pub(crate) fn has_flag(words: &[&str], flag: &str) -> bool
-    ensures { result ≡ has_flag (texts words.now) flag.now }
-{
-    let mut rest = words;
-    while let [word, others @ ..] = rest {
-        if *word == flag {
-            return true;
-        }
-        rest = others;
-    }
-    false
 }
 
 /// Checks whether the words ask for the help or the version.

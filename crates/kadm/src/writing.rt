@@ -10,11 +10,10 @@ use crate::commands::Command;
 use crate::options::{DATABASE, KEEPS_MODE, NAME};
 use crate::outcome::Outcome;
 use crate::usage::{CommandFault, NO_COMMAND, required};
-use crate::words::has_flag;
 use clap::Command as Parser;
 use kadm_changes::{
-    Context, DB, DumpArgs, InitArgs, KeytabArgs, Stop, Target, Update, import_dump, make_realm,
-    make_update, value_of, write_keytab,
+    Context, DB, DumpArgs, InitArgs, KeytabArgs, Stop, Target, Update, has_flag, import_dump,
+    make_realm, make_update, value_of, write_keytab,
 };
 use program::{FlagRow, OptionRow, Status, Store, SubcommandRow, Times, with_subcommands};
 use std::alloc::{AllocError, Global};

@@ -16,11 +16,10 @@ use Rattle.principals.specs.Database.{Principals}
 use Rattle.principals.specs.Importing.{import_refusal, imported}
 use Rattle.principals.specs.declared.change.ChangeFault.{ChangeFault}
 use Rattle.principals.specs.declared.change.RowChange.{RowChange}
-use Rattle.kadm_changes.specs.Changing.{AreChanged}
 use Rattle.kadm_changes.specs.Granting.{Makes}
 use Rattle.kadm_changes.specs.Importing.{Imports}
 use Rattle.kadm_changes.specs.Keytabs.{IsBehind, IsFreePath, IsFront, IsKeytabFor, IsNewKeytab, IsOldKeytab, entries_of}
-use Rattle.kadm_changes.specs.Updates.{IsRowChanged, IsRowUpdated, IsSecretOf}
+use Rattle.kadm_changes.specs.Updates.{AreKept, IsRowKept, IsRowUpdated, IsSecretOf}
 use Rattle.kadm_changes.specs.Words.{Text}
 use Rattle.kadm_changes.specs.Worlds.{HoldsDatabase, Rewritten, WroteKeytab, with_database}
 use Rattle.kadm_changes.specs.declared.keytabs.KeytabArgs.{KeytabArgs}
@@ -47,23 +46,23 @@ imports_by (Err fault) p new who versions made refused = tt
 -- ---- changes of a database that was read
 
 -- the change of a row, whose password was read before
-pub row_updated : (before changing : Option World) (etypes given : List Etype) (to : RowArgs) (who : Components) (pass octets : List ℕ) (p q : Principals)
+pub row_updated : (before changing : Option World) (whole : Bool) (etypes given : List Etype) (to : RowArgs) (who : Components) (pass octets : List ℕ) (p q : Principals)
     → changing ≡ before → given ≡ etypes → octets ≡ pass → IsNameText who to.name.now → IsSecretOf before to.how pass
-    → IsRowChanged changing given octets to who p q → IsRowUpdated before etypes to p q
-row_updated before changing etypes given to who pass octets p q kept types taken spelled secret change = record {
+    → IsRowKept changing whole given octets to who p q → IsRowUpdated before whole etypes to p q
+row_updated before changing whole etypes given to who pass octets p q kept types taken spelled secret change = record {
   who = who;
   spelled = spelled;
   pass = pass;
   secret = secret;
-  changed = subst (λ world. IsRowChanged world etypes pass to who p q) kept
-      (subst (λ read. IsRowChanged changing etypes read to who p q) taken
-      (subst (λ ordered. IsRowChanged changing ordered octets to who p q) types change));
+  changed = subst (λ world. IsRowKept world whole etypes pass to who p q) kept
+      (subst (λ read. IsRowKept changing whole etypes read to who p q) taken
+      (subst (λ ordered. IsRowKept changing whole ordered octets to who p q) types change));
 }
 
 -- the changes of all principals that are named
-pub rows_changed : (before changing : Option World) (words : List Text) (how : ChangeArgs) (p q : Principals)
-    → changing ≡ before → AreChanged changing words how p q → AreChanged before words how p q
-rows_changed before changing words how p q kept change = subst (λ world. AreChanged world words how p q) kept change
+pub rows_changed : (before changing : Option World) (whole : Bool) (words : List Text) (how : ChangeArgs) (p q : Principals)
+    → changing ≡ before → AreKept changing whole words how p q → AreKept before whole words how p q
+rows_changed before changing whole words how p q kept change = subst (λ world. AreKept world whole words how p q) kept change
 
 -- ---- keytabs
 

@@ -3,4 +3,5 @@ mod Making
 mod Moved
 mod Older
 mod Paths
+mod Realms
 mod Users

@@ -10,13 +10,15 @@ use Rattle.krb_fields.specs.NameLimits.{IsWithinLimits, is_within_limits}
 use Rattle.mit_dump.specs.Place.{IsRealmOf, has_place}
 use Rattle.mit_dump.specs.declared.principal.DumpedPrincipal.{DumpedPrincipal}
 use Rattle.principal_rows.specs.NameMap.{pairs}
+use Rattle.principal_rows.specs.Policy.{default_policy}
 use Rattle.principal_rows.specs.Row.{IsRow}
 use Rattle.principal_rows.specs.declared.name_map.Entry.{Entry}
 use Rattle.principal_rows.specs.declared.row.Row.{Row}
 use Rattle.principals.specs.Database.{Principals}
 use Rattle.principals.specs.NamesLaws.{AllNamesFit, names_fit-insert}
 use Rattle.kadm_changes.specs.Dumps.{AreRowsOf, HasRealm, IsDatabaseOf, LosesNothing, IsPushedRow}
-use Rattle.kadm_changes.specs.Worlds.{MadeFromDump, with_database}
+use Rattle.kadm_changes.specs.Realm.{KeepsRealm, tgs_policy}
+use Rattle.kadm_changes.specs.Worlds.{IsReadBack, MadeFromDump, with_database}
 use Rattle.kadm_changes.specs.declared.dump_import.DumpArgs.{DumpArgs}
 
 abbrev HasRow : Entry Row → Type 0
@@ -94,13 +96,15 @@ database_made realm stash found skip made new of kept rows is =
     subst (IsDatabaseOf found stash skip) (sym is) (record { realm = of; kept = kept; entries = made; rows = rows; mapped = refl })
 
 -- the database that is written at a path without a file
-pub made_from_dump : {T E : Type 0} (r : Result T E) (before locked asked read after : Option World) (db path : List ℕ) (from : DumpArgs) (p : Principals)
+pub made_from_dump : (before locked asked read after : Option World) (whole : Bool) (db path : List ℕ) (from : DumpArgs) (p : Principals)
     → locked ≡ before → asked ≡ locked → read ≡ asked → path ≡ db → IsThere locked db false → HasRealm asked from p
-    → OnOk r (after ≡ with_database path p read) → OnOk r (MadeFromDump before db from after)
-made_from_dump (Ok x) before locked asked read after db path from p first same still at free made written = record {
+    → KeepsRealm whole read default_policy (tgs_policy p) → IsReadBack p → after ≡ with_database path p read
+    → MadeFromDump before whole db from after
+made_from_dump before locked asked read after whole db path from p first same still at free made kept reads written = record {
   free = subst (λ world. IsThere world db false) first free;
   new = p;
   made = subst (λ world. HasRealm world from p) (same ∙ first) made;
+  kept = subst (λ world. KeepsRealm whole world default_policy (tgs_policy p)) (still ∙ same ∙ first) kept;
+  read_back = reads;
   written = written ∙ ap (λ world. with_database path p world) (still ∙ same ∙ first) ∙ ap (λ named. with_database named p before) at;
 }
-made_from_dump (Err e) before locked asked read after db path from p first same still at free made written = tt

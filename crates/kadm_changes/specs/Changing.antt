@@ -6,7 +6,7 @@ use Rattle.krb_fields.specs.NameText.{IsNameText}
 use Rattle.principals.specs.Database.{Principals}
 use Rattle.principals.specs.declared.change.RowChange.TheVariants as row_changes
 use Rattle.kadm_changes.specs.Granting.{IsOlderDropped, IsPolicySet, Makes}
-use Rattle.kadm_changes.specs.Words.{Text, setting_at, value_at}
+use Rattle.kadm_changes.specs.Words.{Asked, Text, setting_at, value_at}
 use Rattle.kadm_changes.specs.declared.changes.ChangeArgs.{ChangeArgs}
 use Rattle.kadm_changes.specs.declared.changes.ChangeArgs.TheVariants.{Drop, DropOlder, Policy, Remove}
 
@@ -17,9 +17,9 @@ AreMade at (word ∷ others) p new = (next : Principals) × at word others p nex
 
 -- ---- settings
 
-abbrev pub IsSetAt : Option World → Option (Text × Text) → Components → Principals → Principals → Type 0
+abbrev pub IsSetAt : Option World → Option Asked → Components → Principals → Principals → Type 0
 IsSetAt world None who p new = new ≡ p
-IsSetAt world (Some setting) who p new = IsPolicySet world setting.0 setting.1 who p new
+IsSetAt world (Some setting) who p new = IsPolicySet world setting who p new
 
 abbrev pub SetBy : Option World → List Text → Components → Text → List Text → Principals → Principals → Type 0
 SetBy world words who word others p new = IsSetAt world (setting_at words word others) who p new

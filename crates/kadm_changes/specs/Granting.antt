@@ -1,6 +1,6 @@
 -- The effect of the commands on a database.
 use Rattle.std.specs.Prelude.{◌≡◌, ◌⊎◌, ◌+◌, ◌≤ℤ◌, ◌<ℤ◌, ℕ, ℤ, pos, Bool, List, map, take, drop, Option, Some, None, is_some}
-use Rattle.std.specs.Prelude.{⊤, false, not, if◌then◌else◌}
+use Rattle.std.specs.Prelude.{⊤, if◌then◌else◌}
 use Rattle.std.specs.FinMap.{get, insert}
 use Rattle.enctypes.specs.Key.{ProtocolKey}
 use Rattle.program.specs.World.{World, IsNow}
@@ -9,15 +9,14 @@ use Rattle.principal_rows.specs.declared.row.KeyVersion.{KeyVersion}
 use Rattle.principal_rows.specs.declared.row.Row.{Row}
 use Rattle.principals.specs.Change.{row_changed, row_refusal}
 use Rattle.principals.specs.Database.{Principals}
-use Rattle.krb_fields.specs.Granting.{tgs_principal}
 use Rattle.principals.specs.declared.change.RowChange.{RowChange}
 use Rattle.principals.specs.declared.change.RowChange.TheVariants as row_changes
 use Rattle.text_fields.specs.Settings.{with_setting}
 use Rattle.text_fields.specs.Values.{IsFixedValue, IsTimeFrom}
-use Rattle.text_fields.specs.declared.settings.FlagField.TheVariants as flags
 use Rattle.text_fields.specs.declared.settings.Setting.{Setting}
-use Rattle.text_fields.specs.declared.settings.Setting.TheVariants as settings
+use Rattle.kadm_changes.specs.Asking.{IsTimely}
 use Rattle.kadm_changes.specs.Denying.{denied}
+use Rattle.kadm_changes.specs.Words.{Asked}
 use Rattle.kadm_changes.specs.declared.granting.Grant.{Grant}
 use Rattle.kadm_changes.specs.declared.granting.Grant.TheVariants.{New, NewUser, Next, Replace, Either}
 use Rattle.kadm_changes.specs.declared.granting.KeyChange.{KeyChange}
@@ -101,17 +100,9 @@ IsValueOf world setting name value =
 
 -- ---- changes without keys
 
--- no tickets may be issued any more for the principal with this setting
-abbrev pub denies_tickets : Setting → Bool
-denies_tickets (settings.Flag flags.Service on) = not on
-denies_tickets _ = false
-
--- tickets for the realm's ticket-granting service stay allowed, since every login needs them
-abbrev pub KeepsRealm : Principals → Components → Setting → Type 0
-KeepsRealm p who setting = who ≡ tgs_principal p.realm → denies_tickets setting ≡ false
-
 -- the field has the value, whatever it had before; the rest of the policy is unchanged
-abbrev pub IsPolicySet : Option World → List ℕ → List ℕ → Components → Principals → Principals → Type 0
-IsPolicySet world field value who p new =
-    (row : Row) × (get p.rows who ≡ Some row) × (setting : Setting) × IsValueOf world setting field value
-    × KeepsRealm p who setting × Makes p who (row_changes.SetPolicy (with_setting setting row.policy)) new
+abbrev pub IsPolicySet : Option World → Asked → Components → Principals → Principals → Type 0
+IsPolicySet world asked who p new =
+    (row : Row) × (get p.rows who ≡ Some row) × (setting : Setting) × IsValueOf world setting asked.field asked.value
+    × IsTimely asked.ahead world setting
+    × Makes p who (row_changes.SetPolicy (with_setting setting row.policy)) new

@@ -1,3 +1,4 @@
+pub mod Asking
 pub mod Changing
 pub mod Denying
 pub mod Dumps
@@ -6,6 +7,7 @@ pub mod Granting
 pub mod Importing
 pub mod Keytabs
 pub mod Owners
+pub mod Realm
 pub mod Stops
 pub mod Updates
 pub mod Words

@@ -12,7 +12,9 @@ use Rattle.kadm_changes.specs.Changing.{AreChanged, AreSet}
 use Rattle.kadm_changes.specs.Denying.{migrated_rows}
 use Rattle.kadm_changes.specs.Granting.{IsCleared, IsGranted}
 use Rattle.kadm_changes.specs.Importing.{HasVersions, Imports}
+use Rattle.kadm_changes.specs.Realm.{KeepsRealm, MayHaveKeys, tgs_policy}
 use Rattle.kadm_changes.specs.Words.{Text, path_of, texts}
+use Rattle.kadm_changes.specs.declared.changes.ChangeArgs.{ChangeArgs}
 use Rattle.kadm_changes.specs.declared.granting.Grant.{Grant}
 use Rattle.kadm_changes.specs.declared.updates.RowArgs.{RowArgs}
 use Rattle.kadm_changes.specs.declared.updates.RowUpdate.{RowUpdate}
@@ -59,18 +61,30 @@ abbrev pub IsRowChanged : Option World → List Etype → List ℕ → RowArgs �
 IsRowChanged world etypes pass to who p new =
     (given : Principals) × IsRowGiven world etypes pass to.how who p given × AreSet world (texts to.words.now) who given new
 
+-- the same, and nobody is kept out of the realm: krbtgt/REALM gets no keys of a password, and stays as open as it was
+abbrev pub IsRowKept : Option World → Bool → List Etype → List ℕ → RowArgs → Components → Principals → Principals → Type 0
+IsRowKept world whole etypes pass to who p new =
+    IsRowChanged world etypes pass to who p new × MayHaveKeys whole new.realm who to.how
+    × KeepsRealm whole world (tgs_policy p) (tgs_policy new)
+
 -- the row of the principal that a text names is changed
-pub record IsRowUpdated (world : Option World) (etypes : List Etype) (to : RowArgs) (p : Principals) (new : Principals) : Type 0 where
+pub record IsRowUpdated (world : Option World) (whole : Bool) (etypes : List Etype) (to : RowArgs) (p : Principals) (new : Principals) : Type 0 where
   pub who : Components
   pub spelled : IsNameText who to.name.now
   pub pass : List ℕ
   pub secret : IsSecretOf world to.how pass
-  pub changed : IsRowChanged world etypes pass to who p new
+  pub changed : IsRowKept world whole etypes pass to who p new
 
-abbrev pub IsMigrated : Bool → Principals → Principals → Type 0
-IsMigrated users_are_no_services p new = new ≡ migrated_rows users_are_no_services p
+-- the principals that words name are changed, and krbtgt/REALM stays as open as it was
+abbrev pub AreKept : Option World → Bool → List Text → ChangeArgs → Principals → Principals → Type 0
+AreKept world whole words how p new =
+    AreChanged world words how p new × KeepsRealm whole world (tgs_policy p) (tgs_policy new)
 
-abbrev pub IsUpdated : Option World → List Etype → Update → Principals → Principals → Type 0
-IsUpdated world etypes (updates.Row to) p new = IsRowUpdated world etypes to p new
-IsUpdated world etypes (updates.Changes changes) p new = AreChanged world (texts changes.words.now) changes.how p new
-IsUpdated world etypes (updates.Migrate users_are_no_services) p new = IsMigrated users_are_no_services p new
+abbrev pub IsMigrated : Option World → Bool → Bool → Principals → Principals → Type 0
+IsMigrated world whole users_are_no_services p new =
+    (new ≡ migrated_rows users_are_no_services p) × KeepsRealm whole world (tgs_policy p) (tgs_policy new)
+
+abbrev pub IsUpdated : Option World → Bool → List Etype → Update → Principals → Principals → Type 0
+IsUpdated world whole etypes (updates.Row to) p new = IsRowUpdated world whole etypes to p new
+IsUpdated world whole etypes (updates.Changes changes) p new = AreKept world whole (texts changes.words.now) changes.how p new
+IsUpdated world whole etypes (updates.Migrate users_are_no_services) p new = IsMigrated world whole users_are_no_services p new

@@ -1,16 +1,18 @@
 -- The effect of a command on the files.
-use Rattle.std.specs.Prelude.{◌≡◌, ℕ, false, List, Option, option_map, Ok}
+use Rattle.std.specs.Prelude.{◌≡◌, ℕ, Bool, false, List, Option, option_map, Ok}
 use Rattle.serde_json.specs.Written.{compact_text}
 use Rattle.enctypes.specs.declared.etype.Etype.{Etype}
 use Rattle.krb_fields.specs.Name.{Components}
 use Rattle.krb_fields.specs.NameText.{IsComponentText, IsNameText}
 use Rattle.text_fields.specs.Keys.{drawn_keys, seeded}
+use Rattle.principal_rows.specs.Policy.{default_policy}
 use Rattle.principals.specs.Database.{Principals, first_database}
 use Rattle.principals_text.specs.Value.{text_database}
 use Rattle.principals_text.specs.Written.{database_value}
 use Rattle.program.specs.World.{World, with_file, HasSeed, IsRead, IsThere}
 use Rattle.kadm_changes.specs.Dumps.{HasRealm}
 use Rattle.kadm_changes.specs.Keytabs.{IsFreePath, IsKeytabFor}
+use Rattle.kadm_changes.specs.Realm.{KeepsRealm, tgs_policy}
 use Rattle.kadm_changes.specs.Updates.{IsUpdated}
 use Rattle.kadm_changes.specs.Words.{path_of}
 use Rattle.kadm_changes.specs.declared.dump_import.DumpArgs.{DumpArgs}
@@ -25,6 +27,10 @@ HoldsDatabase world db p = (text : List ℕ) × IsRead world db text × (text_da
 abbrev pub with_database : List ℕ → Principals → Option World → Option World
 with_database db p world = option_map (with_file db (compact_text (database_value p))) world
 
+-- the text that is written for a database is read back as this database
+abbrev pub IsReadBack : Principals → Type 0
+IsReadBack p = text_database (compact_text (database_value p)) ≡ Ok p
+
 -- ---- the effect of each command, from the world before it to the one after it
 
 -- a first database of a realm, at a path without a file
@@ -32,6 +38,7 @@ pub record MadeNew (before : Option World) (db : List ℕ) (etypes : List Etype)
   pub free : IsThere before db false
   pub seed : List ℕ
   pub drawn : HasSeed before named seed
+  pub read_back : IsReadBack (first_database realm (drawn_keys (seeded seed) etypes))
   pub written : after ≡ with_database db (first_database realm (drawn_keys (seeded seed) etypes)) before
 
 -- the same for the realm that a text names
@@ -45,10 +52,11 @@ pub record Rewritten (before : Option World) (db : List ℕ) (makes : Principals
   pub read : HoldsDatabase before db old
   pub new : Principals
   pub made : makes old new
+  pub read_back : IsReadBack new
   pub written : after ≡ with_database db new before
 
-abbrev pub Updated : Option World → List ℕ → List Etype → Update → Option World → Type 0
-Updated before db etypes update after = Rewritten before db (IsUpdated before etypes update) after
+abbrev pub Updated : Option World → Bool → List ℕ → List Etype → Update → Option World → Type 0
+Updated before whole db etypes update after = Rewritten before db (IsUpdated before whole etypes update) after
 
 -- a keytab of a principal's current keys is written, at a path without a database or a lock, and no other file
 pub record WroteKeytab (before : Option World) (db : List ℕ) (to : KeytabArgs) (after : Option World) : Type 0 where
@@ -61,9 +69,11 @@ pub record WroteKeytab (before : Option World) (db : List ℕ) (to : KeytabArgs)
   pub holds : IsKeytabFor before to who old octets
   pub written : after ≡ option_map (with_file to.out.now octets) before
 
--- the database of the realm of a dump, at a path without a file
-pub record MadeFromDump (before : Option World) (db : List ℕ) (from : DumpArgs) (after : Option World) : Type 0 where
+-- the database of the realm of a dump, at a path without a file; its krbtgt/REALM is as open as that of a new realm
+pub record MadeFromDump (before : Option World) (whole : Bool) (db : List ℕ) (from : DumpArgs) (after : Option World) : Type 0 where
   pub free : IsThere before db false
   pub new : Principals
   pub made : HasRealm before from new
+  pub kept : KeepsRealm whole before default_policy (tgs_policy new)
+  pub read_back : IsReadBack new
   pub written : after ≡ with_database db new before

@@ -1,10 +1,10 @@
 //! A new database, and changes of one without new keys.
-ghost use Rattle.std.specs.Prelude.{◌≡◌, IfOk, IsFalse, OnOk, OnErr, false, option_map, true};
-ghost use Rattle.krb_fields.specs.Granting.{tgs_principal};
+ghost use Rattle.std.specs.Prelude.{◌≡◌, ◌≤ℤ◌, IfOk, IfSome, IsFalse, OnOk, OnErr, option_map, pos};
+ghost use Rattle.kadm_changes.specs.Asking.{IsFrom, IsTimely, asked_of, expiry};
 ghost use Rattle.principals.specs.declared.change.RowChange.TheVariants as row_changes;
 ghost use Rattle.kadm_changes.specs.Changing.{AreChanged, AreSet, IsChanged, IsChangedAt, IsNamedChanged, IsSetAt};
 ghost use Rattle.kadm_changes.specs.Denying.{migrated_rows};
-ghost use Rattle.kadm_changes.specs.Granting.{IsPolicySet, IsValueOf, Makes, denies_tickets};
+ghost use Rattle.kadm_changes.specs.Granting.{IsPolicySet, IsValueOf, Makes};
 ghost use Rattle.kadm_changes.specs.Words.{path_of, texts};
 ghost use Rattle.kadm_changes.specs.Worlds.{MadeNew, MadeRealm};
 
@@ -19,12 +19,12 @@ use crate::stop::{Stop, of_realm};
 use crate::target::Target;
 use crate::words::{DB, NAME, value_at};
 use krb_elements::KerberosString;
-use krb_fields::{Name, component_from_text, tgs_name};
+use krb_fields::{Name, Second, component_from_text};
 use principals::{ChangeFault, Database, RowChange};
 use program::{Store, Written, has_file, read_clock, read_or_draw_seed};
-use std::alloc::{AllocError, Global};
+use std::alloc::Global;
 use std::io::Write;
-use text_fields::{FlagField, Setting, random_keys, setting_from, setting_of};
+use text_fields::{Setting, TimeField, random_keys, setting_from, setting_of};
 
 /// What a new realm is made from.
 #[derive(Clone, Copy)]
@@ -225,7 +225,7 @@ fn set_at<'p, T: Store>(
     setting: Option<SettingWords<'p>>,
 ) -> Result<(), Stop<'p>>
     ensures set { OnOk result (IsSetAt (T.world store.old)
-        (option_map (λ setting. (setting.field.now, setting.value.now)) setting.entry)
+        (option_map asked_of setting.entry)
         who.now.components draft.old.database draft.new.database) }
     ensures unchanged { T.world store.new ≡ T.world store.old }
 {
@@ -260,7 +260,7 @@ fn set_policy<'p, T: Store>(
     who: &Name,
     words: SettingWords<'p>,
 ) -> Result<(), Stop<'p>>
-    ensures changed { OnOk result (IsPolicySet (T.world store.old) words.entry.field.now words.entry.value.now who.now.components
+    ensures changed { OnOk result (IsPolicySet (T.world store.old) (asked_of words.entry) who.now.components
         draft.old.database draft.new.database) }
     ensures unchanged { T.world store.new ≡ T.world store.old }
 {
@@ -269,36 +269,9 @@ fn set_policy<'p, T: Store>(
     };
     let policy = row.policy;
     let setting = setting(store, words)?;
-    let is_tgs = is_tgs(draft.alloc, &draft.database, who)?;
-    if shuts_realm(is_tgs, setting) {
-        return Err(Stop::refused(NAME, Reason::ServesAll));
-    }
+    check_time(store, words, setting)?;
     let policy = setting.on(policy);
     Ok(apply(draft, who, RowChange::SetPolicy(policy))?)
-}
-
-/// Checks whether a name is that of the realm's ticket-granting service.
-fn is_tgs(alloc: Global, database: &Database, who: &Name) -> Result<bool, AllocError>
-    ensures { IfOk result (λ is. who.now.components ≡ tgs_principal database.now.realm → is ≡ true) }
-{
-    let tgs = tgs_name(alloc, database.realm())?;
-    Ok(who.is_same(&tgs))
-}
-
-/// Checks whether a setting would deny tickets for the ticket-granting service, which every login needs.
-fn shuts_realm(is_tgs: bool, setting: Setting) -> bool
-    ensures { IsFalse result → is_tgs ≡ true → denies_tickets setting ≡ false }
-{
-    is_tgs && denies_tickets(setting)
-}
-
-fn denies_tickets(setting: Setting) -> bool
-    ensures { result ≡ denies_tickets setting }
-{
-    match setting {
-        Setting::Flag(FlagField::Service, on) => !on,
-        _ => false,
-    }
 }
 
 /// Returns a field with its value. It reads the clock if the value is a time from now.
@@ -312,6 +285,57 @@ fn setting<'p, T: Store>(store: &mut T, words: SettingWords<'p>) -> Result<Setti
     match setting_from(words.field, words.value, read_clock(store)?) {
         Some(setting) => Ok(setting),
         None => Err(Stop::refused_value(words.form.value_option(), words.value, Reason::BadTime)),
+    }
+}
+
+/// Refuses a time that is past, where the words ask for one ahead.
+fn check_time<'p, T: Store>(
+    store: &mut T,
+    words: SettingWords<'p>,
+    setting: Setting,
+) -> Result<(), Stop<'p>>
+    ensures timely { OnOk result (IsTimely words.entry.ahead (T.world store.old) setting) }
+    ensures unchanged { T.world store.new ≡ T.world store.old }
+{
+    if !words.ahead {
+        return Ok(());
+    }
+    if is_before_now(store, expiry(setting))? {
+        return Err(Stop::refused_value(words.form.value_option(), words.value, Reason::Past));
+    }
+    Ok(())
+}
+
+/// Returns when the principal or its password expires by a setting.
+fn expiry(setting: Setting) -> Option<Second>
+    ensures { result ≡ expiry setting }
+{
+    match setting {
+        Setting::Time(TimeField::Expires, time) => time,
+        Setting::Time(TimeField::PasswordExpires, time) => time,
+        _ => None,
+    }
+}
+
+/// Checks whether a time, if there is one, comes before the clock's second.
+#[tactic(auto, using(crate::proofs::Realms::never_before, crate::proofs::Realms::from_now))]
+fn is_before_now<T: Store>(store: &mut T, expires: Option<Second>) -> Result<bool, Stop<'static>>
+    ensures ahead { IfOk result (λ past. IsFalse past → IfSome (T.world store.old) (λ held. IsFrom held.now expires)) }
+    ensures unchanged { T.world store.new ≡ T.world store.old }
+{
+    match expires {
+        Some(expires) => Ok(is_before(expires, read_clock(store)?)),
+        None => Ok(false),
+    }
+}
+
+/// Checks whether a second comes before another one.
+fn is_before(expires: Second, now: u64) -> bool
+    ensures ahead { IsFalse result → pos now ≤ℤ expires }
+{
+    match u64::try_from(expires.get()) {
+        Ok(expires) => expires < now,
+        Err(_) => true,
     }
 }
 

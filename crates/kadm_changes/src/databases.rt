@@ -1,7 +1,7 @@
 //! The database and its file.
 ghost use Rattle.std.specs.Prelude.{◌≡◌, IfOk, OnOk, OnErr};
 ghost use Rattle.kadm_changes.specs.Granting.{Makes};
-ghost use Rattle.kadm_changes.specs.Worlds.{HoldsDatabase, with_database};
+ghost use Rattle.kadm_changes.specs.Worlds.{HoldsDatabase, IsReadBack, with_database};
 
 use crate::context::Context;
 use crate::draft::Draft;
@@ -109,6 +109,7 @@ pub fn write_database<'p, T: Store>(
     database: &Database,
 ) -> Result<Written, Stop<'p>>
     ensures written { OnOk result (T.world store.new ≡ with_database locked.now database.now (T.world store.old)) }
+    ensures read_back { OnOk result (IsReadBack database.now) }
     ensures unchanged { OnErr result (T.world store.new ≡ T.world store.old) }
 {
     let text = principals_text::write(alloc, database)?;

@@ -9,6 +9,8 @@ ghost use Rattle.principal_rows.specs.NameMap.{pairs};
 ghost use Rattle.principal_rows.specs.Row.{IsRow};
 ghost use Rattle.text_fields.specs.Keytabs.{AreVersionsOf};
 ghost use Rattle.kadm_changes.specs.Dumps.{AreRowsOf, HasRealm, IsDatabaseOf, IsPushedRow, IsRowOf, IsStash};
+ghost use Rattle.principal_rows.specs.Policy.{default_policy};
+ghost use Rattle.kadm_changes.specs.Realm.{KeepsRealm, tgs_policy};
 ghost use Rattle.kadm_changes.specs.Worlds.{MadeFromDump};
 
 use crate::context::Context;
@@ -16,6 +18,7 @@ use crate::databases::{lock_database, write_database};
 use crate::dump_reports::{
     report_fault, report_key_fault, report_losses, report_no_database, report_taken,
 };
+use crate::realm::{realm_end, report_realm, tgs_policy};
 use crate::reason::Reason;
 use crate::stop::Stop;
 use crate::target::Target;
@@ -23,7 +26,7 @@ use crate::words::{DB, DUMP, STASH};
 use cred_files::{CredFault, Keytab, KeytabEntry};
 use krb_elements::KerberosString;
 use mit_dump::{DumpedPrincipal, dump_realm, read_dump};
-use principal_rows::{Entry, NameMap, Row};
+use principal_rows::{Entry, NameMap, Policy, Row};
 use principals::Database;
 use principals_text::LONGEST_TEXT;
 use program::{Store, Written, has_file, read_at_most, read_file};
@@ -49,7 +52,7 @@ pub fn import_dump<'p, T: Store, W: Write, E: Write>(
     target: &Target<'p>,
     from: DumpArgs<'p>,
 ) -> Result<Written, Stop<'p>>
-    ensures done { OnOk result (MadeFromDump (T.world store.old) target.now.db.now from.entry (T.world store.new)) }
+    ensures done { OnOk result (MadeFromDump (T.world store.old) target.now.whole_realm target.now.db.now from.entry (T.world store.new)) }
     ensures unchanged { OnErr result (T.world store.new ≡ T.world store.old) }
 {
     let locked = lock_database(context, store, target)?;
@@ -57,7 +60,31 @@ pub fn import_dump<'p, T: Store, W: Write, E: Write>(
         return Err(Stop::refused(DB, Reason::FileExists));
     }
     let database = read_realm(context, store, from)?;
-    write_database(context.alloc, store, &locked, &database)
+    check_new_realm(store, &database, target.whole_realm)?;
+    let written = write_database(context.alloc, store, &locked, &database)?;
+    if target.whole_realm {
+        report_realm(context.alloc, &mut context.errors, &database);
+    }
+    Ok(written)
+}
+
+/// Refuses the database of a dump in which nobody could log in, unless `whole` allows it.
+fn check_new_realm<T: Store>(
+    store: &mut T,
+    database: &Database,
+    whole: bool,
+) -> Result<(), Stop<'static>>
+    ensures kept { OnOk result (KeepsRealm whole (T.world store.old) default_policy (tgs_policy database.now)) }
+    ensures unchanged { T.world store.new ≡ T.world store.old }
+{
+    if whole {
+        return Ok(());
+    }
+    let end = realm_end(store, Policy::default(), tgs_policy(database))?;
+    match end {
+        Some(_) => Err(Stop::refused(DUMP, Reason::EndedRealm)),
+        None => Ok(()),
+    }
 }
 
 /// Reads the realm of a dump.

@@ -12,7 +12,7 @@
 //! let locked = lock_database(&mut context, &mut store, &target)?;
 //! let database = read_database(&mut context, &mut store, target.db)?;
 //! let mut draft = Draft { alloc, database };
-//! let note = update_in_batch(&mut store, &mut draft, &target.etypes, update, found.as_ref())?;
+//! let note = update_in_batch(&mut store, &mut draft, &line, update, found.as_ref())?;
 //! let written = write_database(alloc, &mut store, &locked, &draft.database)?;
 //! ```
 //!
@@ -34,6 +34,7 @@ mod joining;
 mod keytabs;
 mod note;
 mod passwords;
+mod realm;
 mod reason;
 mod stop;
 mod subject;
@@ -51,9 +52,10 @@ pub use granting::{Grant, RandomGrant};
 pub use keytabs::{KeytabArgs, write_keytab};
 pub use note::Note;
 pub use passwords::{FoundLine, FoundPassword, PasswordArgs, PasswordGrant, find_password};
-pub use reason::{Reason, Refusal};
+pub use realm::report_realm;
+pub use reason::{RealmEnd, Reason, Refusal};
 pub use stop::Stop;
 pub use subject::{Subject, begin_line};
 pub use target::Target;
 pub use updates::{RowArgs, RowUpdate, Update, make_update, update_in_batch};
-pub use words::{DB, KEYTAB, NAME, value_at, value_of};
+pub use words::{DB, KEYTAB, NAME, has_flag, value_at, value_of};

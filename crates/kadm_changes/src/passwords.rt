@@ -8,8 +8,10 @@ ghost use Rattle.program.specs.World.{HasFirstLine};
 use crate::context::Context;
 use crate::databases::read_database;
 use crate::granting::Grant;
-use crate::reason::Reason;
+use crate::realm::is_tgs_text;
+use crate::reason::{RealmEnd, Reason};
 use crate::stop::Stop;
+use crate::target::Target;
 use crate::updates::{RowArgs, RowUpdate, Update};
 use crate::words::{NAME, PASSWORD_FILE};
 use krb_fields::component_to_text;
@@ -126,7 +128,7 @@ fn find_line<T: Store>(alloc: Global, store: &mut T, path: &str) -> Result<Found
 pub(crate) fn new_password<'p, T: Store, W: Write, E: Write>(
     context: &mut Context<W, E>,
     store: &mut T,
-    db: &'p str,
+    target: &Target<'p>,
     row: &RowArgs<'p>,
 ) -> Result<Vec<u8>, Stop<'p>>
     ensures given { IfOk result (λ pass. IsSecretOf (T.world store.old) row.now.how pass.items) }
@@ -134,7 +136,11 @@ pub(crate) fn new_password<'p, T: Store, W: Write, E: Write>(
 {
     match &row.how {
         RowUpdate::Password(to) => {
-            let asked = Asked { db, name: row.name };
+            let asked = Asked {
+                db: target.db,
+                name: row.name,
+                may_be_tgs: target.whole_realm || is_new(to.grant),
+            };
             any_password(context, store, asked, to.password)
         }
         RowUpdate::Random(_) => Ok(Vec::new(context.alloc)),
@@ -147,6 +153,13 @@ pub(crate) fn new_password<'p, T: Store, W: Write, E: Write>(
 struct Asked<'p> {
     db: &'p str,
     name: &'p str,
+    /// Whether to ask for the password of `krbtgt/REALM` too.
+    may_be_tgs: bool,
+}
+
+/// Checks whether the principal is to be a new one.
+fn is_new(grant: Grant) -> bool {
+    matches!(grant, Grant::New | Grant::NewUser)
 }
 
 /// Gets the password from its file, or from standard input.
@@ -280,6 +293,9 @@ fn asked_password<'p, T: Store, W: Write, E: Write>(
     ensures unchanged { T.world store.new ≡ T.world store.old }
 {
     let database = read_database(context, store, asked.db)?;
+    if !asked.may_be_tgs && is_tgs_text(context.alloc, &database, asked.name) {
+        return Err(Stop::refused(NAME, Reason::EndsRealm(RealmEnd::Guessable)));
+    }
     let realm = component_to_text(context.alloc, database.realm())?;
     if store.is_terminal() {
         warn_of_echo(&mut context.errors);

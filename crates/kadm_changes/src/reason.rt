@@ -14,6 +14,21 @@ pub struct Refusal<'p> {
     pub reason: Reason,
 }
 
+/// How a change of `krbtgt/REALM` ends a realm.
+#[derive(Clone, Copy)]
+pub enum RealmEnd {
+    /// There are no tickets for it.
+    Denied,
+    /// It is disabled.
+    Disabled,
+    /// It has expired.
+    Expired,
+    /// Its tickets end before some clients' clocks.
+    Short,
+    /// Its keys come from a password, on which anyone with a ticket-granting ticket can try passwords.
+    Guessable,
+}
+
 /// Why a command is refused.
 #[derive(Clone, Copy)]
 pub enum Reason {
@@ -41,8 +56,12 @@ pub enum Reason {
     NoPassword,
     /// A time from now is after the year 9999.
     BadTime,
-    /// There would be no tickets for the ticket-granting service.
-    ServesAll,
+    /// A time at which something expires is past.
+    Past,
+    /// Nobody in the realm could log in, or anyone could guess the password of the ticket-granting service.
+    EndsRealm(RealmEnd),
+    /// Nobody could log in to the realm of a dump.
+    EndedRealm,
     /// The principal has no such version.
     NoVersion,
     /// A keytab would replace a database.

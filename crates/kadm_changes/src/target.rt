@@ -12,4 +12,6 @@ pub struct Target<'a> {
     pub etypes: Vec<Etype>,
     /// The mode of a changed file.
     pub mode: NewMode,
+    /// Whether the command may keep everybody in the realm from logging in.
+    pub whole_realm: bool,
 }

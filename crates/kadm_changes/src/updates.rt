@@ -2,7 +2,8 @@
 ghost use Rattle.std.specs.Prelude.{◌≡◌, OnOk, OnErr};
 ghost use Rattle.kadm_changes.specs.Changing.{AreChanged};
 ghost use Rattle.kadm_changes.specs.Found.{IsFoundIn};
-ghost use Rattle.kadm_changes.specs.Updates.{IsMigrated, IsRowChanged, IsRowGiven, IsRowUpdated, IsUpdated};
+ghost use Rattle.kadm_changes.specs.Realm.{KeepsRealm, MayHaveKeys, tgs_policy};
+ghost use Rattle.kadm_changes.specs.Updates.{AreKept, IsMigrated, IsRowChanged, IsRowGiven, IsRowKept, IsRowUpdated, IsUpdated};
 ghost use Rattle.kadm_changes.specs.Words.{texts};
 ghost use Rattle.kadm_changes.specs.Worlds.{Rewritten, Updated};
 
@@ -15,6 +16,7 @@ use crate::granting::{Grant, RandomGrant, Recipient, expiring, give_password, gi
 use crate::importing::import;
 use crate::note::Note;
 use crate::passwords::{FoundPassword, PasswordGrant, batch_password, new_password};
+use crate::realm::{check_password, check_realm, report_realm, tgs_policy};
 use crate::stop::Stop;
 use crate::subject::{Subject, begin_line};
 use crate::target::Target;
@@ -66,7 +68,7 @@ pub fn make_update<'p, T: Store, W: Write, E: Write>(
     update: Update<'p>,
 ) -> Result<Written, Stop<'p>>
     ensures done { OnOk result
-        (Updated (T.world store.old) target.now.db.now target.now.etypes.items update.entry (T.world store.new)) }
+        (Updated (T.world store.old) target.now.whole_realm target.now.db.now target.now.etypes.items update.entry (T.world store.new)) }
     ensures unchanged { OnErr result (T.world store.new ≡ T.world store.old) }
 {
     match update {
@@ -86,12 +88,12 @@ fn update_row<'p, T: Store, W: Write, E: Write>(
     to: &RowArgs<'p>,
 ) -> Result<Written, Stop<'p>>
     ensures done { OnOk result (Rewritten (T.world store.old) target.now.db.now
-        (IsRowUpdated (T.world store.old) target.now.etypes.items to.now) (T.world store.new)) }
+        (IsRowUpdated (T.world store.old) target.now.whole_realm target.now.etypes.items to.now) (T.world store.new)) }
     ensures unchanged { OnErr result (T.world store.new ≡ T.world store.old) }
 {
     let alloc = context.alloc;
     let who = Name::from_text(alloc, to.name)?;
-    let pass = new_password(context, store, target.db, to)?;
+    let pass = new_password(context, store, target, to)?;
     let locked = lock_database(context, store, target)?;
     let database = read_database(context, store, target.db)?;
     let mut draft = Draft { alloc, database };
@@ -101,7 +103,7 @@ fn update_row<'p, T: Store, W: Write, E: Write>(
         etypes: &target.etypes,
         pass: &pass,
     };
-    change_row(store, &mut draft, &recipient, to)?;
+    keep_row(store, &mut draft, &recipient, to, target.whole_realm)?;
     let written = write_database(alloc, store, &locked, &draft.database)?;
     report_note(
         &mut context.errors,
@@ -131,7 +133,7 @@ fn update_rows<'p, T: Store, W: Write, E: Write>(
     changes: &Changes<'p>,
 ) -> Result<Written, Stop<'p>>
     ensures done { OnOk result (Rewritten (T.world store.old) target.now.db.now
-        (AreChanged (T.world store.old) (texts changes.now.words.now) changes.now.how) (T.world store.new)) }
+        (AreKept (T.world store.old) target.now.whole_realm (texts changes.now.words.now) changes.now.how) (T.world store.new)) }
     ensures unchanged { OnErr result (T.world store.new ≡ T.world store.old) }
 {
     let alloc = context.alloc;
@@ -139,8 +141,12 @@ fn update_rows<'p, T: Store, W: Write, E: Write>(
     let locked = lock_database(context, store, target)?;
     let database = read_database(context, store, target.db)?;
     let mut draft = Draft { alloc, database };
-    change_all(store, &mut draft, changes)?;
-    write_database(alloc, store, &locked, &draft.database)
+    keep_all(store, &mut draft, changes, target.whole_realm)?;
+    let written = write_database(alloc, store, &locked, &draft.database)?;
+    if target.whole_realm {
+        report_realm(alloc, &mut context.errors, &draft.database);
+    }
+    Ok(written)
 }
 
 /// Writes the database in the current version of the format.
@@ -151,40 +157,42 @@ fn migrate<'p, T: Store, W: Write, E: Write>(
     users_are_no_services: bool,
 ) -> Result<Written, Stop<'p>>
     ensures done { OnOk result (Rewritten (T.world store.old) target.now.db.now
-        (IsMigrated users_are_no_services) (T.world store.new)) }
+        (IsMigrated (T.world store.old) target.now.whole_realm users_are_no_services) (T.world store.new)) }
     ensures unchanged { OnErr result (T.world store.new ≡ T.world store.old) }
 {
     let alloc = context.alloc;
     let locked = lock_database(context, store, target)?;
     let database = read_database(context, store, target.db)?;
     let mut draft = Draft { alloc, database };
-    migrate_rows(&mut draft, users_are_no_services)?;
-    write_database(alloc, store, &locked, &draft.database)
+    keep_migrated(store, &mut draft, users_are_no_services, target.whole_realm)?;
+    let written = write_database(alloc, store, &locked, &draft.database)?;
+    Ok(written)
 }
 
-/// Makes the change of a line of a batch in a database that was read. Returns what an administrator may not expect of
-/// it. A password is what `find_password` found; without that its file is read now.
+/// Makes the change of a line of a batch in a database that was read; `whole` lets it end the whole realm. Returns what
+/// an administrator may not expect of it. A password is what `find_password` found; without that its file is read now.
 pub fn update_in_batch<'p, T: Store>(
     store: &mut T,
     draft: &mut Draft,
     etypes: &[Etype],
+    whole: bool,
     update: Update<'p>,
     found: Option<&FoundPassword>,
 ) -> Result<Option<Note>, Stop<'p>>
     requires found { IsFoundIn (T.world store.old) found }
-    ensures done { OnOk result (IsUpdated (T.world store.old) etypes.now update.entry draft.old.database draft.new.database) }
+    ensures done { OnOk result (IsUpdated (T.world store.old) whole etypes.now update.entry draft.old.database draft.new.database) }
     ensures unchanged { T.world store.new ≡ T.world store.old }
 {
     match update {
-        Update::Row(to) => row_in_batch(store, draft, etypes, &to, found),
+        Update::Row(to) => row_in_batch(store, draft, etypes, whole, &to, found),
         Update::Changes(changes) => {
-            change_all(store, draft, &changes)?;
+            keep_all(store, draft, &changes, whole)?;
             Ok(None)
         }
         Update::Migrate {
             users_are_no_services,
         } => {
-            migrate_rows(draft, users_are_no_services)?;
+            keep_migrated(store, draft, users_are_no_services, whole)?;
             Ok(None)
         }
     }
@@ -195,11 +203,12 @@ fn row_in_batch<'p, T: Store>(
     store: &mut T,
     draft: &mut Draft,
     etypes: &[Etype],
+    whole: bool,
     to: &RowArgs<'p>,
     found: Option<&FoundPassword>,
 ) -> Result<Option<Note>, Stop<'p>>
     requires found { IsFoundIn (T.world store.old) found }
-    ensures done { OnOk result (IsRowUpdated (T.world store.old) etypes.now to.now draft.old.database draft.new.database) }
+    ensures done { OnOk result (IsRowUpdated (T.world store.old) whole etypes.now to.now draft.old.database draft.new.database) }
     ensures unchanged { T.world store.new ≡ T.world store.old }
 {
     let who = Name::from_text(draft.alloc, to.name)?;
@@ -210,8 +219,65 @@ fn row_in_batch<'p, T: Store>(
         etypes,
         pass: &pass,
     };
-    change_row(store, draft, &recipient, to)?;
+    keep_row(store, draft, &recipient, to, whole)?;
     Ok(note_of(to, &who, &draft.database, expired))
+}
+
+/// Changes the row of a principal, and refuses what would end the whole realm, unless `whole` allows it. After an `Err`
+/// the row may be changed.
+fn keep_row<'p, T: Store>(
+    store: &mut T,
+    draft: &mut Draft,
+    recipient: &Recipient<'_>,
+    to: &RowArgs<'p>,
+    whole: bool,
+) -> Result<(), Stop<'p>>
+    ensures changed { OnOk result (IsRowKept (T.world store.old) whole recipient.now.etypes.now recipient.now.pass.now to.now
+        recipient.now.who.now.components draft.old.database draft.new.database) }
+    ensures unchanged { T.world store.new ≡ T.world store.old }
+{
+    let before = tgs_policy(&draft.database);
+    change_row(store, draft, recipient, to)?;
+    check_password(draft.alloc, &draft.database, whole, recipient.who, &to.how)?;
+    check_realm(draft.alloc, store, &draft.database, whole, before, to.words)
+}
+
+/// Changes each principal that the words of the command line name, and refuses what would end the whole realm.
+fn keep_all<'p, T: Store>(
+    store: &mut T,
+    draft: &mut Draft,
+    changes: &Changes<'p>,
+    whole: bool,
+) -> Result<(), Stop<'p>>
+    ensures changed { OnOk result (AreKept (T.world store.old) whole (texts changes.now.words.now) changes.now.how
+        draft.old.database draft.new.database) }
+    ensures unchanged { T.world store.new ≡ T.world store.old }
+{
+    let before = tgs_policy(&draft.database);
+    change_all(store, draft, changes)?;
+    check_realm(
+        draft.alloc,
+        store,
+        &draft.database,
+        whole,
+        before,
+        changes.words,
+    )
+}
+
+/// Makes rows of an earlier version those of this one, and refuses what would end the whole realm.
+fn keep_migrated<T: Store>(
+    store: &mut T,
+    draft: &mut Draft,
+    users_are_no_services: bool,
+    whole: bool,
+) -> Result<(), Stop<'static>>
+    ensures migrated { OnOk result (IsMigrated (T.world store.old) whole users_are_no_services draft.old.database draft.new.database) }
+    ensures unchanged { T.world store.new ≡ T.world store.old }
+{
+    let before = tgs_policy(&draft.database);
+    migrate_rows(draft, users_are_no_services)?;
+    check_realm(draft.alloc, store, &draft.database, whole, before, &[])
 }
 
 /// Gives keys to a principal, and then makes the settings of the command line. After an `Err` it may be changed in
@@ -252,12 +318,20 @@ fn give_row<'p, T: Store>(
 /// which it expires and that was past.
 fn note_of(to: &RowArgs<'_>, who: &Name, database: &Database, expired: bool) -> Option<Note> {
     match &to.how {
-        RowUpdate::Password(_) if expired && expiring(database, who).is_none() => {
-            Some(Note::NeverExpires)
-        }
+        RowUpdate::Password(_) => password_note(who, database, expired),
         RowUpdate::Random(random) => random_note(random.grant, who, database),
         _ => None,
     }
+}
+
+/// Returns what is to be said of a principal that got the keys of a password.
+fn password_note(who: &Name, database: &Database, expired: bool) -> Option<Note> {
+    let cleared = expired && expiring(database, who).is_none();
+    let guessable = database.get(who)?.policy.service;
+    if !cleared && !guessable {
+        return None;
+    }
+    Some(Note::Password { cleared, guessable })
 }
 
 /// Returns the key version of a principal that got random keys. A new principal that was to be new has none to tell.

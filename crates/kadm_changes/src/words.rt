@@ -1,6 +1,6 @@
 //! The values of options among the words of a command line.
 ghost use Rattle.std.specs.Prelude.{◌≡◌, option_map};
-ghost use Rattle.kadm_changes.specs.Words.{texts, value_at, value_of};
+ghost use Rattle.kadm_changes.specs.Words.{has_flag, texts, value_at, value_of};
 
 /// The option that names the database.
 pub const DB: &str = "--db";
@@ -38,6 +38,20 @@ pub fn value_of<'a>(words: &[&'a str], option: &str) -> Option<&'a str>
         rest = others;
     }
     None
+}
+
+/// Checks whether an option without a value is there.
+pub fn has_flag(words: &[&str], flag: &str) -> bool
+    ensures { result ≡ has_flag (texts words.now) flag.now }
+{
+    let mut rest = words;
+    while let [word, others @ ..] = rest {
+        if *word == flag {
+            return true;
+        }
+        rest = others;
+    }
+    false
 }
 
 /// Returns the value that an option has at a word, if it is this option.

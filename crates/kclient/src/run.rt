@@ -62,9 +62,6 @@ pub fn kclient_run<S: AsStr, T: ClientStore, X: AnyMessage, W: Write + Drop, E: 
     ensures world { CommandLeaves (CameFirst X.finds X.carries X.answers) (CameFurther X.finds X.carries X.answers)
         (T.world context.old.store) (T.world context.new.store) }
 {
-    context.begin();
-    let ended = run_command(context, args, defaults);
-    note_hosts(context, &ended);
     let Ok(mut errors) = BufWriter::new(context.alloc, errors) else {
         return Status::Failed;
     };
@@ -75,6 +72,9 @@ pub fn kclient_run<S: AsStr, T: ClientStore, X: AnyMessage, W: Write + Drop, E: 
             return Status::Failed;
         }
     };
+    context.begin();
+    let ended = run_command(context, args, defaults);
+    note_hosts(context, &ended);
     match print(&mut out, &mut errors, context.notes(), &ended) {
         Ok(status) => status,
         Err(error) => {

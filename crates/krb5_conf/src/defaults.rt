@@ -35,8 +35,9 @@ pub fn library_settings<'a>(
     values(alloc, text, wanted, tag)
 }
 
-/// Returns the texts that name a realm's KDCs, in order: each `kdc` of the realm in `[realms]`. Those with a `/`, such
-/// as `tcp/192.0.2.1`, are left out. `kdc_address` reads a text that is an address; the others are host names.
+/// Returns the texts that name a realm's KDCs, in order: each `kdc` of the realm in `[realms]`. Empty ones, and those
+/// with a `/`, such as `tcp/192.0.2.1`, are left out. `kdc_address` reads a text that is an address; the others are
+/// host names.
 pub fn kdcs<'a>(alloc: Global, text: &'a [u8], realm: &[u8]) -> Result<Vec<&'a [u8]>, AllocError>
     ensures { IfOk result (λ found.
         map (λ text. text.now) found.items ≡ kdc_texts (kdc_values realm.now text.now)) }

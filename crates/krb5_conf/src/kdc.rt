@@ -1,12 +1,12 @@
 //! The texts that name KDCs.
 ghost use Rattle.std.specs.Prelude.{◌≡◌, ◌++◌, ◌∷◌, [], map, IfOk, IfSome, IfNone, OnOk};
 ghost use Rattle.std.specs.declared.net.socket_addr.SocketAddr as addresses;
-ghost use Rattle.krb5_conf.specs.Kdc.{IsKdcText, is_other_way, kdc_texts};
+ghost use Rattle.krb5_conf.specs.Kdc.{IsKdcText, is_kdc_text, is_other_way, kdc_texts};
 
 use std::alloc::{AllocError, Global};
 use std::net::SocketAddr;
 
-/// Returns the texts except those that name a transport other than plain UDP and TCP.
+/// Returns the texts except those that are empty, or name a transport other than plain UDP and TCP.
 pub(crate) fn plain_texts<'a>(
     alloc: Global,
     texts: &[&'a [u8]],
@@ -20,15 +20,24 @@ pub(crate) fn plain_texts<'a>(
     Ok(plain)
 }
 
-/// Appends a text, unless it names a transport.
+/// Appends a text, unless it is empty or names a transport.
 fn push_plain<'a>(plain: &mut Vec<&'a [u8]>, text: &'a [u8]) -> Result<(), AllocError>
     ensures { OnOk result (
         map (λ t. t.now) plain.new.items ≡ map (λ t. t.now) plain.old.items ++ kdc_texts (text.now ∷ [])) }
 {
-    if is_other_way(text) {
-        return Ok(());
+    if is_kdc_text(text) {
+        plain.push(text)?;
     }
-    Ok(plain.push(text)?)
+    Ok(())
+}
+
+fn is_kdc_text(text: &[u8]) -> bool
+    ensures { result ≡ is_kdc_text text.now }
+{
+    match text.split_first() {
+        Some(_) => !is_other_way(text),
+        None => false,
+    }
 }
 
 /// Checks whether a text names a transport, such as `tcp/192.0.2.1` or `https://kdc.example.com/KdcProxy`.

@@ -12,14 +12,16 @@
 //! `EXAMPLE.COM =`. Blanks around a line, a name or a value are ignored, and so are quotation marks around a value.
 //! Lines that start with `#` or `;`, and those in any other form, are ignored too.
 //!
-//! It reads no file and follows no `include`: `client_files` does.
+//! A file may also have lines that include others ([`Included`]). It reads no file itself: `client_files` does.
 #![tactic(auto)]
 
 mod defaults;
+mod included;
 mod kdc;
 mod line;
 mod place;
 mod values;
 
 pub use defaults::{default_realm, kdcs, library_settings};
+pub use included::Included;
 pub use kdc::kdc_address;

@@ -65,7 +65,7 @@ fn unquoted(value: &[u8]) -> &[u8]
 }
 
 /// Returns the bytes without the blanks at both ends.
-fn trim(text: &[u8]) -> &[u8]
+pub(crate) fn trim(text: &[u8]) -> &[u8]
     ensures { result.now ≡ trimmed text.now }
 {
     text.trim_ascii()

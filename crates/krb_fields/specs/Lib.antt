@@ -14,6 +14,7 @@ pub mod PrincipalName
 pub mod EncryptedData
 pub mod PaData
 pub mod Typed
+pub mod Assigned
 -- laws that proofs cite; readers of a contract don't need them
 pub mod NameLimitsLaws
 pub mod NameLengthLaws

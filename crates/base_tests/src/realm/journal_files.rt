@@ -59,10 +59,10 @@ const FAILURES: &[(Failure, Kept)] = &[
         (4, 1, 9, Left::InPlace),
         (Some([true, true, true]), Ok((0, T + 302))),
     ),
-    // No file can be begun after that: there is the one beside alone.
+    // The turn is cut, and no file can be begun after that. The older one stays, and the next start finishes the turn.
     (
         (4, 2, 9, Left::Between),
-        (Some([true, true, false]), Err(Doubt::Damaged)),
+        (Some([true, true, false]), Ok((2, T + 301))),
     ),
     // The last entry is cut, and no file can be begun.
     (

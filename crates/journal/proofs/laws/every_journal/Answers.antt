@@ -1,4 +1,4 @@
-use Rattle.journal.proofs.Worlds.{holds_on}
+use Rattle.journal.proofs.Remaining.{holds_on}
 use Rattle.journal.proofs.laws.every_journal.Goals as goal
 
 pub returns : goal.returns

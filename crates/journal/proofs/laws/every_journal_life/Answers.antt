@@ -1,4 +1,4 @@
-use Rattle.journal.proofs.Life.{lives_hold}
+use Rattle.journal.proofs.Lasting.{lives_hold}
 use Rattle.journal.proofs.laws.every_journal_life.Goals as goal
 
 pub returns : goal.returns

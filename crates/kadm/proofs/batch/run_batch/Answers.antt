@@ -13,7 +13,7 @@ run_lines-requires g c =
 
 pub returns-clause-done : goal.returns-clause-done
 returns-clause-done g c =
-    batched _ _ _ _ _ _ _ _ c.args.keep_going c.in_ok-whole.whole _ c.in_ok-database.database c.run_lines.new.draft.database
+    batched _ _ _ _ _ _ _ _ _ c.args.keep_going c.in_ok-whole.whole _ c.in_ok-database.database c.run_lines.new.draft.database
     (c.in_ok-lines.ensures.unchanged ∙ c.in_ok-input.ensures.unchanged) c.in_ok-locked.ensures.unchanged
     c.in_ok-database.ensures.unchanged c.in_ok-whole.ensures.unchanged c.in_ok-locked.ensures.locked c.in_ok-database.ensures.read
-    c.in_ok-whole.ensures.run c.in_ok-written.ensures.written
+    c.in_ok-whole.ensures.run c.in_ok-written.ensures.read_back c.in_ok-written.ensures.written

@@ -7,9 +7,9 @@ pub loop-rest-preserved : goal.loop-rest-preserved
 loop-rest-preserved g c =
     let kept = c.report_progress.ensures.unchanged ∙ c.loop-rest.invariant.0 in (
       c.try_line.ensures.unchanged ∙ kept,
-      done_turn _ _ _ _ _ c.loop-rest.rest.now c.line-item.result c.loop-rest.draft.database c.try_line.new.draft.database c.loop-rest.whole
+      done_turn _ _ _ _ _ _ c.loop-rest.rest.now c.line-item.result c.loop-rest.draft.database c.try_line.new.draft.database c.loop-rest.whole
           c.in_ok-whole.whole kept c.in-len1-up.len_at_least c.line-item.is c.loop-rest.invariant.1 c.in_ok-whole.ensures.turn,
-      tried_turn _ _ _ _ _ c.loop-rest.rest.now c.line-item.result c.loop-rest.draft.database c.try_line.new.draft.database c.loop-rest.whole
+      tried_turn _ _ _ _ _ _ c.loop-rest.rest.now c.line-item.result c.loop-rest.draft.database c.try_line.new.draft.database c.loop-rest.whole
           c.in_ok-whole.whole kept c.in-len1-up.len_at_least c.line-item.is c.loop-rest.invariant.2 c.in_ok-whole.ensures.turn,
       rest_read _ c.loop-rest.rest.now c.loop-rest.invariant.3,
     )
@@ -22,5 +22,5 @@ try_line-requires g c = record {
 
 pub returns-clause-run : goal.returns-clause-run
 returns-clause-run g c =
-    run_over _ _ _ _ c.loop-rest.rest.now c.loop-rest.draft.database c.loop-rest.whole c.in_default.len_below c.loop-rest.invariant.1
+    run_over _ _ _ _ _ c.loop-rest.rest.now c.loop-rest.draft.database c.loop-rest.whole c.in_default.len_below c.loop-rest.invariant.1
     c.loop-rest.invariant.2

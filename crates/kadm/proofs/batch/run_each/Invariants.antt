@@ -9,10 +9,10 @@ use Rattle.kadm.proofs.batch.run_each.Given as goal
 abbrev pub invariant-loop-rest : goal.invariant-loop-rest
 invariant-loop-rest g l =
     (g.T.Store.world l.store ≡ g.T.Store.world l.fn.store)
-    × (l.whole ≡ true → (new : Principals) → AreDone (g.T.Store.world l.fn.store) l.batch.db.now (line_texts l.rest) l.draft.database new
-    → AreDone (g.T.Store.world l.fn.store) l.batch.db.now (line_texts l.batch.lines.now) l.fn.draft.database new)
-    × ((new : Principals) → AreTried (g.T.Store.world l.fn.store) l.batch.db.now (line_texts l.rest) l.draft.database new
-    → AreTried (g.T.Store.world l.fn.store) l.batch.db.now (line_texts l.batch.lines.now) l.fn.draft.database new)
+    × (l.whole ≡ true → (new : Principals) → AreDone (g.T.Store.world l.fn.store) l.batch.whole_realm l.batch.db.now (line_texts l.rest) l.draft.database new
+    → AreDone (g.T.Store.world l.fn.store) l.batch.whole_realm l.batch.db.now (line_texts l.batch.lines.now) l.fn.draft.database new)
+    × ((new : Principals) → AreTried (g.T.Store.world l.fn.store) l.batch.whole_realm l.batch.db.now (line_texts l.rest) l.draft.database new
+    → AreTried (g.T.Store.world l.fn.store) l.batch.whole_realm l.batch.db.now (line_texts l.batch.lines.now) l.fn.draft.database new)
     × All (IsLineRead (g.T.Store.world l.fn.store)) l.rest
 
 abbrev pub decreases-loop-rest : goal.decreases-loop-rest

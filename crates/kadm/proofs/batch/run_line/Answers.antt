@@ -7,9 +7,9 @@ use Rattle.kadm.proofs.batch.run_line.Goals as goal
 
 pub returns-in-Ok-clause-done : goal.returns-in-Ok-clause-done
 returns-in-Ok-clause-done g c =
-    subst (λ words. IsSpelledMade (g.T.Store.world c.args.store.now) words c.args.draft.now.database c.run_words.new.draft.database)
+    subst (λ words. IsSpelledMade (g.T.Store.world c.args.store.now) c.args.batch.now.whole_realm words c.args.draft.now.database c.run_words.new.draft.database)
     (ap texts c.deref-2.ensures.value ∙ c.in_ok-words.ensures
-    ∙ ap (λ words. in_batch c.args.db.now (map string_bytes words)) c.deref.ensures.value)
+    ∙ ap (λ words. in_batch c.args.batch.now.db.now (map string_bytes words)) c.deref.ensures.value)
     c.in-Ok.ensures.done
 
 pub run_words-requires : goal.run_words-requires
