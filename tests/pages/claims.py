@@ -20,12 +20,12 @@ WORDS = (
 # The manual pages, and the files with the names of what a program refuses.
 REFUSALS = {
     "kadm.8": [
-        "kadm/src/reasons.rt", "kadm/src/reports.rt", "program/src/faults.rt", "principals_text/src/read_fault.rt",
+        "kadm/src/reasons.rt", "kadm/src/reports.rt", "file_store/src/faults.rt", "principals_text/src/read_fault.rt",
         "principals/src/change.rt", "cred_files/src/fault.rt",
     ],
-    "kclient.1": ["client_files/src/words.rt", "cred_files/src/fault.rt", "program/src/faults.rt"],
+    "kclient.1": ["client_files/src/words.rt", "cred_files/src/fault.rt", "file_store/src/faults.rt"],
     "kdcd.8": [
-        "program/src/faults.rt", "kdc_files/src/files.rt", "kdc_files/src/sealing.rt",
+        "file_store/src/faults.rt", "kdc_files/src/files.rt", "kdc_files/src/sealing.rt",
         "principals_text/src/read_fault.rt",
     ],
 }
@@ -169,7 +169,7 @@ def default(option):
 
 
 def version():
-    return re.search(r'VERSION: &str = "(.*)"', read("crates/program/src/command_options.rt"))[1]
+    return re.search(r'VERSION: &str = "(.*)"', read("crates/file_store/src/version.rt"))[1]
 
 
 def microseconds(request):

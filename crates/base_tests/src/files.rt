@@ -1,4 +1,4 @@
-//! Tests of files: keytabs and credential caches, and the stores of `program`.
+//! Tests of files: keytabs and credential caches, and the stores of `file_store`.
 
 mod credentials;
 mod stores;

@@ -2,7 +2,7 @@
 use Rattle.std.proofs.Common.{◌≡◌, ℕ, List, Option, subst}
 use Rattle.client_files.specs.Caches.{HasCache}
 use Rattle.cred_files.specs.Cache.{CacheContents, IsCache}
-use Rattle.program.specs.World.{World, IsRead}
+use Rattle.file_store.specs.World.{World, IsRead}
 
 pub held : (before middle : Option World) (path octets : List ℕ) (cache : CacheContents) → middle ≡ before
     → IsRead middle path octets → IsCache cache octets → HasCache before path cache

@@ -1,8 +1,8 @@
 -- The path of a cache that a name or the environment gives.
 use Rattle.std.specs.Prelude.{◌≡◌, ◌==◌, ◌&&◌, ℕ, Bool, List, length, nat_lt, codes, bytes_eq, if◌then◌else◌}
 use Rattle.std.specs.List.{after_first, before_first, position_or_len}
-use Rattle.program.specs.declared.variable.Variable.{Variable}
-use Rattle.program.specs.declared.variable.Variable.TheVariants.{Absent, NotUtf8, Text}
+use Rattle.file_store.specs.declared.variable.Variable.{Variable}
+use Rattle.file_store.specs.declared.variable.Variable.TheVariants.{Absent, NotUtf8, Text}
 
 -- it begins with `FILE:` (3A is the colon)
 abbrev pub is_file : List ℕ → Bool

@@ -2,7 +2,7 @@
 use Rattle.std.specs.Prelude.{ℕ, List, [], ◌∷◌, Option}
 use Rattle.cred_files.specs.Cache.{CacheContents, IsCache}
 use Rattle.cred_files.specs.declared.credential.Credential.{Credential}
-use Rattle.program.specs.World.{World, IsRead}
+use Rattle.file_store.specs.World.{World, IsRead}
 
 -- the cache that `kinit` makes: of the credential's client, with only this credential
 abbrev pub new_cache : Credential → CacheContents

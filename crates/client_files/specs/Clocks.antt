@@ -1,7 +1,7 @@
 -- The clock of a store.
 use Rattle.std.specs.Prelude.{◌≡◌, pos, Option, IfSome}
 use Rattle.krb_fields.specs.declared.moment.Moment.{Moment}
-use Rattle.program.specs.World.{World}
+use Rattle.file_store.specs.World.{World}
 
 -- the clock shows the second of this moment
 abbrev pub IsShown : Option World → Moment → Type 0

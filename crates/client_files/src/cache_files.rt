@@ -3,12 +3,12 @@
 ghost use Rattle.std.specs.Prelude.{◌≡◌, IfOk, OnErr, OnOk, option_map};
 ghost use Rattle.cred_files.specs.Cache.{cache_text, put_first};
 ghost use Rattle.client_files.specs.Caches.{HasCache, new_cache};
-ghost use Rattle.program.specs.World.{with_file, without_file};
+ghost use Rattle.file_store.specs.World.{with_file, without_file};
 
 use crate::client_store::{ClientStore, PathKind};
 use crate::faults::{Cause, Fault, at, at_file};
 use cred_files::{Cache, CredFault, Credential, Keytab};
-use program::{FileCause, read_file, write_unsynced};
+use file_store::{FileCause, read_file, write_unsynced};
 use std::alloc::Global;
 use std::io;
 use std::io::{Error, ErrorKind};

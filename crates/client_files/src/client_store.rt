@@ -2,10 +2,10 @@
 //! and the clock's moment.
 ghost use Rattle.std.specs.Prelude.{◌≡◌, IfOk, OnErr, OnOk, option_map};
 ghost use Rattle.client_files.specs.Clocks.{IsShown};
-ghost use Rattle.program.specs.World.{without_file};
+ghost use Rattle.file_store.specs.World.{without_file};
 
+use file_store::{FileStore, MemoryStore, Store, is_own, now, own_user};
 use krb_fields::Moment;
-use program::{FileStore, MemoryStore, Store, is_own, now, own_user};
 use std::alloc::{AllocError, Global};
 use std::fs::File;
 use std::io::{Error, ErrorKind, IsTerminal};

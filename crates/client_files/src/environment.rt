@@ -6,7 +6,7 @@ use crate::client_store::ClientStore;
 use crate::configs::Config;
 use crate::faults::{Cause, Fault};
 use crate::file_names::{NameOf, path_in};
-use program::{FileCause, Variable};
+use file_store::{FileCause, Variable};
 use std::alloc::Global;
 use std::io;
 

@@ -3,8 +3,8 @@ ghost use Rattle.std.specs.Prelude.{◌≡◌, IfOk, Ok};
 
 use client_login::{KdcPlace, Kdcs, LoginError, LoginFault};
 use cred_files::CredFault;
+use file_store::{FileCause, FileFault};
 use krb_fields::{NameFault, component_to_text};
-use program::{FileCause, FileFault};
 use std::alloc::{AllocError, AllocFailed, Global};
 use std::net::SocketAddr;
 use std::{fmt, io};

@@ -3,8 +3,9 @@ use crate::faults::Cause;
 use client_login::{Doubt, LoginError};
 use cred_files::CredFault;
 use krb_fields::Second;
+use principal_keys::keytab_text;
 use std::fmt;
-use text_fields::{UtcDate, keytab_text};
+use text_fields::UtcDate;
 
 impl Cause {
     /// Returns the word for it. `None` if something failed and nothing is refused, or if a KDC refuses with a code.

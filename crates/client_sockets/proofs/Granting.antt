@@ -13,7 +13,7 @@ use Rattle.cred_files.specs.declared.keytab_entry.KeytabEntry.{KeytabEntry}
 use Rattle.krb_fields.specs.NameText.{IsNameText}
 use Rattle.krb_fields.specs.PrincipalName.{Name}
 use Rattle.krb_fields.specs.declared.moment.Moment.{Moment}
-use Rattle.program.specs.World.{World}
+use Rattle.file_store.specs.World.{World}
 
 module _ {S : Type 0} (world : S → Option World) (finds : List ℕ → ℕ → SocketAddr → Type 0) (carries : List ℕ → Type 0)
     (answers : SocketAddr → List ℕ → List ℕ → Type 0) (state client : ClientState S) (view : state ≡ client)

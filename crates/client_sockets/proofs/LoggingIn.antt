@@ -13,7 +13,7 @@ use Rattle.cred_files.specs.declared.credential.Credential.{Credential}
 use Rattle.krb_fields.specs.Granting.{tgs_name}
 use Rattle.krb_fields.specs.PrincipalName.{Name}
 use Rattle.krb_fields.specs.declared.moment.Moment.{Moment}
-use Rattle.program.specs.World.{World}
+use Rattle.file_store.specs.World.{World}
 
 same_login : (login : Login) → login.service ≡ tgs_name login.client.realm → login ≡ login_of login.client login.request
 same_login login e = ap (λ (s : Name). record { client = login.client; service = s; request = login.request }) e

@@ -12,7 +12,7 @@ use Rattle.krb_fields.specs.Granting.{tgs_name}
 use Rattle.krb_fields.specs.NameText.{IsNameText}
 use Rattle.krb_fields.specs.PrincipalName.{Name}
 use Rattle.krb_fields.specs.declared.moment.Moment.{Moment}
-use Rattle.program.specs.World.{World, IsDrawn}
+use Rattle.file_store.specs.World.{World, IsDrawn}
 use Rattle.client_files.specs.Clocks.{IsShown}
 use Rattle.client_login.specs.Asking.{further_asked}
 use Rattle.client_login.specs.Draws.{drawn_nonce}

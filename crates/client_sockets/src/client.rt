@@ -16,9 +16,9 @@ use client_files::{
 };
 use client_login::{AnyMessage, KdcClient, Kdcs, Login, LoginFault, Password, Secret, Transports};
 use cred_files::{Credential, Keytab, Principal};
+use file_store::{CLOCK, FileCause, FileStore, STANDARD_INPUT, Variable, ask_password, draw_seed};
 use krb_elements::Octets;
 use krb_fields::{Moment, Name, component_to_text, tgs_name};
-use program::{CLOCK, FileCause, FileStore, STANDARD_INPUT, Variable, ask_password, draw_seed};
 use rand_chacha::ChaCha20Rng;
 use rand_core::SeedableRng;
 use std::alloc::Global;

@@ -5,8 +5,8 @@
 
 use client_files::Fault;
 use client_sockets::{Client, SystemClient};
+use command_line::{Status, open_missing_streams};
 use cred_files::Credential;
-use program::{Status, open_missing_streams};
 use std::process::ExitCode;
 use std::{env, io};
 

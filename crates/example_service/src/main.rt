@@ -3,11 +3,12 @@
 #![tactic(auto)]
 
 use ap_accept::{Accepted, Acceptor, AcceptorOptions, ApFault, Opening};
+use command_line::{Status, open_missing_streams, read_words};
 use cred_files::{Keytab, Principal};
+use file_store::{FileStamp, now};
 use hex::FromHexError;
 use krb_der::KTime;
 use krb_fields::component_to_text;
-use program::{FileStamp, Status, now, open_missing_streams, read_words};
 use std::alloc::{AllocError, Global};
 use std::io::{BufRead, Error, ErrorKind};
 use std::process::ExitCode;

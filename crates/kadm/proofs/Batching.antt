@@ -2,7 +2,7 @@
 use Rattle.std.proofs.Common.{◌≡◌, ◌∙◌, ◌<◌, ◌≤◌, ◌-◌, ℕ, List, [], ◌∷◌, Bool, true, false, Option, None, Result, Ok, Err, IfNone, IfOk}
 use Rattle.std.proofs.Common.{ap, arith, drop, get_or, length, subst, sym, take, refl, inl, inr}
 use Rattle.std.proofs.lemmas.List.{take_all}
-use Rattle.program.specs.World.{World}
+use Rattle.file_store.specs.World.{World}
 use Rattle.principals.specs.Database.{Principals}
 use Rattle.kadm.specs.Batches.{IsBatchDone, line_text, line_texts}
 use Rattle.kadm.specs.Lines.{AreDone, AreTried, IsLineDone, IsRun, IsTurn}

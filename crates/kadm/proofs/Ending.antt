@@ -1,9 +1,9 @@
 -- How a command ends, and how the words end that spell it.
 use Rattle.std.proofs.Common.{◌≡◌, ◌∙◌, List, Bool, true, false, Option, Result, Ok, Err, IfErr, IfOk, OnErr, ap, subst, sym, inl, inr}
 use Rattle.std.specs.Result.{result_unwrap_or}
-use Rattle.program.specs.World.{World}
-use Rattle.program.specs.declared.faults.FileCause.{FileCause}
-use Rattle.program.specs.declared.faults.FileCause.TheVariants.{LongFile, ShortSeed, Failed}
+use Rattle.file_store.specs.World.{World}
+use Rattle.file_store.specs.declared.faults.FileCause.{FileCause}
+use Rattle.file_store.specs.declared.faults.FileCause.TheVariants.{LongFile, ShortSeed, Failed}
 use Rattle.kadm.specs.Batches.{IsBatchDone}
 use Rattle.kadm_changes.specs.Stops.{IsFailed, IsFailure}
 use Rattle.kadm.specs.Ends.{IsEnd, IsFileCauseStatus, IsCommandEnd, IsCommandStopped, IsStatusOf, IsStopped, IsDone, IsKindDone, IsPrinted, IsTried, IsWriteDone}
@@ -15,8 +15,8 @@ use Rattle.kadm.specs.declared.printing.PrintCommand.{PrintCommand}
 use Rattle.kadm.specs.declared.commands.CommandKind.TheVariants as kinds
 use Rattle.kadm.specs.declared.writing.WriteCommand.{WriteCommand}
 use Rattle.kadm.specs.declared.writing.WriteCommand.TheVariants as writes
-use Rattle.program.specs.declared.status.Status.{Status}
-use Rattle.program.specs.declared.status.Status.TheVariants as statuses
+use Rattle.command_line.specs.declared.status.Status.{Status}
+use Rattle.command_line.specs.declared.status.Status.TheVariants as statuses
 use Rattle.kadm_changes.specs.declared.stop.Stop.{Stop}
 use Rattle.kadm_changes.specs.declared.stop.Stop.TheVariants as stops
 

@@ -13,10 +13,10 @@ use Rattle.principal_rows.specs.Row.{first_row}
 use Rattle.principal_rows.specs.declared.policy.Policy.{Policy}
 use Rattle.principals.specs.Database.{Principals, first_database}
 use Rattle.principals_text.specs.Written.{database_value}
-use Rattle.program.specs.World.{IsThere, World, with_file}
-use Rattle.program.specs.declared.status.Status.{Status}
-use Rattle.program.specs.declared.status.Status.TheVariants as statuses
-use Rattle.text_fields.specs.Keys.{drawn_keys, seeded}
+use Rattle.file_store.specs.World.{IsThere, World, with_file}
+use Rattle.command_line.specs.declared.status.Status.{Status}
+use Rattle.command_line.specs.declared.status.Status.TheVariants as statuses
+use Rattle.principal_keys.specs.Keys.{drawn_keys, seeded}
 use Rattle.kadm_changes.specs.Realm.{IsAsOpen, KeepsRealm, StaysOpen, found_policy, text_policy, tgs_policy}
 use Rattle.kadm_changes.specs.Updates.{IsUpdated}
 use Rattle.kadm_changes.specs.Words.{Text, path_of}

@@ -3,7 +3,7 @@ use Rattle.std.proofs.Common.{◌≡◌, ◌≤◌, ◌-◌, All, IfSome, List, 
 use Rattle.std.specs.Borrow.{Bor}
 use Rattle.std.specs.Option.{option_copied}
 use Rattle.std.proofs.lemmas.List.Elements.{All-drop, All-take}
-use Rattle.program.specs.World.{World}
+use Rattle.file_store.specs.World.{World}
 use Rattle.kadm_changes.specs.Found.{IsFound, IsFoundIn}
 use Rattle.kadm_changes.specs.declared.passwords.FoundPassword.{FoundPassword}
 use Rattle.kadm.specs.Batches.{IsLineRead}

@@ -1,6 +1,6 @@
 -- The lines of a batch.
 use Rattle.std.specs.Prelude.{◌≡◌, Bool, true, false, IfSome, List, map, Option, string_bytes}
-use Rattle.program.specs.World.{World}
+use Rattle.file_store.specs.World.{World}
 use Rattle.kadm_changes.specs.Found.{IsFound}
 use Rattle.kadm_changes.specs.Words.{Text}
 use Rattle.kadm.specs.Lines.{Batched, Tried}

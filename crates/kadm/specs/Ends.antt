@@ -1,8 +1,8 @@
 -- How a command line ends, and what it leaves.
 use Rattle.std.specs.Prelude.{◌≡◌, ◌⊎◌, Bool, true, false, List, Option, Some, codes}
-use Rattle.program.specs.World.{World}
-use Rattle.program.specs.declared.faults.FileCause.{FileCause}
-use Rattle.program.specs.declared.faults.FileCause.TheVariants.{LongFile, ShortSeed, Failed}
+use Rattle.file_store.specs.World.{World}
+use Rattle.file_store.specs.declared.faults.FileCause.{FileCause}
+use Rattle.file_store.specs.declared.faults.FileCause.TheVariants.{LongFile, ShortSeed, Failed}
 use Rattle.kadm_changes.specs.Stops.{IsFailed}
 use Rattle.kadm_changes.specs.Realm.{StaysOpen}
 use Rattle.kadm_changes.specs.Words.{Text, has_flag, path_of, value_of}
@@ -17,8 +17,8 @@ use Rattle.kadm.specs.declared.printing.PrintCommand.{PrintCommand}
 use Rattle.kadm.specs.declared.printing.PrintCommand.TheVariants as prints
 use Rattle.kadm.specs.declared.writing.WriteCommand.{WriteCommand}
 use Rattle.kadm.specs.declared.writing.WriteCommand.TheVariants as writes
-use Rattle.program.specs.declared.status.Status.{Status}
-use Rattle.program.specs.declared.status.Status.TheVariants as statuses
+use Rattle.command_line.specs.declared.status.Status.{Status}
+use Rattle.command_line.specs.declared.status.Status.TheVariants as statuses
 use Rattle.kadm_changes.specs.declared.stop.Stop.{Stop}
 use Rattle.kadm_changes.specs.declared.stop.Stop.TheVariants.{Usage, LineRefused, LineFailed, NotInBatch, Refused, File}
 

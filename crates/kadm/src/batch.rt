@@ -13,12 +13,13 @@ use crate::words::{in_batch, is_given};
 use crate::writing::WriteCommand;
 use clap::ArgMatches;
 use clap::error::Error;
+use command_line::Status;
+use file_store::{FileCause, FileFault, STANDARD_INPUT, Store};
 use kadm_changes::{
     Context, Draft, FoundPassword, NAME, Note, Stop, Subject, Target, begin_line, find_password,
     has_flag, lock_database, read_database, report_realm, update_in_batch, value_of,
     write_database,
 };
-use program::{FileCause, FileFault, STANDARD_INPUT, Status, Store};
 use std::alloc::{AllocError, Global};
 use std::io::{ErrorKind, Write};
 use text_fields::line_words;

@@ -11,11 +11,11 @@ use crate::settings::sets_some;
 use crate::usage::{CommandFault, NO_COMMAND, required, setting_fault};
 use crate::words::is_given;
 use crate::writing::WriteCommand;
+use command_line::{FlagRow, OptionRow, SubcommandRow, Times};
 use kadm_changes::{
     ChangeArgs, Changes, DumpArgs, Grant, KEYTAB, PasswordArgs, PasswordGrant, RandomGrant,
     RowArgs, RowUpdate, Update, has_flag, value_of,
 };
-use program::{FlagRow, OptionRow, SubcommandRow, Times};
 use text_fields::{FIELD_NAMES, number_u32};
 
 /// The rows of these commands.

@@ -10,8 +10,8 @@ use crate::writing::{WriteCommand, with_changes, with_later_changes, write_of};
 use clap::error::Error;
 use clap::{ArgMatches, Command as Parser};
 use enctypes::Etype;
+use file_store::NewMode;
 use kadm_changes::{DB, Target, has_flag, value_of};
-use program::NewMode;
 use std::alloc::{AllocError, Global};
 use text_fields::{offered, read_etypes};
 

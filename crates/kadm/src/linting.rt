@@ -3,11 +3,11 @@ ghost use Rattle.std.specs.Prelude.{◌≡◌};
 
 use crate::json_lines::json_finding;
 use enctypes::Etype;
+use file_store::{FileRights, RIGHTS_OF_OTHERS, Store, file_rights, read_clock};
 use kadm_changes::{Context, Stop, read_database};
 use krb_fields::Name;
 use principal_rows::Row;
 use principals::Database;
-use program::{FileRights, RIGHTS_OF_OTHERS, Store, file_rights, read_clock};
 use std::alloc::{AllocError, Global};
 use std::io::Write;
 use text_fields::{UtcDate, is_past, shell_word};

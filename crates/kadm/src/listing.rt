@@ -3,11 +3,11 @@ ghost use Rattle.std.specs.Prelude.{◌≡◌};
 
 use crate::json_lines::{behind_name, json_line};
 use crate::patterns::is_like;
+use file_store::Store;
 use kadm_changes::{Context, Stop, read_database};
 use krb_fields::{Name, Second};
 use principal_rows::{KeyList, Row};
 use principals::{ChangeFault, Database};
-use program::Store;
 use std::alloc::{AllocError, Global};
 use std::io;
 use std::io::Write;

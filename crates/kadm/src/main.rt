@@ -21,9 +21,8 @@ mod words;
 mod writing;
 
 use crate::run::{CommandLine, kadm_run};
-use program::{
-    FileStore, NOT_UTF8, Status, Variable, open_missing_streams, read_words, report_failure,
-};
+use command_line::{NOT_UTF8, Status, open_missing_streams, read_words, report_failure};
+use file_store::{FileStore, Variable};
 use std::env::VarError;
 use std::io::IsTerminal;
 use std::process::ExitCode;

@@ -1,6 +1,6 @@
 //! The options that several commands have.
 
-use program::{FlagRow, OptionRow, Times};
+use command_line::{FlagRow, OptionRow, Times};
 
 pub(crate) const DATABASE: OptionRow = OptionRow {
     name: "db",

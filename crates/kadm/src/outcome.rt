@@ -1,7 +1,7 @@
 //! What a command that writes a file has done.
 ghost use Rattle.std.specs.Prelude.{◌≡◌, true};
 
-use program::Written;
+use file_store::Written;
 
 /// What a command that writes a file has done.
 pub(crate) struct Outcome {

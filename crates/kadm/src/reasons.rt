@@ -1,7 +1,7 @@
 //! Why a command is refused, in one word and in a sentence.
 use kadm_changes::{RealmEnd, Reason};
+use principal_keys::keytab_text;
 use principals::ChangeFault;
-use text_fields::keytab_text;
 
 /// The explanation of a text that is not a name.
 const BAD_NAME: &str = "this is not the name of a principal; write it without @REALM";

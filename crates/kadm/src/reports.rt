@@ -1,12 +1,13 @@
 //! What a command that ends early prints.
 ghost use Rattle.std.specs.Prelude.{◌≡◌, IfOk};
 ghost use Rattle.kadm.specs.Ends.{IsStatusOf};
-ghost use Rattle.program.specs.declared.status.Status.TheVariants.{Failed};
+ghost use Rattle.command_line.specs.declared.status.Status.TheVariants.{Failed};
 
 use crate::changing::NOT_IN_BATCH;
 use crate::reasons::{reason_text, reason_word};
+use command_line::{Status, print_failure, print_refusal};
+use file_store::FileCause;
 use kadm_changes::{Context, KEYTAB, NAME, Reason, Refusal, Stop, Subject, begin_line, value_of};
-use program::{FileCause, Status, print_failure, print_refusal};
 use std::io;
 use std::io::Write;
 use text_fields::{Setting, UtcDate, setting_of};

@@ -3,7 +3,7 @@ ghost use Rattle.std.specs.Prelude.{◌≡◌, IfErr, IfOk, OnErr, map, string_b
 ghost use Rattle.kadm_changes.specs.Words.{path_of, texts};
 ghost use Rattle.kadm.specs.Ends.{IsCommandEnd, IsCommandStopped, IsEnd, IsStopped, KeepsOpen};
 ghost use Rattle.kadm.specs.Words.{asks_help, with_db, with_names};
-ghost use Rattle.program.specs.declared.status.Status.TheVariants.{Failed};
+ghost use Rattle.command_line.specs.declared.status.Status.TheVariants.{Failed};
 
 use crate::commands::{Command, CommandKind, read_args, read_command};
 use crate::escaping::Escaping;
@@ -13,8 +13,9 @@ use crate::reports::{report, report_unsynced};
 use crate::usage::{report_command_fault, report_fault};
 use crate::words::{asks_help, with_db, with_names, words_of};
 use crate::writing::{write_files, written_path};
+use command_line::Status;
+use file_store::{Store, Written};
 use kadm_changes::{Context, Progress, Stop, Subject};
-use program::{Status, Store, Written};
 use std::alloc::{AllocError, Global};
 use std::io;
 use std::io::{BufWriter, Write};

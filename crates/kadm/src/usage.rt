@@ -4,8 +4,8 @@ ghost use Rattle.kadm_changes.specs.Words.{texts, value_of};
 
 use crate::settings::{accepted_by, invalid_setting};
 use clap::error::{Error, ErrorKind};
+use command_line::print_usage_error;
 use kadm_changes::{SettingWords, Stop, value_of};
-use program::print_usage_error;
 use std::alloc::AllocError;
 use std::io::Write;
 

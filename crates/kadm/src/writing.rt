@@ -11,11 +11,12 @@ use crate::options::{DATABASE, KEEPS_MODE, NAME};
 use crate::outcome::Outcome;
 use crate::usage::{CommandFault, NO_COMMAND, required};
 use clap::Command as Parser;
+use command_line::{FlagRow, OptionRow, Status, SubcommandRow, Times, with_subcommands};
+use file_store::Store;
 use kadm_changes::{
     Context, DB, DumpArgs, InitArgs, KeytabArgs, Stop, Target, Update, has_flag, import_dump,
     make_realm, make_update, value_of, write_keytab,
 };
-use program::{FlagRow, OptionRow, Status, Store, SubcommandRow, Times, with_subcommands};
 use std::alloc::{AllocError, Global};
 use std::convert::AsStr;
 use std::io::Write;

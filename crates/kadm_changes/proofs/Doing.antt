@@ -4,7 +4,7 @@ use Rattle.std.proofs.Common.{Err, OnOk, IfSome, MatchResult, flat_map, take, dr
 use Rattle.std.proofs.Common.{refl, inl, inr}
 use Rattle.std.specs.Prelude.{⊤}
 use Rattle.enctypes.specs.declared.etype.Etype.{Etype}
-use Rattle.program.specs.World.{World, with_file}
+use Rattle.file_store.specs.World.{World, with_file}
 use Rattle.cred_files.specs.Keytab.{part_text}
 use Rattle.krb_fields.specs.Name.{Components}
 use Rattle.krb_fields.specs.PrincipalName.{Name}

@@ -4,7 +4,7 @@ use Rattle.std.proofs.lemmas.List.{take_all, take_more}
 use Rattle.std.proofs.lemmas.List.Elements.{All-head, All-nil, All-push, All-tail}
 use Rattle.std.specs.FinMap.{contains_key, empty, from_entries, get-empty}
 use Rattle.cred_files.specs.declared.keytab_entry.KeytabEntry.{KeytabEntry}
-use Rattle.program.specs.World.{IsThere, World}
+use Rattle.file_store.specs.World.{IsThere, World}
 use Rattle.krb_fields.specs.Name.{Components, name_cmp}
 use Rattle.krb_fields.specs.NameLimits.{IsWithinLimits, is_within_limits}
 use Rattle.mit_dump.specs.Place.{IsRealmOf, has_place}

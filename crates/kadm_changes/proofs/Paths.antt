@@ -6,7 +6,7 @@ use Rattle.json.specs.Lex.{lex, punctuate}
 use Rattle.json.specs.Word.{word, after_number}
 use Rattle.json.specs.Json.{value}
 use Rattle.serde_json.specs.Read.{read}
-use Rattle.program.specs.World.{World, IsFirst, IsThere, first_octet}
+use Rattle.file_store.specs.World.{World, IsFirst, IsThere, first_octet}
 use Rattle.principals.specs.Database.{Principals}
 use Rattle.principals_text.specs.Value.{database_or, text_database}
 use Rattle.principals_text.specs.declared.read_fault.ReadFault.{ReadFault}

@@ -1,6 +1,6 @@
 -- When a change lets krbtgt/REALM expire, and which times are past.
 use Rattle.std.proofs.Common.{◌≡◌, ◌<◌, ◌≤ℤ◌, ℕ, ℤ, pos, true, false, Option, Some, None, IfSome, subst, sym}
-use Rattle.program.specs.World.{IsNow, World}
+use Rattle.file_store.specs.World.{IsNow, World}
 use Rattle.kadm_changes.specs.Asking.{IsFrom}
 use Rattle.principal_rows.specs.declared.policy.Policy.{Policy}
 use Rattle.kadm_changes.specs.Realm.{IsAsOpen, IsGone}

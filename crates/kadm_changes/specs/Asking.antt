@@ -1,6 +1,6 @@
 -- The settings that words ask for, and times that are past.
 use Rattle.std.specs.Prelude.{◌≡◌, ◌≤ℤ◌, ℕ, ℤ, pos, Bool, true, Option, Some, None, IfSome, ⊤}
-use Rattle.program.specs.World.{World}
+use Rattle.file_store.specs.World.{World}
 use Rattle.text_fields.specs.declared.settings.Setting.{Setting}
 use Rattle.text_fields.specs.declared.settings.Setting.TheVariants as settings
 use Rattle.text_fields.specs.declared.settings.TimeField.TheVariants as times

@@ -1,6 +1,6 @@
 -- Changes of principals without new keys, in the order of the words that order them.
 use Rattle.std.specs.Prelude.{◌≡◌, List, [], ◌∷◌, Option, Some, None, codes}
-use Rattle.program.specs.World.{World}
+use Rattle.file_store.specs.World.{World}
 use Rattle.krb_fields.specs.Name.{Components}
 use Rattle.krb_fields.specs.NameText.{IsNameText}
 use Rattle.principals.specs.Database.{Principals}

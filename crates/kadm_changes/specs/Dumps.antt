@@ -3,7 +3,7 @@ use Rattle.std.specs.Prelude.{◌≡◌, ◌⊎◌, ◌++◌, ℕ, Bool, true, f
 use Rattle.std.specs.FinMap.{from_entries}
 use Rattle.cred_files.specs.Keytab.{IsKeytab}
 use Rattle.cred_files.specs.declared.keytab_entry.KeytabEntry.{KeytabEntry}
-use Rattle.program.specs.World.{World, IsRead}
+use Rattle.file_store.specs.World.{World, IsRead}
 use Rattle.mit_dump.specs.Dump.{IsDump}
 use Rattle.mit_dump.specs.Entries.{AreEntries, preference}
 use Rattle.mit_dump.specs.Losses.{losses}
@@ -14,7 +14,7 @@ use Rattle.principal_rows.specs.NameMap.{pairs}
 use Rattle.principal_rows.specs.declared.name_map.Entry.{Entry}
 use Rattle.principal_rows.specs.declared.row.Row.{Row}
 use Rattle.principals.specs.Database.{Principals}
-use Rattle.text_fields.specs.Keytabs.{AreVersionsOf}
+use Rattle.principal_keys.specs.Keytabs.{AreVersionsOf}
 use Rattle.kadm_changes.specs.declared.dump_import.DumpArgs.{DumpArgs}
 
 -- ---- rows

@@ -1,7 +1,7 @@
 -- The file of a password that was read before the database was locked.
 use Rattle.std.specs.Prelude.{◌≡◌, List, ℕ, Option, IfSome, string_bytes, ⊤}
 use Rattle.std.specs.Borrow.{Bor}
-use Rattle.program.specs.World.{World, HasFirstLine}
+use Rattle.file_store.specs.World.{World, HasFirstLine}
 use Rattle.kadm_changes.specs.declared.passwords.FoundLine.{FoundLine}
 use Rattle.kadm_changes.specs.declared.passwords.FoundLine.TheVariants.{Password, TooLong, Fault}
 use Rattle.kadm_changes.specs.declared.passwords.FoundPassword.{FoundPassword}

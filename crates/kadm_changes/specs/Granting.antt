@@ -3,7 +3,7 @@ use Rattle.std.specs.Prelude.{◌≡◌, ◌⊎◌, ◌+◌, ◌≤ℤ◌, ◌<�
 use Rattle.std.specs.Prelude.{⊤, if◌then◌else◌}
 use Rattle.std.specs.FinMap.{get, insert}
 use Rattle.enctypes.specs.Key.{ProtocolKey}
-use Rattle.program.specs.World.{World, IsNow}
+use Rattle.file_store.specs.World.{World, IsNow}
 use Rattle.krb_fields.specs.Name.{Components}
 use Rattle.principal_rows.specs.declared.row.KeyVersion.{KeyVersion}
 use Rattle.principal_rows.specs.declared.row.Row.{Row}

@@ -3,12 +3,12 @@ use Rattle.std.specs.Prelude.{◌≡◌, ℕ, List, Option, None}
 use Rattle.enctypes.specs.declared.etype.Etype.{Etype}
 use Rattle.cred_files.specs.Keytab.{IsKeytab}
 use Rattle.cred_files.specs.declared.keytab_entry.KeytabEntry.{KeytabEntry}
-use Rattle.program.specs.World.{World, IsRead}
+use Rattle.file_store.specs.World.{World, IsRead}
 use Rattle.krb_fields.specs.Name.{Components}
 use Rattle.principal_rows.specs.declared.row.KeyVersion.{KeyVersion}
 use Rattle.principals.specs.Database.{Principals}
 use Rattle.principals.specs.Importing.{import_refusal, imported}
-use Rattle.text_fields.specs.Keytabs.{AreVersionsOf}
+use Rattle.principal_keys.specs.Keytabs.{AreVersionsOf}
 
 -- the versions of a principal's keys in the keytab at a path
 abbrev pub HasVersions : Option World → List ℕ → Components → List Etype → List KeyVersion → Type 0

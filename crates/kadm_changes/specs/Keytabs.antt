@@ -5,7 +5,7 @@ use Rattle.std.specs.FinMap.{get}
 use Rattle.enctypes.specs.Key.{ProtocolKey}
 use Rattle.cred_files.specs.Keytab.{keytab_text, part_text}
 use Rattle.cred_files.specs.declared.keytab_entry.KeytabEntry.{KeytabEntry}
-use Rattle.program.specs.World.{World, IsRead, IsThere}
+use Rattle.file_store.specs.World.{World, IsRead, IsThere}
 use Rattle.krb_fields.specs.Name.{Components}
 use Rattle.krb_fields.specs.PrincipalName.{Name}
 use Rattle.principal_rows.specs.Versions.{current}

@@ -1,8 +1,8 @@
 -- Whose keytab a command extends.
 use Rattle.std.specs.Prelude.{◌≡◌, ◌==◌, ◌&&◌, ◌||◌, ℕ, Bool, true, false, List, Option, Some, None, IfSome, bit_and}
-use Rattle.program.specs.Folders.{folder_of}
-use Rattle.program.specs.World.{World}
-use Rattle.program.specs.declared.store.FileRights.{FileRights}
+use Rattle.file_store.specs.Folders.{folder_of}
+use Rattle.file_store.specs.World.{World}
+use Rattle.file_store.specs.declared.store.FileRights.{FileRights}
 
 -- nobody may write in the folder but root and the file's owner
 abbrev pub is_closed : FileRights → FileRights → Bool

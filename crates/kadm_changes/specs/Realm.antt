@@ -8,7 +8,7 @@ use Rattle.principal_rows.specs.declared.policy.Policy.{Policy}
 use Rattle.principals.specs.Database.{Principals}
 use Rattle.principals_text.specs.Value.{text_database}
 use Rattle.principals_text.specs.declared.read_fault.ReadFault.{ReadFault}
-use Rattle.program.specs.World.{World}
+use Rattle.file_store.specs.World.{World}
 use Rattle.kadm_changes.specs.declared.updates.RowUpdate.{RowUpdate}
 use Rattle.kadm_changes.specs.declared.updates.RowUpdate.TheVariants as rows
 

@@ -1,6 +1,6 @@
 -- Which commands that end early failed.
-use Rattle.program.specs.declared.faults.FileCause.{FileCause}
-use Rattle.program.specs.declared.faults.FileCause.TheVariants.{LongFile, ShortSeed, Failed}
+use Rattle.file_store.specs.declared.faults.FileCause.{FileCause}
+use Rattle.file_store.specs.declared.faults.FileCause.TheVariants.{LongFile, ShortSeed, Failed}
 use Rattle.kadm_changes.specs.declared.stop.Stop.{Stop}
 use Rattle.kadm_changes.specs.declared.stop.Stop.TheVariants.{Usage, LineRefused, LineFailed, NotInBatch, Refused, File}
 

@@ -1,11 +1,11 @@
 -- The effect of the commands that change a database.
 use Rattle.std.specs.Prelude.{◌≡◌, ℕ, Bool, List, ◌∷◌, map, Option, Some, None, ⊤}
 use Rattle.enctypes.specs.declared.etype.Etype.{Etype}
-use Rattle.program.specs.World.{World, HasFirstLine, HasSeed}
+use Rattle.file_store.specs.World.{World, HasFirstLine, HasSeed}
 use Rattle.krb_fields.specs.Name.{Components}
 use Rattle.krb_fields.specs.NameText.{IsNameText}
 use Rattle.krb_fields.specs.Salt.{default_salt}
-use Rattle.text_fields.specs.Keys.{drawn_keys, password_key, seeded}
+use Rattle.principal_keys.specs.Keys.{drawn_keys, password_key, seeded}
 use Rattle.principal_rows.specs.declared.row.KeyVersion.{KeyVersion}
 use Rattle.principals.specs.Database.{Principals}
 use Rattle.kadm_changes.specs.Changing.{AreChanged, AreSet}

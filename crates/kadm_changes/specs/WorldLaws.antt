@@ -1,6 +1,6 @@
 -- A law of the files: a database that is read, changed and written.
 use Rattle.std.proofs.Common.{◌≡◌, ◌∙◌, List, ℕ, Option, ap, subst}
-use Rattle.program.specs.World.{World}
+use Rattle.file_store.specs.World.{World}
 use Rattle.principals.specs.Database.{Principals}
 use Rattle.kadm_changes.specs.Worlds.{HoldsDatabase, IsReadBack, Rewritten, with_database}
 

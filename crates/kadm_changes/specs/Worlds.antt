@@ -4,12 +4,12 @@ use Rattle.serde_json.specs.Written.{compact_text}
 use Rattle.enctypes.specs.declared.etype.Etype.{Etype}
 use Rattle.krb_fields.specs.Name.{Components}
 use Rattle.krb_fields.specs.NameText.{IsComponentText, IsNameText}
-use Rattle.text_fields.specs.Keys.{drawn_keys, seeded}
+use Rattle.principal_keys.specs.Keys.{drawn_keys, seeded}
 use Rattle.principal_rows.specs.Policy.{default_policy}
 use Rattle.principals.specs.Database.{Principals, first_database}
 use Rattle.principals_text.specs.Value.{text_database}
 use Rattle.principals_text.specs.Written.{database_value}
-use Rattle.program.specs.World.{World, with_file, HasSeed, IsRead, IsThere}
+use Rattle.file_store.specs.World.{World, with_file, HasSeed, IsRead, IsThere}
 use Rattle.kadm_changes.specs.Dumps.{HasRealm}
 use Rattle.kadm_changes.specs.Keytabs.{IsFreePath, IsKeytabFor}
 use Rattle.kadm_changes.specs.Realm.{KeepsRealm, tgs_policy}

@@ -18,13 +18,14 @@ use crate::reason::Reason;
 use crate::stop::{Stop, of_realm};
 use crate::target::Target;
 use crate::words::{DB, NAME, value_at};
+use file_store::{Store, Written, has_file, read_clock, read_or_draw_seed};
 use krb_elements::KerberosString;
 use krb_fields::{Name, Second, component_from_text};
+use principal_keys::random_keys;
 use principals::{ChangeFault, Database, RowChange};
-use program::{Store, Written, has_file, read_clock, read_or_draw_seed};
 use std::alloc::Global;
 use std::io::Write;
-use text_fields::{Setting, TimeField, random_keys, setting_from, setting_of};
+use text_fields::{Setting, TimeField, setting_from, setting_of};
 
 /// What a new realm is made from.
 #[derive(Clone, Copy)]

@@ -7,7 +7,7 @@ ghost use Rattle.mit_dump.specs.Place.{has_place};
 ghost use Rattle.mit_dump.specs.Policy.{policy_of};
 ghost use Rattle.principal_rows.specs.NameMap.{pairs};
 ghost use Rattle.principal_rows.specs.Row.{IsRow};
-ghost use Rattle.text_fields.specs.Keytabs.{AreVersionsOf};
+ghost use Rattle.principal_keys.specs.Keytabs.{AreVersionsOf};
 ghost use Rattle.kadm_changes.specs.Dumps.{AreRowsOf, HasRealm, IsDatabaseOf, IsPushedRow, IsRowOf, IsStash};
 ghost use Rattle.principal_rows.specs.Policy.{default_policy};
 ghost use Rattle.kadm_changes.specs.Realm.{KeepsRealm, tgs_policy};
@@ -24,15 +24,15 @@ use crate::stop::Stop;
 use crate::target::Target;
 use crate::words::{DB, DUMP, STASH};
 use cred_files::{CredFault, Keytab, KeytabEntry};
+use file_store::{Store, Written, has_file, read_at_most, read_file};
 use krb_elements::KerberosString;
 use mit_dump::{DumpedPrincipal, dump_realm, read_dump};
+use principal_keys::{KeytabKeys, keytab_versions};
 use principal_rows::{Entry, NameMap, Policy, Row};
 use principals::Database;
 use principals_text::LONGEST_TEXT;
-use program::{Store, Written, has_file, read_at_most, read_file};
 use std::alloc::{AllocError, Global};
 use std::io::Write;
-use text_fields::{KeytabKeys, keytab_versions};
 
 /// Which dump is imported, and how.
 #[derive(Clone, Copy)]

@@ -2,7 +2,7 @@
 ghost use Rattle.std.specs.Prelude.{◌≡◌, IfNone, IfOk, IfSome, None, OnOk, OnErr, Some, is_some, map};
 ghost use Rattle.std.specs.FinMap as finite;
 ghost use Rattle.krb_fields.specs.Salt.{default_salt};
-ghost use Rattle.text_fields.specs.Keys.{password_key};
+ghost use Rattle.principal_keys.specs.Keys.{password_key};
 ghost use Rattle.principal_rows.specs.declared.row.Row as rows;
 ghost use Rattle.kadm_changes.specs.Granting.{IsCleared, IsGiven, IsGranted, IsOlderDropped, IsReplaced, IsUserAdded};
 ghost use Rattle.kadm_changes.specs.Granting.{Makes, key_change, older_numbers, password_expiry};
@@ -14,12 +14,13 @@ use crate::denying::deny_service;
 use crate::draft::Draft;
 use crate::stop::Stop;
 use enctypes::Etype;
+use file_store::{Store, read_clock, read_or_draw_seed};
 use krb_fields::{Name, Second};
+use principal_keys::{password_keys, random_keys};
 use principal_rows::{KeyList, KeyVersion, Policy};
 use principals::{ChangeFault, Database, RowChange};
-use program::{Store, read_clock, read_or_draw_seed};
 use std::alloc::{AllocError, Global};
-use text_fields::{is_past, password_keys, random_keys};
+use text_fields::is_past;
 
 /// The principal that gets keys.
 #[derive(Clone, Copy, PartialEq, Eq)]

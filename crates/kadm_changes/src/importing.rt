@@ -8,11 +8,11 @@ use crate::granting::Recipient;
 use crate::stop::Stop;
 use crate::words::KEYTAB;
 use cred_files::Keytab;
+use file_store::{Store, read_file};
 use krb_fields::Name;
+use principal_keys::{KeytabKeys, keytab_versions};
 use principal_rows::Versions;
 use principals::ChangeFault;
-use program::{Store, read_file};
-use text_fields::{KeytabKeys, keytab_versions};
 
 /// Adds a principal with its keys from a keytab.
 pub(crate) fn import<'p, T: Store>(

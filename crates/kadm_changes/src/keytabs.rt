@@ -1,6 +1,6 @@
 //! The command that writes a keytab.
 ghost use Rattle.std.specs.Prelude.{◌≡◌, IfOk, IsFalse, OnOk, OnErr, option_map};
-ghost use Rattle.program.specs.World.{IsRead, IsThere, with_file};
+ghost use Rattle.file_store.specs.World.{IsRead, IsThere, with_file};
 ghost use Rattle.kadm_changes.specs.Keytabs.{IsBehind, IsFreePath, IsKeytabFor, IsKeytabStart, IsNewKeytab, IsOldKeytab, entries_of, lock_of};
 ghost use Rattle.kadm_changes.specs.Owners.{IsOurs, is_closed, is_ours, is_own};
 ghost use Rattle.kadm_changes.specs.Worlds.{WroteKeytab};
@@ -13,14 +13,14 @@ use crate::stop::Stop;
 use crate::target::Target;
 use crate::words::OUT;
 use cred_files::{CredFault, Keytab, KeytabEntry};
+use file_store::{
+    FileFault, FileRights, LOCK_END, Store, Written, file_rights, first_octet, folder_of, has_file,
+    read_file, update_file, write_file,
+};
 use krb_elements::KerberosString;
 use krb_fields::Name;
 use principal_rows::KeyVersion;
 use principals::{ChangeFault, Database};
-use program::{
-    FileFault, FileRights, LOCK_END, Store, Written, file_rights, first_octet, folder_of, has_file,
-    read_file, update_file, write_file,
-};
 use std::alloc::{AllocError, Global};
 use std::io::Write;
 

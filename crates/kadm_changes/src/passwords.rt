@@ -3,7 +3,7 @@ ghost use Rattle.std.specs.Prelude.{◌≡◌, IfOk, IfSome};
 ghost use Rattle.kadm_changes.specs.Found.{HasPassword, IsFound, IsFoundIn, IsFoundLine};
 ghost use Rattle.kadm_changes.specs.Updates.{IsPasswordOf, IsSecretOf};
 ghost use Rattle.kadm_changes.specs.Words.{path_of};
-ghost use Rattle.program.specs.World.{HasFirstLine};
+ghost use Rattle.file_store.specs.World.{HasFirstLine};
 
 use crate::context::Context;
 use crate::databases::read_database;
@@ -14,8 +14,8 @@ use crate::stop::Stop;
 use crate::target::Target;
 use crate::updates::{RowArgs, RowUpdate, Update};
 use crate::words::{NAME, PASSWORD_FILE};
+use file_store::{FileCause, FileFault, STANDARD_INPUT, Store, ask_password, read_password};
 use krb_fields::component_to_text;
-use program::{FileCause, FileFault, STANDARD_INPUT, Store, ask_password, read_password};
 use std::alloc::{AllocError, Global};
 use std::io::Write;
 

@@ -4,11 +4,11 @@ ghost use Rattle.kadm_changes.specs.Stops.{IsFailed};
 use crate::reason::{Reason, Refusal};
 use crate::words::{DB, KEYTAB, NAME, OUT, REALM};
 use cred_files::CredFault;
+use file_store::FileFault;
 use krb_fields::NameFault;
 use principal_rows::KeyListFault;
 use principals::ChangeFault;
 use principals_text::ReadFault;
-use program::FileFault;
 use std::alloc::{AllocError, AllocFailed};
 use std::io;
 

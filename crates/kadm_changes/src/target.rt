@@ -1,7 +1,7 @@
 //! The database that a command works on.
 
 use enctypes::Etype;
-use program::NewMode;
+use file_store::NewMode;
 
 /// The database that a command works on, and what the command line says of what it writes there.
 #[derive(Drop)]

@@ -21,9 +21,9 @@ use crate::stop::Stop;
 use crate::subject::{Subject, begin_line};
 use crate::target::Target;
 use enctypes::Etype;
+use file_store::{Store, Written};
 use krb_fields::Name;
 use principals::Database;
-use program::{Store, Written};
 use std::alloc::Global;
 use std::io::Write;
 

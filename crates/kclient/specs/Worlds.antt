@@ -4,7 +4,7 @@ use Rattle.std.specs.List.{All}
 use Rattle.std.specs.declared.net.socket_addr.SocketAddr.{SocketAddr}
 use Rattle.cred_files.specs.Cache.{CacheContents, cache_text, put_first}
 use Rattle.cred_files.specs.declared.credential.Credential.{Credential}
-use Rattle.program.specs.World.{World, with_file, without_file}
+use Rattle.file_store.specs.World.{World, with_file, without_file}
 use Rattle.client_core.specs.declared.asked.Asked.{Asked}
 use Rattle.client_files.specs.Caches.{HasCache, new_cache}
 use Rattle.client_login.specs.Logins.{IsFirst, IsFurther}

@@ -2,7 +2,7 @@
 ghost use Rattle.std.specs.Prelude.{◌≡◌, IfOk, OnErr, OnOk, option_map};
 ghost use Rattle.cred_files.specs.Cache.{cache_text};
 ghost use Rattle.client_files.specs.Caches.{new_cache};
-ghost use Rattle.program.specs.World.{with_file};
+ghost use Rattle.file_store.specs.World.{with_file};
 ghost use Rattle.kclient.specs.Worlds.{CameFirst, Made};
 
 use crate::context::Context;
@@ -19,9 +19,9 @@ use client_files::{
 };
 use client_login::{AnyMessage, Login, Password, Secret, TicketRequest};
 use cred_files::{Credential, Principal};
+use file_store::{STANDARD_INPUT, Variable, ask_password, read_or_draw_seed, read_password};
 use krb_elements::{KerberosString, Octets};
 use krb_fields::{Name, component_to_text, tgs_name};
-use program::{STANDARD_INPUT, Variable, ask_password, read_or_draw_seed, read_password};
 use rand_chacha::ChaCha20Rng;
 use rand_core::SeedableRng;
 use std::alloc::Global;

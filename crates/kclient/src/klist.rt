@@ -11,8 +11,8 @@ use clap::ArgMatches;
 use client_files::{
     Cause, ClientStore, Defaults, Fault, good_credential, read_cache, read_keytab, remove_cache,
 };
+use command_line::Status;
 use krb_fields::{Moment, tgs_name};
-use program::Status;
 use std::alloc::Global;
 
 const SILENT_KEYTAB: &str = "-s and --keytab don't go together";

@@ -4,7 +4,7 @@ ghost use Rattle.std.specs.String.{string_bytes};
 ghost use Rattle.cred_files.specs.Cache.{cache_text, put_first};
 ghost use Rattle.client_files.specs.Caches.{HasCache};
 ghost use Rattle.client_login.specs.Verifying.{IsTicketOf};
-ghost use Rattle.program.specs.World.{with_file};
+ghost use Rattle.file_store.specs.World.{with_file};
 ghost use Rattle.kclient.specs.CacheSessions.{Collected};
 ghost use Rattle.kclient.specs.Worlds.{Added, CameFurther, Filled};
 

@@ -18,11 +18,11 @@ use crate::run::kclient_run;
 use client_files::Defaults;
 use client_login::{KdcClient, Kdcs, Transports};
 use client_sockets::SocketNetwork;
-use krb_fields::Moment;
-use program::{
-    CLOCK, FileFault, FileStore, NOT_UTF8, Status, Variable, now, open_missing_streams, read_words,
-    report_failure, report_usage,
+use command_line::{
+    NOT_UTF8, Status, open_missing_streams, read_words, report_failure, report_usage,
 };
+use file_store::{CLOCK, FileFault, FileStore, Variable, now};
+use krb_fields::Moment;
 use std::alloc::AllocError;
 use std::env::VarError;
 use std::process::ExitCode;

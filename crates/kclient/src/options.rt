@@ -1,9 +1,10 @@
 //! The subcommands of the command line with their options, and their help texts.
 use clap::error::Error;
 use clap::{Arg, ArgAction, ArgMatches, Command};
-use program::{
-    FlagRow, OptionRow, SubcommandRow, Times, VERSION, subcommand, with_flags, with_options,
+use command_line::{
+    FlagRow, OptionRow, SubcommandRow, Times, subcommand, with_flags, with_options,
 };
+use file_store::VERSION;
 use std::alloc::{AllocError, Global};
 use std::convert::AsStr;
 

@@ -13,7 +13,7 @@ use clap::ArgMatches;
 use clap::error::{Error, ErrorKind};
 use client_files::{Cause, ClientStore, Defaults, Fault};
 use client_login::{AnyMessage, LoginError};
-use program::{Status, parse_status, print_failure, print_refusal, print_usage_error};
+use command_line::{Status, parse_status, print_failure, print_refusal, print_usage_error};
 use std::alloc::{AllocError, Global};
 use std::convert::AsStr;
 use std::io;

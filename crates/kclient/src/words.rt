@@ -4,9 +4,9 @@ use crate::options::asks_for_first;
 use clap::ArgMatches;
 use client_files::{Cause, Fault, NameOf, path_in};
 use client_login::{Renewal, TicketRequest};
+use file_store::STANDARD_INPUT;
 use krb_elements::KerberosString;
 use krb_fields::{Name, component_from_text};
-use program::STANDARD_INPUT;
 use std::alloc::{AllocError, Global};
 use text_fields::{lifetime, number_u32};
 

@@ -1,6 +1,6 @@
 -- The words for the faults of a file that was read.
 use Rattle.std.specs.Prelude.{ℕ, List, Option, Some, None, codes}
-use Rattle.program.specs.Refusal.{cause_refusal}
+use Rattle.file_store.specs.Refusal.{cause_refusal}
 use Rattle.principals_text.specs.RefusalWord.{read_refusal}
 use Rattle.kdc_files.specs.declared.files.ServerFileCause.{ServerFileCause}
 use Rattle.kdc_files.specs.declared.files.ServerFileCause.TheVariants.{File, NotJournal, Journal, NotFirst, BesideDatabase, Database}

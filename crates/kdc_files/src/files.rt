@@ -1,13 +1,13 @@
 //! The files that a server reads: what it takes from them, and why it refuses them.
 ghost use Rattle.std.specs.Prelude.{◌≡◌, ◌≤◌, ◌<◌, IfErr, IfOk, length, option_map, take, vec_len};
-ghost use Rattle.program.specs.declared.faults.FileCause.TheVariants.{Failed, ShortSeed};
+ghost use Rattle.file_store.specs.declared.faults.FileCause.TheVariants.{Failed, ShortSeed};
 ghost use Rattle.kdc_files.specs.Refusal.{leftover_refusal, refusal};
 ghost use Rattle.kdc_files.specs.declared.files.ServerFileCause.TheVariants.{File};
 
 use crate::journal_parts::JournalPart;
+use file_store::{FileCause, read_within, seed_of};
 use journal::{FilesFault, UNFIT};
 use principals_text::{DatabaseFault, LONGEST_TEXT};
-use program::{FileCause, read_within, seed_of};
 use std::alloc::{AllocError, Global};
 use std::io::{Error, ErrorKind, Read};
 use std::{fmt, io};

@@ -2,9 +2,9 @@
 use crate::files::{ServerFileCause, read_up_to, read_whole};
 use crate::journal_store::{JournalPlace, SystemJournal};
 use crate::journals::Journals;
+use file_store::{FileCause, hold_lock, is_own, open_plain, open_plain_with};
 use journal::{FileText, JournalFiles, read_files};
 use krb_elements::Octets;
-use program::{FileCause, hold_lock, is_own, open_plain, open_plain_with};
 use std::alloc::Global;
 use std::fs::{File, OpenOptions};
 use std::io;

@@ -1,7 +1,7 @@
 //! The files beside one another that make up a journal, and whether what has their names is a journal's.
 use crate::files::ServerFileCause;
+use file_store::{FileCause, LOCK_END, open_plain};
 use journal::{HEAD, may_be_journal};
-use program::{FileCause, LOCK_END, open_plain};
 use std::alloc::{AllocError, Global};
 use std::fs::Metadata;
 use std::io::{Error, ErrorKind, Read};

@@ -1,5 +1,5 @@
 //! Warnings about who else can use a file of keys.
-use program::{RIGHTS, RIGHTS_OF_OTHERS, own_user};
+use file_store::{RIGHTS, RIGHTS_OF_OTHERS, own_user};
 use std::fs::Metadata;
 use std::io::Write;
 use std::os::unix::fs::MetadataExt;

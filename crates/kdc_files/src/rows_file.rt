@@ -3,10 +3,10 @@ ghost use Rattle.std.specs.Prelude.{None};
 
 use crate::files::{ServerFileCause, read_whole};
 use crate::key_files::{KeyFile, say_rights};
+use file_store::{FileStamp, now, open_plain};
 use kdc_hub::{Look, OtherRealm, RowSource, RowsState};
 use principals::Database;
 use principals_text::read_bytes;
-use program::{FileStamp, now, open_plain};
 use std::alloc::Global;
 use std::fs::OpenFile;
 use std::io::Write;

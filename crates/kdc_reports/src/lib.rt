@@ -6,7 +6,7 @@
 //! log_action(alloc, &mut log, &Tried { came, action: &action, is_sent });
 //! watch_clock(&mut clock, &mut errors, &polled);
 //! if let Some(counts) = log.counts() {
-//!     push_numbers(&mut text, VERSION, &numbers, counts)?; // `VERSION` of `program`
+//!     push_numbers(&mut text, VERSION, &numbers, counts)?; // `VERSION` of `file_store`
 //!     metrics.write_metrics(&text);
 //! }
 //! ```

@@ -1,7 +1,7 @@
 //! The file of a server's numbers.
 use crate::metrics::MetricsWriter;
+use file_store::{LOCK_END, open_plain};
 use kdc_files::JournalPaths;
-use program::{LOCK_END, open_plain};
 use std::alloc::{AllocError, Global};
 use std::fs::{File, OpenFile, OpenOptions, Permissions};
 use std::io::{Error, ErrorKind, Read, Write};

@@ -3,10 +3,10 @@ ghost use Rattle.std.specs.Prelude.{◌≡◌};
 ghost use Rattle.kdc_reports.specs.Started.{found_by, shown_ahead};
 
 use crate::clock_watch::Refused;
+use file_store::VERSION;
 use journal::{Doubt, Start};
 use krb_fields::{Moment, SKEW, Second};
 use principal_rows::Limits;
-use program::VERSION;
 use std::fmt;
 use std::net::SocketAddr;
 use text_fields::UtcDate;

@@ -4,8 +4,8 @@ use Rattle.std.specs.Prelude.{Option, None, codes, decimal}
 use Rattle.std.specs.Io.BufRead.{strip_last}
 use Rattle.std.specs.Io.KnownBytes.{Appends}
 use Rattle.hex.specs.Hex.{encode_lower}
-use Rattle.program.specs.declared.status.Status.{Status}
-use Rattle.program.specs.declared.status.Status.TheVariants as statuses
+use Rattle.command_line.specs.declared.status.Status.{Status}
+use Rattle.command_line.specs.declared.status.Status.TheVariants as statuses
 use Rattle.principals.specs.FaultName.{fault_name}
 use Rattle.kdc_state.specs.declared.state.State.{State}
 use Rattle.kdcd.specs.Line.{IsLineText}

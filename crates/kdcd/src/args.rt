@@ -2,10 +2,10 @@
 use clap::builder::ValueParser;
 use clap::error::Error;
 use clap::{Arg, ArgMatches, Command};
+use command_line::{FlagRow, OptionRow, SubcommandRow, Times, subcommand, with_subcommands};
 use kdc_reports::LogFormat;
 use kdcd_run::ServeOptions;
 use principal_rows::Limits;
-use program::{FlagRow, OptionRow, SubcommandRow, Times, subcommand, with_subcommands};
 use std::alloc::{AllocError, Global};
 use std::net::SocketAddr;
 use text_fields::{lifetime, number_u32};

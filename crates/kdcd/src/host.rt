@@ -2,6 +2,7 @@
 ghost use Rattle.std.specs.Prelude.{None};
 
 use crate::args::journal_beside;
+use file_store::{LONGEST_FILE, now, open_plain, random_octets};
 use kdc_files::{
     FileJournal, JournalBeginning, JournalPlace, Journals, KeyFile, Leftover, OpenedJournals,
     RowsFile, ServerFileCause, SystemJournal, begin_journal, open_journals, read_up_to,
@@ -13,7 +14,6 @@ use kdcd_run::{Host, ServeOptions, StartNews};
 use krb_fields::Moment;
 use principal_rows::Limits;
 use principals::Database;
-use program::{LONGEST_FILE, now, open_plain, random_octets};
 use std::alloc::{AllocError, Global};
 use std::io;
 use std::io::{Error, ErrorKind, Stderr, Write};

@@ -18,7 +18,7 @@ use crate::run::run_script;
 use crate::sealing::seal;
 use crate::serving::serve_realm;
 use clap::error::ErrorKind;
-use program::{
+use command_line::{
     NOT_UTF8, Status, open_missing_streams, parse_status, read_words, report_end, report_failure,
     report_usage,
 };

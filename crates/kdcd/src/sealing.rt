@@ -1,8 +1,9 @@
 //! Sealing a journal: `kdcd seal`.
 use crate::PROGRAM;
+use command_line::{Status, report_end};
+use file_store::{CLOCK, now};
 use journal::SealOutcome;
 use kdc_files::{JournalPlace, doubt_word, seal_at_path};
-use program::{CLOCK, Status, now, report_end};
 use std::io;
 
 /// Seals the journal at a path, and gives the status. An error is a failed write.

@@ -1,9 +1,9 @@
 //! Serving a realm: `kdcd serve`.
 use crate::host::{Errors, SystemHost};
+use command_line::Status;
 use kdc_reports::{CountedLog, FaultCount, RequestLines};
 use kdc_sockets::{BindFault, ReadyWriter, SharedWriter};
 use kdcd_run::{Host, Outlets, Ran, ServeOptions, SystemPart, run_server};
-use program::Status;
 use std::alloc::AllocError;
 use std::io;
 use std::io::Write;

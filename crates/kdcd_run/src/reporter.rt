@@ -4,11 +4,11 @@ ghost use Rattle.kdc_reports.specs.Numbers.{numbers_text};
 ghost use Rattle.kdcd_run.specs.Reporter.{due, refused_until, second_of};
 
 use crate::server_wire::ServerWire;
+use file_store::VERSION;
 use kdc_files::JournalWriter;
 use kdc_hub::{Hub, Onlooker, RowSource, RowsState, Served, ServerView, Wire};
 use kdc_reports::{LogNumbers, LogWriter, MetricsWriter, Numbers, Refused, Tally, push_numbers};
 use krb_fields::Moment;
-use program::VERSION;
 use rand_core::Rng;
 use request_log::Counts;
 use std::alloc::{AllocError, Global};

@@ -1,4 +1,2 @@
 pub mod DateTexts
-mod KeytabFaults
-mod KeytabVersions
 mod SpanTexts

@@ -3,8 +3,6 @@ pub mod Numbers
 pub mod Settings
 pub mod Spans
 pub mod Etypes
-pub mod Keys
-pub mod Keytabs
 pub mod Values
 -- laws that proofs cite; readers of a contract don't need them
 pub mod SettingLaws

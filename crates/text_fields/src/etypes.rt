@@ -1,7 +1,7 @@
 //! The encryption types of new keys, in order of preference.
 ghost use Rattle.std.specs.Prelude.{◌≡◌, ℕ, pos, IfOk, IfSome, IfNone};
 ghost use Rattle.enctypes.specs.declared.etype.Etype as types;
-ghost use Rattle.text_fields.specs.Keys.{offered};
+ghost use Rattle.text_fields.specs.Etypes.{offered};
 ghost use Rattle.text_fields.specs.Etypes.{IsEtypeText};
 
 use crate::numbers::number;

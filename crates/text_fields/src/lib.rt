@@ -1,6 +1,5 @@
 //! Reads and writes decimal numbers, time spans, dates, policy settings and encryption types, as words of a line or a
-//! command; splits a line into words; makes a principal's new keys, from a password or random, and finds those that it
-//! has in a keytab.
+//! command; splits a line into words.
 //!
 //! ```
 //! let words = line_words(alloc, b"policy --name alice --set greatest_life=10h")?; // or what is wrong with the line
@@ -8,19 +7,14 @@
 //!     row.policy = setting.on(row.policy);
 //! }
 //! let etypes = offered(alloc)?;
-//! let keys = password_keys(alloc, &etypes, b"a password", b"EXAMPLE.COMalice")?;
-//! let keys = random_keys(alloc, &etypes, seed)?;
-//! let versions = keytab_versions(alloc, &KeytabKeys { keytab, realm, who }, &etypes)?;
 //! ```
 //!
-//! It reads no file and no clock, and draws no seed: the caller supplies the bytes, the time and the seed. `program`
-//! reads the options of a command line, and `kadm_changes` changes rows.
+//! It reads no file and no clock: the caller supplies the bytes and the time. `command_line` has the options of a
+//! command line, `principal_keys` makes keys, and `kadm_changes` changes rows.
 #![tactic(auto)]
 
 mod dates;
 mod etypes;
-mod keys;
-mod keytabs;
 mod lines;
 mod numbers;
 mod settings;
@@ -30,8 +24,6 @@ mod values;
 
 pub use dates::UtcDate;
 pub use etypes::{offered, read_etypes};
-pub use keys::{password_keys, random_keys};
-pub use keytabs::{KeytabKeys, keytab_text, keytab_versions};
 pub use lines::line_words;
 pub use numbers::{number, number_u32};
 pub use settings::{

@@ -1,6 +1,6 @@
-//! Tests of what the two stores of `program` show alike: that of the system's files, and the one in memory.
+//! Tests of what the two stores of `file_store` show alike: that of the system's files, and the one in memory.
 use crate::expect::same;
-use program::{FileStore, MemoryStore, NewMode, Store, WriteEnd, Written};
+use file_store::{FileStore, MemoryStore, NewMode, Store, WriteEnd, Written};
 use std::alloc::Global;
 use std::{fs, io};
 

@@ -1,6 +1,6 @@
-//! Tests of the store over the system's files (`program`). Each removes its files at the end.
+//! Tests of the store over the system's files (`file_store`). Each removes its files at the end.
 use crate::expect::same;
-use program::{FileStore, NewMode, Store, Written, folder_of, sync_folder};
+use file_store::{FileStore, NewMode, Store, Written, folder_of, sync_folder};
 use std::fs::Permissions;
 use std::os::unix::fs::{MetadataExt, PermissionsExt};
 use std::{fs, io};

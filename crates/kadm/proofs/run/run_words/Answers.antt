@@ -3,7 +3,7 @@ use Rattle.kadm.specs.Ends.{IsEnd, IsStopped}
 use Rattle.kadm_changes.specs.Stops.{IsFailed}
 use Rattle.kadm_changes.specs.Words.{texts}
 use Rattle.kadm_changes.specs.declared.stop.Stop.{Stop}
-use Rattle.program.specs.declared.status.Status.{Status}
+use Rattle.command_line.specs.declared.status.Status.{Status}
 use Rattle.kadm.proofs.Ending.{failed_after, spelled_end, spelled_stop}
 use Rattle.kadm.proofs.run.run_words.Goals as goal
 

@@ -1,5 +1,5 @@
 use Rattle.std.proofs.Common.{◌∙◌, false, subst, sym}
-use Rattle.program.specs.World.{IsThere}
+use Rattle.file_store.specs.World.{IsThere}
 use Rattle.principal_rows.specs.Policy.{default_policy}
 use Rattle.kadm_changes.specs.Realm.{KeepsRealm, tgs_policy}
 use Rattle.kadm_changes.proofs.Moved.{made_from_dump}

@@ -1,0 +1,2 @@
+mod KeytabFaults
+mod KeytabVersions

@@ -1,7 +1,0 @@
-pub mod Counting
-pub mod Folders
-pub mod Inputs
-pub mod Memory
-pub mod Refusal
-pub mod Status
-pub mod World
