@@ -17,3 +17,4 @@ mod Seals
 mod Showings
 mod Life
 mod Lasting
+mod Counting

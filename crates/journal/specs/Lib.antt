@@ -10,4 +10,5 @@ pub mod Sealing
 pub mod MemoryWorld
 pub mod Head
 pub mod Life
+pub mod Counting
 pub mod Finding

@@ -1,4 +1,5 @@
 //! Laws of a journal's files.
+ghost use Rattle.journal.specs.Counting.{ReadIsLater};
 ghost use Rattle.journal.specs.Head.{FrontsMayBe};
 ghost use Rattle.journal.specs.Holding.{HoldsOn};
 ghost use Rattle.journal.specs.Life.{LivesHold};
@@ -25,4 +26,10 @@ pub fn every_front()
 /// resumes with these files without what each of them said to have kept.
 pub fn every_journal_life()
     ensures { LivesHold }
+{}
+
+/// In such a life, a start that refuses after it read the files forgets nothing that they still have, whatever its clock
+/// shows.
+pub fn every_counted_life()
+    ensures { ReadIsLater }
 {}

@@ -47,7 +47,7 @@ pub use head::{HEAD, may_be_journal};
 pub use header::{Header, HeaderRef};
 pub use journal_file::{JournalFile, NotKept};
 pub use keeping::{above, floor_on, write_beginning, write_seen};
-pub use laws::{every_front, every_journal, every_journal_life, every_seal};
+pub use laws::{every_counted_life, every_front, every_journal, every_journal_life, every_seal};
 pub use memory_files::{MemoryFiles, WriteFailures};
 pub use reading::{Journal, read_journal};
 pub use sealing::{SealOutcome, seal_journal};
