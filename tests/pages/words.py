@@ -51,7 +51,7 @@ MOST_LINES = {
     "docs/MAP.md": 150, "docs/OPERATIONS.md": 410, "docs/PERFORMANCE.md": 140, "docs/PROMISES.md": 517,
     "docs/PROTOCOL.md": 325, "SECURITY.md": 100, "docs/SERVICES.md": 180,
 }
-IN_ALL = 3502
+IN_ALL = 3507
 # Pages that a script makes. They may be as long as it makes them.
 MADE = ("docs/THEOREMS.md",)
 # How many lines a file of Python has at most.
