@@ -38,7 +38,7 @@ NO_NAMES = {"grep", "rn", "NAME", "crates", "antt"}
 # Pages whose names of items and files are those of this repository, and names there of other ones.
 OF_CODE = (
     "CONTRIBUTING.md", "docs/CLIENT_LIBRARY.md", "docs/DECISIONS.md", "docs/FORMATS.md", "docs/MAP.md",
-    "docs/PERFORMANCE.md", "docs/PROMISES.md", "docs/PROTOCOL.md", "docs/SERVICES.md",
+    "docs/PERFORMANCE.md", "docs/PROMISES.md", "docs/PROTOCOL.md", "docs/PROVING.md", "docs/SERVICES.md",
 )
 OF_OTHERS = {"array::from_fn", "krb5.h", "krb5_verify_init_creds"}
 # Options that each command has, and those of other programs that a page names alone.
@@ -203,13 +203,13 @@ COUNTS = (
     ("CONTRIBUTING.md", r"`kdc_core` and `tgs_exchange` (\d+)", lambda: count_edits("kdc_core")),
     ("CONTRIBUTING.md", r"`kdc_core` and `tgs_exchange` (\d+)", lambda: count_edits("tgs_exchange")),
     ("CONTRIBUTING.md", r"`kdc_hub` (\d+)\)", lambda: count_edits("kdc_hub")),
-    ("docs/OPERATIONS.md", r"`--remembered`, ([\d,]+);", lambda: default("remembered")),
-    ("docs/OPERATIONS.md", r"limits: remembered (\d+)", lambda: default("remembered")),
-    ("docs/OPERATIONS.md", r"kept (\d+), lock-after", lambda: default("kept")),
-    ("docs/OPERATIONS.md", r"greatest-life (\d+)", lambda: default("greatest-life")),
-    ("docs/OPERATIONS.md", r"greatest-renewable (\d+)", lambda: default("greatest-renewable")),
+    ("docs/REFERENCE.md", r"`--remembered`, ([\d,]+);", lambda: default("remembered")),
+    ("docs/REFERENCE.md", r"limits: remembered (\d+)", lambda: default("remembered")),
+    ("docs/REFERENCE.md", r"kept (\d+), lock-after", lambda: default("kept")),
+    ("docs/REFERENCE.md", r"greatest-life (\d+)", lambda: default("greatest-life")),
+    ("docs/REFERENCE.md", r"greatest-renewable (\d+)", lambda: default("greatest-renewable")),
     ("docs/PROTOCOL.md", r"\(`Limits::kept`, ([\d,]+)\)", lambda: default("kept")),
-    ("docs/OPERATIONS.md", r"plovertrunk_([\d.]+)_amd64", version),
+    ("docs/SETUP.md", r"plovertrunk_([\d.]+)_amd64", version),
 )
 
 
