@@ -41,7 +41,7 @@ from measure_realm import RealmServer
 from measure_server import KEY, REALM, database_text, framed, read_message, row
 
 SKEW = 300
-# The seconds from one tidying to the next, and the longest request that is kept (docs/OPERATIONS.md, 'Limits').
+# The seconds from one tidying to the next, and the longest request that is kept (docs/REFERENCE.md, 'Limits').
 MINUTE, LONGEST_KEPT = 60, 4096
 # How long an idle server frees the memory of 10,000 clients: for 512 of them every 16 rounds of 100 ms, and all of them
 # twice.

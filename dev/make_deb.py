@@ -81,7 +81,8 @@ def packed(files):
         if "/share/man/" in path:
             path, octets = f"{path}.gz", gzip.compress(octets, 9, mtime=0)
         found[path.replace(*FOR_ZSH)] = octets, mode
-    for page in sorted([*TOP.glob("*.md"), *(each for each in TOP.glob("docs/*.*") if each.is_file())]):
+    pages = [page for pattern in ("*.md", "docs/*.*", "docs/pictures/*") for page in TOP.glob(pattern)]
+    for page in sorted(filter(pathlib.Path.is_file, pages)):
         found[f"/usr/share/doc/{NAME}/{page.relative_to(TOP)}"] = page.read_bytes(), 0o644
     return found | {f"/usr/share/doc/{NAME}/copyright": (COPYRIGHT.encode(), 0o644)}
 

@@ -4,7 +4,7 @@
 #     kdcd-push HOST ..
 #
 # kdcd-push.service runs it as root, who logs in to each HOST as root by ssh (or by the command SSH). The status is 1 if
-# a HOST did not take the database; standard error says which. docs/OPERATIONS.md, 'Several servers of one realm'.
+# a HOST did not take the database; standard error says which. docs/SETUP.md, 'Several servers of one realm'.
 #
 # On both hosts the user kdcd touches the files, never root: the folder is that user's, and root would read or write
 # wherever a link in it leads. Both hosts check the text, so one that was cut on its way is not put in place.

@@ -1,5 +1,5 @@
 """The text of a journal in plain Python, and what a start has to make of it. It is written from docs/FORMATS.md, 'A
-journal', and docs/OPERATIONS.md, 'Restarts', and uses none of the code of the crates."""
+journal', and docs/RUNNING.md, 'Restarts', and uses none of the code of the crates."""
 
 import calendar
 import contextlib

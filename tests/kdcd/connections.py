@@ -20,7 +20,7 @@ from harness.wire import (
     read_to_end,
 )
 
-# The connections that are served at once (docs/OPERATIONS.md, 'Limits'), and the server's files that are not
+# The connections that are served at once (docs/REFERENCE.md, 'Limits'), and the server's files that are not
 # connections.
 CONNECTIONS, OTHER_FILES = 256, 16
 # The seconds for which a connection may be without a complete request.

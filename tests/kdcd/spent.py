@@ -1,4 +1,4 @@
-"""A connection gets 256 replies, or 262,144 bytes of them, and then its end (docs/OPERATIONS.md, 'Limits'). It is not
+"""A connection gets 256 replies, or 262,144 bytes of them, and then its end (docs/REFERENCE.md, 'Limits'). It is not
 read while a peer has not taken what it was sent."""
 
 import contextlib

@@ -152,9 +152,10 @@ def package(trial):
     found = {name: mode for name, mode in modes(root).items() if not name.startswith("usr/share/doc/")}
     wanted = {in_package(name): mode for name, mode in INSTALLED.items()}
     trial.note("its files and their modes", differs(found, wanted))
-    pages = {str(each.relative_to(TOP)) for each in [*TOP.glob("*.md"), *TOP.glob("docs/*.md")]}
+    shown = [*TOP.glob("*.md"), *TOP.glob("docs/*.md"), *TOP.glob("docs/pictures/*.svg")]
     docs = root / "usr/share/doc/plovertrunk"
-    trial.note("its pages", differs({str(each.relative_to(docs)) for each in docs.rglob("*.md")}, pages))
+    found = {str(each.relative_to(docs)) for suffix in ("md", "svg") for each in docs.rglob(f"*.{suffix}")}
+    trial.note("its pages and pictures", differs(found, {str(each.relative_to(TOP)) for each in shown}))
     unit = (root / "usr/lib/systemd/system/kdcd.service").read_text()
     trial.note("its unit starts the installed server", "it does not" * ("ExecStart=/usr/bin/kdcd serve" not in unit))
     scripts = subprocess.run(["dpkg-deb", "--ctrl-tarfile", made], capture_output=True).stdout

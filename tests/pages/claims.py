@@ -38,7 +38,7 @@ NO_NAMES = {"grep", "rn", "NAME", "crates", "antt"}
 # Pages whose names of items and files are those of this repository, and names there of other ones.
 OF_CODE = (
     "CONTRIBUTING.md", "docs/CLIENT_LIBRARY.md", "docs/DECISIONS.md", "docs/FORMATS.md", "docs/MAP.md",
-    "docs/PERFORMANCE.md", "docs/PROMISES.md", "docs/PROTOCOL.md", "docs/SERVICES.md",
+    "docs/PERFORMANCE.md", "docs/PROMISES.md", "docs/PROTOCOL.md", "docs/PROVING.md", "docs/SERVICES.md",
 )
 OF_OTHERS = {"array::from_fn", "krb5.h", "krb5_verify_init_creds"}
 # Options that each command has, and those of other programs that a page names alone.
@@ -173,14 +173,26 @@ def version():
 
 
 def microseconds(request):
-    """The processor time of `kdcd serve` for a request, by PERFORMANCE.md."""
-    return int(float(re.search(rf"^\| {request}.*?\| ([\d.]+) µs \|", read("docs/PERFORMANCE.md"), re.M)[1]) + 0.5)
+    """The processor time of each KDC for a request, by PERFORMANCE.md: ours with a line of the log, as the others'."""
+    page = read("docs/PERFORMANCE.md")
+    ours, mit, heimdal = re.search(rf"^\| {request} \|" + r" ([\d.]+) µs \|" * 3, page, re.M).groups()
+    line = re.search(r"without a log, which adds some ([\d.]+) µs", page)[1]
+    return [f"{float(ours) + float(line):.0f}", mit, heimdal]
+
+
+def lines_of(*patterns):
+    """How many lines the files of these patterns in crates/ have."""
+    return sum(file.read_text().count("\n") for pattern in patterns for file in CRATES.glob(pattern))
+
+
+def lines_of_code():
+    """The lines of all crates but those of tests."""
+    return lines_of("*/src/**/*.rt") - lines_of("*_tests/src/**/*.rt")
 
 
 # A page, how it says a number, and that number.
 COUNTS = (
-    ("README.md", r"of a login \| (\d+) µs", lambda: microseconds("a ticket with a timestamp")),
-    ("README.md", r"of a service ticket \| (\d+) µs", lambda: microseconds("a TGS-REQ, each with")),
+    ("README.md", r"in (\d+) crates\.", lambda: len(list(CRATES.glob("*/src")))),
     ("README.md", r"This is version ([\d.]+):", version),
     ("CHANGELOG.md", r"version of all programs is ([\d.]+) ", version),
     ("docs/FORMATS.md", r"object with these (\w+) members", lambda: settings() + 1),
@@ -191,14 +203,35 @@ COUNTS = (
     ("CONTRIBUTING.md", r"`kdc_core` and `tgs_exchange` (\d+)", lambda: count_edits("kdc_core")),
     ("CONTRIBUTING.md", r"`kdc_core` and `tgs_exchange` (\d+)", lambda: count_edits("tgs_exchange")),
     ("CONTRIBUTING.md", r"`kdc_hub` (\d+)\)", lambda: count_edits("kdc_hub")),
-    ("docs/OPERATIONS.md", r"`--remembered`, ([\d,]+);", lambda: default("remembered")),
-    ("docs/OPERATIONS.md", r"limits: remembered (\d+)", lambda: default("remembered")),
-    ("docs/OPERATIONS.md", r"kept (\d+), lock-after", lambda: default("kept")),
-    ("docs/OPERATIONS.md", r"greatest-life (\d+)", lambda: default("greatest-life")),
-    ("docs/OPERATIONS.md", r"greatest-renewable (\d+)", lambda: default("greatest-renewable")),
+    ("docs/REFERENCE.md", r"`--remembered`, ([\d,]+);", lambda: default("remembered")),
+    ("docs/REFERENCE.md", r"limits: remembered (\d+)", lambda: default("remembered")),
+    ("docs/REFERENCE.md", r"kept (\d+), lock-after", lambda: default("kept")),
+    ("docs/REFERENCE.md", r"greatest-life (\d+)", lambda: default("greatest-life")),
+    ("docs/REFERENCE.md", r"greatest-renewable (\d+)", lambda: default("greatest-renewable")),
     ("docs/PROTOCOL.md", r"\(`Limits::kept`, ([\d,]+)\)", lambda: default("kept")),
-    ("docs/OPERATIONS.md", r"plovertrunk_([\d.]+)_amd64", version),
+    ("docs/SETUP.md", r"plovertrunk_([\d.]+)_amd64", version),
 )
+
+
+# A page, how it says a size, and that size: the two differ by a twentieth at most.
+SIZES = (
+    ("README.md", r"its contracts \(([\d,]+) lines\)", lines_of_code),
+    ("README.md", r"that contracts name \(([\d,]+)\)", lambda: lines_of("*/specs/*.antt")),
+    ("README.md", r"proofs \(([\d,]+)\)", lambda: lines_of("*/proofs/**/*.antt")),
+)
+
+
+@test()
+def sizes(trial):
+    for page, pattern, counted in SIZES:
+        said, wanted = re.findall(pattern, " ".join(read(page).split())), counted()
+        wrong = [f"it says {each}, and there are {wanted}" for each in said if abs(
+            int(each.replace(",", "")) - wanted
+        ) > wanted / 20]
+        trial.note(f"{page}: {pattern}", ", ".join(wrong) or "it does not say so" * (not said))
+    said = re.findall(r"of a ticket, with a log \|" + r" (\d+) µs \|" * 3, read("README.md"))
+    wanted = tuple(microseconds("a ticket without preauthentication"))
+    trial.note("README.md: the time of a ticket", differs(said, [wanted]))
 
 
 @test()

@@ -1,5 +1,5 @@
-"""The commands that OPERATIONS.md, ADMINISTRATION.md and CLIENT.md show, one block after another, in a realm of their
-own: each block must end well, and print what the page says below it. The folder of the server and of root is the
+"""The commands that the pages for administrators and CLIENT.md show, one block after another, in a realm of their own:
+each block must end well, and print what the page says below it. The folder of the server and of root is the
 current one, the user is the one that runs this, and the KDC's address is that of a server that is started here."""
 
 import os
@@ -15,12 +15,12 @@ from harness.wire import free_port
 DOCS = TOP / "docs"
 # The sections whose blocks are run, in this order, and a word that every block of them has to have.
 SECTIONS = (
-    ("ADMINISTRATION.md", "Many at once", "batch"), ("ADMINISTRATION.md", "Policies", "policy"),
-    ("ADMINISTRATION.md", "Lists", "list"),
-    ("ADMINISTRATION.md", "Users are not services", "migrate"), ("ADMINISTRATION.md", "New keys", "keytab"),
-    ("ADMINISTRATION.md", "Backup and restore", "database"), ("CLIENT.md", "The commands", "kclient kinit"),
-    ("OPERATIONS.md", "Is it healthy?", "kclient kinit"), ("OPERATIONS.md", "Changing the database", "kadm"),
-    ("ADMINISTRATION.md", "A leaver", "disabled"),
+    ("USERS.md", "Many at once", "batch"), ("USERS.md", "One user", "remove"), ("USERS.md", "Policies", "policy"),
+    ("REALM.md", "Lists", "list"), ("USERS.md", "Users are not services", "migrate"),
+    ("KEYS.md", "A new service", "keytab"), ("KEYS.md", "New keys", "keytab"),
+    ("REALM.md", "Backup and restore", "database"), ("CLIENT.md", "The commands", "kclient kinit"),
+    ("RUNNING.md", "Is it healthy?", "kclient kinit"), ("RUNNING.md", "Changing the database", "kadm"),
+    ("USERS.md", "A leaver", "disabled"),
 )
 # What stands for another place or user here.
 HERE = (
@@ -52,7 +52,7 @@ def here(block, address):
 def make_realm(trial):
     """The realm of the examples, before the first one, and the files that they name."""
     trial.expect("kadm init --db database --realm EXAMPLE.COM", 0, "=ok")
-    for name in ("alice", "bob"):
+    for name in ("alice", "bob", "carol"):
         trial.write(f"{name}.password", "a password\n")
     trial.write("krb5.conf", "[libdefaults]\ndefault_realm = EXAMPLE.COM\n")
 

@@ -24,6 +24,8 @@ CLIENTS = (
 )
 # The files whose code the pages show.
 EXAMPLES = (f"{SERVICE_EXAMPLE}/src/main.rt", f"{LOGIN_EXAMPLE}/src/main.rt", "client_sockets/src/client.rt")
+# The file with the contract that README.md shows, and how that begins.
+CONTRACT, FUNCTION = "kdc_core/src/kdc.rt", "pub fn replace"
 
 
 def blocks(title, page="README.md"):
@@ -51,6 +53,14 @@ def code(trial):
         )
 
 
+@test()
+def contract(trial):
+    """The function that README.md shows first has all of its contract there, as it stands."""
+    shown = re.search(rf"^    {FUNCTION}.*\n(?:    .*\n)*", (TOP / "README.md").read_text(), re.M)
+    found = re.search(rf"^    {FUNCTION}.*?(?=^    \{{$)", (TOP / "crates" / CONTRACT).read_text(), re.M | re.S)
+    trial.note(f"the contract of {FUNCTION}", "" if shown and found and shown[0] == found[0] else "it is another one")
+
+
 def serve_data(trial, first):
     """Serves the realm of the first command, in a copy of its folder and at another port, for as long as the clients
     take."""
@@ -73,9 +83,10 @@ def serve_data(trial, first):
 
 
 def make_realm(trial, lines, port):
-    """Runs all lines but the last one, which starts the server."""
+    """Runs all lines but the last one, which starts the server in the folder that the others made."""
     *lines, serve = [line.replace(PORT, port) for line in lines]
     trial.expect(["sh", "-e"], 0, "ok", given="\n".join(lines) + "\n", what="the lines that make the realm")
+    trial.folder /= "realm"
     start(trial, serve)
 
 
@@ -131,9 +142,9 @@ def data_realm(trial):
 @test("kadm", "kdcd", "kclient", LOGIN_EXAMPLE, uses_stock=True)
 def first_realm(trial):
     """The lines that make a first realm, and clients in it."""
-    realm, clients = [lines for lines in blocks("A first realm") if "kadm init" in lines[1] or lines[0].startswith("$")]
+    realm, clients = blocks("A first realm")
     with_path(trial)
-    trial.enter("realm")
+    trial.enter("top")
     make_realm(trial, realm, str(free_port()))
     trial.expect("kclient kinit --name alice --cache cc", 0, "=ok", given="a password\n")
     trial.expect("kclient kvno --name host/www.example.com --cache cc", 0, "=host/www.example.com kvno 1")

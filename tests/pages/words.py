@@ -46,12 +46,16 @@ UNITS = (".service", ".path", ".conf", ".sh")
 WIDEST, WIDEST_OF_README = 120, 100
 # How many lines a page has at most, and all together.
 MOST_LINES = {
-    "CHANGELOG.md": 90, "CONTRIBUTING.md": 275, "README.md": 100, "docs/ADMINISTRATION.md": 245, "docs/CLIENT.md": 170,
-    "docs/CLIENT_LIBRARY.md": 125, "docs/DECISIONS.md": 215, "docs/FORMATS.md": 415, "docs/HOSTS.md": 95,
-    "docs/MAP.md": 150, "docs/OPERATIONS.md": 410, "docs/PERFORMANCE.md": 140, "docs/PROMISES.md": 517,
-    "docs/PROTOCOL.md": 325, "SECURITY.md": 100, "docs/SERVICES.md": 180,
+    "CHANGELOG.md": 90, "CONTRIBUTING.md": 90, "README.md": 100, "SECURITY.md": 100, "docs/CLIENT.md": 170,
+    "docs/CLIENT_LIBRARY.md": 125, "docs/DECISIONS.md": 215, "docs/FORMATS.md": 415, "docs/HOSTS.md": 75,
+    "docs/KEYS.md": 60, "docs/MAP.md": 150, "docs/PERFORMANCE.md": 140, "docs/PROMISES.md": 517,
+    "docs/PROTOCOL.md": 325, "docs/PROVING.md": 200, "docs/README.md": 50, "docs/REALM.md": 130,
+    "docs/REFERENCE.md": 110, "docs/RUNNING.md": 200, "docs/SERVICES.md": 180, "docs/SETUP.md": 110,
+    "docs/TROUBLE.md": 95, "docs/USERS.md": 115,
 }
-IN_ALL = 3502
+IN_ALL = 3648
+# Pages that a script makes. They may be as long as it makes them.
+MADE = ("docs/THEOREMS.md",)
 # How many lines a file of Python has at most.
 MOST_LINES_OF_PYTHON = 500
 # A link of a page, and a path of this repository that a page or a comment names.
@@ -60,8 +64,8 @@ LINK, PATH = re.compile(r"\]\(([^)#\s]*)(?:#([^)\s]*))?\)"), re.compile(
 )
 # What such a path may be that is made by a build, or stands for others.
 OTHER = re.compile(r"/out(/|$)|\*|\b(NAME|CRATE)\b")
-# The longest row of a table on these pages.
-LONGEST_ROW, WITH_SHORT_ROWS = 300, ("SECURITY.md",)
+# The longest row of a table, and how many longer ones a page still has. A number may only fall.
+LONGEST_ROW, LONG_ROWS = 300, {"docs/PROMISES.md": 137}
 # How wide lines begin that have to stay: a program prints them as one.
 KEPT = (
     "    accepted u@A.B", "    2026-11-23T22:46:18Z", '    {"time":', "    krbtgt/A.B@A.B from",
@@ -105,7 +109,11 @@ def phrases(notes):
 
 
 def wide_lines(page, widest):
-    lines = enumerate(page.read_text().splitlines(), 1)
+    """The lines that are too wide. What a page that is made shows of sources stays as it is there."""
+    text = page.read_text()
+    if str(page.relative_to(TOP)) in MADE:
+        text = re.sub(r"^```text\n.*?^```$", lambda block: "\n" * block[0].count("\n"), text, flags=re.M | re.S)
+    lines = enumerate(text.splitlines(), 1)
     return [f"line {number}" for number, line in lines if len(line) > widest and not line.startswith(("|", *KEPT))]
 
 
@@ -123,18 +131,20 @@ def widths(notes):
     for name, most in MOST_LINES.items():
         count = len((TOP / name).read_text().splitlines())
         notes.note(f"{name}: its length", f"{count} lines, and {most} at most" * (count > most))
-    count = sum(len(page.read_text().splitlines()) for page in pages())
-    notes.note("the length of all pages", f"{count} lines, and {IN_ALL} at most" * (count > IN_ALL))
-    for name in WITH_SHORT_ROWS:
+    count = sum(len(page.read_text().splitlines()) for page in pages() if str(page.relative_to(TOP)) not in MADE)
+    notes.note("the length of all pages written by hand", f"{count} lines, and {IN_ALL} at most" * (count > IN_ALL))
+    for name in MOST_LINES:
         lines = enumerate((TOP / name).read_text().splitlines(), 1)
         long = [f"line {number}" for number, line in lines if line.startswith("|") and len(line) > LONGEST_ROW]
-        notes.note(f"{name}: rows of more than {LONGEST_ROW} characters", ", ".join(long))
-    without = [str(page.relative_to(TOP)) for page in pages() if str(page.relative_to(TOP)) not in MOST_LINES]
-    notes.note("each page has a length in MOST_LINES", ", ".join(without))
+        check_count(notes, f"{name}: rows of more than {LONGEST_ROW} characters", long, LONG_ROWS.get(name, 0))
+    without = {str(page.relative_to(TOP)) for page in pages()} - {*MOST_LINES, *MADE}
+    notes.note("each page has a length in MOST_LINES", ", ".join(sorted(without)))
 
 
 def anchors(page):
-    """The names of a page's headings, as in a link to them."""
+    """The names of a page's headings, as in a link to them; of another file its lines, as `L7`."""
+    if page.suffix != ".md":
+        return {f"L{line}" for line, _ in enumerate(page.read_text().splitlines(), 1)}
     heads = re.findall(r"^#+ (.*)$", page.read_text(), re.M)
     return {re.sub(r"[^\w -]", "", head.lower()).replace(" ", "-") for head in heads}
 
