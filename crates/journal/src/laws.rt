@@ -28,8 +28,8 @@ pub fn every_journal_life()
     ensures { LivesHold }
 {}
 
-/// In such a life, a start that refuses after it read the files forgets nothing that they still have, whatever its clock
-/// shows.
+/// In such a life, a start that refuses after it read the files forgets nothing that they still have, whatever its
+/// clock shows.
 pub fn every_counted_life()
     ensures { ReadIsLater }
 {}
