@@ -86,7 +86,7 @@ def make_realm(trial, lines, port):
     """Runs all lines but the last one, which starts the server in the folder that the others made."""
     *lines, serve = [line.replace(PORT, port) for line in lines]
     trial.expect(["sh", "-e"], 0, "ok", given="\n".join(lines) + "\n", what="the lines that make the realm")
-    trial.folder /= "realm"
+    trial.folder /= "out/realm"
     start(trial, serve)
 
 

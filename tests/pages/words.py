@@ -50,10 +50,10 @@ MOST_LINES = {
     "docs/CLIENT_LIBRARY.md": 125, "docs/DECISIONS.md": 215, "docs/FORMATS.md": 415, "docs/HOSTS.md": 75,
     "docs/KEYS.md": 60, "docs/MAP.md": 150, "docs/PERFORMANCE.md": 140, "docs/PROMISES.md": 517,
     "docs/PROTOCOL.md": 325, "docs/PROVING.md": 200, "docs/README.md": 50, "docs/REALM.md": 130,
-    "docs/REFERENCE.md": 110, "docs/RUNNING.md": 200, "docs/SERVICES.md": 180, "docs/SETUP.md": 110,
+    "docs/REFERENCE.md": 110, "docs/RUNNING.md": 200, "docs/SERVICES.md": 180, "docs/SETUP.md": 115,
     "docs/TROUBLE.md": 95, "docs/USERS.md": 115,
 }
-IN_ALL = 3650
+IN_ALL = 3666
 # Pages that a script makes. They may be as long as it makes them.
 MADE = ("docs/THEOREMS.md",)
 # How many lines a file of Python has at most.
