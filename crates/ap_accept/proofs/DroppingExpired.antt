@@ -3,7 +3,7 @@ use Rattle.std.proofs.Common.{◌≡◌, ℕ, ℤ, pos, ◌-ℤ◌, ◌≤ℤ◌
 use Rattle.std.specs.Prelude.{⊤, int_lt}
 use Rattle.std.specs.Int.{int_max}
 use Rattle.std.specs.Option.{unwrap_or}
-use Rattle.std.specs.FinMap.{FinMap, same_map, get-empty, get-retain_keys, empty_of_len}
+use Rattle.std.specs.FinMap.{same_map, get-empty, get-retain_keys, empty_of_len}
 use Rattle.std.specs.FinMap as map
 use Rattle.std.proofs.lemmas.Int.{ints, clamps}
 use Rattle.std.proofs.lemmas.Bool.Decides.{nat_tests}
@@ -15,7 +15,7 @@ use Rattle.replay.proofs.Settled.{IsSettled}
 use Rattle.replay.proofs.Stamps.{stamp_total, stamp_exact}
 use Rattle.ap_accept.specs.Clients.{empty_cache, floor_for, hour, lasts, drop_expired, cache_in, raised_to}
 use Rattle.ap_accept.specs.declared.clients.Clients.{Clients}
-use Rattle.ap_accept.proofs.Raised.{View, further, further_twice, raised}
+use Rattle.ap_accept.proofs.Raised.{further, further_twice, raised}
 
 pub both : (a b : Bool) → (a && b) ≡ true → (a ≡ true) × (b ≡ true)
 both true b e = (refl, e)

@@ -20,7 +20,6 @@ use Rattle.ap_accept.specs.declared.clients.Clients.{Clients}
 use Rattle.ap_accept.specs.declared.fault.ApFault.{ApFault}
 use Rattle.ap_accept.specs.declared.fault.ApFault.TheVariants.{NotAnApReq, Refused, Memory as NoMemory}
 use Rattle.ap_accept.specs.declared.presented.Presented.{Presented}
-use Rattle.ap_presented.specs.declared.refusal.ApRefusal.{ApRefusal}
 use Rattle.ap_accept.specs.declared.state.State.{State}
 use Rattle.ap_accept.proofs.DroppingExpired.{as_empty_on, both, drop_expired_keeps, drop_expired_keeps_due, Carried}
 use Rattle.ap_accept.proofs.Raised.{raised}

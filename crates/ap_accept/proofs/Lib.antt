@@ -9,3 +9,4 @@ pub mod Listed
 pub mod Putting
 pub mod Taking
 pub mod Resuming
+pub mod Others

@@ -20,7 +20,7 @@ use Rattle.ap_accept.specs.Clients.{floor_for}
 use Rattle.ap_accept.specs.Presented.{presented}
 use Rattle.ap_accept.specs.Reply.{asks_reply}
 use Rattle.ap_accept.specs.StageLaws.{recorded_staged, request_staged}
-use Rattle.ap_accept.specs.Stages.{cache_refusal, if_presented, refusal_by, seen_by, seen_if, unless_seen}
+use Rattle.ap_accept.specs.Stages.{if_presented, refusal_by, seen_by, seen_if, unless_seen}
 use Rattle.ap_accept.specs.Run.{AcceptedOnce, Call, Event, Accept, Replace, Resume, accepted_at, accepted_in, after_call, after_event, is_party, stamp_if}
 use Rattle.ap_accept.specs.State.{cache_of}
 use Rattle.ap_presented.specs.Validity.{ticket_terms}
@@ -28,7 +28,7 @@ use Rattle.ap_accept.specs.Validity.{validity_rules}
 use Rattle.ap_accept.specs.declared.presented.Presented.{Presented}
 use Rattle.ap_presented.specs.declared.refusal.ApRefusal.{ApRefusal}
 use Rattle.ap_accept.specs.declared.state.State.{State}
-use Rattle.ap_accept.proofs.Frame.{accepts_keeps, next_cache, recording_keeps}
+use Rattle.ap_accept.proofs.Frame.{accepts_keeps, recording_keeps}
 use Rattle.ap_accept.proofs.DroppingExpired.{both, still_settled}
 
 -- ---- a machine that accepts only what is not settled, and then settles it

@@ -1,5 +1,5 @@
 -- A replay cache as seen from a second on: its floor raised to that second, without the pairs below it.
-use Rattle.std.proofs.Common.{◌≡◌, ℕ, ℤ, pos, ◌-ℤ◌, ◌≤ℤ◌, Bool, true, false, cond, not, ◌||◌, nat_le, nat_lt, Option, Some, None, Equal, refl, sym, ap, ◌∙◌, arith}
+use Rattle.std.proofs.Common.{◌≡◌, ℕ, ℤ, pos, ◌-ℤ◌, ◌≤ℤ◌, Bool, true, false, cond, not, ◌||◌, nat_le, nat_lt, Option, None, Equal, refl, sym, ap, ◌∙◌, arith}
 use Rattle.std.specs.Prelude.{⊤, int_lt, unsigned_abs, if◌then◌else◌}
 use Rattle.std.specs.Int.{int_max}
 use Rattle.std.specs.FinMap.{FinMap, same_map, get-retain_keys}

@@ -1,6 +1,6 @@
 -- Reading values in a loop that fails.
 use Rattle.std.proofs.Common.{◌≡◌, ℕ, suc, List, Option, None, refl, sym, subst, ◌∙◌}
-use Rattle.cred_files.specs.Form.{◌>>=◌, several}
+use Rattle.cred_files.specs.Form.{several}
 use Rattle.cred_files.proofs.Loops.{Left, with_front}
 use Rattle.ap_accept.specs.Saved.{Fails}
 use Rattle.ap_accept.specs.declared.fault.ResumeFault.{ResumeFault}

@@ -1,6 +1,6 @@
 -- An acceptor that drops old entries answers as one that doesn't: their caches agree from a second on, and no call
 -- comes before it.
-use Rattle.std.proofs.Common.{◌≡◌, ◌-ℤ◌, ◌≤ℤ◌, Bool, true, false, cond, ℕ, ℤ, pos, List, [], ◌∷◌, Option, Some, None, Result, Ok, Err, refl, ap, sym, subst, ◌∙◌, arith}
+use Rattle.std.proofs.Common.{◌≡◌, ◌-ℤ◌, ◌≤ℤ◌, Bool, true, false, cond, ℕ, ℤ, pos, List, [], ◌∷◌, Option, Some, None, refl, ap, sym, subst, ◌∙◌, arith}
 use Rattle.std.specs.Prelude.{⊤, option_and_then, option_map}
 use Rattle.std.specs.Int.{int_max}
 use Rattle.std.specs.List.{AllByRecursion}
@@ -13,7 +13,6 @@ use Rattle.krb_types.specs.EncTicketPart.{EncTicketPart}
 use Rattle.cred_files.specs.declared.keytab_entry.KeytabEntry.{KeytabEntry}
 use Rattle.replay.specs.ReplayCache.{recorded, verdict}
 use Rattle.replay.specs.Stamp.{Stamp}
-use Rattle.replay.specs.declared.cache.ReplayCache.{ReplayCache}
 use Rattle.ap_accept.specs.Accepts.{accepts, after_recording, answer_by, cache_for, if_request, recorded_of, recording, refused_by, request_of, stamp_of, unless_before}
 use Rattle.ap_accept.specs.Clients.{floor_for, hour}
 use Rattle.ap_accept.specs.Contents.{authenticator_in, contents, entry_in, presented_in, service_of, session_key_in, ticket_in, verdict_in, with_ticket}

@@ -75,15 +75,19 @@ terms_of ticket = record {
   renew_till = ticket.renew_till;
 }
 
--- client, key, flags and times are the ticket's; subkey, sequence number and checksum the authenticator's
+-- service, client, key, flags, times and authorization data are the ticket's; subkey, sequence number, checksum and
+-- further authorization data the authenticator's
 abbrev pub accepted_with : Option (List ℕ) → Presented → Accepted
 accepted_with reply p = record {
+  service = p.sname;
   client = record { realm = p.ticket.crealm; name = p.ticket.cname };
   session_key = p.session_key;
   ticket = terms_of p.ticket;
+  ticket_authorization = p.ticket.authorization_data;
   subkey = p.subkey;
   seq_number = p.authenticator.seq_number;
   cksum = p.authenticator.cksum;
+  authorization = p.authenticator.authorization_data;
   ap_rep = reply;
 }
 

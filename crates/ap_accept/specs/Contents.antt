@@ -1,6 +1,6 @@
 -- What an AP-REQ contains, as far as the keys of a keytab decrypt it (RFC 4120, section 3.2.3). A part is `None` if it
 -- can't be decrypted, or if a part that it hangs on is `None`.
-use Rattle.std.specs.Prelude.{ℕ, ℤ, ⊤, List, ◌∷◌, Option, Some, None, if◌then◌else◌, option_and_then}
+use Rattle.std.specs.Prelude.{ℤ, ⊤, List, ◌∷◌, Option, Some, None, if◌then◌else◌, option_and_then}
 use Rattle.std.specs.Ordering.{int_eq}
 use Rattle.cred_files.specs.Keytab.{entry_for}
 use Rattle.cred_files.specs.declared.keytab_entry.KeytabEntry.{KeytabEntry}
@@ -10,7 +10,6 @@ use Rattle.enctypes.specs.declared.key.Key.{Key}
 use Rattle.enctypes.specs.declared.key_usage.KeyUsage.TheVariants.{ApReqAuthenticator, Ticket as TicketUsage}
 use Rattle.krb_types.specs.ApReq.{ApReq}
 use Rattle.krb_fields.specs.Name.{Components}
-use Rattle.krb_fields.specs.Typed.{Typed}
 use Rattle.krb_types.specs.Authenticator.{Authenticator, authenticator}
 use Rattle.krb_types.specs.EncTicketPart.{EncTicketPart, enc_ticket_part}
 use Rattle.replay.specs.ReplayCache.{verdict}
@@ -96,6 +95,7 @@ contents state now ap =
 abbrev pub presented_if : ApReq → Option EncTicketPart → Option Key → Option Authenticator → Option Presented
 presented_if ap (Some ticket) (Some key) (Some auth) = Some (record {
   service = record { name_type = ap.ticket.sname.name_type; components = service_of ap };
+  sname = ap.ticket.sname;
   ticket = ticket;
   session_key = key;
   authenticator = auth;

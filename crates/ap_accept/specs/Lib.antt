@@ -10,6 +10,9 @@ pub mod Reply
 pub mod Contents
 pub mod Rules
 pub mod Accepts
+pub mod Label
+pub mod Named
+pub mod Checksum
 pub mod Stages
 pub mod Run
 -- laws that proofs cite; readers of a contract don't need them

@@ -23,6 +23,7 @@ full_name realm name = record { name_type = name.name_type; components = realm �
 abbrev pub presented_as : ApReq → EncTicketPart → Key → Authenticator → Option Key → Presented
 presented_as ap part key auth subkey = record {
   service = full_name ap.ticket.realm ap.ticket.sname;
+  sname = ap.ticket.sname;
   ticket = part;
   session_key = key;
   authenticator = auth;

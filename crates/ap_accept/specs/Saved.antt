@@ -9,7 +9,6 @@ use Rattle.sha2.specs.Sha256.{sha256}
 use Rattle.cred_files.specs.Form.{◌>>=◌, part, several}
 use Rattle.cred_files.specs.Format.{signed32, word32}
 use Rattle.cred_files.specs.declared.keytab_entry.KeytabEntry.{KeytabEntry}
-use Rattle.krb_fields.specs.Name.{name_cmp}
 use Rattle.krb_fields.specs.PrincipalName.{Name}
 use Rattle.principal_rows.specs.NameMap.{pairs}
 use Rattle.principal_rows.specs.declared.name_map.Entry.{Entry}

@@ -1,5 +1,5 @@
 -- The stages of the code decide as the table does; and each row has the code of its rule.
-use Rattle.std.proofs.Common.{◌≡◌, ℕ, ℤ, ◌++◌, Bool, true, false, not, ◌&&◌, ◌||◌, cond, List, [], ◌∷◌, Option, Some}
+use Rattle.std.proofs.Common.{◌≡◌, ℕ, ℤ, ◌++◌, Bool, true, false, not, ◌&&◌, ◌||◌, List, [], ◌∷◌, Option, Some}
 use Rattle.std.proofs.Common.{None, Result, Ok, Err, is_some, is_none, refl, ap, sym, ◌∙◌}
 use Rattle.std.specs.Prelude.{⊤, IfSome, IfErr, if◌then◌else◌, drop, map, take, option_map, option_and_then}
 use Rattle.std.specs.List.{AllByRecursion}
@@ -13,8 +13,8 @@ use Rattle.ap_presented.specs.Validity.{ticket_terms}
 use Rattle.ap_presented.specs.declared.refusal.ApRefusal.{ApRefusal}
 use Rattle.ap_presented.specs.declared.refusal.ApRefusal.TheVariants.{BadVersion, BadMessageType, SessionKeyAsked}
 use Rattle.ap_presented.specs.declared.refusal.ApRefusal.TheVariants.{NotForUs, NoKey, BadKeyVersion, TicketNotOpened}
-use Rattle.ap_presented.specs.declared.refusal.ApRefusal.TheVariants.{ForeignClient, BoundAddress, BadSessionKey}
-use Rattle.ap_presented.specs.declared.refusal.ApRefusal.TheVariants.{AuthenticatorNotOpened, BadMatch, BadSubkey}
+use Rattle.ap_presented.specs.declared.refusal.ApRefusal.TheVariants.{BadSessionKey}
+use Rattle.ap_presented.specs.declared.refusal.ApRefusal.TheVariants.{AuthenticatorNotOpened, BadSubkey}
 use Rattle.ap_presented.specs.declared.refusal.ApRefusal.TheVariants.{NotYetValid, TicketExpired}
 use Rattle.cred_files.specs.Keytab.{entry_for, newest, passes}
 use Rattle.cred_files.specs.declared.keytab_entry.KeytabEntry.{KeytabEntry}

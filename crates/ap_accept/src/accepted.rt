@@ -1,25 +1,33 @@
 //! What a service learns from an AP-REQ that it accepts.
 use cred_files::Principal;
 use enctypes::Key;
-use krb_elements::{Octets, UInt32};
-use krb_fields::Typed;
+use krb_elements::{Octets, Seq, UInt32};
+use krb_fields::{Name, Typed};
 use ticket_times::TicketTerms;
 
-/// An accepted AP-REQ: the client, the ticket's terms, and what the authenticator carries (RFC 4120, section 5.5.1).
+/// An accepted AP-REQ: the service and the client, the ticket's terms, and what the authenticator carries (RFC 4120,
+/// section 5.5.1).
 #[derive(Drop)]
 pub struct Accepted {
+    /// The name of the service that the ticket is for, in the client's realm.
+    pub service: Name,
     /// The client's realm and name, from the ticket.
     pub client: Principal,
     /// The ticket's session key.
     pub session_key: Key,
     /// The flags and times of the ticket.
     pub ticket: TicketTerms,
+    /// The ticket's authorization data, each element with its type (RFC 4120, section 5.2.6). The application decides on
+    /// it; nothing here reads it.
+    pub ticket_authorization: Option<Seq<Typed>>,
     /// The key that the client chose for the rest of the connection, if it chose one.
     pub subkey: Option<Key>,
     /// The sequence number at which the client's KRB-SAFE and KRB-PRIV messages start, if it uses one.
     pub seq_number: Option<UInt32>,
     /// The authenticator's checksum over the application's data, with its type. The application checks it.
     pub cksum: Option<Typed>,
+    /// The authenticator's authorization data, which the client added.
+    pub authorization: Option<Seq<Typed>>,
     /// The bytes of the AP-REP (RFC 4120, section 5.5.2), if the client asks the service to prove its identity.
     pub ap_rep: Option<Octets>,
 }

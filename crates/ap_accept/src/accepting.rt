@@ -142,28 +142,38 @@ fn accepted_with(ap_rep: Option<Octets>, presented: Presented) -> Accepted
 {
     let terms = ticket_terms(&presented.ticket);
     let Presented {
+        sname,
         ticket,
         session_key,
         authenticator,
         subkey,
         ..
     } = presented;
-    let EncTicketPart { crealm, cname, .. } = ticket;
+    let EncTicketPart {
+        crealm,
+        cname,
+        authorization_data: ticket_authorization,
+        ..
+    } = ticket;
     let Authenticator {
         seq_number,
         cksum,
+        authorization_data: authorization,
         ..
     } = authenticator;
     Accepted {
+        service: sname,
         client: Principal {
             realm: crealm,
             name: cname,
         },
         session_key,
         ticket: terms,
+        ticket_authorization,
         subkey,
         seq_number,
         cksum,
+        authorization,
         ap_rep,
     }
 }

@@ -1,10 +1,11 @@
 //! An acceptor of AP-REQ messages.
-ghost use Rattle.std.specs.Prelude.{◌≡◌, ◌↔◌, ◌-ℤ◌, pos, Some, IfOk, IfErr, IfSome};
+ghost use Rattle.std.specs.Prelude.{◌≡◌, ◌↔◌, ◌-ℤ◌, pos, true, Some, IfOk, IfErr, IfSome};
 ghost use Rattle.krb_types.specs.ApReq as trees;
 ghost use Rattle.krb_fields.specs.Name.{Components};
 ghost use Rattle.ap_accept.specs.Accepts.{accepts, code_by, recorded_by, request_of, IsAfter, IsAnswer, IsCoded};
 ghost use Rattle.ap_accept.specs.Accepts.{IsParty, IsService};
 ghost use Rattle.ap_accept.specs.Clients.{IsKeptOrDropped, SaysTheSame, hour};
+ghost use Rattle.ap_accept.specs.Named.{accepts_for, is_for_another};
 ghost use Rattle.ap_accept.specs.Reply.{IsApReply};
 ghost use Rattle.ap_accept.specs.Saved.{resumed, Fails, Saves};
 ghost use Rattle.ap_accept.specs.State.{clients_of, cache_of, opened, with_keytab};
@@ -12,10 +13,11 @@ ghost use Rattle.ap_accept.specs.State.{clients_of, cache_of, opened, with_keyta
 use crate::accepted::Accepted;
 use crate::accepting::accept;
 use crate::fault::{ApFault, ResumeFault};
+use crate::naming::accept_for;
 use crate::options::AcceptorOptions;
 use crate::state::State;
 use cred_files::Keytab;
-use krb_fields::Moment;
+use krb_fields::{Moment, Name};
 use replay::Opening;
 use std::alloc::{AllocError, Global};
 use std::marker::Model;
@@ -132,5 +134,27 @@ impl Acceptor {
         ensures options { self.new.options ≡ self.old.options }
     {
         accept(&mut self.state, alloc, at, confounder, ap_req)
+    }
+
+    /// Accepts the bytes of an AP-REQ like [`Acceptor::accept`], if its ticket is for the service of this name, in
+    /// whichever realm of the keytab. A ticket for another service is refused like one for a service that the keytab
+    /// lacks (`NotForUs`, unless an earlier rule refuses it), and changes nothing.
+    pub fn accept_for(
+        &mut self,
+        service: &Name,
+        alloc: Global,
+        at: Moment,
+        confounder: &[u8; 16],
+        ap_req: &[u8],
+    ) -> Result<Accepted, ApFault>
+        ensures answer { IsAnswer result
+            (accepts_for service.now.components self.old at confounder.now ap_req.now).answer }
+        ensures state { IsAfter result self.old self.new
+            (accepts_for service.now.components self.old at confounder.now ap_req.now).state }
+        // What is accepted is for this service, and a ticket for another one changes nothing.
+        ensures service { IfOk result (λ accepted. accepted.service.components ≡ service.now.components) }
+        ensures other { is_for_another service.now.components (request_of ap_req.now) ≡ true → self.new ≡ self.old }
+    {
+        accept_for(&mut self.state, service, alloc, at, confounder, ap_req)
     }
 }

@@ -13,11 +13,16 @@
 //! |---|---|
 //! | [`Acceptor::open`] | an acceptor for the services of a keytab |
 //! | [`Acceptor::accept`] | the client, keys and ticket of an AP-REQ ([`Accepted`]), or its refusal |
+//! | [`Acceptor::accept_for`] | the same, for one service of the keytab alone |
+//! | [`TicketLabel::read`] | the service, key version and encryption type of the ticket, for a log |
+//! | [`TicketLabel::error`] | the bytes of the KRB-ERROR for a refusal |
+//! | [`Accepted::checksum_fault`] | checks the authenticator's checksum over the application's data |
 //! | [`Acceptor::replace`] | replaces the keytab; the replay caches stay |
 //! | [`Acceptor::save`], [`Acceptor::resume`] | bytes of the replay caches; an acceptor that goes on with them |
 //!
 //! Nothing here sends or waits, draws random bytes or reads a clock: the caller supplies the moment and the confounder.
-//! It does not decide what a client may do, does not check the authenticator's checksum, and protects no later message.
+//! It does not decide what a client may do, reads no authorization data, and protects no later message: `enctypes` does,
+//! with the session key or the subkey.
 //! A process that was not saved loses its replay caches: [`Opening`] says what the next start does about them.
 #![tactic(auto)]
 
@@ -25,14 +30,19 @@ mod accepted;
 mod accepting;
 mod acceptor;
 mod authenticators;
+mod checksum;
 mod client;
 mod clients;
+mod error_reply;
 mod fault;
+mod label;
 mod laws;
+mod naming;
 mod options;
 mod presented;
 mod receipt;
 mod recording;
+mod refusal_texts;
 mod replies;
 mod saved;
 mod saved_reader;
@@ -43,7 +53,10 @@ mod validity;
 pub use accepted::Accepted;
 pub use acceptor::Acceptor;
 pub use ap_presented::ApRefusal;
+pub use checksum::ChecksumFault;
 pub use fault::{ApFault, ResumeFault};
+pub use label::TicketLabel;
 pub use laws::{accepted_once, drops_unseen};
 pub use options::AcceptorOptions;
+pub use refusal_texts::refusal_text;
 pub use replay::Opening;

@@ -21,6 +21,8 @@ use std::alloc::{AllocError, Global};
 pub struct Presented {
     /// The service that the ticket is for: its realm, followed by the components of its name.
     pub service: Name,
+    /// That service's name, without its realm.
+    pub sname: Name,
     /// The encrypted part of the ticket, decrypted with the service's key.
     pub ticket: EncTicketPart,
     /// The ticket's session key.
@@ -39,7 +41,8 @@ pub fn presented_to(
 ) -> Result<Presented, ApFault>
     ensures { Gives result (presented keytab.now request.now) }
 {
-    let ticket = shown_ticket(alloc, keytab, request)??;
+    let sname = request.ticket.sname.to_name(alloc)?;
+    let ticket = shown_ticket(alloc, keytab, request, &sname)??;
     let service = full_name(
         alloc,
         request.ticket.realm.as_slice(),
@@ -48,6 +51,7 @@ pub fn presented_to(
     let shown = authenticated(alloc, request, &ticket)?;
     Ok(Presented {
         service,
+        sname,
         ticket,
         session_key: shown.session_key,
         authenticator: shown.authenticator,
@@ -55,18 +59,19 @@ pub fn presented_to(
     })
 }
 
-/// Decrypts the ticket, or returns the first rule that refuses it.
+/// Decrypts the ticket, which is for this service, or returns the first rule that refuses it.
 ///
 /// Until it is decrypted, this allocates no more than the service's name and the ticket's cipher need.
 fn shown_ticket(
     alloc: Global,
     keytab: &Keytab,
     request: &ApReqRef<'_>,
+    service: &Name,
 ) -> Attempt<EncTicketPart, ApRefusal>
+    requires { service.now ≡ request.now.ticket.sname }
     ensures { IfOk result (λ found. found ≡ shown_ticket (held_in keytab.now request.now.ticket) request.now) }
 {
-    let service = request.ticket.sname.to_name(alloc)?;
-    let held = held_in(keytab, &request.ticket, &service);
+    let held = held_in(keytab, &request.ticket, service);
     ap_presented::shown_ticket(alloc, None, &held, request)
 }
 

@@ -1,4 +1,4 @@
-use Rattle.std.proofs.Common.{rules, ◌≡◌, List, ℕ, subst, SFits, w32}
+use Rattle.std.proofs.Common.{rules, List, ℕ, subst, SFits, w32}
 use Rattle.std.proofs.lemmas.Int.{to_z-of_z}
 use Rattle.cred_files.specs.Format.{signed32}
 use Rattle.ap_accept.specs.Saved.{both, list, name, octets, Puts}
