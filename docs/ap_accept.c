@@ -27,6 +27,17 @@ struct start {
 	struct moment moment;
 };
 
+/* `Place` of elements.rt, `Found` of exports.rt */
+struct place {
+	uint32_t list;
+	size_t index;
+};
+
+struct found {
+	int32_t number;
+	size_t length;
+};
+
 int32_t ap_accept_c_v3_open(struct holder *holder, const uint8_t *keytab, size_t length, const struct start *start);
 int32_t ap_accept_c_v3_resume(struct holder *holder, const uint8_t *keytab, size_t keytab_length, const uint8_t *saved,
 			      size_t saved_length, uint32_t remembered);
@@ -36,13 +47,18 @@ int32_t ap_accept_c_v3_accept(struct holder *holder, const struct moment *moment
 			      const uint8_t *ap_req, size_t length, struct ap_accepted *accepted);
 int32_t ap_accept_c_v3_octets(struct holder *holder, uint32_t part, uint8_t *to, size_t capacity, size_t *length);
 int32_t ap_accept_c_v3_close(struct holder *holder);
-size_t ap_accept_c_v3_text(int32_t status, uint8_t *to, size_t capacity);
+int32_t ap_accept_c_v3_name(struct holder *holder, const uint8_t *text, size_t length);
+size_t ap_accept_c_v3_rule(struct holder *holder, uint8_t *to, size_t capacity);
+size_t ap_accept_c_v3_text(struct holder *holder, int32_t status, uint8_t *to, size_t capacity);
+int32_t ap_accept_c_v3_element(struct holder *holder, const struct place *place, uint8_t *to, size_t capacity,
+			       struct found *found);
+int32_t ap_accept_c_v3_check(struct holder *holder, const uint8_t *octets, size_t length);
 uint32_t ap_accept_c_v3_version(void);
 
 /* ---- arguments */
 
 /* The size of struct ap_accepted in version 3, the first that hands it over. */
-enum { LEAST_ACCEPTED = 64 };
+enum { LEAST_ACCEPTED = 72 };
 
 /* The size is that of the numbers alone, so a number more changes it. */
 typedef char numbers_fill_it[sizeof(struct ap_accepted) == LEAST_ACCEPTED ? 1 : -1];
@@ -149,7 +165,6 @@ int32_t ap_accept(struct ap_acceptor *acceptor, int64_t sec, uint32_t usec, cons
 		return AP_BAD_ARGUMENT;
 	holder = holder_of(acceptor);
 	status = ap_accept_c_v3_accept(&holder, &moment, random, bytes_at(ap_req), ap_req_length, &numbers);
-	memset(numbers.unused, 0, sizeof(numbers.unused));
 	memset(accepted, 0, size);
 	memcpy(accepted, &numbers, LEAST_ACCEPTED);
 	return left(acceptor, &holder, status);
@@ -177,13 +192,85 @@ int32_t ap_close(struct ap_acceptor *acceptor)
 	return left(acceptor, &holder, ap_accept_c_v3_close(&holder));
 }
 
-size_t ap_text(int32_t status, char *to, size_t capacity)
+int32_t ap_set_service(struct ap_acceptor *acceptor, const char *name, size_t length)
 {
+	struct holder holder;
+
+	if (!is_acceptor(acceptor) || !are_bytes(name, length))
+		return AP_BAD_ARGUMENT;
+	holder = holder_of(acceptor);
+	return left(acceptor, &holder, ap_accept_c_v3_name(&holder, bytes_at(name), length));
+}
+
+int32_t ap_authorization(struct ap_acceptor *acceptor, uint32_t list, size_t index, int32_t *type, void *to,
+			 size_t capacity, size_t *length)
+{
+	const struct place place = { list, index };
+	struct found found = { 0, 0 };
+	struct holder holder;
+	uint8_t none;
+	int32_t status;
+
+	if (!is_acceptor(acceptor) || !are_bytes(to, capacity) || type == NULL || length == NULL)
+		return AP_BAD_ARGUMENT;
+	if (list != AP_OF_TICKET && list != AP_OF_AUTHENTICATOR)
+		return AP_BAD_ARGUMENT;
+	holder = holder_of(acceptor);
+	status = ap_accept_c_v3_element(&holder, &place, to == NULL ? &none : (uint8_t *)to, capacity, &found);
+	*type = found.number;
+	*length = found.length;
+	return left(acceptor, &holder, status);
+}
+
+int32_t ap_error(struct ap_acceptor *acceptor, void *to, size_t capacity, size_t *length)
+{
+	return ap_octets(acceptor, AP_KRB_ERROR, to, capacity, length);
+}
+
+/* A text's buffer: none if it is null, or longer than any can be. */
+static size_t room_of(const char *to, size_t capacity)
+{
+	return to == NULL || capacity > PTRDIFF_MAX ? 0 : capacity;
+}
+
+size_t ap_rule(struct ap_acceptor *acceptor, char *to, size_t capacity)
+{
+	const size_t room = room_of(to, capacity);
+	struct holder holder = { false, NULL };
+	size_t length;
 	uint8_t none;
 
-	if (to == NULL || capacity > PTRDIFF_MAX)
-		capacity = 0;
-	return ap_accept_c_v3_text(status, capacity == 0 ? &none : (uint8_t *)to, capacity);
+	if (!is_acceptor(acceptor))
+		return ap_accept_c_v3_rule(&holder, room == 0 ? &none : (uint8_t *)to, room);
+	holder = holder_of(acceptor);
+	length = ap_accept_c_v3_rule(&holder, room == 0 ? &none : (uint8_t *)to, room);
+	left(acceptor, &holder, AP_DONE);
+	return length;
+}
+
+size_t ap_text(struct ap_acceptor *acceptor, int32_t status, char *to, size_t capacity)
+{
+	const size_t room = room_of(to, capacity);
+	struct holder holder = { false, NULL };
+	size_t length;
+	uint8_t none;
+
+	if (!is_acceptor(acceptor))
+		return ap_accept_c_v3_text(&holder, status, room == 0 ? &none : (uint8_t *)to, room);
+	holder = holder_of(acceptor);
+	length = ap_accept_c_v3_text(&holder, status, room == 0 ? &none : (uint8_t *)to, room);
+	left(acceptor, &holder, AP_DONE);
+	return length;
+}
+
+int32_t ap_verify_checksum(struct ap_acceptor *acceptor, const void *octets, size_t octets_length)
+{
+	struct holder holder;
+
+	if (!is_acceptor(acceptor) || !are_bytes(octets, octets_length))
+		return AP_BAD_ARGUMENT;
+	holder = holder_of(acceptor);
+	return left(acceptor, &holder, ap_accept_c_v3_check(&holder, bytes_at(octets), octets_length));
 }
 
 uint32_t ap_version(void)

@@ -16,8 +16,8 @@
  *     ..
  *     ap_close(&acceptor);
  *
- * Each call except ap_text, ap_version and ap_size returns a status: AP_DONE (0), a code of RFC 4120, section 7.5.9
- * (above 0), or one of the enum below (below 0).
+ * Each call except ap_rule, ap_text, ap_version and ap_size returns a status: AP_DONE (0), a code of RFC 4120, section
+ * 7.5.9 (above 0), or one of the enum below (below 0).
  *
  * Arguments. The library checks them, so a caller in another language has the same checks. Bytes are a pointer and a
  * length. A null pointer with the length 0 is an empty message, as an empty vector of C++ has it: what comes from a
@@ -58,12 +58,15 @@ enum ap_status {
 	AP_TOO_SMALL = -4,      /* the buffer: the same bytes may be asked for again */
 	AP_BAD_KEYTAB = -5,     /* the bytes are no keytab */
 	AP_CLOSED = -6,         /* the acceptor is not open */
-	AP_ABSENT = -7,         /* there is no such part, or nothing was accepted last */
+	AP_ABSENT = -7,         /* there is no such part of the last AP-REQ */
 	AP_OTHER_VERSION = -8,  /* the library does not serve programs of this version */
 	AP_BAD_SAVED = -9       /* the bytes are not those of a saved acceptor, or they are damaged */
 };
 
-/* The codes of refusals (RFC 4120, section 7.5.9). docs/SERVICES.md says what usually causes each. */
+/*
+ * The codes of refusals (RFC 4120, section 7.5.9). Some rules share a code: ap_rule names the rule, and
+ * docs/SERVICES.md says what usually causes each.
+ */
 enum ap_refusal {
 	AP_ETYPE_NOSUPP = 14,
 	AP_SVC_UNAVAILABLE = 29,
@@ -77,8 +80,10 @@ enum ap_refusal {
 	AP_BADADDR = 38,
 	AP_BADVERSION = 39,
 	AP_MSG_TYPE = 40,
+	AP_MODIFIED = 41,    /* of a checksum alone */
 	AP_BADKEYVER = 44,
 	AP_NOKEY = 45,
+	AP_INAPP_CKSUM = 50, /* of a checksum alone */
 	AP_PATH_NOT_ACCEPTED = 51
 };
 
@@ -95,8 +100,9 @@ struct ap_acceptor {
 #define AP_ACCEPTOR_INIT { NULL, NULL }
 
 /*
- * The numbers of what was accepted. Times are seconds since 1970-01-01T00:00:00Z. All are zero if nothing was. A later
- * header may add numbers behind these.
+ * The numbers of an AP-REQ. Times are seconds since 1970-01-01T00:00:00Z. Those of the ticket's key are there also if
+ * the AP-REQ is refused: anyone may have written them. All others are zero if nothing was accepted. A later header may
+ * add numbers behind these.
  */
 struct ap_accepted {
 	int64_t authtime;
@@ -104,18 +110,21 @@ struct ap_accepted {
 	int64_t endtime;
 	int64_t renew_till; /* the endtime, if the ticket has no renew-till */
 	int64_t seq_number; /* -2147483648 to 4294967295; 0 without one */
+	int64_t ticket_key_version; /* of the service's key that encrypts the ticket, in the same range; 0 without one */
 	uint32_t flags;     /* bit 0 of RFC 4120 is the most significant: FORWARDABLE is 0x40000000 */
 	int32_t session_key_type;
 	int32_t subkey_type;   /* 0 if the client chose no subkey */
 	int32_t checksum_type; /* 0 if there is no checksum */
+	int32_t ticket_key_type; /* the encryption type of the service's key that encrypts the ticket */
 	bool has_seq_number;
 	bool has_checksum;
 	bool has_ap_rep; /* the client asks the service to prove who it is */
-	uint8_t unused[5]; /* 0 */
+	bool has_ticket_key_version;
 };
 
 /*
- * The parts of an accepted AP-REQ that are bytes.
+ * The parts of an AP-REQ that are bytes. Those of the service are there also if it is refused; anyone may have written
+ * them then.
  *
  * A name is text: its components with '/' between them. Of the bytes 0x21 to 0x7e each stands for itself, except '/',
  * '\' and '@'. Those three and all other bytes are written as '\' and two lowercase hexadecimal digits, so the text is
@@ -130,7 +139,16 @@ enum ap_part {
 	AP_SESSION_KEY = 3, /* 16 or 32 */
 	AP_SUBKEY = 4,      /* 16 or 32: the key that the client chose for later messages */
 	AP_CHECKSUM = 5,    /* the authenticator's checksum, which the service checks */
-	AP_AP_REP = 6       /* the AP-REP: the service sends it to the client that asks for one (has_ap_rep) */
+	AP_AP_REP = 6,      /* the AP-REP: the service sends it to the client that asks for one (has_ap_rep) */
+	AP_SERVICE_REALM = 7, /* of the service that the ticket is for */
+	AP_SERVICE_NAME = 8,
+	AP_KRB_ERROR = 9      /* of a refused AP-REQ: the KRB-ERROR, which the service may send (ap_error) */
+};
+
+/* The lists of authorization data (RFC 4120, section 5.2.6): of the ticket, and of the authenticator. */
+enum ap_list {
+	AP_OF_TICKET = 1,
+	AP_OF_AUTHENTICATOR = 2
 };
 
 /*
@@ -180,11 +198,22 @@ int32_t ap_resume(uint32_t version, struct ap_acceptor *acceptor, const void *ke
 int32_t ap_replace_keytab(struct ap_acceptor *acceptor, const void *keytab, size_t keytab_length);
 
 /*
+ * From now on ap_accept accepts tickets for one service alone; one for another service of the keytab is refused with
+ * AP_NOT_US.
+ *
+ * name, length: the service's name as AP_SERVICE_NAME spells it, "host/www.example.com", in whichever realm of the
+ * keytab; or nothing (length 0): each service of the keytab, as after ap_open and ap_resume.
+ *
+ * AP_DONE, AP_NO_MEMORY, AP_CLOSED or AP_BAD_ARGUMENT (the text is not that of a name).
+ */
+int32_t ap_set_service(struct ap_acceptor *acceptor, const char *name, size_t length);
+
+/*
  * Accepts the bytes of an AP-REQ, or returns the code of the rule that refuses them.
  *
  * sec, usec: the time when they came in.
  * random: 16 random bytes, new in each call, for the AP-REP.
- * accepted: the numbers of what is accepted. ap_octets copies the bytes, until the next ap_accept.
+ * accepted: the numbers of the AP-REQ. ap_octets copies the bytes, until the next ap_accept.
  * size: sizeof *accepted. The library writes no byte behind it, and sets to zero what it does not know.
  *
  * AP_DONE, a code of enum ap_refusal, AP_NOT_AN_AP_REQ, AP_NO_MEMORY, AP_CLOSED or AP_BAD_ARGUMENT.
@@ -193,7 +222,7 @@ int32_t ap_accept(struct ap_acceptor *acceptor, int64_t sec, uint32_t usec, cons
 		  size_t ap_req_length, struct ap_accepted *accepted, size_t size);
 
 /*
- * Copies bytes of what was accepted last to a buffer, with no NUL after them. It may be called any number of times.
+ * Copies bytes of the last AP-REQ to a buffer, with no NUL after them. It may be called any number of times.
  *
  * part: which, of enum ap_part.
  * to, capacity: the buffer. to may be null if capacity is 0, to learn the length.
@@ -203,15 +232,54 @@ int32_t ap_accept(struct ap_acceptor *acceptor, int64_t sec, uint32_t usec, cons
  */
 int32_t ap_octets(struct ap_acceptor *acceptor, uint32_t part, void *to, size_t capacity, size_t *length);
 
+/*
+ * Copies an element of the authorization data of what was accepted last, which nothing here reads: the service decides
+ * on it.
+ *
+ * list, index: which list, of enum ap_list, and how many of its elements are before this one.
+ * type: the element's ad-type; 0 without such an element.
+ * to, capacity, length: as for ap_octets, the element's ad-data.
+ *
+ * AP_DONE, AP_TOO_SMALL, AP_ABSENT (the list has no more), AP_CLOSED or AP_BAD_ARGUMENT.
+ */
+int32_t ap_authorization(struct ap_acceptor *acceptor, uint32_t list, size_t index, int32_t *type, void *to,
+			 size_t capacity, size_t *length);
+
+/*
+ * Copies the KRB-ERROR (RFC 4120, section 5.9.1) for the AP-REQ that was refused last: the code, the ticket's service,
+ * and the time that ap_accept was given. The service sends it in place of an AP-REP; krb5_sendauth then says why.
+ *
+ * to, capacity, length: as for ap_octets. 8192 bytes are enough for each.
+ *
+ * As ap_octets; AP_ABSENT also if the ticket's service can't be a principal: its name has more than 16 components, or
+ * one of 0 or more than 255 bytes, or its realm has 0 or more than 255.
+ */
+int32_t ap_error(struct ap_acceptor *acceptor, void *to, size_t capacity, size_t *length);
+
 /* Frees an acceptor and its replay caches. AP_DONE, AP_CLOSED or AP_BAD_ARGUMENT; it may be opened again. */
 int32_t ap_close(struct ap_acceptor *acceptor);
 
 /*
- * Writes a text for a status to a buffer, cut so that it ends with a NUL there, and returns how long the whole text is.
- * A buffer of 128 bytes is long enough for each. If to is null, or capacity is 0 or above PTRDIFF_MAX, it writes
- * nothing.
+ * Writes the name of the rule that refused the last AP-REQ to a buffer, cut so that it ends with a NUL there, and
+ * returns how long the whole name is: 0 if none was refused. docs/SERVICES.md lists the names. A buffer of 32 bytes is
+ * long enough for each. If to is null, or capacity is 0 or above PTRDIFF_MAX, it writes nothing.
  */
-size_t ap_text(int32_t status, char *to, size_t capacity);
+size_t ap_rule(struct ap_acceptor *acceptor, char *to, size_t capacity);
+
+/*
+ * Writes a text for a status to a buffer, as ap_rule does: of the code with which the last AP-REQ was refused it is
+ * what the rule found. A buffer of 256 bytes is long enough for each. acceptor may be null, or closed.
+ */
+size_t ap_text(struct ap_acceptor *acceptor, int32_t status, char *to, size_t capacity);
+
+/*
+ * Checks the authenticator's checksum, of what was accepted last, over these bytes, with the session key and the key
+ * usage 10 (RFC 4120, section 7.5.1). GSS-API puts something else there (RFC 4121, section 4.1.1).
+ *
+ * AP_DONE, AP_MODIFIED (it is that of other bytes), AP_INAPP_CKSUM (of another type than the session key's), AP_ABSENT
+ * (there is none), AP_CLOSED or AP_BAD_ARGUMENT.
+ */
+int32_t ap_verify_checksum(struct ap_acceptor *acceptor, const void *octets, size_t octets_length);
 
 /* Returns the version of the library: the AP_VERSION of the header that it was built for. */
 uint32_t ap_version(void);

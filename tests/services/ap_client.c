@@ -153,6 +153,17 @@ static void send_plain(krb5_creds *ticket)
 		say(exchange, reply, exchanged(&request, reply));
 }
 
+/* Prints the KRB-ERROR that the library read. */
+static void print_error(const krb5_error *error)
+{
+	char *service = NULL;
+
+	check(krb5_unparse_name(context, error->server, &service), "the service in the error");
+	printf("refused by %s: %s\n", service,
+	       krb5_get_error_message(context, (krb5_error_code)(ERROR_TABLE_BASE_krb5 + (long)error->error)));
+	krb5_free_unparsed_name(context, service);
+}
+
 /* Uses krb5_sendauth. */
 static void send_auth(krb5_creds *ticket)
 {
@@ -164,7 +175,10 @@ static void send_auth(krb5_creds *ticket)
 		ticket, NULL, &error, &part, NULL);
 
 	const char *taken = part != NULL ? "taken, and the AP-REP is good" : "taken, with no AP-REP";
-	printf("%s\n", code != 0 ? krb5_get_error_message(context, code) : taken);
+	if (error != NULL)
+		print_error(error);
+	else
+		printf("%s\n", code != 0 ? krb5_get_error_message(context, code) : taken);
 	close(connection);
 }
 

@@ -3,7 +3,7 @@
  * something else, and the number of these calls.
  *
  *     cc -g -fsanitize=address,undefined -I docs -o ap_judged tests/services/ap_judged.c \
- *         crates/ap_accept_c/out/libap_accept_c.a KIT/c/liblibc_c.a
+ *         crates/ap_accept_c/out/libap_accept.a
  *     ./ap_judged KEYTAB [AP-REQ]
  *
  * KEYTAB is a keytab's file. AP-REQ is the hexadecimal digits of an AP-REQ for a service of that keytab, made within
@@ -112,8 +112,8 @@ static void fetches(struct ap_acceptor *acceptor, int32_t at_best)
 	expect("a capacity too great", ap_octets(acceptor, AP_CLIENT_NAME, to, beyond, &length), AP_BAD_ARGUMENT);
 	expect("no length", ap_octets(acceptor, AP_CLIENT_NAME, to, 4, NULL), AP_BAD_ARGUMENT);
 	expect("no part 0", ap_octets(acceptor, 0, to, 4, &length), AP_BAD_ARGUMENT);
-	expect("no part 7", ap_octets(acceptor, 7, to, 4, &length), AP_BAD_ARGUMENT);
-	for (int part = AP_CLIENT_REALM; part <= AP_AP_REP; part++)
+	expect("no part 10", ap_octets(acceptor, 10, to, 4, &length), AP_BAD_ARGUMENT);
+	for (int part = AP_CLIENT_REALM; part <= AP_KRB_ERROR; part++)
 		expect("nothing accepted", ap_octets(acceptor, (uint32_t)part, to, 4, &length), at_best);
 	expect("none", ap_octets(acceptor, AP_CLIENT_NAME, NULL, 0, &length), at_best);
 	expect("no length returned", (long)length, 0);
@@ -165,7 +165,7 @@ static void writes_within(struct ap_acceptor *acceptor)
 	expect("of no size", ap_accept(acceptor, NOW, 0, random, NULL, 0, &room.accepted, 0), AP_BAD_ARGUMENT);
 	expect("nothing is written", room.accepted.authtime == (int64_t)0xa5a5a5a5a5a5a5a5, 1);
 	expect("of its size", ap_accept(acceptor, NOW, 0, random, NULL, 0, &room.accepted, size), AP_NOT_AN_AP_REQ);
-	expect("zero to the end", room.accepted.unused[4], 0);
+	expect("zero to the end", room.accepted.has_ticket_key_version, 0);
 	expect("nothing behind it", room.behind[0], UNWRITTEN);
 	expect("larger", ap_accept(acceptor, NOW, 0, random, NULL, 0, &room.accepted, size + 8), AP_NOT_AN_AP_REQ);
 	expect("zero behind the numbers", room.behind[7], 0);
@@ -210,7 +210,7 @@ static void keeps(const uint8_t *keytab, size_t keytab_length, const uint8_t *ap
 	expect("a bad moment", taken(&acceptor, -1, 0, random, ap_req, ap_req_length, &accepted), AP_BAD_ARGUMENT);
 	expect("no numbers after a bad moment", (long)accepted.endtime, 0);
 	length = 7;
-	expect("a bad part", ap_octets(&acceptor, 7, again, sizeof(again), &length), AP_BAD_ARGUMENT);
+	expect("a bad part", ap_octets(&acceptor, 10, again, sizeof(again), &length), AP_BAD_ARGUMENT);
 	expect("no length of a bad part", (long)length, 0);
 	expect("the key is still there", ap_octets(&acceptor, AP_SESSION_KEY, again, sizeof(again), &length), AP_DONE);
 	expect("it is the same", (long)length == (long)needed && memcmp(key, again, length) == 0, 1);
@@ -263,6 +263,93 @@ static void survives(const uint8_t *keytab, size_t keytab_length, const uint8_t 
 	expect("close the one that restarted", ap_close(&acceptor), AP_DONE);
 }
 
+/* The text of a part that has to be there. */
+static const char *part(struct ap_acceptor *acceptor, uint32_t which)
+{
+	static char text[LONGEST];
+	size_t length = 0;
+
+	expect("a part", ap_octets(acceptor, which, text, sizeof text - 1, &length), AP_DONE);
+	text[length] = '\0';
+	return text;
+}
+
+/* A refused AP-REQ has a rule, a text, the ticket's service and key, and a KRB-ERROR; an accepted one no rule. */
+static void says_why(const uint8_t *keytab, size_t keytab_length, const uint8_t *ap_req, size_t ap_req_length)
+{
+	static const uint8_t random[16];
+	struct ap_acceptor acceptor = AP_ACCEPTOR_INIT;
+	struct ap_accepted numbers;
+	char name[256], text[256];
+	uint8_t error[8192];
+	size_t length = 7;
+	int64_t now = (int64_t)time(NULL);
+
+	expect("a name for a closed one", ap_set_service(&acceptor, "a", 1), AP_CLOSED);
+	expect("open to refuse", opened(&acceptor, keytab, keytab_length, 1024, now, 0), AP_DONE);
+	expect("for no name", ap_set_service(&acceptor, "a//b", 4), AP_BAD_ARGUMENT);
+	expect("for no text", ap_set_service(&acceptor, "\xff", 1), AP_BAD_ARGUMENT);
+	expect("for a null name", ap_set_service(&acceptor, NULL, 1), AP_BAD_ARGUMENT);
+	expect("for another", ap_set_service(&acceptor, "some/other", 10), AP_DONE);
+	expect("another's", taken(&acceptor, now, 0, random, ap_req, ap_req_length, &numbers), AP_NOT_US);
+	expect("a version of the key", numbers.has_ticket_key_version, 1);
+	expect("the first", (long)numbers.ticket_key_version, 1);
+	expect("a type", numbers.ticket_key_type >= 17 && numbers.ticket_key_type <= 20, 1);
+	expect("no other number", (long)numbers.endtime, 0);
+	expect("the rule", (long)ap_rule(&acceptor, text, sizeof text), 10);
+	expect("its name", strcmp(text, "not-for-us"), 0);
+	expect("a rule that is cut", (long)ap_rule(&acceptor, text, 4), 10);
+	expect("what is left of it", strcmp(text, "not"), 0);
+	ap_text(&acceptor, AP_NOT_US, text, sizeof text);
+	expect("its text", strcmp(text, "KRB_AP_ERR_NOT_US: the ticket is for another service"), 0);
+	ap_text(&acceptor, AP_SKEW, text, sizeof text);
+	expect("another status's text", strncmp(text, "KRB_AP_ERR_SKEW", 15), 0);
+	strcpy(name, part(&acceptor, AP_SERVICE_NAME));
+	expect("a realm", strlen(part(&acceptor, AP_SERVICE_REALM)) > 0, 1);
+	expect("no client", ap_octets(&acceptor, AP_CLIENT_NAME, NULL, 0, &length), AP_ABSENT);
+	expect("an error", ap_error(&acceptor, error, sizeof error, &length), AP_DONE);
+	expect("a KRB-ERROR's tag", error[0], 0x7e);
+	expect("for its name", ap_set_service(&acceptor, name, strlen(name)), AP_DONE);
+	expect("its own", taken(&acceptor, now, 0, random, ap_req, ap_req_length, &numbers), AP_DONE);
+	expect("the same service", strcmp(part(&acceptor, AP_SERVICE_NAME), name), 0);
+	expect("no rule", (long)ap_rule(&acceptor, text, sizeof text), 0);
+	expect("no error", ap_error(&acceptor, error, sizeof error, &length), AP_ABSENT);
+	expect("for any", ap_set_service(&acceptor, NULL, 0), AP_DONE);
+	expect("again", taken(&acceptor, now, 0, random, ap_req, ap_req_length, &numbers), AP_REPEAT);
+	expect("its rule", (ap_rule(&acceptor, text, sizeof text), strcmp(text, "repeated")), 0);
+	expect("close the one that refused", ap_close(&acceptor), AP_DONE);
+	expect("no rule of a closed one", (long)ap_rule(&acceptor, text, sizeof text), 0);
+}
+
+/* An AP-REQ without a checksum and without authorization data. */
+static void has_no_more(const uint8_t *keytab, size_t keytab_length, const uint8_t *ap_req, size_t ap_req_length)
+{
+	static const uint8_t random[16];
+	struct ap_acceptor acceptor = AP_ACCEPTOR_INIT;
+	struct ap_accepted numbers;
+	uint8_t octets[4];
+	size_t length = 7;
+	int32_t type = 7;
+	int64_t now = (int64_t)time(NULL);
+
+	expect("a checksum of a closed one", ap_verify_checksum(&acceptor, "checksum", 8), AP_CLOSED);
+	expect("an element of a closed one", ap_authorization(&acceptor, 1, 0, &type, octets, 4, &length), AP_CLOSED);
+	expect("has no type", type, 0);
+	expect("open for a checksum", opened(&acceptor, keytab, keytab_length, 1024, now, 0), AP_DONE);
+	expect("a checksum of none", ap_verify_checksum(&acceptor, "checksum", 8), AP_ABSENT);
+	expect("accepted without", taken(&acceptor, now, 0, random, ap_req, ap_req_length, &numbers), AP_DONE);
+	expect("no checksum", ap_verify_checksum(&acceptor, "checksum", 8), AP_ABSENT);
+	expect("no bytes for it", ap_verify_checksum(&acceptor, NULL, 8), AP_BAD_ARGUMENT);
+	type = 7;
+	for (uint32_t list = AP_OF_TICKET; list <= AP_OF_AUTHENTICATOR; list++)
+		expect("no element", ap_authorization(&acceptor, list, 0, &type, octets, 4, &length), AP_ABSENT);
+	expect("of no type", type, 0);
+	expect("of no length", (long)length, 0);
+	expect("no list", ap_authorization(&acceptor, 3, 0, &type, octets, 4, &length), AP_BAD_ARGUMENT);
+	expect("nowhere for its type", ap_authorization(&acceptor, 1, 0, NULL, octets, 4, &length), AP_BAD_ARGUMENT);
+	expect("close it", ap_close(&acceptor), AP_DONE);
+}
+
 /* The bytes for hexadecimal digits, and their number. */
 static size_t octets_of(const char *digits, uint8_t *to)
 {
@@ -276,19 +363,21 @@ static size_t octets_of(const char *digits, uint8_t *to)
 
 static void texts(void)
 {
-	char text[128], cut[5] = "....";
+	char text[256], cut[5] = "....";
 
 	for (int status = -10; status < 100; status++) {
-		size_t length = ap_text(status, text, sizeof(text));
+		size_t length = ap_text(NULL, status, text, sizeof(text));
 		expect("a text", length > 0 && length < sizeof(text) && strlen(text) == length, 1);
-		expect("its length alone", (long)ap_text(status, NULL, 100), (long)length);
+		expect("its length alone", (long)ap_text(NULL, status, NULL, 100), (long)length);
 	}
-	expect("done", strcmp((ap_text(AP_DONE, text, sizeof(text)), text), "done"), 0);
-	expect("a text that is cut", (long)ap_text(AP_NO_MEMORY, cut, sizeof(cut)), 13);
+	expect("done", strcmp((ap_text(NULL, AP_DONE, text, sizeof(text)), text), "done"), 0);
+	expect("a text that is cut", (long)ap_text(NULL, AP_NO_MEMORY, cut, sizeof(cut)), 13);
 	expect("what is left of it", strcmp(cut, "out "), 0);
-	expect("no room", (long)ap_text(AP_DONE, cut, 1), 4);
+	expect("no room", (long)ap_text(NULL, AP_DONE, cut, 1), 4);
 	expect("for more than its end", strcmp(cut, ""), 0);
-	expect("a capacity of 0", (long)ap_text(AP_DONE, text, 0), 4);
+	expect("a capacity of 0", (long)ap_text(NULL, AP_DONE, text, 0), 4);
+	expect("no rule of no acceptor", (long)ap_rule(NULL, text, sizeof(text)), 0);
+	expect("an empty text", strcmp(text, ""), 0);
 }
 
 int main(int count, char **words)
@@ -317,6 +406,8 @@ int main(int count, char **words)
 	if (count == 3) {
 		keeps(keytab, length, ap_req, octets_of(words[2], ap_req));
 		survives(keytab, length, ap_req, octets_of(words[2], ap_req));
+		says_why(keytab, length, ap_req, octets_of(words[2], ap_req));
+		has_no_more(keytab, length, ap_req, octets_of(words[2], ap_req));
 	}
 	texts();
 	printf("%d failed\n", failures);

@@ -1,16 +1,18 @@
 /*
  * A service in C that accepts AP-REQ messages, by docs/ap_accept.h.
  *
- *     ap_service KEYTAB PORT [first] [save=FILE] [CONNECTIONS]
+ *     ap_service KEYTAB PORT [first] [save=FILE] [for=NAME] [CONNECTIONS]
  *
- * It listens on 127.0.0.1, reads an AP-REQ on each connection, prints who sent it or why it is refused, and answers
- * with the AP-REP if the client asks for one. It ends after CONNECTIONS connections, or at SIGTERM. When it ends,
- * it saves in FILE what it accepted, and goes on with that the next time. The word first says that it never ran before.
- * Without it and such a file all clients are refused for 301 seconds (docs/SERVICES.md, 'Starts and restarts').
+ * It listens on 127.0.0.1, reads an AP-REQ on each connection, prints who sent it and for which service, or why it is
+ * refused, and answers with the AP-REP if the client asks for one. With a NAME it accepts for that service alone. It
+ * ends after CONNECTIONS connections, or at SIGTERM. When it ends, it saves in FILE what it accepted, and goes on with
+ * that the next time. The word first says that it never ran before. Without it and such a file all clients are refused
+ * for 301 seconds (docs/SERVICES.md, 'Starts and restarts').
  *
  * A connection has messages, each after its length in four bytes, the most significant first, as MIT's library writes
  * them (krb5_write_message). The client sends an AP-REQ and gets an AP-REP, or an empty message if it asked for none;
- * or it speaks as krb5_sendauth does. If it is refused, the service closes the connection. It also closes it ten
+ * or it speaks as krb5_sendauth does. If it is refused, the service sends a KRB-ERROR to krb5_sendauth, which says why,
+ * and closes the connection. It also closes it ten
  * seconds after it was accepted, however slowly its peer sends and reads: a limit for each read alone would let a peer
  * that sends a byte now and then keep it, and all others with it, since this example serves one connection at a time.
  *
@@ -167,19 +169,44 @@ static char *part_of(struct ap_acceptor *acceptor, enum ap_part part, size_t *le
 	return octets;
 }
 
+/* A realm as text: other bytes than those of a name are '?'. Two realms may share one: it is for people. */
+static char *shown(char *realm, size_t length)
+{
+	for (size_t at = 0; at < length; at++)
+		if (realm[at] < 0x21 || realm[at] > 0x7e)
+			realm[at] = '?';
+	return realm;
+}
+
+/* Whom the AP-REQ is for, which anyone may have written if it is refused. */
+static void print_service(struct ap_acceptor *acceptor)
+{
+	size_t length;
+	char *name = part_of(acceptor, AP_SERVICE_NAME, &length);
+	char *realm = part_of(acceptor, AP_SERVICE_REALM, &length);
+
+	if (name != NULL && realm != NULL)
+		printf(" for %s@%s", name, shown(realm, length));
+	free(name);
+	free(realm);
+}
+
 static void print_accepted(struct ap_acceptor *acceptor, const struct ap_accepted *accepted)
 {
 	size_t length;
 	char *name = part_of(acceptor, AP_CLIENT_NAME, &length);
 	char *realm = part_of(acceptor, AP_CLIENT_REALM, &length);
 
-	printf("%s@%s until %lld, key type %d, subkey type %d, flags %08x", name, realm, (long long)accepted->endtime,
+	printf("%s@%s", name, shown(realm, length));
+	print_service(acceptor);
+	printf(" until %lld, key type %d, subkey type %d, flags %08x", (long long)accepted->endtime,
 	       accepted->session_key_type, accepted->subkey_type, accepted->flags);
 	if (accepted->has_seq_number)
 		printf(", number %lld", (long long)accepted->seq_number);
 	if (accepted->has_checksum) {
 		free(part_of(acceptor, AP_CHECKSUM, &length));
 		printf(", checksum of type %d and %zu octets", accepted->checksum_type, length);
+		printf("%s", ap_verify_checksum(acceptor, "checksum", 8) == AP_DONE ? " of 'checksum'" : "");
 	}
 	printf("%s\n", accepted->has_ap_rep ? ", asks for a reply" : "");
 	free(name);
@@ -202,13 +229,35 @@ static bool answer(const struct connection *connection, struct ap_acceptor *acce
 	return done;
 }
 
+static void print_refused(struct ap_acceptor *acceptor, int32_t status, const struct ap_accepted *numbers)
+{
+	char rule[32], why[256];
+
+	ap_rule(acceptor, rule, sizeof(rule));
+	ap_text(acceptor, status, why, sizeof(why));
+	printf("refused %d%s%s: %s", status, rule[0] == '\0' ? "" : " ", rule, why);
+	if (numbers->has_ticket_key_version)
+		printf(": key version %lld, type %d", (long long)numbers->ticket_key_version, numbers->ticket_key_type);
+	print_service(acceptor);
+	printf("\n");
+}
+
+/* krb5_sendauth reads a KRB-ERROR where it expects the empty message. */
+static void refuse(const struct connection *connection, struct ap_acceptor *acceptor, bool sendauth)
+{
+	uint8_t error[8192];
+	size_t length;
+
+	if (sendauth && ap_error(acceptor, error, sizeof(error), &length) == AP_DONE)
+		write_message(connection, error, length);
+}
+
 static void serve(const struct connection *connection, struct ap_acceptor *acceptor)
 {
 	static struct message message;
 	struct ap_accepted accepted;
 	struct moment at;
 	uint8_t random[16];
-	char why[128];
 	bool sendauth;
 	int32_t status;
 
@@ -226,8 +275,8 @@ static void serve(const struct connection *connection, struct ap_acceptor *accep
 	at = now();
 	status = ap_accept(acceptor, at.sec, at.usec, random, message.octets, message.length, &accepted, sizeof accepted);
 	if (status != AP_DONE) {
-		ap_text(status, why, sizeof(why));
-		printf("refused %d: %s\n", status, why);
+		print_refused(acceptor, status, &accepted);
+		refuse(connection, acceptor, sendauth);
 		return;
 	}
 	print_accepted(acceptor, &accepted);
@@ -265,6 +314,25 @@ static uint8_t *file_at(const char *path, size_t *length)
 	return octets;
 }
 
+/* Syncs the folder of a file: a file that was removed stays gone after a power failure. */
+static bool sync_folder(const char *path)
+{
+	char folder[4096] = ".";
+	const char *end = strrchr(path, '/');
+	int file;
+	bool done;
+
+	if (end != NULL && (size_t)(end - path) + 2 > sizeof folder)
+		return false;
+	if (end != NULL)
+		snprintf(folder, sizeof folder, "%.*s/", (int)(end - path), path);
+	file = open(folder, O_RDONLY | O_DIRECTORY);
+	done = file >= 0 && fsync(file) == 0;
+	if (file >= 0)
+		close(file);
+	return done;
+}
+
 /* Goes on with what the service saved the last time. The file is gone before anything is accepted. */
 static int32_t resume(struct ap_acceptor *acceptor, const uint8_t *keytab, size_t keytab_length, const char *path)
 {
@@ -272,7 +340,7 @@ static int32_t resume(struct ap_acceptor *acceptor, const uint8_t *keytab, size_
 	uint8_t *saved = file_at(path, &length);
 	int32_t status = AP_BAD_SAVED;
 
-	if (saved != NULL && remove(path) == 0)
+	if (saved != NULL && remove(path) == 0 && sync_folder(path))
 		status = ap_resume(AP_VERSION, acceptor, keytab, keytab_length, REMEMBERED, saved, length);
 	free(saved);
 	return status;
@@ -281,7 +349,7 @@ static int32_t resume(struct ap_acceptor *acceptor, const uint8_t *keytab, size_
 static void open_acceptor(struct ap_acceptor *acceptor, const char *path, bool is_first, const char *saved)
 {
 	struct moment at = now();
-	char why[128];
+	char why[256];
 	size_t length = 0;
 	uint8_t *keytab = file_at(path, &length);
 	int32_t status = AP_BAD_SAVED;
@@ -294,7 +362,7 @@ static void open_acceptor(struct ap_acceptor *acceptor, const char *path, bool i
 		status = ap_open(AP_VERSION, acceptor, keytab, length, REMEMBERED, is_first, at.sec, at.usec);
 	free(keytab);
 	if (status != AP_DONE) {
-		ap_text(status, why, sizeof(why));
+		ap_text(NULL, status, why, sizeof(why));
 		stop(why);
 	}
 }
@@ -350,7 +418,8 @@ static void save(struct ap_acceptor *acceptor, const char *path)
 	if ((size_t)snprintf(beside, sizeof beside, "%s.new", path) >= sizeof beside)
 		stop("the name is too long");
 	file = open(beside, O_WRONLY | O_CREAT | O_TRUNC, 0600);
-	if (file < 0 || write(file, saved, length) != (ssize_t)length || fsync(file) != 0 || rename(beside, path) != 0)
+	if (file < 0 || write(file, saved, length) != (ssize_t)length || fsync(file) != 0 || rename(beside, path) != 0 ||
+	    !sync_folder(path))
 		stop("what was accepted can't be saved");
 	close(file);
 	free(saved);
@@ -362,16 +431,19 @@ int main(int count, char **words)
 	bool is_first = count > 3 && strcmp(words[3], "first") == 0;
 	int at = is_first ? 4 : 3, listener;
 	const char *saved = count > at && strncmp(words[at], "save=", 5) == 0 ? words[at++] + 5 : NULL;
+	const char *name = count > at && strncmp(words[at], "for=", 4) == 0 ? words[at++] + 4 : "";
 	long connections = -1;
 	sigset_t usual;
 
 	if (count < 3 || count > at + 1)
-		stop("ap_service KEYTAB PORT [first] [save=FILE] [CONNECTIONS]");
+		stop("ap_service KEYTAB PORT [first] [save=FILE] [for=NAME] [CONNECTIONS]");
 	if (count > at)
 		connections = atol(words[at]);
 	setvbuf(stdout, NULL, _IOLBF, 0);
 	usual = take_signals();
 	open_acceptor(&acceptor, words[1], is_first, saved);
+	if (ap_set_service(&acceptor, name, strlen(name)) != AP_DONE)
+		stop("the name is not that of a service");
 	listener = listen_on(words[2]);
 	for (; connections != 0 && waits_for_one(listener, &usual); connections -= connections > 0) {
 		struct connection connection = { .socket = accept(listener, NULL, NULL), .end = milliseconds() + MOST_MILLISECONDS };

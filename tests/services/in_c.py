@@ -4,10 +4,10 @@ the keytab, `kdcd serve` issues the tickets, MIT's `kinit` logs in, and `ap_clie
 These programs are compiled as
 
     cc -g -fsanitize=address,undefined -I docs -o NAME tests/services/NAME.c \\
-        crates/ap_accept_c/out/libap_accept_c.a KIT/c/liblibc_c.a
+        crates/ap_accept_c/out/libap_accept.a
     cc -o NAME tests/services/NAME.c -lkrb5
 
-KIT is the toolchain's folder. A check says `ok`, the first answer that differs, or what a sanitizer found."""
+A check says `ok`, the first answer that differs, or what a sanitizer found."""
 
 import contextlib
 import os
@@ -17,28 +17,38 @@ import subprocess
 import time
 
 from harness.checks import Differs, expect
+from harness.kerberos import elements, fields, general_string, integer, sequence
 from harness.processes import PATIENCE, SLOWNESS
 from harness.tests import test
 from harness.wire import free_port
-from services.whole_way import OTHER, SERVICE, TYPES, Kdc, Lines, OwnRequest, Place
+from services.whole_way import OTHER, SERVICE, TEXTS, TYPES, Kdc, Lines, OwnRequest, Place
 
 # The lifetime of a ticket that is presented past its end, and the clock skew that a service allows.
 SHORT_LIFE, LENIENCE = 20, 300
 TAKEN, GOOD, CLOSED = "taken, with no AP-REP", "taken, and the AP-REP is good", "closed"
-REPEAT = "refused 34: KRB_AP_ERR_REPEAT: the authenticator was seen before"
-SKEW = "refused 37: KRB_AP_ERR_SKEW: the clocks differ too much, or the service was just restarted"
-EXPIRED = "refused 32: KRB_AP_ERR_TKT_EXPIRED: the ticket has expired"
-NOT_US = "refused 35: KRB_AP_ERR_NOT_US: the keytab has no key for the ticket's service"
-NO_AP_REQ = "refused -1: the bytes do not encode an AP-REQ"
+# What MIT's library says of a code (`krb5_get_error_message`).
+TOO_FAR, NOT_FOR_US = "Clock skew too great", "The ticket isn't for us"
 
 
-def accepted(subkey=0, rest=""):
+def refused(code, rule, service=SERVICE):
+    """The line that the service prints for a client that it refuses, as a pattern for any type of the service's key."""
+    return re.escape(f"refused {code} {rule}: {TEXTS[code]}: key version 1, type TYPE for {service}@A.B")
+
+
+EXPIRED, REPEAT, SKEW = refused(32, "ticket-expired"), refused(34, "repeated"), refused(37, "skewed")
+NOT_US = refused(35, "not-for-us", OTHER)
+NO_AP_REQ = re.escape("refused -1: the bytes do not encode an AP-REQ")
+
+
+def accepted(subkey=0, rest="", service=SERVICE):
     """The line that the service prints for a client that it accepts, as a pattern for any type of the session key."""
-    return rf"u@A\.B until \d+, key type TYPE, subkey type {subkey}, flags [0-9a-f]{{8}}{rest}"
+    return (
+        rf"u@A\.B for {service}@A\.B until \d+, key type TYPE, subkey type {subkey}, flags [0-9a-f]{{8}}{rest}"
+    )
 
 
 # A number, and the checksum of the text 'checksum', with the type and length for the key's type.
-TOLD = r", number \d+, checksum of type \d+ and \d+ octets"
+TOLD = r", number \d+, checksum of type \d+ and \d+ octets of 'checksum'"
 # The client's arguments, what it prints for each connection, and what the service prints.
 NEW = (
     ((), (TAKEN,), (accepted(),)),
@@ -47,15 +57,21 @@ NEW = (
     (("mutual", "subkey", "number", "checksum"), (GOOD,), (accepted("TYPE", TOLD + ", asks for a reply"),)),
     (("sendauth",), (TAKEN,), (accepted(rest=r".*"),)),
     (("sendauth", "mutual", "subkey"), (GOOD,), (accepted("TYPE", r".*, asks for a reply"),)),
-    (("repeat",), (TAKEN, CLOSED), (accepted(), re.escape(REPEAT))),
-    (("repeat", "mutual"), (GOOD, CLOSED), (accepted(rest=", asks for a reply"), re.escape(REPEAT))),
-    (("none",), (CLOSED,), (re.escape(NO_AP_REQ),)),
-    (("cut",), (CLOSED,), (re.escape(NO_AP_REQ),)),
-    (("skew=400",), (CLOSED,), (re.escape(SKEW),)),
+    (("repeat",), (TAKEN, CLOSED), (accepted(), REPEAT)),
+    (("repeat", "mutual"), (GOOD, CLOSED), (accepted(rest=", asks for a reply"), REPEAT)),
+    (("none",), (CLOSED,), (NO_AP_REQ,)),
+    (("cut",), (CLOSED,), (NO_AP_REQ,)),
+    (("skew=400",), (CLOSED,), (SKEW,)),
+    (("skew=400", "sendauth"), (f"refused by {SERVICE}@A.B: {TOO_FAR}",), (SKEW,)),
 )
-OLD = ((("old", "repeat"), (CLOSED, CLOSED), (re.escape(EXPIRED), re.escape(REPEAT))),)
-FOREIGN = (((), (CLOSED,), (re.escape(NOT_US),)),)
-RESTARTED = (((), (CLOSED,), (re.escape(SKEW),)),)
+OLD = ((("old", "repeat"), (CLOSED, CLOSED), (EXPIRED, REPEAT)),)
+FOREIGN = (
+    ((), (CLOSED,), (NOT_US,)),
+    (("sendauth",), (f"refused by {OTHER}@A.B: {NOT_FOR_US}",), (NOT_US,)),
+)
+RESTARTED = (((), (CLOSED,), (SKEW,)),)
+# A service with the keys of both services, that accepts for one of them alone.
+ITS_OWN = (((), (TAKEN,), (accepted(),)),)
 
 
 def connections(*lists):
@@ -86,10 +102,10 @@ class Way:
         )
         expect(f"the status of kinit ({ran.stderr})", ran.returncode, 0)
 
-    def start(self, count, *words):
+    def start(self, count, *words, keytab="keytab"):
         self.port = str(free_port())
-        keytab = self.place.path("keytab")
-        self.service = Lines(self.place.programs["ap_service"], keytab, self.port, *words, str(count), errors=True)
+        words = [self.place.path(keytab), self.port, *words, str(count)]
+        self.service = Lines(self.place.programs["ap_service"], *words, errors=True)
 
     def client(self, cache, service, words):
         """Runs a client, and returns what it prints. Tries again if the service doesn't listen yet."""
@@ -142,7 +158,21 @@ class Way:
         self.start(connections(RESTARTED))
         self.present("cache", SERVICE, RESTARTED)
         self.service.end()
+        both_keytabs(self.place)
+        self.start(connections(ITS_OWN, FOREIGN), "first", f"for={SERVICE}", keytab="both.keytab")
+        self.present("cache", SERVICE, ITS_OWN)
+        self.present("cache", OTHER, FOREIGN)
+        self.service.end()
         self.kdc.end()
+
+
+def both_keytabs(place):
+    """Writes a keytab with the keys of both services: what follows a keytab's first two bytes are its entries."""
+    parts = []
+    for name in ("keytab", "other.keytab"):
+        with open(place.path(name), "rb") as file:
+            parts.append(file.read())
+    place.write("both.keytab", parts[0] + parts[1][2:])
 
 
 def programs_of(trial):
@@ -158,9 +188,8 @@ def go(trial, old):
         trial.check(f"the service in C with type {etype}: judges, new tickets", begin)
     time.sleep(max([0, *[way.ended + 2 - time.time() for way in ways if old]]))
     for way in ways:
-        trial.check(
-            f"the service in C with type {way.etype}: {'a ticket past its end, ' * bool(old)}a restart", way.finish, old
-        )
+        rest = "a ticket past its end, " * bool(old) + "a restart, one for one name"
+        trial.check(f"the service in C with type {way.etype}: {rest}", way.finish, old)
 
 
 @test("kadm", "kdcd", "kclient", needs=("krb5", "kinit", "services_in_c"), seconds=120)
@@ -198,8 +227,8 @@ def without_mit(programs, folder):
     for request, rest in zip([*requests, requests[0]], ("", ", asks for a reply", None)):
         reply = asked(port, bytes.fromhex(request.digits))
         line = service.line()
-        is_said = line == REPEAT if rest is None else re.fullmatch(accepted(rest=rest).replace("TYPE", "18"), line)
-        expect(f"what the service says, {line!r}", bool(is_said), True)
+        pattern = (REPEAT if rest is None else accepted(rest=rest)).replace("TYPE", "18")
+        expect(f"what the service says, {line!r}", bool(re.fullmatch(pattern, line)), True)
         if rest:
             request.take(reply.hex())
         else:
@@ -209,6 +238,7 @@ def without_mit(programs, folder):
     expect(f"{took:.1f} seconds of such a peer, where 10 are due", 9.9 <= took <= 11 + 2 * SLOWNESS, True)
     service.end()
     goes_on(programs, place)
+    sends_errors(programs, place)
 
 
 def goes_on(programs, place):
@@ -218,10 +248,10 @@ def goes_on(programs, place):
     seen = accepted().replace("TYPE", "18")
     ends_after(programs, place, ["first"], [(requests[0], seen)])
     expect("who may read what is saved", os.stat(saved).st_mode & 0o777, 0o600)
-    ends_after(programs, place, [], [(requests[1], seen), (requests[0], re.escape(REPEAT))])
+    ends_after(programs, place, [], [(requests[1], seen), (requests[0], REPEAT.replace("TYPE", "18"))])
     with open(saved, "r+b") as file:
         file.write(b"damaged")
-    ends_after(programs, place, [], [(requests[2], re.escape(SKEW))])
+    ends_after(programs, place, [], [(requests[2], SKEW.replace("TYPE", "18"))])
 
 
 def ends_after(programs, place, words, turns):
@@ -238,16 +268,47 @@ def ends_after(programs, place, words, turns):
     service.end()
 
 
-def asked(port, request):
-    """The reply to a message, or nothing if the connection is closed. Tries again if the service doesn't listen yet."""
+def connected(port):
+    """A connection. Tries again if the service doesn't listen yet."""
     for _ in range(100):
         try:
-            with socket.create_connection(("127.0.0.1", port), 10) as peer, peer.makefile("rb") as stream:
-                peer.sendall(len(request).to_bytes(4, "big") + request)
-                return stream.read(int.from_bytes(stream.read(4), "big"))
+            return socket.create_connection(("127.0.0.1", port), 10)
         except ConnectionRefusedError:
             time.sleep(0.1)
     raise Differs("the service does not listen")
+
+
+def sent(peer, stream, message):
+    """The reply to a message, or nothing if the connection is closed."""
+    peer.sendall(len(message).to_bytes(4, "big") + message)
+    return stream.read(int.from_bytes(stream.read(4), "big"))
+
+
+def asked(port, request):
+    """The same on a connection of its own."""
+    with connected(port) as peer, peer.makefile("rb") as stream:
+        return sent(peer, stream, request)
+
+
+def sends_errors(programs, place):
+    """A client that speaks as `krb5_sendauth` gets a KRB-ERROR where it is refused (RFC 4120, section 5.9.1)."""
+    port, request = free_port(), bytes.fromhex(OwnRequest(place, SERVICE, None, ()).digits)
+    service = Lines(programs["ap_service"], place.path("keytab"), str(port), "first", "2", errors=True)
+    expect("the reply to the AP-REQ", asked(port, request), b"")
+    with connected(port) as peer, peer.makefile("rb") as stream:
+        for text in (b"KRB5_SENDAUTH_V1.0\0", b"by python\0"):
+            peer.sendall(len(text).to_bytes(4, "big") + text)
+        expect("that the service goes on", stream.read(1), b"\0")
+        tag, text = elements(sent(peer, stream, request))[0]
+    part = fields(text)
+    expect("the tag", tag, 0x7E)
+    expect("the fields", sorted(part), [0, 1, 4, 5, 6, 9, 10])
+    wanted = [integer(number) for number in (5, 30, 34)]
+    expect("the version, the type and the code", [part[place] for place in (0, 1, 6)], wanted)
+    expect("the realm", part[9], general_string(b"A.B"))
+    components = [general_string(component) for component in SERVICE.encode().split(b"/")]
+    expect("the service", fields(part[10])[1], sequence(*components))
+    service.end()
 
 
 def dripped(port):

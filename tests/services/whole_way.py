@@ -23,6 +23,13 @@ SERVICE, OTHER = "imap/h", "imap/other"
 # What the client asks the library for, besides the AP-REQ.
 CHOICES = ((), ("mutual",), ("subkey", "mutual", "number", "checksum"))
 CONFIGURATION = "[libdefaults]\ndefault_realm = A.B\nrdns = false\ndns_lookup_kdc = false\n"
+# What a service says of a refusal, by its code.
+TEXTS = {
+    32: "KRB_AP_ERR_TKT_EXPIRED: the ticket has expired",
+    34: "KRB_AP_ERR_REPEAT: the authenticator was seen before",
+    35: "KRB_AP_ERR_NOT_US: the ticket is for another service",
+    37: "KRB_AP_ERR_SKEW: the clocks differ too much, or the service was just restarted",
+}
 # What both print about a ticket. The library prints 0 for an absent time.
 PRINTED = ("client", "session-key-type", "flags", "authtime", "starttime", "endtime", "renew-till")
 
@@ -56,6 +63,7 @@ class Place:
         return self.run("kadm", sub, "--db", self.path("database"), *words)
 
     def make_realm(self, etype):
+        self.etype = etype
         password = self.write("password", b"secret\n")
         expect("init", self.kadm("init", "--realm", "A.B", "--seed", self.seed()), "ok\n")
         expect("add", self.kadm("add", "--name", "u", "--password-file", password), "ok\n")
@@ -212,6 +220,11 @@ class Request:
         self.maker.end()
 
 
+def refused(code, service, place):
+    """The line for an AP-REQ that is refused."""
+    return f"refused {code} {TEXTS[code]}: for {service}@A.B, key type {place.etype}"
+
+
 def contents(answer):
     """The contents that the service prints for an AP-REQ that it accepts."""
     words = answer.split(" ")
@@ -228,7 +241,8 @@ def present(place, service, choice):
     expect("an AP-REP", "ap-rep" in accepted, "mutual" in choice)
     if "mutual" in choice:
         request.take(accepted["ap-rep"])
-    expect("the same again", service.ask(request.digits), "refused 34 KRB_AP_ERR_REPEAT")
+    expect("the service", accepted["for"], SERVICE)
+    expect("the same again", service.ask(request.digits), refused(34, SERVICE, place))
     request.end()
     return accepted
 
@@ -238,6 +252,29 @@ def refuse(place, service, name, keytab, answer):
     expect(f"a ticket for {name}", service.ask(request.digits), answer)
     expect("an AP-REQ that is cut", service.ask(request.digits[:-2]), "not an AP-REQ")
     request.end()
+
+
+def go_on(place):
+    """Ends services by the end of their input. Each goes on with what the one before saved: it accepts a client at
+    once, and refuses what that one accepted. The file is gone while one runs. One whose file is damaged refuses all."""
+    saved, requests = place.path("saved"), [place.requests(place, SERVICE, "keytab", ()) for _ in range(3)]
+    words = [place.programs[SERVICE_EXAMPLE], place.path("keytab")]
+    service = Lines(*words, "first", "save", saved)
+    expect("a new one", service.ask(requests[0].digits).split(" ")[0], "accepted")
+    service.end()
+    expect("who may read what is saved", os.stat(saved).st_mode & 0o777, 0o600)
+    service = Lines(*words, "save", saved)
+    expect("one after it", service.ask(requests[1].digits).split(" ")[0], "accepted")
+    expect("whether the file is there", os.path.exists(saved), False)
+    expect("the first again", service.ask(requests[0].digits), refused(34, SERVICE, place))
+    service.end()
+    with open(saved, "r+b") as file:
+        file.write(b"damaged")
+    service = Lines(*words, "save", saved)
+    expect("one after damage", service.ask(requests[2].digits), refused(37, SERVICE, place))
+    service.end()
+    for request in requests:
+        request.end()
 
 
 def go(trial, programs, etype):
@@ -254,11 +291,12 @@ def go(trial, programs, etype):
         accepted = present(place, service, choice)
         expect("the client", accepted["client"], "u@A.B")
         expect("the session key's type", accepted["session-key-type"], str(etype))
-    refuse(place, service, OTHER, "other.keytab", "refused 35 KRB_AP_ERR_NOT_US")
+    refuse(place, service, OTHER, "other.keytab", refused(35, OTHER, place))
     service.end()
     restarted = Lines(place.programs[SERVICE_EXAMPLE], place.path("keytab"))
-    refuse(place, restarted, SERVICE, "keytab", "refused 37 KRB_AP_ERR_SKEW")
+    refuse(place, restarted, SERVICE, "keytab", refused(37, SERVICE, place))
     restarted.end()
+    go_on(place)
 
 
 PROGRAMS = ("kadm", "kdcd", "kclient", SERVICE_EXAMPLE)

@@ -21,8 +21,7 @@
 //! | [`Acceptor::save`], [`Acceptor::resume`] | bytes of the replay caches; an acceptor that goes on with them |
 //!
 //! Nothing here sends or waits, draws random bytes or reads a clock: the caller supplies the moment and the confounder.
-//! It does not decide what a client may do, reads no authorization data, and protects no later message: `enctypes` does,
-//! with the session key or the subkey.
+//! It does not decide what a client may do, reads no authorization data, and protects no later message.
 //! A process that was not saved loses its replay caches: [`Opening`] says what the next start does about them.
 #![tactic(auto)]
 

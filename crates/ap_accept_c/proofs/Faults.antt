@@ -35,6 +35,7 @@ not_opened statuses.Closed octets remembered h = h
 not_opened statuses.Absent octets remembered h = h
 not_opened statuses.BadSaved octets remembered h = h
 not_opened (statuses.Refused refusal) octets remembered h = h
+not_opened (statuses.Failed code) octets remembered h = h
 
 -- nor does one resume
 pub not_resumed : (status : Status) (octets : List ℕ) (remembered : ℕ) (saved : List ℕ) → IsKeytabFault status octets
@@ -49,6 +50,7 @@ not_resumed statuses.Closed octets remembered saved h = h
 not_resumed statuses.Absent octets remembered saved h = h
 not_resumed statuses.BadSaved octets remembered saved h = absurd h
 not_resumed (statuses.Refused refusal) octets remembered saved h = h
+not_resumed (statuses.Failed code) octets remembered saved h = h
 
 -- and no keys are replaced by it
 pub not_replaced : (status : Status) (old new : Service) (octets : List ℕ) → new ≡ old → IsKeytabFault status octets
@@ -63,3 +65,4 @@ not_replaced statuses.Closed old new octets same h = (same, h)
 not_replaced statuses.Absent old new octets same h = (same, h)
 not_replaced statuses.BadSaved old new octets same h = (same, h)
 not_replaced (statuses.Refused refusal) old new octets same h = (same, h)
+not_replaced (statuses.Failed code) old new octets same h = (same, h)

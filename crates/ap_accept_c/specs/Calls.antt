@@ -1,13 +1,13 @@
 -- What calls from C return, and the state that they leave.
-use Rattle.std.specs.Prelude.{◌≡◌, ℕ, ℤ, List, Option, Some, None, length}
+use Rattle.std.specs.Prelude.{◌≡◌, ℕ, ℤ, List, [], Option, Some, None, length}
 use Rattle.krb_fields.specs.declared.moment.Moment.{Moment}
 use Rattle.replay.specs.declared.opening.Opening.{Opening}
-use Rattle.ap_accept.specs.Accepts.{accepts}
-use Rattle.ap_accept.specs.declared.accepted.Accepted.{Accepted}
 use Rattle.ap_accept_c.specs.Buffers.{IsGiven}
-use Rattle.ap_accept_c.specs.Numbers.{numbers_if}
+use Rattle.ap_accept_c.specs.Last.{check_of, nothing, word_in}
+use Rattle.ap_accept_c.specs.Numbers.{numbers_in}
 use Rattle.ap_accept_c.specs.Part.{octets_of}
-use Rattle.ap_accept_c.specs.Service.{IsOpened, IsOpenFault, IsRekeyed, IsResumed, IsResumeFault, IsSaved, IsTaken}
+use Rattle.ap_accept_c.specs.Service.{IsOpened, IsOpenFault, IsRekeyed, IsResumed, IsResumeFault, IsSaved}
+use Rattle.ap_accept_c.specs.Service.{IsNamed, IsTaken, judged}
 use Rattle.ap_accept_c.specs.Status.{number_of}
 use Rattle.ap_accept_c.specs.declared.numbers.Numbers.{Numbers}
 use Rattle.ap_accept_c.specs.declared.part.Part.{Part}
@@ -60,15 +60,26 @@ IsReplacing status None new keytab = (status ≡ Closed) × (new ≡ None)
 
 abbrev pub IsTakenBy : Status → Service → Option Service → Moment → List ℕ → List ℕ → Numbers → Type 0
 IsTakenBy status old (Some new) at confounder octets numbers =
-    IsTaken status old new (accepts old.acceptor at confounder octets) × (numbers ≡ numbers_if new.accepted)
+    IsTaken status old new at octets (judged old at confounder octets) × (numbers ≡ numbers_in new.last)
 IsTakenBy status old None at confounder octets numbers = ⊥
 
 -- a closed acceptor accepts nothing
 abbrev pub IsAccepted : Status → Option Service → Option Service → Moment → List ℕ → List ℕ → Numbers → Type 0
 IsAccepted status (Some old) new at confounder octets numbers = IsTakenBy status old new at confounder octets numbers
-IsAccepted status None new at confounder octets numbers = (status ≡ Closed) × (new ≡ None) × (numbers ≡ numbers_if None)
+IsAccepted status None new at confounder octets numbers = (status ≡ Closed) × (new ≡ None) × (numbers ≡ numbers_in nothing)
 
--- ---- parts of the accepted AP-REQ
+-- ---- the service that it accepts for
+
+abbrev pub IsNamedTo : Status → Service → Option Service → List ℕ → Type 0
+IsNamedTo status old (Some new) text = IsNamed status old new text
+IsNamedTo status old None text = ⊥
+
+-- a closed acceptor accepts for none
+abbrev pub IsNaming : Status → Option Service → Option Service → List ℕ → Type 0
+IsNaming status (Some old) new text = IsNamedTo status old new text
+IsNaming status None new text = (status ≡ Closed) × (new ≡ None)
+
+-- ---- parts of the last AP-REQ
 
 -- the bytes, if there are any, are copied to the buffer, and their number is returned
 abbrev pub IsFetchedOf : Status → Option (List ℕ) → List ℕ → List ℕ → ℕ → Type 0
@@ -76,14 +87,19 @@ IsFetchedOf NoMemory octets old new len = (new ≡ old) × (len ≡ 0)
 IsFetchedOf status (Some octets) old new len = IsGiven status octets old new × (len ≡ length octets)
 IsFetchedOf status None old new len = (status ≡ Absent) × (new ≡ old) × (len ≡ 0)
 
--- the last call accepted nothing
-abbrev pub IsFetchedFrom : Status → Option Accepted → Part → List ℕ → List ℕ → ℕ → Type 0
-IsFetchedFrom status (Some accepted) part old new len = IsFetchedOf status (octets_of part accepted) old new len
-IsFetchedFrom status None part old new len = (status ≡ Absent) × (new ≡ old) × (len ≡ 0)
-
 abbrev pub IsFetched : Status → Option Service → Part → List ℕ → List ℕ → ℕ → Type 0
-IsFetched status (Some service) part old new len = IsFetchedFrom status service.accepted part old new len
+IsFetched status (Some service) part old new len = IsFetchedOf status (octets_of part service.last) old new len
 IsFetched status None part old new len = (status ≡ Closed) × (new ≡ old) × (len ≡ 0)
+
+-- the name of the rule that refused it
+abbrev pub word_of_held : Option Service → List ℕ
+word_of_held (Some service) = word_in service.last.refusal
+word_of_held None = []
+
+-- the status for the authenticator's checksum over these bytes
+abbrev pub IsChecked : Status → Option Service → List ℕ → Type 0
+IsChecked status (Some service) octets = status ≡ check_of service.last.accepted octets
+IsChecked status None octets = status ≡ Closed
 
 -- ---- closing
 

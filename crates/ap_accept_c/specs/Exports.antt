@@ -6,8 +6,12 @@ use Rattle.krb_fields.specs.declared.moment.Moment.{Moment}
 use Rattle.replay.specs.declared.opening.Opening.{Opening}
 use Rattle.replay.specs.declared.opening.Opening.TheVariants.{First, Restart}
 use Rattle.ap_accept_c.specs.Buffers.{texted}
-use Rattle.ap_accept_c.specs.Calls.{IsAccepted, IsClosing, IsFetched, IsOpening, IsReplacing, IsResuming, IsSaving, Numbered}
+use Rattle.ap_accept_c.specs.Calls.{IsAccepted, IsChecked, IsClosing, IsFetched, IsNaming, IsOpening, IsReplacing, IsResuming}
+use Rattle.ap_accept_c.specs.Calls.{IsSaving, Numbered}
+use Rattle.ap_accept_c.specs.Elements.{IsElement}
 use Rattle.ap_accept_c.specs.Part.{part_numbered}
+use Rattle.ap_accept_c.specs.declared.elements.Place.{Place}
+use Rattle.ap_accept_c.specs.declared.exports.Found.{Found}
 use Rattle.ap_accept_c.specs.declared.numbers.Numbers.{Numbers}
 use Rattle.ap_accept_c.specs.declared.part.Part.{Part}
 use Rattle.ap_accept_c.specs.declared.service.Service.{Service}
@@ -57,6 +61,9 @@ IsSaveCall n service old new len = Numbered n (λ status. IsSaving status servic
 abbrev pub IsReplaceCall : ℤ → Option Service → Option Service → List ℕ → Type 0
 IsReplaceCall n old new keytab = Numbered n (λ status. IsReplacing status old new keytab)
 
+abbrev pub IsNameCall : ℤ → Option Service → Option Service → List ℕ → Type 0
+IsNameCall n old new text = Numbered n (λ status. IsNaming status old new text)
+
 abbrev pub IsAcceptCall : ℤ → Option Service → Option Service → ℤ → ℕ → List ℕ → List ℕ → Numbers → Type 0
 IsAcceptCall n old new sec usec confounder octets numbers =
     Numbered n (λ status. IsAcceptedAt status old new sec usec confounder octets numbers)
@@ -68,6 +75,13 @@ IsFetchPart status None service old new len = (status ≡ BadArgument) × (new �
 abbrev pub IsFetchCall : ℤ → Option Service → ℕ → List ℕ → List ℕ → ℕ → Type 0
 IsFetchCall n service part old new len =
     Numbered n (λ status. IsFetchPart status (part_numbered part) service old new len)
+
+abbrev pub IsElementCall : ℤ → Option Service → Place → List ℕ → List ℕ → Found → Type 0
+IsElementCall n service place old new found =
+    Numbered n (λ status. IsElement status service place old new found.len found.number)
+
+abbrev pub IsCheckCall : ℤ → Option Service → List ℕ → Type 0
+IsCheckCall n service octets = Numbered n (λ status. IsChecked status service octets)
 
 abbrev pub IsCloseCall : ℤ → Option Service → Type 0
 IsCloseCall n old = Numbered n (λ status. IsClosing status old)

@@ -1,9 +1,11 @@
 pub mod Held
 pub mod Holder
 pub mod Status
+pub mod Last
 pub mod Service
 pub mod Part
 pub mod Numbers
+pub mod Elements
 pub mod Buffers
 pub mod Calls
 pub mod Exports

@@ -1,17 +1,22 @@
 //! The calls from C, as operations on a `Holder`.
-ghost use Rattle.std.specs.Prelude.{◌≡◌, None, IfOk, IfErr};
-ghost use Rattle.ap_accept_c.specs.Calls.{IsAccepted, IsClosing, IsFetched, IsOpening, IsReplacing, IsResuming, IsSaving};
-ghost use Rattle.ap_accept_c.specs.Exports.{opening_at, IsAcceptedAt, IsFetchPart, IsOpenAt};
+ghost use Rattle.std.specs.Prelude.{◌≡◌, None, IfOk, IfErr, length};
+ghost use Rattle.ap_accept_c.specs.Buffers.{texted};
+ghost use Rattle.ap_accept_c.specs.Calls.{IsAccepted, IsChecked, IsClosing, IsFetched, IsNaming, IsOpening, IsReplacing, IsResuming};
+ghost use Rattle.ap_accept_c.specs.Calls.{IsSaving, word_of_held};
+ghost use Rattle.ap_accept_c.specs.Elements.{IsElement};
+ghost use Rattle.ap_accept_c.specs.Exports.{opening_at, IsAcceptedAt, IsFetchPart, IsOpenAt, IsTextCall};
 ghost use Rattle.ap_accept_c.specs.Holder.{IsHolder};
 ghost use Rattle.ap_accept_c.specs.Part.{part_numbered};
 ghost use Rattle.ap_accept_c.specs.Service.{IsOpened, IsOpenFault, IsResumed, IsResumeFault};
 
-use crate::buffers::Given;
+use crate::buffers::{Given, give_text};
+use crate::elements::{Element, Place, element_at, give_element};
 use crate::holder::Holder;
 use crate::numbers::Numbers;
 use crate::part::Part;
 use crate::service::Service;
 use crate::status::Status;
+use crate::texts::text_of;
 use ap_accept::Opening;
 use krb_fields::Moment;
 use std::alloc::Global;
@@ -43,7 +48,7 @@ pub struct Start {
 pub struct Outcome {
     /// [`Status::Done`] if the AP-REQ is accepted; otherwise why not.
     pub status: Status,
-    /// The numbers of the AP-REQ, or [`Numbers::NONE`] if it isn't accepted.
+    /// The numbers of the AP-REQ.
     pub numbers: Numbers,
 }
 
@@ -179,6 +184,20 @@ pub fn replace_keytab(holder: &mut Holder, alloc: Global, keytab: &[u8]) -> Stat
     status
 }
 
+/// Accepts from now on for the service of this name alone, or, if the text is empty, for each of the keytab.
+pub fn name(holder: &mut Holder, alloc: Global, text: &[u8]) -> Status
+    requires { IsHolder holder.old }
+    ensures holder { IsHolder holder.new }
+    ensures named { IsNaming result holder.old.held.value holder.new.held.value text.now }
+{
+    let Some(mut service) = holder.take(alloc) else {
+        return Status::Closed;
+    };
+    let status = service.name(alloc, text);
+    holder.put(service);
+    status
+}
+
 /// Accepts the bytes of an AP-REQ at the moment that C names, or returns the reason to refuse it.
 pub fn accept_at(
     holder: &mut Holder,
@@ -220,12 +239,12 @@ fn accept(
         };
     };
     let status = service.accept(alloc, at, confounder, ap_req);
-    let numbers = Numbers::of(service.accepted.as_ref());
+    let numbers = Numbers::of(&service.last);
     holder.put(service);
     Outcome { status, numbers }
 }
 
-/// Copies a part, given by its number, of the AP-REQ that was accepted last.
+/// Copies a part, given by its number, of the last AP-REQ.
 pub fn fetch_numbered(holder: &mut Holder, alloc: Global, part: u32, to: &mut [u8]) -> Given
     requires { IsHolder holder.old }
     ensures holder { IsHolder holder.new × (holder.new.held.value ≡ holder.old.held.value) }
@@ -248,6 +267,65 @@ fn fetch(holder: &mut Holder, alloc: Global, part: Part, to: &mut [u8]) -> Given
     let given = service.fetch(alloc, part, to);
     holder.put(service);
     given
+}
+
+/// Copies an element of the authorization data of what was accepted.
+pub fn fetch_element(holder: &mut Holder, alloc: Global, place: Place, to: &mut [u8]) -> Element
+    requires { IsHolder holder.old }
+    ensures holder { IsHolder holder.new × (holder.new.held.value ≡ holder.old.held.value) }
+    ensures fetched { IsElement result.given.status holder.old.held.value place
+        to.old to.new result.given.len result.number }
+{
+    let Some(service) = holder.take(alloc) else {
+        return Element::none(Status::Closed);
+    };
+    let found = give_element(element_at(&service.last, place), to);
+    holder.put(service);
+    found
+}
+
+/// Checks the authenticator's checksum over these bytes.
+pub fn check(holder: &mut Holder, alloc: Global, octets: &[u8]) -> Status
+    requires { IsHolder holder.old }
+    ensures holder { IsHolder holder.new × (holder.new.held.value ≡ holder.old.held.value) }
+    ensures checked { IsChecked result holder.old.held.value octets.now }
+{
+    let Some(service) = holder.take(alloc) else {
+        return Status::Closed;
+    };
+    let status = service.last.check(octets);
+    holder.put(service);
+    status
+}
+
+/// Writes the name of the rule that refused the last AP-REQ, and a NUL. Returns the length of the name, 0 if there is
+/// none.
+pub fn rule(holder: &mut Holder, alloc: Global, to: &mut [u8]) -> usize
+    requires { IsHolder holder.old }
+    ensures holder { IsHolder holder.new × (holder.new.held.value ≡ holder.old.held.value) }
+    ensures given { to.new ≡ texted (word_of_held holder.old.held.value) to.old }
+    ensures len { result ≡ length (word_of_held holder.old.held.value) }
+{
+    let Some(service) = holder.take(alloc) else {
+        return give_text(b"", to);
+    };
+    let word = service.last.word();
+    holder.put(service);
+    give_text(word.as_bytes(), to)
+}
+
+/// Writes the text for a status number, and a NUL. Returns the length of the whole text.
+pub fn text(holder: &mut Holder, alloc: Global, number: i32, to: &mut [u8]) -> usize
+    requires { IsHolder holder.old }
+    ensures holder { IsHolder holder.new × (holder.new.held.value ≡ holder.old.held.value) }
+    ensures text { IsTextCall result to.old to.new }
+{
+    let Some(service) = holder.take(alloc) else {
+        return give_text(text_of(number).as_bytes(), to);
+    };
+    let text = service.text_of(number);
+    holder.put(service);
+    give_text(text.as_bytes(), to)
 }
 
 /// Closes an acceptor and frees its replay caches.

@@ -2,22 +2,33 @@
 //! and an allocator is nothing.
 //!
 //! Null pointers and lengths above PTRDIFF_MAX can't be checked here; the callers check for them.
-ghost use Rattle.std.specs.Prelude.{◌≡◌, None};
-ghost use Rattle.ap_accept_c.specs.Exports.{IsAcceptCall, IsCloseCall, IsFetchCall, IsOpenCall, IsReplaceCall};
-ghost use Rattle.ap_accept_c.specs.Exports.{IsResumeCall, IsSaveCall, IsTextCall};
+ghost use Rattle.std.specs.Prelude.{◌≡◌, None, length};
+ghost use Rattle.ap_accept_c.specs.Buffers.{texted};
+ghost use Rattle.ap_accept_c.specs.Calls.{word_of_held};
+ghost use Rattle.ap_accept_c.specs.Exports.{IsAcceptCall, IsCheckCall, IsCloseCall, IsElementCall, IsFetchCall};
+ghost use Rattle.ap_accept_c.specs.Exports.{IsNameCall, IsOpenCall, IsReplaceCall, IsResumeCall, IsSaveCall, IsTextCall};
 ghost use Rattle.ap_accept_c.specs.Holder.{IsHolder};
 
-use crate::buffers::give_text;
 use crate::calls;
 use crate::calls::{Start, Time};
+use crate::elements::Place;
 use crate::holder::Holder;
 use crate::numbers::Numbers;
-use crate::texts::text_of;
 use std::alloc::Global;
 
 /// The AP_VERSION of the header. The names of these functions have it too, so that a program that was compiled with an
 /// older header is not linked.
 const VERSION: u32 = 3;
+
+/// What is found of an element.
+#[repr(C)]
+#[derive(Clone, Copy)]
+pub struct Found {
+    /// Its type.
+    pub number: i32,
+    /// The number of its bytes.
+    pub len: usize,
+}
 
 /// Opens a closed acceptor with the bytes of a keytab.
 #[unsafe(no_mangle)]
@@ -82,6 +93,16 @@ pub extern "C" fn ap_accept_c_v3_replace_keytab(
     calls::replace_keytab(holder, alloc, keytab).number()
 }
 
+/// Accepts from now on for the service of this name alone, or, if the text is empty, for each of the keytab.
+#[unsafe(no_mangle)]
+pub extern "C" fn ap_accept_c_v3_name(alloc: Global, holder: &mut Holder, text: &[u8]) -> i32
+    requires { IsHolder holder.old }
+    ensures holder { IsHolder holder.new }
+    ensures named { IsNameCall result holder.old.held.value holder.new.held.value text.now }
+{
+    calls::name(holder, alloc, text).number()
+}
+
 /// Accepts the bytes of an AP-REQ, or returns the code of the rule that refuses them.
 #[unsafe(no_mangle)]
 pub extern "C" fn ap_accept_c_v3_accept(
@@ -102,7 +123,7 @@ pub extern "C" fn ap_accept_c_v3_accept(
     outcome.status.number()
 }
 
-/// Copies a part of the AP-REQ that was accepted last, and sets `len` to its length.
+/// Copies a part of the last AP-REQ, and sets `len` to its length.
 #[unsafe(no_mangle)]
 pub extern "C" fn ap_accept_c_v3_octets(
     alloc: Global,
@@ -138,10 +159,59 @@ pub extern "C" fn ap_accept_c_v3_version() -> u32
     VERSION
 }
 
+/// Writes the name of the rule that refused the last AP-REQ to a buffer, and returns its length.
+#[unsafe(no_mangle)]
+pub extern "C" fn ap_accept_c_v3_rule(alloc: Global, holder: &mut Holder, to: &mut [u8]) -> usize
+    requires { IsHolder holder.old }
+    ensures holder { IsHolder holder.new × (holder.new.held.value ≡ holder.old.held.value) }
+    ensures given { to.new ≡ texted (word_of_held holder.old.held.value) to.old }
+    ensures len { result ≡ length (word_of_held holder.old.held.value) }
+{
+    calls::rule(holder, alloc, to)
+}
+
 /// Writes the text for a status to a buffer, and returns its length.
 #[unsafe(no_mangle)]
-pub extern "C" fn ap_accept_c_v3_text(number: i32, to: &mut [u8]) -> usize
-    ensures { IsTextCall result to.old to.new }
+pub extern "C" fn ap_accept_c_v3_text(
+    alloc: Global,
+    holder: &mut Holder,
+    number: i32,
+    to: &mut [u8],
+) -> usize
+    requires { IsHolder holder.old }
+    ensures holder { IsHolder holder.new × (holder.new.held.value ≡ holder.old.held.value) }
+    ensures text { IsTextCall result to.old to.new }
 {
-    give_text(text_of(number).as_bytes(), to)
+    calls::text(holder, alloc, number, to)
+}
+
+/// Copies an element of the authorization data of what was accepted.
+#[unsafe(no_mangle)]
+pub extern "C" fn ap_accept_c_v3_element(
+    alloc: Global,
+    holder: &mut Holder,
+    place: &Place,
+    to: &mut [u8],
+    found: &mut Found,
+) -> i32
+    requires { IsHolder holder.old }
+    ensures holder { IsHolder holder.new × (holder.new.held.value ≡ holder.old.held.value) }
+    ensures fetched { IsElementCall result holder.old.held.value place.now to.old to.new found.new }
+{
+    let element = calls::fetch_element(holder, alloc, *place, to);
+    *found = Found {
+        number: element.number,
+        len: element.given.len,
+    };
+    element.given.status.number()
+}
+
+/// Checks the authenticator's checksum over these bytes.
+#[unsafe(no_mangle)]
+pub extern "C" fn ap_accept_c_v3_check(alloc: Global, holder: &mut Holder, octets: &[u8]) -> i32
+    requires { IsHolder holder.old }
+    ensures holder { IsHolder holder.new × (holder.new.held.value ≡ holder.old.held.value) }
+    ensures checked { IsCheckCall result holder.old.held.value octets.now }
+{
+    calls::check(holder, alloc, octets).number()
 }

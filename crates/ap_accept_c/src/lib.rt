@@ -21,9 +21,11 @@
 
 mod buffers;
 mod calls;
+mod elements;
 mod exports;
 mod held;
 mod holder;
+mod last;
 mod numbers;
 mod part;
 mod parts;

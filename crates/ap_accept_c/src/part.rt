@@ -1,11 +1,13 @@
-//! The parts of an accepted AP-REQ that are bytes.
-ghost use Rattle.std.specs.Prelude.{◌≡◌, IfOk, option_map, option_copied};
+//! The parts of an AP-REQ that are bytes.
+ghost use Rattle.std.specs.Prelude.{◌≡◌, IfOk, option_and_then, option_map, option_copied};
+ghost use Rattle.krb_fields.specs.NameText.{text_of};
 ghost use Rattle.ap_accept_c.specs.Part.{octets_of, part_numbered};
 
-use ap_accept::Accepted;
+use crate::last::Last;
+use krb_fields::Name;
 use std::alloc::{AllocError, Global};
 
-/// A part of an accepted AP-REQ that is bytes.
+/// A part of the last AP-REQ that is bytes. The first six are there if it was accepted.
 #[derive(Clone, Copy)]
 pub enum Part {
     /// The client's realm.
@@ -20,10 +22,16 @@ pub enum Part {
     Checksum,
     /// The AP-REP.
     ApRep,
+    /// The realm of the service that the ticket is for.
+    ServiceRealm,
+    /// That service's name as text, without its realm.
+    ServiceName,
+    /// The KRB-ERROR for the refusal.
+    Error,
 }
 
 impl Part {
-    /// Returns the part with this number of `enum ap_part` in `docs/ap_accept.h`: 1 to 6.
+    /// Returns the part with this number of `enum ap_part` in `docs/ap_accept.h`: 1 to 9.
     pub fn numbered(number: u32) -> Option<Part>
         ensures { result ≡ part_numbered number }
     {
@@ -34,25 +42,28 @@ impl Part {
             4 => Some(Part::Subkey),
             5 => Some(Part::Checksum),
             6 => Some(Part::ApRep),
+            7 => Some(Part::ServiceRealm),
+            8 => Some(Part::ServiceName),
+            9 => Some(Part::Error),
             _ => None,
         }
     }
 
-    /// Returns the bytes, if the AP-REQ has this part.
-    pub fn octets(self, alloc: Global, accepted: &Accepted) -> Result<Option<Vec<u8>>, AllocError>
-        ensures { IfOk result (λ octets. option_map (λ o. o.items) octets ≡ octets_of self accepted.now) }
+    /// Returns the bytes, if there is this part.
+    pub fn octets(self, alloc: Global, last: &Last) -> Result<Option<Vec<u8>>, AllocError>
+        ensures { IfOk result (λ octets. option_map (λ o. o.items) octets ≡ octets_of self last.now) }
     {
-        let octets = match self {
-            Part::ClientName => {
-                return Ok(Some(accepted.client.name.to_text(alloc)?.into_bytes()));
-            }
-            Part::ClientRealm => Some(accepted.client.realm.as_slice()),
-            Part::SessionKey => Some(accepted.session_key.bytes()),
-            Part::Subkey => subkey(accepted),
-            Part::Checksum => checksum(accepted),
-            Part::ApRep => ap_rep(accepted),
-        };
-        copied(alloc, octets)
+        match self {
+            Part::ClientRealm => copied(alloc, client_realm(last)),
+            Part::ClientName => text_of(alloc, client_name(last)),
+            Part::SessionKey => copied(alloc, session_key(last)),
+            Part::Subkey => copied(alloc, subkey(last)),
+            Part::Checksum => copied(alloc, checksum(last)),
+            Part::ApRep => copied(alloc, ap_rep(last)),
+            Part::ServiceRealm => copied(alloc, service_realm(last)),
+            Part::ServiceName => text_of(alloc, service_name(last)),
+            Part::Error => last.error(alloc),
+        }
     }
 }
 
@@ -65,29 +76,93 @@ fn copied(alloc: Global, octets: Option<&[u8]>) -> Result<Option<Vec<u8>>, Alloc
     }
 }
 
-fn subkey(accepted: &Accepted) -> Option<&[u8]>
-    ensures { option_copied result ≡ option_map (λ k. k.bytes) accepted.now.subkey }
+fn text_of(alloc: Global, name: Option<&Name>) -> Result<Option<Vec<u8>>, AllocError>
+    ensures { IfOk result (λ text. option_map (λ o. o.items) text
+        ≡ option_map (λ n. text_of n.components) (option_copied name.entry)) }
 {
+    match name {
+        Some(name) => Ok(Some(name.to_text(alloc)?.into_bytes())),
+        None => Ok(None),
+    }
+}
+
+// ---- of what was accepted
+
+fn client_realm(last: &Last) -> Option<&[u8]>
+    ensures { option_copied result ≡ option_map (λ a. a.client.realm) last.now.accepted }
+{
+    match &last.accepted {
+        Some(accepted) => Some(accepted.client.realm.as_slice()),
+        None => None,
+    }
+}
+
+fn client_name(last: &Last) -> Option<&Name>
+    ensures { option_copied result ≡ option_map (λ a. a.client.name) last.now.accepted }
+{
+    match &last.accepted {
+        Some(accepted) => Some(&accepted.client.name),
+        None => None,
+    }
+}
+
+fn session_key(last: &Last) -> Option<&[u8]>
+    ensures { option_copied result ≡ option_map (λ a. a.session_key.bytes) last.now.accepted }
+{
+    match &last.accepted {
+        Some(accepted) => Some(accepted.session_key.bytes()),
+        None => None,
+    }
+}
+
+fn subkey(last: &Last) -> Option<&[u8]>
+    ensures { option_copied result
+        ≡ option_and_then (λ a. option_map (λ k. k.bytes) a.subkey) last.now.accepted }
+{
+    let accepted = last.accepted.as_ref()?;
     match &accepted.subkey {
         Some(key) => Some(key.bytes()),
         None => None,
     }
 }
 
-fn checksum(accepted: &Accepted) -> Option<&[u8]>
-    ensures { option_copied result ≡ option_map (λ c. c.octets) accepted.now.cksum }
+fn checksum(last: &Last) -> Option<&[u8]>
+    ensures { option_copied result
+        ≡ option_and_then (λ a. option_map (λ c. c.octets) a.cksum) last.now.accepted }
 {
+    let accepted = last.accepted.as_ref()?;
     match &accepted.cksum {
         Some(cksum) => Some(cksum.octets.as_slice()),
         None => None,
     }
 }
 
-fn ap_rep(accepted: &Accepted) -> Option<&[u8]>
-    ensures { option_copied result ≡ accepted.now.ap_rep }
+fn ap_rep(last: &Last) -> Option<&[u8]>
+    ensures { option_copied result ≡ option_and_then (λ a. a.ap_rep) last.now.accepted }
 {
+    let accepted = last.accepted.as_ref()?;
     match &accepted.ap_rep {
         Some(octets) => Some(octets.as_slice()),
+        None => None,
+    }
+}
+
+// ---- of the ticket in clear
+
+fn service_realm(last: &Last) -> Option<&[u8]>
+    ensures { option_copied result ≡ option_map (λ l. l.service.realm) last.now.label }
+{
+    match &last.label {
+        Some(label) => Some(label.service.realm.as_slice()),
+        None => None,
+    }
+}
+
+fn service_name(last: &Last) -> Option<&Name>
+    ensures { option_copied result ≡ option_map (λ l. l.service.name) last.now.label }
+{
+    match &last.label {
+        Some(label) => Some(&label.service.name),
         None => None,
     }
 }

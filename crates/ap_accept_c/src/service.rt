@@ -1,18 +1,21 @@
-//! An acceptor and the AP-REQ that it accepted last.
-ghost use Rattle.std.specs.Prelude.{◌≡◌, None, IfOk, IfErr};
-ghost use Rattle.ap_accept.specs.Accepts.{accepts};
+//! An acceptor and what its last AP-REQ came to.
+ghost use Rattle.std.specs.Prelude.{◌≡◌, None, IfOk, IfErr, option_copied};
+ghost use Rattle.ap_accept.specs.Accepts.{IsAfter, IsAnswer};
 ghost use Rattle.cred_files.specs.Keytab.{IsKeytab};
-ghost use Rattle.ap_accept_c.specs.Calls.{IsFetchedFrom, IsFetchedOf};
+ghost use Rattle.ap_accept_c.specs.Calls.{IsFetchedOf};
 ghost use Rattle.ap_accept_c.specs.Part.{octets_of};
+ghost use Rattle.ap_accept_c.specs.Status.{status_of_answer};
 ghost use Rattle.ap_accept_c.specs.Service.{IsKeytabFault, IsOpened, IsOpenFault, IsRekeyed, IsResumed, IsResumeFault};
-ghost use Rattle.ap_accept_c.specs.Service.{IsSaved, IsTaken};
+ghost use Rattle.ap_accept_c.specs.Service.{IsNamed, IsName, IsNameFault, IsNamed, IsSaved, IsTaken, judged, judged_by, keeping};
 
 use crate::buffers::{Given, give};
+use crate::last::{Last, Refusal};
 use crate::part::Part;
 use crate::status::Status;
-use ap_accept::{Accepted, Acceptor, AcceptorOptions, Opening};
+use crate::texts::text_of;
+use ap_accept::{Accepted, Acceptor, AcceptorOptions, ApFault, Opening, TicketLabel, refusal_text};
 use cred_files::Keytab;
-use krb_fields::Moment;
+use krb_fields::{Moment, Name, NameFault};
 use std::alloc::Global;
 
 /// The value behind the pointer that C holds.
@@ -20,9 +23,10 @@ use std::alloc::Global;
 pub struct Service {
     /// The services' keys, and the replay caches of their clients.
     pub acceptor: Acceptor,
-    /// What the last call accepted, if it accepted anything. The caller may read it any number of times, until the next
-    /// call.
-    pub accepted: Option<Accepted>,
+    /// The name of the service that it accepts for; if there is none, for each of the keytab.
+    pub only: Option<Name>,
+    /// What the last AP-REQ came to. The caller may read it any number of times, until the next one.
+    pub last: Last,
 }
 
 impl Service {
@@ -46,7 +50,8 @@ impl Service {
         let options = AcceptorOptions { remembered };
         Ok(Service {
             acceptor: Acceptor::open(alloc, keytab, options, opening)?,
-            accepted: None,
+            only: None,
+            last: Last::nothing(),
         })
     }
 
@@ -72,7 +77,8 @@ impl Service {
         match Acceptor::resume(alloc, keytab, options, saved) {
             Ok(acceptor) => Ok(Service {
                 acceptor,
-                accepted: None,
+                only: None,
+                last: Last::nothing(),
             }),
             Err(fault) => Err(Status::of_resume_fault(fault)),
         }
@@ -101,6 +107,20 @@ impl Service {
         }
     }
 
+    /// Accepts from now on for the service of this name alone, or, if the text is empty, for each of the keytab.
+    /// Changes nothing if the text is not a name's.
+    pub fn name(&mut self, alloc: Global, text: &[u8]) -> Status
+        ensures { IsNamed result self.old self.new text.now }
+    {
+        match name_in(alloc, text) {
+            Ok(only) => {
+                self.only = only;
+                Status::Done
+            }
+            Err(status) => status,
+        }
+    }
+
     /// Accepts the bytes of an AP-REQ, or returns the reason to refuse them.
     pub fn accept(
         &mut self,
@@ -109,25 +129,74 @@ impl Service {
         confounder: &[u8; 16],
         ap_req: &[u8],
     ) -> Status
-        ensures { IsTaken result self.old self.new (accepts self.old.acceptor at confounder.now ap_req.now) }
+        ensures { IsTaken result self.old self.new at ap_req.now (judged self.old at confounder.now ap_req.now) }
     {
-        self.accepted = None;
-        match self.acceptor.accept(alloc, at, confounder, ap_req) {
+        self.last = Last::nothing();
+        let label = match TicketLabel::read(alloc, ap_req) {
+            Ok(label) => label,
+            Err(fault) => return Status::of_fault(fault),
+        };
+        let answer = judge(
+            &mut self.acceptor,
+            self.only.as_ref(),
+            alloc,
+            at,
+            confounder,
+            ap_req,
+        );
+        self.keep(at, label, answer)
+    }
+
+    /// Keeps what an AP-REQ came to, unless memory ran out.
+    fn keep(&mut self, at: Moment, label: TicketLabel, answer: Result<Accepted, ApFault>) -> Status
+        ensures status { result ≡ status_of_answer answer }
+        ensures kept { self.new ≡ keeping self.old at label answer }
+    {
+        match answer {
             Ok(accepted) => {
-                self.accepted = Some(accepted);
+                self.last = Last {
+                    accepted: Some(accepted),
+                    label: Some(label),
+                    refusal: None,
+                };
                 Status::Done
             }
-            Err(fault) => Status::of_fault(fault),
+            Err(ApFault::NotAnApReq) => {
+                self.last = Last {
+                    accepted: None,
+                    label: Some(label),
+                    refusal: None,
+                };
+                Status::NotAnApReq
+            }
+            Err(ApFault::Refused(rule)) => {
+                self.last = Last {
+                    accepted: None,
+                    label: Some(label),
+                    refusal: Some(Refusal { rule, at }),
+                };
+                Status::Refused(rule)
+            }
+            Err(ApFault::Memory) => Status::NoMemory,
         }
     }
 
-    /// Copies a part of the AP-REQ that was accepted last.
+    /// Copies a part of the last AP-REQ.
     pub fn fetch(&self, alloc: Global, part: Part, to: &mut [u8]) -> Given
-        ensures { IsFetchedFrom result.status self.now.accepted part to.old to.new result.len }
+        ensures { IsFetchedOf result.status (octets_of part self.now.last) to.old to.new result.len }
     {
-        match &self.accepted {
-            Some(accepted) => fetch_from(accepted, alloc, part, to),
-            None => Given::none(Status::Absent),
+        match part.octets(alloc, &self.last) {
+            Ok(Some(octets)) => give(octets.as_slice(), to),
+            Ok(None) => Given::none(Status::Absent),
+            Err(_) => Given::none(Status::NoMemory),
+        }
+    }
+
+    /// Returns the text for a status number: of a refusal, if it is the last one, that of its rule.
+    pub fn text_of(&self, number: i32) -> &'static str {
+        match self.last.refusal {
+            Some(refusal) if refusal.rule.code().number() == number => refusal_text(refusal.rule),
+            _ => text_of(number),
         }
     }
 }
@@ -142,12 +211,40 @@ fn keytab_in(alloc: Global, octets: &[u8]) -> Result<Keytab, Status>
     }
 }
 
-fn fetch_from(accepted: &Accepted, alloc: Global, part: Part, to: &mut [u8]) -> Given
-    ensures { IsFetchedOf result.status (octets_of part accepted.now) to.old to.new result.len }
+/// Returns the name that the text spells, or `None` if it is empty.
+fn name_in(alloc: Global, text: &[u8]) -> Result<Option<Name>, Status>
+    ensures named { IfOk result (λ name. IsName name text.now) }
+    ensures fault { IfErr result (λ status. IsNameFault status text.now) }
 {
-    match part.octets(alloc, accepted) {
-        Ok(Some(octets)) => give(octets.as_slice(), to),
-        Ok(None) => Given::none(Status::Absent),
-        Err(_) => Given::none(Status::NoMemory),
+    if text.is_empty() {
+        return Ok(None);
+    }
+    let Ok(text) = str::from_utf8(text) else {
+        return Err(Status::BadArgument);
+    };
+    match Name::from_text(alloc, text) {
+        Ok(name) => Ok(Some(name)),
+        Err(NameFault::BadName) => Err(Status::BadArgument),
+        Err(NameFault::Memory) => Err(Status::NoMemory),
+    }
+}
+
+/// Accepts the bytes of an AP-REQ, for the service of this name alone if there is one.
+fn judge(
+    acceptor: &mut Acceptor,
+    only: Option<&Name>,
+    alloc: Global,
+    at: Moment,
+    confounder: &[u8; 16],
+    ap_req: &[u8],
+) -> Result<Accepted, ApFault>
+    ensures answer { IsAnswer result
+        (judged_by (option_copied only.entry) acceptor.old at confounder.now ap_req.now).answer }
+    ensures state { IsAfter result acceptor.old acceptor.new
+        (judged_by (option_copied only.entry) acceptor.old at confounder.now ap_req.now).state }
+{
+    match only {
+        Some(service) => acceptor.accept_for(service, alloc, at, confounder, ap_req),
+        None => acceptor.accept(alloc, at, confounder, ap_req),
     }
 }

@@ -1,10 +1,11 @@
 //! The results of calls from C.
 ghost use Rattle.std.specs.Prelude.{◌≡◌};
-ghost use Rattle.ap_accept_c.specs.Status.{number_of, status_of, status_of_keytab, status_of_resuming};
+ghost use Rattle.ap_accept_c.specs.Status.{number_of, status_of, status_of_checksum, status_of_keytab, status_of_resuming};
 ghost use Rattle.ap_accept_c.specs.declared.status.Status.TheVariants as statuses;
 
-use ap_accept::{ApFault, ApRefusal, ResumeFault};
+use ap_accept::{ApFault, ApRefusal, ChecksumFault, ResumeFault};
 use cred_files::CredFault;
+use krb_fields::Code;
 use std::alloc::AllocError;
 
 /// The result of a call from C. A status with a code of RFC 4120 has its number; the others are 0 and below.
@@ -18,7 +19,7 @@ pub enum Status {
     NoMemory,
     /// A number is out of its range, or the acceptor is open already.
     BadArgument,
-    /// The buffer is too small for the part.
+    /// The buffer is too small for the bytes.
     TooSmall,
     /// The bytes are not a keytab.
     BadKeytab,
@@ -30,6 +31,8 @@ pub enum Status {
     BadSaved,
     /// A rule of RFC 4120, section 3.2.3, refuses the request.
     Refused(ApRefusal),
+    /// A checksum or a sealed text of the application is not good.
+    Failed(Code),
 }
 
 impl Status {
@@ -48,6 +51,7 @@ impl Status {
             Status::Absent => -7,
             Status::BadSaved => -9,
             Status::Refused(refusal) => refusal.code().number(),
+            Status::Failed(code) => code.number(),
         }
     }
 
@@ -59,6 +63,18 @@ impl Status {
             ApFault::NotAnApReq => Status::NotAnApReq,
             ApFault::Refused(refusal) => Status::Refused(refusal),
             ApFault::Memory => Status::NoMemory,
+        }
+    }
+
+    /// Returns the status for the authenticator's checksum.
+    pub fn of_checksum_fault(fault: Option<ChecksumFault>) -> Status
+        ensures { result ≡ status_of_checksum fault }
+    {
+        match fault {
+            None => Status::Done,
+            Some(ChecksumFault::Absent) => Status::Absent,
+            Some(ChecksumFault::OtherType) => Status::Failed(ChecksumFault::OtherType.code()),
+            Some(ChecksumFault::Modified) => Status::Failed(ChecksumFault::Modified.code()),
         }
     }
 
