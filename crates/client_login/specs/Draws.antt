@@ -1,5 +1,5 @@
 -- What a client draws at random from its generator.
-use Rattle.std.specs.Prelude.{ℕ, ◌%◌, List}
+use Rattle.std.specs.Prelude.{◌≡◌, ◌≤◌, ℕ, zero, suc, ◌%◌, List}
 use Rattle.std.specs.Int.{w32, from_be_bytes}
 use Rattle.rand_core.specs.Stream.{Stream, fill_bytes}
 
@@ -15,3 +15,13 @@ drawn_confounder random = (fill_bytes 16 random).0
 
 abbrev pub after_confounder : Stream → Stream
 after_confounder random = (fill_bytes 16 random).1
+
+abbrev pub after_confounders : ℕ → Stream → Stream
+after_confounders zero random = random
+after_confounders (suc n) random = after_confounders n (after_confounder random)
+
+-- The generator after a call: at most two confounders were drawn, for two requests.
+pub record HasDrawn (random after : Stream) : Type 0 where
+  pub confounders : ℕ
+  pub few : confounders ≤ 2
+  pub later : after ≡ after_confounders confounders random

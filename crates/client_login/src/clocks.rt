@@ -19,6 +19,7 @@ impl<X> KdcClient<X> {
         // It is off by more than the clock skew.
         ensures beyond { IfSome result (λ ahead. is_within_skew ahead ≡ false) }
         ensures once { IfSome result (λ ahead. (self.old.is_by_kdc ≡ false) × (self.new.is_by_kdc ≡ true)) }
+        ensures kdcs { self.new.kdcs ≡ self.old.kdcs }
         ensures unchanged { IfNone result (self.new ≡ self.old) }
     {
         if self.is_by_kdc {

@@ -6,7 +6,7 @@ ghost use Rattle.client_core.specs.Taken.{AreSame};
 ghost use Rattle.client_core.specs.declared.fault.ClientFault.TheVariants as found;
 ghost use Rattle.client_core.specs.declared.key_role.KeyRole.TheVariants as roles;
 ghost use Rattle.krb_types.specs.Ticket as tickets;
-ghost use Rattle.client_login.specs.Draws.{after_nonce, drawn_nonce};
+ghost use Rattle.client_login.specs.Draws.{HasDrawn, after_nonce, drawn_nonce};
 ghost use Rattle.client_login.specs.Faults.{IsFirstFault, IsRejection, SaysFirst, SaysRefused};
 ghost use Rattle.client_login.specs.Keys.{IsOwnKey};
 ghost use Rattle.client_login.specs.Logins.{CarriesFirst, IsFirst, TakesFirst, logs_in};
@@ -52,7 +52,7 @@ impl<X: Network> KdcClient<X> {
     /// Gets a first ticket. The client sends a request without a timestamp, and another with one if the KDC requires
     /// preauthentication. It derives its key as the KDC says, but with no fewer iterations of string-to-key than the
     /// password's least count. With a keytab it requests exactly the types of the client's keys in it.
-    #[tactic(auto, using(crate::proofs::Moving::moved_none, crate::proofs::Clients::first_client, crate::proofs::Within::same_places))]
+    #[tactic(auto, using(crate::proofs::Moving::moved_none, crate::proofs::Moving::drawn_none, crate::proofs::Clients::first_client, crate::proofs::Within::same_places))]
     pub fn log_in<R: Rng>(
         &mut self,
         rng: &mut R,
@@ -78,6 +78,7 @@ impl<X: Network> KdcClient<X> {
         ensures moved { IsMoved self.old.at self.new.at }
         ensures within { AreWithin X.finds self.old.kdcs.places.items self.new.kdcs.places.items }
         ensures clock { self.new.is_by_kdc ≡ self.old.is_by_kdc }
+        ensures drawn { HasDrawn (after_nonce (R.stream rng.old)) (R.stream rng.new) }
     {
         let alloc = self.alloc;
         self.kdcs.network.begin();
@@ -96,7 +97,7 @@ impl<X: Network> KdcClient<X> {
 }
 
 /// Sends the request without a timestamp.
-#[tactic(auto, using(crate::proofs::Takings::first_blamed, crate::proofs::Takings::first_taken, crate::proofs::Takings::first_unheard, crate::proofs::Moving::moved_none, crate::proofs::Within::same_places, crate::proofs::Within::further_within, crate::proofs::Wider::first_wider, crate::proofs::Wider::first_fault_wider))]
+#[tactic(auto, using(crate::proofs::Takings::first_blamed, crate::proofs::Takings::first_taken, crate::proofs::Takings::first_unheard, crate::proofs::Moving::moved_none, crate::proofs::Moving::drawn_none, crate::proofs::Within::same_places, crate::proofs::Within::further_within, crate::proofs::Wider::first_wider, crate::proofs::Wider::first_fault_wider))]
 fn ask_plainly<X: Network, R: Rng>(
     client: &mut KdcClient<X>,
     rng: &mut R,
@@ -112,6 +113,7 @@ fn ask_plainly<X: Network, R: Rng>(
     ensures moved { IsMoved client.old.at client.new.at }
     ensures within { AreWithin X.finds client.old.kdcs.places.items client.new.kdcs.places.items }
     ensures clock { client.new.is_by_kdc ≡ client.old.is_by_kdc }
+    ensures drawn { HasDrawn (R.stream rng.old) (R.stream rng.new) }
 {
     if !first.asked.is_askable() {
         return Err(LoginFault::new(LoginError::NotAskable));
@@ -170,6 +172,7 @@ fn ask_with_timestamp<X: Network, R: Rng>(
     ensures moved { IsMoved client.old.at client.new.at }
     ensures within { AreWithin X.finds client.old.kdcs.places.items client.new.kdcs.places.items }
     ensures clock { client.new.is_by_kdc ≡ client.old.is_by_kdc }
+    ensures drawn { HasDrawn (R.stream rng.old) (R.stream rng.new) }
 {
     let at = client.at;
     let request = ProvingRequest::Stamped {

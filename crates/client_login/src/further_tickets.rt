@@ -5,7 +5,7 @@ ghost use Rattle.client_core.specs.Taken.{IsTaken};
 ghost use Rattle.client_core.specs.declared.key_role.KeyRole.TheVariants as roles;
 ghost use Rattle.krb_types.specs.Ticket as tickets;
 ghost use Rattle.client_login.specs.Asking.{renewal_options, further_asked};
-ghost use Rattle.client_login.specs.Draws.{after_nonce, drawn_nonce};
+ghost use Rattle.client_login.specs.Draws.{HasDrawn, after_nonce, drawn_nonce};
 ghost use Rattle.client_login.specs.Faults.{IsFurtherFault, IsTgsRejection, SaysTgs};
 ghost use Rattle.client_login.specs.Logins.{CarriesPresented, IsFurther};
 ghost use Rattle.client_login.specs.Moments.{IsMoved};
@@ -39,7 +39,7 @@ struct FurtherRequest<'a> {
 
 impl<X: Network> KdcClient<X> {
     /// Gets a ticket for a service of the client's realm, with a ticket-granting ticket. It ends as late as that one.
-    #[tactic(auto, using(crate::proofs::Moving::moved_none, crate::proofs::Within::same_places))]
+    #[tactic(auto, using(crate::proofs::Moving::moved_none, crate::proofs::Moving::drawn_none, crate::proofs::Within::same_places))]
     pub fn service_ticket<R: Rng>(
         &mut self,
         rng: &mut R,
@@ -63,6 +63,7 @@ impl<X: Network> KdcClient<X> {
         ensures moved { IsMoved self.old.at self.new.at }
         ensures within { AreWithin X.finds self.old.kdcs.places.items self.new.kdcs.places.items }
         ensures clock { self.new.is_by_kdc ≡ self.old.is_by_kdc }
+        ensures drawn { HasDrawn (after_nonce (R.stream rng.old)) (R.stream rng.new) }
     {
         let alloc = self.alloc;
         self.kdcs.network.begin();
@@ -82,7 +83,7 @@ impl<X: Network> KdcClient<X> {
 
     /// Gets a ticket again: renewed, with a new start; or validated, if it was postdated (RFC 4120, sections 2.3 and
     /// 2.4).
-    #[tactic(auto, using(crate::proofs::Moving::moved_none, crate::proofs::Within::same_places))]
+    #[tactic(auto, using(crate::proofs::Moving::moved_none, crate::proofs::Moving::drawn_none, crate::proofs::Within::same_places))]
     pub fn renew<R: Rng>(
         &mut self,
         rng: &mut R,
@@ -106,6 +107,7 @@ impl<X: Network> KdcClient<X> {
         ensures moved { IsMoved self.old.at self.new.at }
         ensures within { AreWithin X.finds self.old.kdcs.places.items self.new.kdcs.places.items }
         ensures clock { self.new.is_by_kdc ≡ self.old.is_by_kdc }
+        ensures drawn { HasDrawn (after_nonce (R.stream rng.old)) (R.stream rng.new) }
     {
         let alloc = self.alloc;
         self.kdcs.network.begin();
@@ -125,7 +127,7 @@ impl<X: Network> KdcClient<X> {
 }
 
 /// Sends the request with the ticket.
-#[tactic(auto, using(crate::proofs::Takings::further_blamed, crate::proofs::Takings::further_taken, crate::proofs::Takings::further_unheard, crate::proofs::Moving::moved_none, crate::proofs::Within::same_places, crate::proofs::Carried::carries_presented))]
+#[tactic(auto, using(crate::proofs::Takings::further_blamed, crate::proofs::Takings::further_taken, crate::proofs::Takings::further_unheard, crate::proofs::Moving::moved_none, crate::proofs::Moving::drawn_none, crate::proofs::Within::same_places, crate::proofs::Carried::carries_presented))]
 fn ask_with_ticket<X: Network, R: Rng>(
     client: &mut KdcClient<X>,
     rng: &mut R,
@@ -142,6 +144,7 @@ fn ask_with_ticket<X: Network, R: Rng>(
     ensures moved { IsMoved client.old.at client.new.at }
     ensures within { AreWithin X.finds client.old.kdcs.places.items client.new.kdcs.places.items }
     ensures clock { client.new.is_by_kdc ≡ client.old.is_by_kdc }
+    ensures drawn { HasDrawn (R.stream rng.old) (R.stream rng.new) }
 {
     let Some(key) = session_key(further.granting) else {
         return Err(LoginFault::new(LoginError::NotPresentable));

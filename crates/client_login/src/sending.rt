@@ -1,6 +1,6 @@
 //! Sends a request that proves at the client's moment who the client is (RFC 4120, sections 3.1.1 and 3.3.1).
-ghost use Rattle.std.specs.Prelude.{◌≡◌, List, ℕ, IfErr, IfOk, OnOk};
-ghost use Rattle.client_login.specs.Draws.{after_confounder, drawn_confounder};
+ghost use Rattle.std.specs.Prelude.{◌≡◌, List, ℕ, IfErr, IfOk};
+ghost use Rattle.client_login.specs.Draws.{HasDrawn, after_confounder, drawn_confounder};
 ghost use Rattle.client_login.specs.Faults.{IsUnheard};
 ghost use Rattle.client_login.specs.Moments.{IsMoved, IsNext};
 ghost use Rattle.client_login.specs.Places.{AreWithin};
@@ -36,7 +36,7 @@ pub(crate) enum ProvingRequest<'a> {
 
 /// Returns the reply to a request. A KDC that has seen another request of the client with the same moment gets another
 /// one, with the next moment.
-#[tactic(auto, using(crate::proofs::Moving::moved_once, crate::proofs::Moving::moved_twice, crate::proofs::Within::further_within, crate::proofs::Wider::reply_wider, crate::proofs::Wider::unheard_wider))]
+#[tactic(auto, using(crate::proofs::Moving::moved_once, crate::proofs::Moving::moved_twice, crate::proofs::Moving::drawn_once, crate::proofs::Moving::drawn_twice, crate::proofs::Within::further_within, crate::proofs::Wider::reply_wider, crate::proofs::Wider::unheard_wider))]
 pub(crate) fn send<X: Network, R: Rng>(
     client: &mut KdcClient<X>,
     rng: &mut R,
@@ -51,6 +51,7 @@ pub(crate) fn send<X: Network, R: Rng>(
     ensures moved { IsMoved client.old.at client.new.at }
     ensures within { AreWithin X.finds client.old.kdcs.places.items client.new.kdcs.places.items }
     ensures clock { client.new.is_by_kdc ≡ client.old.is_by_kdc }
+    ensures drawn { HasDrawn (R.stream rng.old) (R.stream rng.new) }
 {
     let reply = send_once(client, rng, request)?;
     if reply.is_error(Code::KrbApErrRepeat) {
@@ -74,7 +75,7 @@ fn send_once<X: Network, R: Rng>(
     ensures next { IsNext client.old.at client.new.at }
     ensures within { AreWithin X.finds client.old.kdcs.places.items client.new.kdcs.places.items }
     ensures clock { client.new.is_by_kdc ≡ client.old.is_by_kdc }
-    ensures drawn { OnOk result (R.stream rng.new ≡ after_confounder (R.stream rng.old)) }
+    ensures drawn { R.stream rng.new ≡ after_confounder (R.stream rng.old) }
 {
     let at = client.take_moment();
     let confounder = draw_confounder(rng);

@@ -4,7 +4,7 @@ ghost use Rattle.client_core.specs.Replies.{is_principal};
 ghost use Rattle.client_core.specs.Sessions.{ticket_in};
 ghost use Rattle.client_core.specs.Taken.{AreSame};
 ghost use Rattle.client_login.specs.Asking.{further_asked};
-ghost use Rattle.client_login.specs.Draws.{after_nonce, drawn_nonce};
+ghost use Rattle.client_login.specs.Draws.{HasDrawn, after_nonce, drawn_nonce};
 ghost use Rattle.client_login.specs.Logins.{CarriesPresented, IsFurther};
 ghost use Rattle.client_login.specs.Moments.{IsMoved};
 ghost use Rattle.client_login.specs.Places.{AreWithin};
@@ -63,6 +63,7 @@ impl<X: Network> KdcClient<X> {
         ensures moved { IsMoved self.old.at self.new.at }
         ensures within { AreWithin X.finds self.old.kdcs.places.items self.new.kdcs.places.items }
         ensures clock { self.new.is_by_kdc ≡ self.old.is_by_kdc }
+        ensures drawn { HasDrawn (after_nonce (R.stream rng.old)) (R.stream rng.new) }
     {
         let at = self.at;
         let credential = self.service_ticket(rng, granting, service)?;

@@ -2,7 +2,7 @@ use Rattle.std.proofs.Common.{subst}
 use Rattle.rand_core.specs.Stream.{Stream}
 use Rattle.client_login.specs.Draws.{drawn_confounder}
 use Rattle.client_login.specs.Sending.{Spells}
-use Rattle.client_login.proofs.Moving.{moved_twice}
+use Rattle.client_login.proofs.Moving.{drawn_twice, moved_twice}
 use Rattle.client_login.proofs.Wider.{unheard_wider}
 use Rattle.client_login.proofs.sending.send.Goals as goal
 
@@ -20,3 +20,8 @@ returns-then-is_error-clause-err g c =
 pub returns-then-is_error-clause-moved : goal.returns-then-is_error-clause-moved
 returns-then-is_error-clause-moved g c =
     moved_twice c.args.client.now.at c.send_once.new.client.at c.send_once-then-is_error.new.client.at c.in_ok-reply.ensures.next c.send_once-then-is_error.ensures.next
+
+pub returns-then-is_error-clause-drawn : goal.returns-then-is_error-clause-drawn
+returns-then-is_error-clause-drawn g c =
+    drawn_twice (g.R.Rng.stream c.args.rng.now) (g.R.Rng.stream c.send_once.new.rng) (g.R.Rng.stream c.send_once-then-is_error.new.rng)
+    c.in_ok-reply.ensures.drawn c.send_once-then-is_error.ensures.drawn
