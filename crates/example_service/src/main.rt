@@ -1,11 +1,12 @@
-//! `example_service KEYTAB [first]`: a service that reads AP-REQs from standard input, one a line in hexadecimal
-//! digits, and prints who sent each. It takes the keys of a new keytab while it runs.
+//! `example_service KEYTAB [first] [save FILE]`: a service that reads AP-REQs from standard input, one a line in
+//! hexadecimal digits, and prints who sent each. It takes the keys of a new keytab while it runs. When its input ends,
+//! it saves its replay caches in FILE, and goes on with them the next time.
 #![tactic(auto)]
 
-use ap_accept::{Accepted, Acceptor, AcceptorOptions, ApFault, Opening};
+use ap_accept::{Accepted, Acceptor, AcceptorOptions, ApFault, ApRefusal, Opening, TicketLabel};
 use command_line::{Status, open_missing_streams, read_words};
 use cred_files::{Keytab, Principal};
-use file_store::{FileStamp, now};
+use file_store::{FileStamp, FileStore, Written, now, sync_folder, write_file};
 use hex::FromHexError;
 use krb_der::KTime;
 use krb_fields::component_to_text;
@@ -23,30 +24,54 @@ fn main(rt: HostRuntime) -> io::Result<ExitCode> {
     let Some(args) = read_words(&rt)? else {
         return usage(&rt);
     };
-    match args.as_slice() {
-        // A service that ran before starts as after a restart.
-        [_, keytab] => serve(&rt, keytab.as_str(), Opening::Restart(now(&rt)?)),
-        [_, keytab, word] if word.as_str() == "first" => {
-            serve(&rt, keytab.as_str(), Opening::First)
-        }
-        _ => usage(&rt),
+    match words_of(args.as_slice()) {
+        Some(words) => serve(&rt, &words),
+        None => usage(&rt),
     }
 }
 
+/// What the words of the command line ask for.
+#[derive(Drop)]
+struct Words<'a> {
+    keytab: &'a str,
+    /// Whether the service never ran before.
+    is_first: bool,
+    /// Where it saves its replay caches at its end.
+    saved: Option<&'a str>,
+}
+
+fn words_of(args: &[String]) -> Option<Words<'_>> {
+    let (keytab, is_first, saved) = match args {
+        [_, keytab] => (keytab, false, None),
+        [_, keytab, first] if first.as_str() == "first" => (keytab, true, None),
+        [_, keytab, save, path] if save.as_str() == "save" => (keytab, false, Some(path.as_str())),
+        [_, keytab, first, save, path] if first.as_str() == "first" && save.as_str() == "save" => {
+            (keytab, true, Some(path.as_str()))
+        }
+        _ => return None,
+    };
+    Some(Words {
+        keytab: keytab.as_str(),
+        is_first,
+        saved,
+    })
+}
+
 fn usage(rt: &HostRuntime) -> io::Result<ExitCode> {
-    println!(rt; "usage: example_service KEYTAB [first]")?;
+    println!(rt; "usage: example_service KEYTAB [first] [save FILE]")?;
     Ok(ExitCode::from(Status::Usage.code()))
 }
 
-fn serve(rt: &HostRuntime, keytab: &str, opening: Opening) -> io::Result<ExitCode> {
+fn serve(rt: &HostRuntime, words: &Words<'_>) -> io::Result<ExitCode> {
     let mut file = KeytabFile {
-        path: keytab,
+        path: words.keytab,
         seen: None,
     };
-    let mut acceptor = open(rt, &mut file, opening)?;
-    match answer_lines(rt, &mut acceptor, &mut file) {
-        Ok(()) => Ok(ExitCode::SUCCESS),
-        Err(error) => Err(error),
+    let mut acceptor = open(rt, &mut file, words)?;
+    answer_lines(rt, &mut acceptor, &mut file)?;
+    match words.saved {
+        Some(path) => save(rt, &acceptor, path),
+        None => Ok(ExitCode::SUCCESS),
     }
 }
 
@@ -66,21 +91,65 @@ impl<'a> KeytabFile<'a> {
             return Ok(None);
         }
         self.seen = Some(stamp);
+        Ok(Some(self.read(rt)?))
+    }
+
+    fn read(&self, rt: &HostRuntime) -> io::Result<Keytab> {
         let octets = fs::read(rt, self.path)?;
         match Keytab::read(rt.alloc(), &octets) {
-            Ok(keytab) => Ok(Some(keytab)),
+            Ok(keytab) => Ok(keytab),
             Err(_) => Err(Error::from(ErrorKind::InvalidData)),
         }
     }
 }
 
-/// Returns an acceptor with the keys of a keytab file.
-fn open(rt: &HostRuntime, file: &mut KeytabFile<'_>, opening: Opening) -> io::Result<Acceptor> {
-    let Some(keytab) = file.read_new(rt)? else {
-        return Err(Error::from(ErrorKind::InvalidData));
-    };
+/// Returns an acceptor with the keys of a keytab file. It goes on with what the last run saved, if that is there.
+fn open(rt: &HostRuntime, file: &mut KeytabFile<'_>, words: &Words<'_>) -> io::Result<Acceptor> {
     let options = AcceptorOptions::default();
-    Ok(Acceptor::open(rt.alloc(), keytab, options, opening)?)
+    if let Some(saved) = take_saved(rt, words)? {
+        match Acceptor::resume(rt.alloc(), file.read(rt)?, options, &saved) {
+            Ok(acceptor) => return Ok(acceptor),
+            Err(fault) => eprintln!(rt; "example_service: {fault}")?,
+        }
+    }
+    // A service that ran before, and saved nothing, starts as after a restart.
+    let opening = if words.is_first {
+        Opening::First
+    } else {
+        Opening::Restart(now(rt)?)
+    };
+    Ok(Acceptor::open(rt.alloc(), file.read(rt)?, options, opening)?)
+}
+
+/// Returns the bytes that the last run saved, if they are there, and removes their file: they may be used once.
+fn take_saved(rt: &HostRuntime, words: &Words<'_>) -> io::Result<Option<Vec<u8>>> {
+    let Some(path) = words.saved else {
+        return Ok(None);
+    };
+    match fs::read(rt, path) {
+        Ok(octets) => {
+            fs::remove_file(rt, path)?;
+            // Else a power failure could bring the file back.
+            sync_folder(rt, path)?;
+            Ok(Some(octets))
+        }
+        Err(error) if error.kind() == ErrorKind::NotFound => Ok(None),
+        Err(error) => Err(error),
+    }
+}
+
+/// Saves the replay caches into a file, which only its owner may read and write.
+fn save(rt: &HostRuntime, acceptor: &Acceptor, path: &str) -> io::Result<ExitCode> {
+    let octets = acceptor.save(rt.alloc())?;
+    match write_file(rt.alloc(), &mut FileStore::new(rt), path, &octets) {
+        Ok(Written::Synced) => Ok(ExitCode::SUCCESS),
+        // After a power failure the file may be gone, and the next start refuses all clients for a while.
+        Ok(Written::NotSynced(_)) => Ok(ExitCode::SUCCESS),
+        Err(fault) => {
+            eprintln!(rt; "example_service: {fault}")?;
+            Ok(ExitCode::from(Status::Failed.code()))
+        }
+    }
 }
 
 /// Takes the keys of a new keytab file. If it can't be read, the acceptor keeps the keys that it has.
@@ -121,21 +190,35 @@ fn answer(rt: &HostRuntime, acceptor: &mut Acceptor, ap_req: &[u8]) -> io::Resul
     match acceptor.accept(rt.alloc(), now(rt)?, &confounder, ap_req) {
         Ok(accepted) => print_accepted(rt, &accepted),
         Err(ApFault::NotAnApReq) => println!(rt; "not an AP-REQ"),
-        Err(ApFault::Refused(refusal)) => {
-            let code = refusal.code();
-            println!(rt; "refused {} {code}", code.number())
-        }
+        Err(ApFault::Refused(refusal)) => print_refused(rt, refusal, ap_req),
         // Nothing has changed, so the client may send the same AP-REQ again.
         Err(ApFault::Memory) => println!(rt; "out of memory"),
+    }
+}
+
+/// Prints why an AP-REQ is refused, and which service and key its ticket names. Anyone may have written these.
+fn print_refused(rt: &HostRuntime, refusal: ApRefusal, ap_req: &[u8]) -> io::Result<()> {
+    let code = refusal.code().number();
+    let fault = ApFault::from(refusal);
+    match TicketLabel::read(rt.alloc(), ap_req) {
+        Ok(label) => {
+            let service = text_of(rt.alloc(), &label.service)?;
+            println!(rt;
+                "refused {code} {fault}: for {service}, key type {}",
+                label.etype
+            )
+        }
+        Err(_) => println!(rt; "refused {code} {fault}"),
     }
 }
 
 /// Prints the client, what the ticket holds, and the AP-REP if the client asked for one.
 fn print_accepted(rt: &HostRuntime, accepted: &Accepted) -> io::Result<()> {
     let client = text_of(rt.alloc(), &accepted.client)?;
+    let service = accepted.service.to_text(rt.alloc())?;
     let ticket = accepted.ticket;
     print!(rt;
-        "accepted {client} session-key-type {} flags {:08x}",
+        "accepted {client} for {service} session-key-type {} flags {:08x}",
         accepted.session_key.etype().number(),
         ticket.flags.bits()
     )?;
@@ -158,10 +241,10 @@ fn print_time(rt: &HostRuntime, word: &str, time: Option<KTime>) -> io::Result<(
     }
 }
 
-/// Returns the client's name as text for people. A service compares names with `Principal::is`.
-fn text_of(alloc: Global, client: &Principal) -> Result<String, AllocError> {
-    let mut text = client.name.to_text(alloc)?;
+/// Returns a principal's name as text for people. A service compares names with `Principal::is`.
+fn text_of(alloc: Global, principal: &Principal) -> Result<String, AllocError> {
+    let mut text = principal.name.to_text(alloc)?;
     text.push('@')?;
-    text.push_str(&component_to_text(alloc, client.realm.as_slice())?)?;
+    text.push_str(&component_to_text(alloc, principal.realm.as_slice())?)?;
     Ok(text)
 }
