@@ -17,8 +17,8 @@ pub struct Accepted {
     pub session_key: Key,
     /// The flags and times of the ticket.
     pub ticket: TicketTerms,
-    /// The ticket's authorization data, each element with its type (RFC 4120, section 5.2.6). Nothing here reads it: the
-    /// application decides on it.
+    /// The ticket's authorization data, each element with its type (RFC 4120, section 5.2.6). Nothing here reads it:
+    /// the application decides on it.
     pub ticket_authorization: Option<Seq<Typed>>,
     /// The key that the client chose for the rest of the connection, if it chose one.
     pub subkey: Option<Key>,
