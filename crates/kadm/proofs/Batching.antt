@@ -6,7 +6,7 @@ use Rattle.file_store.specs.World.{World}
 use Rattle.principals.specs.Database.{Principals}
 use Rattle.kadm.specs.Batches.{IsBatchDone, line_text, line_texts}
 use Rattle.kadm.specs.Lines.{AreDone, AreTried, IsLineDone, IsRun, IsTurn}
-use Rattle.kadm_changes.specs.Words.{Text}
+use Rattle.kadm_changes.specs.Texts.{Text}
 use Rattle.kadm_changes.specs.Worlds.{HoldsDatabase, IsReadBack, with_database}
 use Rattle.kadm.specs.declared.batch.BatchLine.{BatchLine}
 use Rattle.kadm_changes.specs.WorldLaws.{rewritten}

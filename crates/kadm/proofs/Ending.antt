@@ -1,13 +1,13 @@
 -- How a command ends, and how the words end that spell it.
-use Rattle.std.proofs.Common.{◌≡◌, ◌∙◌, List, Bool, true, false, Option, Result, Ok, Err, IfErr, IfOk, OnErr, ap, subst, sym, inl, inr}
+use Rattle.std.proofs.Common.{◌≡◌, ◌∙◌, List, Bool, true, false, Option, Result, Ok, Err, IfErr, IfOk, ap, subst, sym, inl, inr}
 use Rattle.std.specs.Result.{result_unwrap_or}
 use Rattle.file_store.specs.World.{World}
 use Rattle.file_store.specs.declared.faults.FileCause.{FileCause}
 use Rattle.file_store.specs.declared.faults.FileCause.TheVariants.{LongFile, ShortSeed, Failed}
 use Rattle.kadm.specs.Batches.{IsBatchDone}
 use Rattle.kadm_changes.specs.Stops.{IsFailed, IsFailure}
-use Rattle.kadm.specs.Ends.{IsEnd, IsFileCauseStatus, IsCommandEnd, IsCommandStopped, IsStatusOf, IsStopped, IsDone, IsKindDone, IsPrinted, IsTried, IsWriteDone}
-use Rattle.kadm_changes.specs.Words.{Text}
+use Rattle.kadm.specs.Ends.{IsEnd, IsFileCauseStatus, IsReported, IsCommandEnd, IsCommandStopped, IsStatusOf, IsStopped, IsDone, IsKindDone, IsPrinted, IsTried, IsWriteDone}
+use Rattle.kadm_changes.specs.Texts.{Text}
 use Rattle.kadm.specs.Words.{Spells}
 use Rattle.kadm_changes.specs.declared.target.Target.{Target}
 use Rattle.kadm.specs.declared.commands.Command.{Command}
@@ -83,7 +83,7 @@ failed_after words before statuses.Failed stop after (inl same) failed = inl sam
 failed_after words before statuses.Failed stop after (inr done) failed = inr (failed, done)
 
 -- whatever the status, the output may fail at the end
-pub end_failed : (words : List Text) (before : Option World) (status : Status) (after : Option World)
+end_failed : (words : List Text) (before : Option World) (status : Status) (after : Option World)
     → IsEnd words before status after → IsEnd words before statuses.Failed after
 end_failed words before statuses.Done after (inl (asks, same)) = inl same
 end_failed words before statuses.Done after (inr done) = inr (inl done)
@@ -139,21 +139,23 @@ failed_status (stops.Refused refusal) status failed is = absurd failed
 failed_status (stops.File fault) status failed is = failed_cause fault.cause status failed is
 
 -- a command that stopped early, with the status of what stopped it
-pub stopped_end : (words : List Text) (before : Option World) (stop : Stop) (status : Status) (after : Option World)
+stopped_end : (words : List Text) (before : Option World) (stop : Stop) (status : Status) (after : Option World)
     → IsStopped words before stop after → IsStatusOf stop status → IsEnd words before status after
 stopped_end words before stop status after (inl same) is = same_end words before status after (other stop status is) same
 stopped_end words before stop status after (inr (failed, done)) is =
     subst (λ s. IsEnd words before s after) (sym (failed_status stop status failed is)) (inr done)
 
 -- the report of it fails
-pub stopped_failed : (words : List Text) (before : Option World) (stop : Stop) (after : Option World)
+stopped_failed : (words : List Text) (before : Option World) (stop : Stop) (after : Option World)
     → IsStopped words before stop after → IsEnd words before statuses.Failed after
 stopped_failed words before stop after (inl same) = inl same
 stopped_failed words before stop after (inr (failed, done)) = inr done
 
 -- whatever the output says at the end
-pub ended : {E : Type 0} (r : Result Status E) (words : List Text) (before after : Option World)
-    → IfOk r (λ status. IsEnd words before status after) → OnErr r (IsEnd words before statuses.Failed after)
-    → IsEnd words before (result_unwrap_or r statuses.Failed) after
-ended (Ok status) words before after done failed = done
-ended (Err e) words before after done failed = failed
+pub ended : {E : Type 0} (end : Result Status Stop) (r : Result Status E) (words : List Text) (before after : Option World)
+    → IfOk end (λ status. IsEnd words before status after) → IfErr end (λ stop. IsStopped words before stop after)
+    → IfOk r (λ status. IsReported end status) → IsEnd words before (result_unwrap_or r statuses.Failed) after
+ended (Ok status) (Ok reported) words before after done stopped is = subst (λ s. IsEnd words before s after) (sym is) done
+ended (Ok status) (Err e) words before after done stopped is = end_failed words before status after done
+ended (Err stop) (Ok reported) words before after done stopped is = stopped_end words before stop reported after stopped is
+ended (Err stop) (Err e) words before after done stopped is = stopped_failed words before stop after stopped

@@ -1,5 +1,6 @@
 mod Batching
 mod Ending
+mod Gathering
 mod Naming
 mod Opening
 mod Reading

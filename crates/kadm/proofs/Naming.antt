@@ -2,7 +2,7 @@
 use Rattle.std.proofs.Common.{◌≡◌, ◌∙◌, ◌<◌, ◌≤◌, ◌-◌, ◌++◌, List, [], ◌∷◌, Bool, ap, arith, drop, get_or, length, sym, take, refl}
 use Rattle.std.specs.Borrow.{Bor}
 use Rattle.std.proofs.lemmas.List.{append-nil, append_assoc, take_all}
-use Rattle.kadm_changes.specs.Words.{Text, texts}
+use Rattle.kadm_changes.specs.Texts.{Text, texts}
 use Rattle.kadm.specs.Words.{is_value_next, named, spelled}
 
 named_first : (words : List (Bor Text)) (other : Bor Text) (v : Bool) → 1 ≤ length words

@@ -19,7 +19,7 @@ use Rattle.command_line.specs.declared.status.Status.TheVariants as statuses
 use Rattle.principal_keys.specs.Keys.{drawn_keys, seeded}
 use Rattle.kadm_changes.specs.Realm.{IsAsOpen, KeepsRealm, StaysOpen, found_policy, text_policy, tgs_policy}
 use Rattle.kadm_changes.specs.Updates.{IsUpdated}
-use Rattle.kadm_changes.specs.Words.{Text, path_of}
+use Rattle.kadm_changes.specs.Texts.{Text, path_of}
 use Rattle.kadm_changes.specs.Worlds.{HoldsDatabase, IsReadBack, MadeNew, Rewritten, WroteKeytab, with_database}
 use Rattle.kadm_changes.specs.declared.keytabs.KeytabArgs.{KeytabArgs}
 use Rattle.kadm_changes.specs.declared.target.Target.{Target}
@@ -54,15 +54,15 @@ kept_then whole None p q r first second = λ without. tt
 kept_then whole (Some held) p q r first second = λ without. open_then held.now p q r (first without) (second without)
 
 -- a command line of a change
-pub update_kept : (world : Option World) (whole : Bool) (etypes : List Etype) (update : Update) (p q : Principals)
-    → IsUpdated world whole etypes update p q → KeepsRealm whole world (tgs_policy p) (tgs_policy q)
-update_kept world whole etypes (updates.Row to) p q is = is.changed.2
-update_kept world whole etypes (updates.Changes changes) p q is = is.1
-update_kept world whole etypes (updates.Migrate users) p q is = is.1
+pub update_kept : (world : Option World) (whole : Bool) (target : Target) (update : Update) (p q : Principals)
+    → IsUpdated world whole target update p q → KeepsRealm whole world (tgs_policy p) (tgs_policy q)
+update_kept world whole target (updates.Row to) p q is = is.changed.2
+update_kept world whole target (updates.Changes how) p q is = is.1
+update_kept world whole target (updates.Migrate users) p q is = is.1
 
 pub line_kept : (world : Option World) (whole : Bool) (db : Text) (line : List Text) (p q : Principals)
     → IsLineDone world whole db line p q → KeepsRealm whole world (tgs_policy p) (tgs_policy q)
-line_kept world whole db line p q (command, spelled, (update, kind, is)) = update_kept world whole command.target.etypes.items update p q is
+line_kept world whole db line p q (command, spelled, (update, kind, is)) = update_kept world whole command.target update p q is
 
 pub lines_kept : (world : Option World) (whole : Bool) (db : Text) (lines : List (List Text)) (p q : Principals)
     → AreDone world whole db lines p q → KeepsRealm whole world (tgs_policy p) (tgs_policy q)
@@ -170,9 +170,9 @@ command_open : (before : Option World) (target : Target) (write : WriteCommand) 
 command_open before target (writes.Init new) after without (realm, text, is) =
     made_open before target.db.now target.etypes.items realm (path_of new.seed) after is
 command_open before target (writes.Update update) after without is =
-    rewritten_open before target.db.now (IsUpdated before false target.etypes.items update) after
-    (λ p q. update_kept before false target.etypes.items update p q)
-    (subst (λ whole. Rewritten before target.db.now (IsUpdated before whole target.etypes.items update) after) without is)
+    rewritten_open before target.db.now (IsUpdated before false target update) after
+    (λ p q. update_kept before false target update p q)
+    (subst (λ whole. Rewritten before target.db.now (IsUpdated before whole target update) after) without is)
 command_open before target (writes.Batch keep_going) after without (lines, is) =
     rewritten_open before target.db.now (AreDone before false target.db.now lines) after
     (λ p q. lines_kept before false target.db.now lines p q)

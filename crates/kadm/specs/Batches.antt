@@ -2,7 +2,7 @@
 use Rattle.std.specs.Prelude.{◌≡◌, Bool, true, false, IfSome, List, map, Option, string_bytes}
 use Rattle.file_store.specs.World.{World}
 use Rattle.kadm_changes.specs.Found.{IsFound}
-use Rattle.kadm_changes.specs.Words.{Text}
+use Rattle.kadm_changes.specs.Texts.{Text}
 use Rattle.kadm.specs.Lines.{Batched, Tried}
 use Rattle.kadm.specs.declared.batch.BatchLine.{BatchLine}
 

@@ -1,11 +1,12 @@
 -- How a command line ends, and what it leaves.
-use Rattle.std.specs.Prelude.{◌≡◌, ◌⊎◌, Bool, true, false, List, Option, Some, codes}
+use Rattle.std.specs.Prelude.{◌≡◌, ◌⊎◌, Bool, true, false, List, Option, Some, Result, Ok, Err, codes}
 use Rattle.file_store.specs.World.{World}
 use Rattle.file_store.specs.declared.faults.FileCause.{FileCause}
 use Rattle.file_store.specs.declared.faults.FileCause.TheVariants.{LongFile, ShortSeed, Failed}
 use Rattle.kadm_changes.specs.Stops.{IsFailed}
 use Rattle.kadm_changes.specs.Realm.{StaysOpen}
-use Rattle.kadm_changes.specs.Words.{Text, has_flag, path_of, value_of}
+use Rattle.kadm_changes.specs.Texts.{Text, path_of}
+use Rattle.kadm.specs.Values.{has_flag, value_of}
 use Rattle.kadm.specs.Words.{Spells, asks_help}
 use Rattle.kadm_changes.specs.Worlds.{MadeFromDump, MadeRealm, Updated, WroteKeytab}
 use Rattle.kadm.specs.Lines.{Batched, Tried}
@@ -42,6 +43,11 @@ IsStatusOf NotInBatch status = status ≡ statuses.Refused
 IsStatusOf (Refused refusal) status = status ≡ statuses.Refused
 IsStatusOf (File fault) status = IsFileCauseStatus fault.cause status
 
+-- the status that is reported of a command line's end
+abbrev pub IsReported : Result Status Stop → Status → Type 0
+IsReported (Ok status) reported = reported ≡ status
+IsReported (Err stop) reported = IsStatusOf stop reported
+
 -- the status of a command that prints: only `lint --check` says by it what it found
 abbrev pub IsPrinted : Status → PrintCommand → Type 0
 IsPrinted statuses.Done print = Unit {0}
@@ -58,7 +64,7 @@ abbrev pub CommandLeaves : Option World → Target → WriteCommand → Option W
 CommandLeaves before target (writes.Init new) after =
     MadeRealm before target.db.now target.etypes.items new.realm.now (path_of new.seed) after
 CommandLeaves before target (writes.Update update) after =
-    Updated before target.whole_realm target.db.now target.etypes.items update after
+    Updated before target update after
 CommandLeaves before target (writes.Batch keep_going) after = Batched before target.whole_realm target.db.now after
 CommandLeaves before target (writes.Keytab to) after = WroteKeytab before target.db.now to after
 CommandLeaves before target (writes.Dump from) after = MadeFromDump before target.whole_realm target.db.now from after

@@ -1,4 +1,6 @@
+pub mod Assigning
 pub mod Batches
 pub mod Ends
 pub mod Lines
+pub mod Values
 pub mod Words

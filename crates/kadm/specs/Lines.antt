@@ -3,7 +3,7 @@ use Rattle.std.specs.Prelude.{◌≡◌, ◌⊎◌, ℕ, Bool, true, false, List
 use Rattle.file_store.specs.World.{World}
 use Rattle.principals.specs.Database.{Principals}
 use Rattle.kadm_changes.specs.Updates.{IsUpdated}
-use Rattle.kadm_changes.specs.Words.{Text}
+use Rattle.kadm_changes.specs.Texts.{Text}
 use Rattle.kadm_changes.specs.Worlds.{Rewritten}
 use Rattle.kadm.specs.declared.commands.Command.{Command}
 use Rattle.kadm.specs.declared.commands.CommandKind.TheVariants as kinds
@@ -17,7 +17,7 @@ use Rattle.kadm.specs.Words.{Spells, in_batch}
 abbrev pub IsCommandMade : Option World → Bool → Command → Principals → Principals → Type 0
 IsCommandMade world whole command p new =
     (update : Update) × (command.kind ≡ kinds.Write (writes.Update update))
-    × IsUpdated world whole command.target.etypes.items update p new
+    × IsUpdated world whole command.target update p new
 
 -- the change that words spell is made
 abbrev pub IsSpelledMade : Option World → Bool → List Text → Principals → Principals → Type 0

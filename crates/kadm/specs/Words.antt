@@ -2,11 +2,14 @@
 use Rattle.std.specs.Prelude.{◌≡◌, ◌==◌, ◌++◌, ◌&&◌, ◌||◌, Bool, true, false, not, List, [], ◌∷◌, slice_get}
 use Rattle.std.specs.Prelude.{Option, Some, None, is_some, unwrap_or, codes, bytes_eq, if◌then◌else◌}
 use Rattle.std.specs.Str.Parse.{IsNumeral, digits_value}
-use Rattle.kadm_changes.specs.Words.{Text, has_flag, path_of, texts, value_of}
+use Rattle.kadm_changes.specs.Asking.{all_asked}
+use Rattle.kadm_changes.specs.Texts.{Text, path_of, texts}
 use Rattle.kadm_changes.specs.declared.changes.ChangeArgs.{ChangeArgs}
 use Rattle.kadm_changes.specs.declared.changes.ChangeArgs.TheVariants.{Drop, DropOlder, Policy, Remove}
 use Rattle.kadm_changes.specs.declared.granting.Grant.{Grant}
 use Rattle.kadm_changes.specs.declared.granting.Grant.TheVariants.{New, NewUser, Next, Replace, Either}
+use Rattle.kadm.specs.Assigning.{settings_of}
+use Rattle.kadm.specs.Values.{has_flag, value_of, values_of}
 use Rattle.kadm.specs.declared.commands.Command.{Command}
 use Rattle.kadm.specs.declared.printing.PrintCommand.{PrintCommand}
 use Rattle.kadm.specs.declared.printing.PrintCommand.TheVariants as prints
@@ -146,10 +149,9 @@ IsRowSpelled words (rows.Import keytab) =
 
 abbrev pub IsUpdateSpelled : List Text → Update → Type 0
 IsUpdateSpelled words (updates.Row to) =
-    (value_of words (codes "--name") ≡ Some to.name.now) × (texts to.words.now ≡ words) × IsRowSpelled words to.how
-IsUpdateSpelled words (updates.Changes changes) =
-    (is_some (value_of words (codes "--name")) ≡ true) × (texts changes.words.now ≡ words)
-    × IsChangeSpelled words changes.how
+    (value_of words (codes "--name") ≡ Some to.name.now) × IsRowSpelled words to.how
+IsUpdateSpelled words (updates.Changes how) =
+    (is_some (value_of words (codes "--name")) ≡ true) × IsChangeSpelled words how
 IsUpdateSpelled words (updates.Migrate users_are_no_services) =
     (command_of words ≡ Some (codes "migrate")) × (users_are_no_services ≡ has_flag words (codes "--users-are-no-services"))
 
@@ -181,8 +183,11 @@ abbrev pub IsKindSpelled : List Text → CommandKind → Type 0
 IsKindSpelled words (kinds.Print print) = IsPrintSpelled words print
 IsKindSpelled words (kinds.Write write) = IsWriteSpelled words write
 
--- the command that the words of a command line spell: its database, whether it may end the whole realm, and what to do
+-- the command that the words of a command line spell: its database, its principals, their settings, whether it may end
+-- the whole realm, and what to do
 pub record Spells (words : List Text) (command : Command) : Type 0 where
   pub db : value_of words (codes "--db") ≡ Some command.target.db.now
+  pub names : texts command.target.names.items ≡ values_of words (codes "--name")
+  pub settings : all_asked command.target.settings.items ≡ settings_of words
   pub whole_realm : command.target.whole_realm ≡ has_flag words (codes "--whole-realm")
   pub kind : IsKindSpelled words command.kind

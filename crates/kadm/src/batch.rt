@@ -1,14 +1,16 @@
 //! Many changes of one database: each line of standard input is a command. The database is read once and written once.
 ghost use Rattle.std.specs.Prelude.{◌≡◌, All, IfNone, IfOk, IfSome, OnErr, OnOk, true};
 ghost use Rattle.kadm_changes.specs.Found.{IsFound, IsFoundIn};
-ghost use Rattle.kadm_changes.specs.Words.{texts};
+ghost use Rattle.kadm_changes.specs.Texts.{texts};
 ghost use Rattle.kadm.specs.Batches.{IsBatchDone, IsLineRead, line_text, line_texts};
 ghost use Rattle.kadm.specs.Lines.{AreDone, IsLineDone, IsCommandMade, IsRun, IsSpelledMade, IsTurn};
 
 use crate::commands::{Command, CommandKind, WHOLE_REALM, read_args, read_command};
 use crate::outcome::Outcome;
 use crate::reports::report;
+use crate::subject::{Subject, begin_line};
 use crate::usage::{CommandFault, report_command_fault, report_fault};
+use crate::values::{NAME, has_flag, value_of};
 use crate::words::{in_batch, is_given};
 use crate::writing::WriteCommand;
 use clap::ArgMatches;
@@ -16,9 +18,8 @@ use clap::error::Error;
 use command_line::Status;
 use file_store::{FileCause, FileFault, STANDARD_INPUT, Store};
 use kadm_changes::{
-    Context, Draft, FoundPassword, NAME, Note, Stop, Subject, Target, begin_line, find_password,
-    has_flag, lock_database, read_database, report_realm, update_in_batch, value_of,
-    write_database,
+    Context, Draft, FoundPassword, Note, Stop, Target, find_password, lock_database, read_database,
+    report_realm, update_in_batch, write_database,
 };
 use std::alloc::{AllocError, Global};
 use std::io::{ErrorKind, Write};
@@ -459,7 +460,7 @@ fn run_command<'a, T: Store>(
 {
     match command.kind {
         CommandKind::Write(WriteCommand::Update(update)) => {
-            update_in_batch(store, draft, &command.target.etypes, whole, update, found)
+            update_in_batch(store, draft, &command.target, whole, update, found)
         }
         _ => Err(Stop::NotInBatch),
     }

@@ -1,7 +1,8 @@
 //! The commands that change the principals of a database, one by one or in a batch: the row of each, and what its words
 //! ask for.
 ghost use Rattle.std.specs.Prelude.{◌≡◌, IfOk, IfSome, Some, codes};
-ghost use Rattle.kadm_changes.specs.Words.{path_of, texts, value_of};
+ghost use Rattle.kadm_changes.specs.Texts.{path_of, texts};
+ghost use Rattle.kadm.specs.Values.{value_of};
 ghost use Rattle.kadm.specs.Words.{IsChangeSpelled, IsPasswordGrant, IsRandomGrant, IsRowSpelled, IsWriteSpelled, command_of};
 
 use crate::options::{
@@ -9,12 +10,13 @@ use crate::options::{
 };
 use crate::settings::sets_some;
 use crate::usage::{CommandFault, NO_COMMAND, required, setting_fault};
+use crate::values::{KEYTAB, has_flag, value_of};
 use crate::words::is_given;
 use crate::writing::WriteCommand;
 use command_line::{FlagRow, OptionRow, SubcommandRow, Times};
 use kadm_changes::{
-    ChangeArgs, Changes, DumpArgs, Grant, KEYTAB, PasswordArgs, PasswordGrant, RandomGrant,
-    RowArgs, RowUpdate, Update, has_flag, value_of,
+    ChangeArgs, DumpArgs, Grant, PasswordArgs, PasswordGrant, RandomGrant, RowArgs, RowUpdate,
+    Update,
 };
 use text_fields::{FIELD_NAMES, number_u32};
 
@@ -229,7 +231,7 @@ pub(crate) fn change_of<'a>(
     }
 }
 
-/// Returns the change that gives the principal keys, and makes the settings of the words.
+/// Returns the change that gives the principal keys, and then makes the settings of the words.
 fn row_of<'a>(
     words: &'a [&'a str],
     how: RowUpdate<'a>,
@@ -237,7 +239,7 @@ fn row_of<'a>(
     ensures { IsRowSpelled (texts words.now) how.entry → IfOk result (λ write. IsWriteSpelled (texts words.now) write) }
 {
     let name = required(words, "--name", NO_COMMAND)?;
-    Ok(WriteCommand::Update(Update::Row(RowArgs { name, how, words })))
+    Ok(WriteCommand::Update(Update::Row(RowArgs { name, how })))
 }
 
 /// Returns the keys of the principal to add. Fails if both random keys and a password are asked for, or a setting is
@@ -357,7 +359,6 @@ fn import_row<'a>(words: &'a [&'a str]) -> Result<WriteCommand<'a>, CommandFault
         how: RowUpdate::Import {
             keytab: required(words, KEYTAB, NO_IMPORT)?,
         },
-        words,
     })))
 }
 
@@ -371,7 +372,7 @@ fn changes_of<'a>(
     if !is_given(words, "--name") {
         return Err(CommandFault::BadValue(NO_COMMAND));
     }
-    Ok(WriteCommand::Update(Update::Changes(Changes { words, how })))
+    Ok(WriteCommand::Update(Update::Changes(how)))
 }
 
 /// Returns which versions to drop. Fails unless exactly one of `--version` and `--older` is given.

@@ -1,17 +1,22 @@
 //! The commands of `kadm`: all that their tables have, and the command that the words of a command line give.
-ghost use Rattle.std.specs.Prelude.{◌≡◌, IfOk, Some};
-ghost use Rattle.kadm_changes.specs.Words.{texts};
+ghost use Rattle.std.specs.Prelude.{◌≡◌, IfOk, Some, codes};
+ghost use Rattle.kadm_changes.specs.Texts.{texts};
 ghost use Rattle.kadm.specs.Words.{IsKindSpelled, Spells, command_of};
+ghost use Rattle.kadm_changes.specs.Asking.{all_asked};
+ghost use Rattle.kadm.specs.Assigning.{settings_of};
+ghost use Rattle.kadm.specs.Values.{has_flag, value_of, values_of};
 
+use crate::assigning::settings_of;
 use crate::printing::{PrintCommand, print_of, with_prints};
-use crate::usage::{CommandFault, NO_COMMAND};
+use crate::usage::{CommandFault, NO_COMMAND, required};
+use crate::values::{DB, NAME, has_flag, value_of, values_of};
 use crate::words::command_of;
 use crate::writing::{WriteCommand, with_changes, with_later_changes, write_of};
 use clap::error::Error;
 use clap::{ArgMatches, Command as Parser};
 use enctypes::Etype;
 use file_store::NewMode;
-use kadm_changes::{DB, Target, has_flag, value_of};
+use kadm_changes::Target;
 use std::alloc::{AllocError, Global};
 use text_fields::{offered, read_etypes};
 
@@ -75,22 +80,37 @@ pub(crate) fn read_command<'a>(
 ) -> Result<Command<'a>, CommandFault<'a>>
     ensures { IfOk result (λ command. Spells (texts words.now) command) }
 {
-    let (Some(command), Some(db)) = (command_of(words), value_of(words, DB)) else {
+    let Some(command) = command_of(words) else {
         return Err(CommandFault::BadValue(NO_COMMAND));
     };
-    let etypes = match read_key_types(alloc, words) {
-        Ok(Some(etypes)) => etypes,
-        Ok(None) => return Err(CommandFault::BadValue(NO_TYPES)),
-        Err(_) => return Err(CommandFault::Memory),
-    };
     let kind = kind_of(command, words)?;
-    let target = Target {
+    match target_of(alloc, words) {
+        Ok(target) => Ok(Command { target, kind }),
+        Err(fault) => Err(fault),
+    }
+}
+
+/// Returns what the command works on.
+fn target_of<'a>(alloc: Global, words: &'a [&'a str]) -> Result<Target<'a>, CommandFault<'a>>
+    ensures db { IfOk result (λ target. value_of (texts words.now) (codes "--db") ≡ Some target.db.now) }
+    ensures names { IfOk result (λ target. texts target.names.items ≡ values_of (texts words.now) (codes "--name")) }
+    ensures settings { IfOk result (λ target. all_asked target.settings.items ≡ settings_of (texts words.now)) }
+    ensures whole_realm { IfOk result (λ target. target.whole_realm ≡ has_flag (texts words.now) (codes "--whole-realm")) }
+{
+    let db = required(words, DB, NO_COMMAND)?;
+    let etypes = key_types(alloc, words)?;
+    let (Ok(names), Ok(settings)) = (values_of(alloc, words, NAME), settings_of(alloc, words))
+    else {
+        return Err(CommandFault::Memory);
+    };
+    Ok(Target {
         db,
+        names,
+        settings,
         etypes,
         mode: mode_of(words),
         whole_realm: has_flag(words, WHOLE_REALM),
-    };
-    Ok(Command { target, kind })
+    })
 }
 
 /// Returns the mode of a file that the command changes.
@@ -102,7 +122,16 @@ fn mode_of(words: &[&str]) -> NewMode {
     }
 }
 
-/// Returns the encryption types of the new keys: all four by default. Returns `None` if `--types` is no list of types.
+/// Returns the encryption types of the new keys: all four by default. Fails if `--types` is no list of types.
+fn key_types(alloc: Global, words: &[&str]) -> Result<Vec<Etype>, CommandFault<'static>> {
+    match read_key_types(alloc, words) {
+        Ok(Some(etypes)) => Ok(etypes),
+        Ok(None) => Err(CommandFault::BadValue(NO_TYPES)),
+        Err(_) => Err(CommandFault::Memory),
+    }
+}
+
+/// Returns the encryption types of the new keys. `None` if `--types` is no list of types.
 fn read_key_types(alloc: Global, words: &[&str]) -> Result<Option<Vec<Etype>>, AllocError> {
     match value_of(words, "--types") {
         Some(text) => read_etypes(alloc, text),

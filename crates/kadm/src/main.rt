@@ -1,6 +1,7 @@
 //! The administration tool: `kadm COMMAND --db FILE ..`. `kadm --help` lists the commands.
 #![tactic(auto)]
 
+mod assigning;
 mod batch;
 mod changing;
 mod commands;
@@ -16,7 +17,9 @@ mod reasons;
 mod reports;
 mod run;
 mod settings;
+mod subject;
 mod usage;
+mod values;
 mod words;
 mod writing;
 

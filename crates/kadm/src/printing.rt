@@ -1,6 +1,6 @@
 //! The commands that only print: the row of each, its words and how it is run.
 ghost use Rattle.std.specs.Prelude.{◌≡◌, IfOk, IfSome, Some};
-ghost use Rattle.kadm_changes.specs.Words.{texts};
+ghost use Rattle.kadm_changes.specs.Texts.{texts};
 ghost use Rattle.kadm.specs.Words.{IsPrintSpelled, command_of};
 ghost use Rattle.kadm.specs.Ends.{IsPrinted};
 ghost use Rattle.kadm.specs.declared.printing.PrintCommand.TheVariants as prints;
@@ -8,10 +8,11 @@ ghost use Rattle.kadm.specs.declared.printing.PrintCommand.TheVariants as prints
 use crate::linting::{LintArgs, print_lint};
 use crate::listing::{ListArgs, print_list, print_row};
 use crate::options::{DATABASE, NAME};
+use crate::values::{has_flag, value_of};
 use clap::Command as Parser;
 use command_line::{FlagRow, OptionRow, Status, SubcommandRow, Times, with_subcommands};
 use file_store::Store;
-use kadm_changes::{Context, Stop, has_flag, value_of};
+use kadm_changes::{Context, Stop};
 use std::alloc::{AllocError, Global};
 use std::convert::AsStr;
 use std::io::Write;

@@ -3,11 +3,14 @@ ghost use Rattle.std.specs.Prelude.{◌≡◌, IfOk};
 ghost use Rattle.kadm.specs.Ends.{IsStatusOf};
 ghost use Rattle.command_line.specs.declared.status.Status.TheVariants.{Failed};
 
+use crate::assigning::value_option;
 use crate::changing::NOT_IN_BATCH;
 use crate::reasons::{reason_text, reason_word};
+use crate::subject::{Subject, begin_line};
+use crate::values::{DB, KEYTAB, NAME, value_of};
 use command_line::{Status, print_failure, print_refusal};
 use file_store::FileCause;
-use kadm_changes::{Context, KEYTAB, NAME, Reason, Refusal, Stop, Subject, begin_line, value_of};
+use kadm_changes::{Context, Part, Reason, Refusal, Stop};
 use std::io;
 use std::io::Write;
 use text_fields::{Setting, UtcDate, setting_of};
@@ -63,11 +66,26 @@ pub(crate) fn report_unsynced<W: Write, E: Write>(
     Status::Failed
 }
 
+/// Returns the option that a part of a command comes from.
+fn option_of(part: Part) -> &'static str {
+    match part {
+        Part::Name => NAME,
+        Part::Database => DB,
+        Part::Realm => "--realm",
+        Part::PasswordFile => "--password-file",
+        Part::Keytab => KEYTAB,
+        Part::NewKeytab => "--out",
+        Part::Dump => "--dump",
+        Part::Stash => "--stash",
+        Part::Setting(form) => value_option(form),
+    }
+}
+
 /// Returns the value that is refused, if it is not empty.
 fn refused_value<'a>(words: &[&'a str], refusal: Refusal<'a>) -> Option<&'a str> {
     let value = match refusal.value {
         Some(value) => value,
-        None => value_of(words, refusal.option)?,
+        None => value_of(words, option_of(refusal.part))?,
     };
     if value.is_empty() { None } else { Some(value) }
 }
@@ -87,10 +105,10 @@ fn report_refusal<E: Write>(errors: &mut E, subject: &Subject<'_>, refusal: Refu
     let text = reason_text(refusal.reason);
     begin_line(errors, subject);
     let Some(value) = refused_value(subject.words, refusal) else {
-        let _ = writeln!(errors, "{}: {text}", refusal.option);
+        let _ = writeln!(errors, "{}: {text}", option_of(refusal.part));
         return;
     };
-    if refusal.option == KEYTAB {
+    if refusal.part == Part::Keytab {
         name_imported(errors, subject, value);
     }
     let _ = writeln!(errors, "{value}: {text}");

@@ -1,21 +1,21 @@
 //! One command line: from its words to the files.
-ghost use Rattle.std.specs.Prelude.{◌≡◌, IfErr, IfOk, OnErr, map, string_bytes, true};
-ghost use Rattle.kadm_changes.specs.Words.{path_of, texts};
-ghost use Rattle.kadm.specs.Ends.{IsCommandEnd, IsCommandStopped, IsEnd, IsStopped, KeepsOpen};
+ghost use Rattle.std.specs.Prelude.{◌≡◌, IfErr, IfOk, map, string_bytes, true};
+ghost use Rattle.kadm_changes.specs.Texts.{path_of, texts};
+ghost use Rattle.kadm.specs.Ends.{IsCommandEnd, IsCommandStopped, IsEnd, IsReported, IsStopped, KeepsOpen};
 ghost use Rattle.kadm.specs.Words.{asks_help, with_db, with_names};
-ghost use Rattle.command_line.specs.declared.status.Status.TheVariants.{Failed};
 
 use crate::commands::{Command, CommandKind, read_args, read_command};
 use crate::escaping::Escaping;
 use crate::outcome::Outcome;
 use crate::printing::run_print;
 use crate::reports::{report, report_unsynced};
+use crate::subject::Subject;
 use crate::usage::{report_command_fault, report_fault};
 use crate::words::{asks_help, with_db, with_names, words_of};
 use crate::writing::{write_files, written_path};
 use command_line::Status;
 use file_store::{Store, Written};
-use kadm_changes::{Context, Progress, Stop, Subject};
+use kadm_changes::{Context, Progress, Stop};
 use std::alloc::{AllocError, Global};
 use std::io;
 use std::io::{BufWriter, Write};
@@ -66,7 +66,8 @@ pub(crate) fn kadm_run<T: Store, W: Write + Drop, E: Write + Drop>(
         notes: Vec::new(alloc),
         progress,
     };
-    run_and_report(&mut context, store, &words).unwrap_or(Status::Failed)
+    let end = run_words(&mut context, store, &words);
+    report_end(&mut context, &words, end).unwrap_or(Status::Failed)
 }
 
 /// Returns the words of a command line, with `--name` before its names, and with the database that is its default if
@@ -79,17 +80,15 @@ fn words_with_db<'a>(alloc: Global, line: CommandLine<'a>) -> Result<Vec<&'a str
     with_db(alloc, named, line.db)
 }
 
-/// Returns the status, or the error of a failed write to the output.
-#[tactic(auto, using(crate::proofs::Ending::stopped_end, crate::proofs::Ending::stopped_failed, crate::proofs::Ending::end_failed))]
-fn run_and_report<'a, T: Store, W: Write, E: Write>(
+/// Reports how a command line ended, and flushes what is printed. The error is that of the output.
+fn report_end<W: Write, E: Write>(
     context: &mut Context<W, E>,
-    store: &mut T,
-    words: &'a [&'a str],
+    words: &[&str],
+    end: Result<Status, Stop<'_>>,
 ) -> io::Result<Status>
-    ensures ended { IfOk result (λ status. IsEnd (texts words.entry.now) (T.world store.old) status (T.world store.new)) }
-    ensures failed { OnErr result (IsEnd (texts words.entry.now) (T.world store.old) Failed (T.world store.new)) }
+    ensures { IfOk result (λ status. IsReported end.entry status) }
 {
-    let status = match run_words(context, store, words) {
+    let status = match end {
         Ok(status) => status,
         Err(stop) => {
             let subject = Subject { words, line: None };

@@ -1,10 +1,11 @@
 //! Which settings of a policy the words of a command line ask for, and which values a field accepts.
 ghost use Rattle.std.specs.Prelude.{◌≡◌};
-ghost use Rattle.kadm_changes.specs.Words.{texts};
+ghost use Rattle.kadm_changes.specs.Texts.{texts};
 ghost use Rattle.kadm.specs.Words.{sets_some};
 
+use crate::assigning::setting_at;
 use crate::words::is_given;
-use kadm_changes::{SettingWords, setting_at};
+use kadm_changes::AskedSetting;
 use text_fields::{FieldKind, field_kind, setting_from, setting_of};
 
 const FLAGS: &str = "true or false";
@@ -34,7 +35,7 @@ pub(crate) fn sets_some(words: &[&str]) -> bool
 }
 
 /// Returns the first setting that the words ask for and its field does not accept.
-pub(crate) fn invalid_setting<'a>(words: &[&'a str]) -> Option<SettingWords<'a>> {
+pub(crate) fn invalid_setting<'a>(words: &[&'a str]) -> Option<AskedSetting<'a>> {
     let mut rest = words;
     while let [word, others @ ..] = rest {
         if let Some(setting) = setting_at(words, word, others)

@@ -1,11 +1,14 @@
 //! What is wrong with a command line, in words.
 ghost use Rattle.std.specs.Prelude.{◌≡◌, IfOk, Some};
-ghost use Rattle.kadm_changes.specs.Words.{texts, value_of};
+ghost use Rattle.kadm_changes.specs.Texts.{texts};
+ghost use Rattle.kadm.specs.Values.{value_of};
 
+use crate::assigning::{field_option, value_option};
 use crate::settings::{accepted_by, invalid_setting};
+use crate::values::value_of;
 use clap::error::{Error, ErrorKind};
 use command_line::print_usage_error;
-use kadm_changes::{SettingWords, Stop, value_of};
+use kadm_changes::{AskedSetting, Stop};
 use std::alloc::AllocError;
 use std::io::Write;
 
@@ -18,9 +21,9 @@ pub(crate) enum CommandFault<'a> {
     /// An option is wrong. The text says what is right.
     BadValue(&'static str),
     /// A policy has no field with this name.
-    NoField(SettingWords<'a>),
+    NoField(AskedSetting<'a>),
     /// A field of a policy does not accept this value. The text says what it accepts.
-    NoSetting(SettingWords<'a>, &'static str),
+    NoSetting(AskedSetting<'a>, &'static str),
     Memory,
 }
 
@@ -67,7 +70,7 @@ pub(crate) fn report_command_fault<E: Write>(
             errors,
             &format_args!(
                 "{}: a policy has no field {}; 'kadm policy --help' lists the fields",
-                setting.form.field_option(),
+                field_option(setting.form),
                 setting.field
             ),
         ),
@@ -75,7 +78,7 @@ pub(crate) fn report_command_fault<E: Write>(
             errors,
             &format_args!(
                 "{}: {} takes {accepted}, not '{}'",
-                setting.form.value_option(),
+                value_option(setting.form),
                 setting.field,
                 setting.value
             ),

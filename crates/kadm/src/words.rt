@@ -1,11 +1,12 @@
 //! The words of a command line.
 ghost use Rattle.std.specs.Prelude.{◌≡◌, ◌++◌, [], IfOk, OnOk, bytes_eq, false, codes, is_some, map, option_map, string_bytes};
 ghost use Rattle.std.specs.Prelude.{unwrap_or};
-ghost use Rattle.kadm_changes.specs.Words.{path_of, texts, value_of};
+ghost use Rattle.kadm_changes.specs.Texts.{path_of, texts};
+ghost use Rattle.kadm.specs.Values.{value_of};
 ghost use Rattle.kadm.specs.Words.{asks_help, batch_words, behind_command, behind_names, command_of, in_batch, is_name};
 ghost use Rattle.kadm.specs.Words.{is_option, is_value_next, lacks_db, named, spelled, takes_names, takes_text, takes_value, with_db, with_names};
 
-use kadm_changes::{DB, has_flag, value_of};
+use crate::values::{DB, has_flag, value_of};
 use std::alloc::{AllocError, Global};
 
 /// The word that asks for the help of the command after it.

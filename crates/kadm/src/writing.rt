@@ -1,6 +1,6 @@
 //! The commands that write a file, and how each is run; the rows and words of those that are not in `changing.rt`.
 ghost use Rattle.std.specs.Prelude.{◌≡◌, IfOk, OnErr, Some, codes};
-ghost use Rattle.kadm_changes.specs.Words.{texts};
+ghost use Rattle.kadm_changes.specs.Texts.{texts};
 ghost use Rattle.kadm.specs.Ends.{IsWriteDone};
 ghost use Rattle.kadm.specs.Words.{IsWriteSpelled, command_of};
 
@@ -10,12 +10,13 @@ use crate::commands::Command;
 use crate::options::{DATABASE, KEEPS_MODE, NAME};
 use crate::outcome::Outcome;
 use crate::usage::{CommandFault, NO_COMMAND, required};
+use crate::values::{DB, has_flag, value_of};
 use clap::Command as Parser;
 use command_line::{FlagRow, OptionRow, Status, SubcommandRow, Times, with_subcommands};
 use file_store::Store;
 use kadm_changes::{
-    Context, DB, DumpArgs, InitArgs, KeytabArgs, Stop, Target, Update, has_flag, import_dump,
-    make_realm, make_update, value_of, write_keytab,
+    Context, DumpArgs, InitArgs, KeytabArgs, Stop, Target, Update, import_dump, make_realm,
+    make_update, write_keytab,
 };
 use std::alloc::{AllocError, Global};
 use std::convert::AsStr;

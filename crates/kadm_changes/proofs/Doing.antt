@@ -20,10 +20,11 @@ use Rattle.kadm_changes.specs.Granting.{Makes}
 use Rattle.kadm_changes.specs.Importing.{Imports}
 use Rattle.kadm_changes.specs.Keytabs.{IsBehind, IsFreePath, IsFront, IsKeytabFor, IsNewKeytab, IsOldKeytab, entries_of}
 use Rattle.kadm_changes.specs.Updates.{AreKept, IsRowKept, IsRowUpdated, IsSecretOf}
-use Rattle.kadm_changes.specs.Words.{Text}
+use Rattle.kadm_changes.specs.Asking.{all_asked}
 use Rattle.kadm_changes.specs.Worlds.{HoldsDatabase, Rewritten, WroteKeytab, with_database}
 use Rattle.kadm_changes.specs.declared.keytabs.KeytabArgs.{KeytabArgs}
 use Rattle.kadm_changes.specs.declared.changes.ChangeArgs.{ChangeArgs}
+use Rattle.kadm_changes.specs.declared.target.Target.{Target}
 use Rattle.kadm_changes.specs.declared.updates.RowArgs.{RowArgs}
 
 -- ---- a change of a row
@@ -46,23 +47,23 @@ imports_by (Err fault) p new who versions made refused = tt
 -- ---- changes of a database that was read
 
 -- the change of a row, whose password was read before
-pub row_updated : (before changing : Option World) (whole : Bool) (etypes given : List Etype) (to : RowArgs) (who : Components) (pass octets : List ℕ) (p q : Principals)
-    → changing ≡ before → given ≡ etypes → octets ≡ pass → IsNameText who to.name.now → IsSecretOf before to.how pass
-    → IsRowKept changing whole given octets to who p q → IsRowUpdated before whole etypes to p q
-row_updated before changing whole etypes given to who pass octets p q kept types taken spelled secret change = record {
+pub row_updated : (before changing : Option World) (whole : Bool) (target : Target) (given : List Etype) (to : RowArgs) (who : Components) (pass octets : List ℕ) (p q : Principals)
+    → changing ≡ before → given ≡ target.etypes.items → octets ≡ pass → IsNameText who to.name.now → IsSecretOf before to.how pass
+    → IsRowKept changing whole given (all_asked target.settings.items) octets to.how who p q → IsRowUpdated before whole target to p q
+row_updated before changing whole target given to who pass octets p q kept types taken spelled secret change = record {
   who = who;
   spelled = spelled;
   pass = pass;
   secret = secret;
-  changed = subst (λ world. IsRowKept world whole etypes pass to who p q) kept
-      (subst (λ read. IsRowKept changing whole etypes read to who p q) taken
-      (subst (λ ordered. IsRowKept changing whole ordered octets to who p q) types change));
+  changed = subst (λ world. IsRowKept world whole target.etypes.items (all_asked target.settings.items) pass to.how who p q) kept
+      (subst (λ read. IsRowKept changing whole target.etypes.items (all_asked target.settings.items) read to.how who p q) taken
+      (subst (λ ordered. IsRowKept changing whole ordered (all_asked target.settings.items) octets to.how who p q) types change));
 }
 
 -- the changes of all principals that are named
-pub rows_changed : (before changing : Option World) (whole : Bool) (words : List Text) (how : ChangeArgs) (p q : Principals)
-    → changing ≡ before → AreKept changing whole words how p q → AreKept before whole words how p q
-rows_changed before changing whole words how p q kept change = subst (λ world. AreKept world whole words how p q) kept change
+pub rows_changed : (before changing : Option World) (whole : Bool) (target : Target) (how : ChangeArgs) (p q : Principals)
+    → changing ≡ before → AreKept changing whole target how p q → AreKept before whole target how p q
+rows_changed before changing whole target how p q kept change = subst (λ world. AreKept world whole target how p q) kept change
 
 -- ---- keytabs
 

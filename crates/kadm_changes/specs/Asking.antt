@@ -1,15 +1,24 @@
--- The settings that words ask for, and times that are past.
-use Rattle.std.specs.Prelude.{◌≡◌, ◌≤ℤ◌, ℕ, ℤ, pos, Bool, true, Option, Some, None, IfSome, ⊤}
+-- The settings that a command asks for, and times that are past.
+use Rattle.std.specs.Prelude.{◌≡◌, ◌≤ℤ◌, ℕ, ℤ, pos, Bool, true, List, map, Option, Some, None, IfSome, ⊤}
 use Rattle.file_store.specs.World.{World}
 use Rattle.text_fields.specs.declared.settings.Setting.{Setting}
 use Rattle.text_fields.specs.declared.settings.Setting.TheVariants as settings
 use Rattle.text_fields.specs.declared.settings.TimeField.TheVariants as times
-use Rattle.kadm_changes.specs.Words.{Asked}
-use Rattle.kadm_changes.specs.declared.assigning.SettingWords.{SettingWords}
+use Rattle.kadm_changes.specs.Texts.{Text}
+use Rattle.kadm_changes.specs.declared.asking.AskedSetting.{AskedSetting}
 
--- the same words, as they are lent
-abbrev pub asked_of : SettingWords → Asked
-asked_of words = record { field = words.field.now; value = words.value.now; ahead = words.ahead }
+-- what a setting asks for: a field, its value, and whether a time must not be past
+pub record Asked : Type 0 where
+  pub field : Text
+  pub value : Text
+  pub ahead : Bool
+
+-- the same texts, as they are lent
+abbrev pub asked_of : AskedSetting → Asked
+asked_of setting = record { field = setting.field.now; value = setting.value.now; ahead = setting.ahead }
+
+abbrev pub all_asked : List AskedSetting → List Asked
+all_asked settings = map asked_of settings
 
 -- when the principal or its password expires by a setting
 abbrev pub expiry : Setting → Option ℤ

@@ -14,9 +14,8 @@ use Rattle.principals.specs.declared.change.RowChange.TheVariants as row_changes
 use Rattle.text_fields.specs.Settings.{with_setting}
 use Rattle.text_fields.specs.Values.{IsFixedValue, IsTimeFrom}
 use Rattle.text_fields.specs.declared.settings.Setting.{Setting}
-use Rattle.kadm_changes.specs.Asking.{IsTimely}
+use Rattle.kadm_changes.specs.Asking.{Asked, IsTimely}
 use Rattle.kadm_changes.specs.Denying.{denied}
-use Rattle.kadm_changes.specs.Words.{Asked}
 use Rattle.kadm_changes.specs.declared.granting.Grant.{Grant}
 use Rattle.kadm_changes.specs.declared.granting.Grant.TheVariants.{New, NewUser, Next, Replace, Either}
 use Rattle.kadm_changes.specs.declared.granting.KeyChange.{KeyChange}

@@ -10,6 +10,6 @@ pub mod Owners
 pub mod Realm
 pub mod Stops
 pub mod Updates
-pub mod Words
+pub mod Texts
 pub mod Worlds
 pub mod WorldLaws

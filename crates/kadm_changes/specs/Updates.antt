@@ -8,14 +8,16 @@ use Rattle.krb_fields.specs.Salt.{default_salt}
 use Rattle.principal_keys.specs.Keys.{drawn_keys, password_key, seeded}
 use Rattle.principal_rows.specs.declared.row.KeyVersion.{KeyVersion}
 use Rattle.principals.specs.Database.{Principals}
+use Rattle.kadm_changes.specs.Asking.{Asked, all_asked}
 use Rattle.kadm_changes.specs.Changing.{AreChanged, AreSet}
 use Rattle.kadm_changes.specs.Denying.{migrated_rows}
 use Rattle.kadm_changes.specs.Granting.{IsCleared, IsGranted}
 use Rattle.kadm_changes.specs.Importing.{HasVersions, Imports}
 use Rattle.kadm_changes.specs.Realm.{KeepsRealm, MayHaveKeys, tgs_policy}
-use Rattle.kadm_changes.specs.Words.{Text, path_of, texts}
+use Rattle.kadm_changes.specs.Texts.{Text, path_of, texts}
 use Rattle.kadm_changes.specs.declared.changes.ChangeArgs.{ChangeArgs}
 use Rattle.kadm_changes.specs.declared.granting.Grant.{Grant}
+use Rattle.kadm_changes.specs.declared.target.Target.{Target}
 use Rattle.kadm_changes.specs.declared.updates.RowArgs.{RowArgs}
 use Rattle.kadm_changes.specs.declared.updates.RowUpdate.{RowUpdate}
 use Rattle.kadm_changes.specs.declared.updates.RowUpdate.TheVariants as rows
@@ -56,35 +58,36 @@ IsRowGiven world etypes pass (rows.Password to) who p new = GivesPassword world 
 IsRowGiven world etypes pass (rows.Random to) who p new = GivesRandom world etypes (path_of to.seed) to.grant who p new
 IsRowGiven world etypes pass (rows.Import keytab) who p new = IsImported world etypes keytab.now who p new
 
--- a principal is given keys, and then the settings of the command line
-abbrev pub IsRowChanged : Option World → List Etype → List ℕ → RowArgs → Components → Principals → Principals → Type 0
-IsRowChanged world etypes pass to who p new =
-    (given : Principals) × IsRowGiven world etypes pass to.how who p given × AreSet world (texts to.words.now) who given new
+-- a principal is given keys, and then these settings
+abbrev pub IsRowChanged : Option World → List Etype → List Asked → List ℕ → RowUpdate → Components → Principals → Principals → Type 0
+IsRowChanged world etypes settings pass how who p new =
+    (given : Principals) × IsRowGiven world etypes pass how who p given × AreSet world settings who given new
 
 -- the same, and nobody is kept out of the realm: krbtgt/REALM gets no keys of a password, and stays as open as it was
-abbrev pub IsRowKept : Option World → Bool → List Etype → List ℕ → RowArgs → Components → Principals → Principals → Type 0
-IsRowKept world whole etypes pass to who p new =
-    IsRowChanged world etypes pass to who p new × MayHaveKeys whole new.realm who to.how
+abbrev pub IsRowKept : Option World → Bool → List Etype → List Asked → List ℕ → RowUpdate → Components → Principals → Principals → Type 0
+IsRowKept world whole etypes settings pass how who p new =
+    IsRowChanged world etypes settings pass how who p new × MayHaveKeys whole new.realm who how
     × KeepsRealm whole world (tgs_policy p) (tgs_policy new)
 
 -- the row of the principal that a text names is changed
-pub record IsRowUpdated (world : Option World) (whole : Bool) (etypes : List Etype) (to : RowArgs) (p : Principals) (new : Principals) : Type 0 where
+pub record IsRowUpdated (world : Option World) (whole : Bool) (target : Target) (to : RowArgs) (p : Principals) (new : Principals) : Type 0 where
   pub who : Components
   pub spelled : IsNameText who to.name.now
   pub pass : List ℕ
   pub secret : IsSecretOf world to.how pass
-  pub changed : IsRowKept world whole etypes pass to who p new
+  pub changed : IsRowKept world whole target.etypes.items (all_asked target.settings.items) pass to.how who p new
 
--- the principals that words name are changed, and krbtgt/REALM stays as open as it was
-abbrev pub AreKept : Option World → Bool → List Text → ChangeArgs → Principals → Principals → Type 0
-AreKept world whole words how p new =
-    AreChanged world words how p new × KeepsRealm whole world (tgs_policy p) (tgs_policy new)
+-- the principals that are named are changed, and krbtgt/REALM stays as open as it was
+abbrev pub AreKept : Option World → Bool → Target → ChangeArgs → Principals → Principals → Type 0
+AreKept world whole target how p new =
+    AreChanged world (all_asked target.settings.items) how (texts target.names.items) p new
+    × KeepsRealm whole world (tgs_policy p) (tgs_policy new)
 
 abbrev pub IsMigrated : Option World → Bool → Bool → Principals → Principals → Type 0
 IsMigrated world whole users_are_no_services p new =
     (new ≡ migrated_rows users_are_no_services p) × KeepsRealm whole world (tgs_policy p) (tgs_policy new)
 
-abbrev pub IsUpdated : Option World → Bool → List Etype → Update → Principals → Principals → Type 0
-IsUpdated world whole etypes (updates.Row to) p new = IsRowUpdated world whole etypes to p new
-IsUpdated world whole etypes (updates.Changes changes) p new = AreKept world whole (texts changes.words.now) changes.how p new
-IsUpdated world whole etypes (updates.Migrate users_are_no_services) p new = IsMigrated world whole users_are_no_services p new
+abbrev pub IsUpdated : Option World → Bool → Target → Update → Principals → Principals → Type 0
+IsUpdated world whole target (updates.Row to) p new = IsRowUpdated world whole target to p new
+IsUpdated world whole target (updates.Changes how) p new = AreKept world whole target how p new
+IsUpdated world whole target (updates.Migrate users_are_no_services) p new = IsMigrated world whole users_are_no_services p new

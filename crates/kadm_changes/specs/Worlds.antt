@@ -14,9 +14,10 @@ use Rattle.kadm_changes.specs.Dumps.{HasRealm}
 use Rattle.kadm_changes.specs.Keytabs.{IsFreePath, IsKeytabFor}
 use Rattle.kadm_changes.specs.Realm.{KeepsRealm, tgs_policy}
 use Rattle.kadm_changes.specs.Updates.{IsUpdated}
-use Rattle.kadm_changes.specs.Words.{path_of}
+use Rattle.kadm_changes.specs.Texts.{path_of}
 use Rattle.kadm_changes.specs.declared.dump_import.DumpArgs.{DumpArgs}
 use Rattle.kadm_changes.specs.declared.keytabs.KeytabArgs.{KeytabArgs}
+use Rattle.kadm_changes.specs.declared.target.Target.{Target}
 use Rattle.kadm_changes.specs.declared.updates.Update.{Update}
 
 -- the path has the text of a database
@@ -55,8 +56,9 @@ pub record Rewritten (before : Option World) (db : List ℕ) (makes : Principals
   pub read_back : IsReadBack new
   pub written : after ≡ with_database db new before
 
-abbrev pub Updated : Option World → Bool → List ℕ → List Etype → Update → Option World → Type 0
-Updated before whole db etypes update after = Rewritten before db (IsUpdated before whole etypes update) after
+abbrev pub Updated : Option World → Target → Update → Option World → Type 0
+Updated before target update after =
+    Rewritten before target.db.now (IsUpdated before target.whole_realm target update) after
 
 -- a keytab of a principal's current keys is written, at a path without a database or a lock, and no other file
 pub record WroteKeytab (before : Option World) (db : List ℕ) (to : KeytabArgs) (after : Option World) : Type 0 where

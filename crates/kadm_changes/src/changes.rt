@@ -1,23 +1,22 @@
 //! A new database, and changes of one without new keys.
-ghost use Rattle.std.specs.Prelude.{◌≡◌, ◌≤ℤ◌, IfOk, IfSome, IsFalse, OnOk, OnErr, option_map, pos};
-ghost use Rattle.kadm_changes.specs.Asking.{IsFrom, IsTimely, asked_of, expiry};
+ghost use Rattle.std.specs.Prelude.{◌≡◌, ◌≤ℤ◌, IfOk, IfSome, IsFalse, OnOk, OnErr, pos};
+ghost use Rattle.kadm_changes.specs.Asking.{IsFrom, IsTimely, all_asked, asked_of, expiry};
 ghost use Rattle.principals.specs.declared.change.RowChange.TheVariants as row_changes;
-ghost use Rattle.kadm_changes.specs.Changing.{AreChanged, AreSet, IsChanged, IsChangedAt, IsNamedChanged, IsSetAt};
+ghost use Rattle.kadm_changes.specs.Changing.{AreChanged, AreSet, IsChanged, IsNamedChanged};
 ghost use Rattle.kadm_changes.specs.Denying.{migrated_rows};
 ghost use Rattle.kadm_changes.specs.Granting.{IsPolicySet, IsValueOf, Makes};
-ghost use Rattle.kadm_changes.specs.Words.{path_of, texts};
+ghost use Rattle.kadm_changes.specs.Texts.{path_of, texts};
 ghost use Rattle.kadm_changes.specs.Worlds.{MadeNew, MadeRealm};
 
-use crate::assigning::{SettingWords, setting_at};
+use crate::asking::AskedSetting;
 use crate::context::Context;
 use crate::databases::{apply, lock_database, write_database};
 use crate::denying::deny_users;
 use crate::draft::Draft;
 use crate::granting::drop_older;
-use crate::reason::Reason;
+use crate::reason::{Part, Reason};
 use crate::stop::{Stop, of_realm};
 use crate::target::Target;
-use crate::words::{DB, NAME, value_at};
 use file_store::{Store, Written, has_file, read_clock, read_or_draw_seed};
 use krb_elements::KerberosString;
 use krb_fields::{Name, Second, component_from_text};
@@ -36,23 +35,14 @@ pub struct InitArgs<'a> {
     pub seed: Option<&'a str>,
 }
 
-/// Which principals are changed, and how; they get no new keys.
-#[derive(Clone, Copy)]
-pub struct Changes<'a> {
-    /// The words of the command line. Each `--name` in them names a principal.
-    pub words: &'a [&'a str],
-    /// How each of them is changed.
-    pub how: ChangeArgs,
-}
-
-/// How a principal is changed.
+/// How a principal is changed; it gets no new keys.
 #[derive(Clone, Copy)]
 pub enum ChangeArgs {
     /// Drops the keys of a version.
     Drop { version: u32 },
     /// Drops all versions but the current one.
     DropOlder,
-    /// Makes the settings of the command line.
+    /// Makes the settings that the command asks for.
     Policy,
     /// Removes it.
     Remove,
@@ -89,7 +79,7 @@ fn make_new_realm<'p, T: Store, W: Write, E: Write>(
     let alloc = context.alloc;
     let locked = lock_database(context, store, target)?;
     if has_file(store, target.db)? {
-        return Err(Stop::refused(DB, Reason::FileExists));
+        return Err(Stop::refused(Part::Database, Reason::FileExists));
     }
     let keys = random_keys(
         alloc,
@@ -102,68 +92,50 @@ fn make_new_realm<'p, T: Store, W: Write, E: Write>(
     }
 }
 
-/// Fails if the words of a command line name a principal by a text that is no name.
-pub(crate) fn check_names<'p>(alloc: Global, words: &'p [&'p str]) -> Result<(), Stop<'p>> {
-    let mut rest = words;
-    while let [word, others @ ..] = rest {
-        if let Some(name) = value_at(NAME, word, others) {
-            if let Err(fault) = Name::from_text(alloc, name) {
-                return Err(Stop::from(fault).about(NAME, name));
-            }
+/// Fails if one of the texts is not the name of a principal.
+pub(crate) fn check_names<'p>(alloc: Global, names: &[&'p str]) -> Result<(), Stop<'p>> {
+    for name in names {
+        if let Err(fault) = Name::from_text(alloc, name) {
+            return Err(Stop::from(fault).about(Part::Name, name));
         }
-        rest = others;
     }
     Ok(())
 }
 
-/// Changes each principal that the words of a command line name, without new keys. After an `Err` some may have been
-/// changed.
+/// Changes each principal that the command names, without new keys. After an `Err` some may have been changed.
 pub(crate) fn change_all<'p, T: Store>(
     store: &mut T,
     draft: &mut Draft,
-    changes: &Changes<'p>,
+    target: &Target<'p>,
+    how: ChangeArgs,
 ) -> Result<(), Stop<'p>>
-    ensures changed { OnOk result (AreChanged (T.world store.old) (texts changes.now.words.now) changes.now.how draft.old.database draft.new.database) }
+    ensures changed { OnOk result (AreChanged (T.world store.old) (all_asked target.now.settings.items) how
+        (texts target.now.names.items) draft.old.database draft.new.database) }
     ensures unchanged { T.world store.new ≡ T.world store.old }
 {
-    let mut rest = changes.words;
-    while let [word, others @ ..] = rest {
-        let name = value_at(NAME, word, others);
-        change_at(store, draft, changes, name)?;
+    let mut rest = target.names.as_slice();
+    while let [name, others @ ..] = rest {
+        change_named(store, draft, target, how, name)?;
         rest = others;
     }
     Ok(())
-}
-
-/// Changes the principal that a word names, if it names one.
-fn change_at<'p, T: Store>(
-    store: &mut T,
-    draft: &mut Draft,
-    changes: &Changes<'p>,
-    name: Option<&'p str>,
-) -> Result<(), Stop<'p>>
-    ensures changed { OnOk result (IsChangedAt (T.world store.old) (texts changes.now.words.now) changes.now.how (path_of name.entry) draft.old.database draft.new.database) }
-    ensures unchanged { T.world store.new ≡ T.world store.old }
-{
-    match name {
-        Some(name) => change_named(store, draft, changes, name),
-        None => Ok(()),
-    }
 }
 
 /// Changes the principal that a text names. A refusal names it.
 fn change_named<'p, T: Store>(
     store: &mut T,
     draft: &mut Draft,
-    changes: &Changes<'p>,
+    target: &Target<'p>,
+    how: ChangeArgs,
     name: &'p str,
 ) -> Result<(), Stop<'p>>
-    ensures changed { OnOk result (IsNamedChanged (T.world store.old) (texts changes.now.words.now) changes.now.how name.entry.now draft.old.database draft.new.database) }
+    ensures changed { OnOk result (IsNamedChanged (T.world store.old) (all_asked target.now.settings.items) how name.entry.now
+        draft.old.database draft.new.database) }
     ensures unchanged { T.world store.new ≡ T.world store.old }
 {
-    match change_text(store, draft, changes, name) {
+    match change_text(store, draft, target, how, name) {
         Ok(()) => Ok(()),
-        Err(stop) => Err(stop.about(NAME, name)),
+        Err(stop) => Err(stop.about(Part::Name, name)),
     }
 }
 
@@ -171,14 +143,16 @@ fn change_named<'p, T: Store>(
 fn change_text<'p, T: Store>(
     store: &mut T,
     draft: &mut Draft,
-    changes: &Changes<'p>,
+    target: &Target<'p>,
+    how: ChangeArgs,
     name: &str,
 ) -> Result<(), Stop<'p>>
-    ensures changed { OnOk result (IsNamedChanged (T.world store.old) (texts changes.now.words.now) changes.now.how name.now draft.old.database draft.new.database) }
+    ensures changed { OnOk result (IsNamedChanged (T.world store.old) (all_asked target.now.settings.items) how name.now
+        draft.old.database draft.new.database) }
     ensures unchanged { T.world store.new ≡ T.world store.old }
 {
     let who = Name::from_text(draft.alloc, name)?;
-    change(store, draft, &who, changes)
+    change(store, draft, &who, target, how)
 }
 
 /// Changes the row of a principal, without new keys.
@@ -186,54 +160,38 @@ fn change<'p, T: Store>(
     store: &mut T,
     draft: &mut Draft,
     who: &Name,
-    changes: &Changes<'p>,
+    target: &Target<'p>,
+    how: ChangeArgs,
 ) -> Result<(), Stop<'p>>
-    ensures changed { OnOk result (IsChanged (T.world store.old) (texts changes.now.words.now) changes.now.how who.now.components draft.old.database draft.new.database) }
+    ensures changed { OnOk result (IsChanged (T.world store.old) (all_asked target.now.settings.items) how who.now.components
+        draft.old.database draft.new.database) }
     ensures unchanged { T.world store.new ≡ T.world store.old }
 {
-    match changes.how {
+    match how {
         ChangeArgs::Drop { version } => drop_keys(draft, who, version),
         ChangeArgs::DropOlder => Ok(drop_older(draft, who)?),
-        ChangeArgs::Policy => set_all(store, draft, who, changes.words),
+        ChangeArgs::Policy => set_all(store, draft, who, target),
         ChangeArgs::Remove => Ok(apply(draft, who, RowChange::Remove)?),
     }
 }
 
-/// Makes the settings that the words of a command line ask for, in their order. After an `Err` some may have been made.
+/// Makes the settings that the command asks for, in their order. After an `Err` some may have been made.
 pub(crate) fn set_all<'p, T: Store>(
     store: &mut T,
     draft: &mut Draft,
     who: &Name,
-    words: &'p [&'p str],
+    target: &Target<'p>,
 ) -> Result<(), Stop<'p>>
-    ensures set { OnOk result (AreSet (T.world store.old) (texts words.entry.now) who.now.components draft.old.database draft.new.database) }
+    ensures set { OnOk result (AreSet (T.world store.old) (all_asked target.now.settings.items) who.now.components
+        draft.old.database draft.new.database) }
     ensures unchanged { T.world store.new ≡ T.world store.old }
 {
-    let mut rest = words;
-    while let [word, others @ ..] = rest {
-        let setting = setting_at(words, word, others);
-        set_at(store, draft, who, setting)?;
+    let mut rest = target.settings.as_slice();
+    while let [setting, others @ ..] = rest {
+        set_policy(store, draft, who, *setting)?;
         rest = others;
     }
     Ok(())
-}
-
-/// Makes a setting, if there is one.
-fn set_at<'p, T: Store>(
-    store: &mut T,
-    draft: &mut Draft,
-    who: &Name,
-    setting: Option<SettingWords<'p>>,
-) -> Result<(), Stop<'p>>
-    ensures set { OnOk result (IsSetAt (T.world store.old)
-        (option_map asked_of setting.entry)
-        who.now.components draft.old.database draft.new.database) }
-    ensures unchanged { T.world store.new ≡ T.world store.old }
-{
-    match setting {
-        Some(setting) => set_policy(store, draft, who, setting),
-        None => Ok(()),
-    }
 }
 
 /// Drops the keys of an old version.
@@ -241,7 +199,7 @@ fn drop_keys(draft: &mut Draft, who: &Name, version: u32) -> Result<(), Stop<'st
     ensures { OnOk result (Makes draft.old.database who.now.components (row_changes.DropKeys version) draft.new.database) }
 {
     if lacks_version(&draft.database, who, version) {
-        return Err(Stop::refused(NAME, Reason::NoVersion));
+        return Err(Stop::refused(Part::Name, Reason::NoVersion));
     }
     Ok(apply(draft, who, RowChange::DropKeys(version))?)
 }
@@ -259,9 +217,9 @@ fn set_policy<'p, T: Store>(
     store: &mut T,
     draft: &mut Draft,
     who: &Name,
-    words: SettingWords<'p>,
+    asked: AskedSetting<'p>,
 ) -> Result<(), Stop<'p>>
-    ensures changed { OnOk result (IsPolicySet (T.world store.old) (asked_of words.entry) who.now.components
+    ensures changed { OnOk result (IsPolicySet (T.world store.old) (asked_of asked.entry) who.now.components
         draft.old.database draft.new.database) }
     ensures unchanged { T.world store.new ≡ T.world store.old }
 {
@@ -269,40 +227,40 @@ fn set_policy<'p, T: Store>(
         return Err(Stop::from(ChangeFault::Absent));
     };
     let policy = row.policy;
-    let setting = setting(store, words)?;
-    check_time(store, words, setting)?;
+    let setting = setting(store, asked)?;
+    check_time(store, asked, setting)?;
     let policy = setting.on(policy);
     Ok(apply(draft, who, RowChange::SetPolicy(policy))?)
 }
 
 /// Returns a field with its value. It reads the clock if the value is a time from now.
-fn setting<'p, T: Store>(store: &mut T, words: SettingWords<'p>) -> Result<Setting, Stop<'p>>
-    ensures setting { IfOk result (λ setting. IsValueOf (T.world store.old) setting words.entry.field.now words.entry.value.now) }
+fn setting<'p, T: Store>(store: &mut T, asked: AskedSetting<'p>) -> Result<Setting, Stop<'p>>
+    ensures setting { IfOk result (λ setting. IsValueOf (T.world store.old) setting asked.entry.field.now asked.entry.value.now) }
     ensures unchanged { T.world store.new ≡ T.world store.old }
 {
-    if let Some(setting) = setting_of(words.field, words.value) {
+    if let Some(setting) = setting_of(asked.field, asked.value) {
         return Ok(setting);
     }
-    match setting_from(words.field, words.value, read_clock(store)?) {
+    match setting_from(asked.field, asked.value, read_clock(store)?) {
         Some(setting) => Ok(setting),
-        None => Err(Stop::refused_value(words.form.value_option(), words.value, Reason::BadTime)),
+        None => Err(Stop::refused_value(Part::Setting(asked.form), asked.value, Reason::BadTime)),
     }
 }
 
-/// Refuses a time that is past, where the words ask for one ahead.
+/// Refuses a time that is past, where one ahead is asked for.
 fn check_time<'p, T: Store>(
     store: &mut T,
-    words: SettingWords<'p>,
+    asked: AskedSetting<'p>,
     setting: Setting,
 ) -> Result<(), Stop<'p>>
-    ensures timely { OnOk result (IsTimely words.entry.ahead (T.world store.old) setting) }
+    ensures timely { OnOk result (IsTimely asked.entry.ahead (T.world store.old) setting) }
     ensures unchanged { T.world store.new ≡ T.world store.old }
 {
-    if !words.ahead {
+    if !asked.ahead {
         return Ok(());
     }
     if is_before_now(store, expiry(setting))? {
-        return Err(Stop::refused_value(words.form.value_option(), words.value, Reason::Past));
+        return Err(Stop::refused_value(Part::Setting(asked.form), asked.value, Reason::Past));
     }
     Ok(())
 }

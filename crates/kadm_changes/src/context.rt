@@ -2,7 +2,7 @@
 
 use std::alloc::Global;
 
-/// What a command uses besides its words and the files: memory, and what it prints to.
+/// What a command uses besides its target and the files: memory, and what it prints to.
 #[derive(Drop)]
 pub struct Context<W, E> {
     /// What it takes its memory from.

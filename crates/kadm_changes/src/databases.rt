@@ -5,10 +5,9 @@ ghost use Rattle.kadm_changes.specs.Worlds.{HoldsDatabase, IsReadBack, with_data
 
 use crate::context::Context;
 use crate::draft::Draft;
-use crate::reason::Reason;
+use crate::reason::{Part, Reason};
 use crate::stop::Stop;
 use crate::target::Target;
-use crate::words::DB;
 use file_store::{NewMode, Store, Written, lock_file, read_at_most, update_file};
 use krb_fields::Name;
 use principals::{Change, ChangeFault, Database, RowChange};
@@ -65,7 +64,7 @@ pub fn lock_database<'p, T: Store, W: Write, E: Write>(
     if lock_file(context.alloc, store, target.db)? {
         Ok(locked)
     } else {
-        Err(Stop::refused(DB, Reason::Locked))
+        Err(Stop::refused(Part::Database, Reason::Locked))
     }
 }
 

@@ -19,10 +19,9 @@ use crate::dump_reports::{
     report_fault, report_key_fault, report_losses, report_no_database, report_taken,
 };
 use crate::realm::{realm_end, report_realm, tgs_policy};
-use crate::reason::Reason;
+use crate::reason::{Part, Reason};
 use crate::stop::Stop;
 use crate::target::Target;
-use crate::words::{DB, DUMP, STASH};
 use cred_files::{CredFault, Keytab, KeytabEntry};
 use file_store::{Store, Written, has_file, read_at_most, read_file};
 use krb_elements::KerberosString;
@@ -57,7 +56,7 @@ pub fn import_dump<'p, T: Store, W: Write, E: Write>(
 {
     let locked = lock_database(context, store, target)?;
     if has_file(store, target.db)? {
-        return Err(Stop::refused(DB, Reason::FileExists));
+        return Err(Stop::refused(Part::Database, Reason::FileExists));
     }
     let database = read_realm(context, store, from)?;
     check_new_realm(store, &database, target.whole_realm)?;
@@ -82,7 +81,7 @@ fn check_new_realm<T: Store>(
     }
     let end = realm_end(store, Policy::default(), tgs_policy(database))?;
     match end {
-        Some(_) => Err(Stop::refused(DUMP, Reason::EndedRealm)),
+        Some(_) => Err(Stop::refused(Part::Dump, Reason::EndedRealm)),
         None => Ok(()),
     }
 }
@@ -114,7 +113,7 @@ fn read_stash<'p, T: Store>(alloc: Global, store: &mut T, path: &'p str) -> Resu
     match Keytab::read(alloc, &octets) {
         Ok(stash) => Ok(stash),
         Err(CredFault::Memory) => Err(Stop::from(AllocError)),
-        Err(_) => Err(Stop::refused(STASH, Reason::BadStash)),
+        Err(_) => Err(Stop::refused(Part::Stash, Reason::BadStash)),
     }
 }
 
@@ -132,7 +131,7 @@ fn database_of<W, E: Write>(
     };
     let is_whole = report_losses(context.alloc, &mut context.errors, found, realm)?;
     if !is_whole && !skip {
-        return Err(Stop::refused(DUMP, Reason::NoPlace));
+        return Err(Stop::refused(Part::Dump, Reason::NoPlace));
     }
     let rows = rows_of(context, found, realm, stash)?;
     report_taken(context.alloc, &mut context.errors, found, rows.len())?;

@@ -2,9 +2,8 @@
 ghost use Rattle.std.specs.Prelude.{◌≡◌, All, IfOk, true};
 ghost use Rattle.kadm_changes.specs.Dumps.{LosesNothing};
 
-use crate::reason::Reason;
+use crate::reason::{Part, Reason};
 use crate::stop::Stop;
-use crate::words::{DUMP, STASH};
 use krb_fields::component_to_text;
 use mit_dump::{DumpFault, DumpedPrincipal, KeyFault, LineFault};
 use std::alloc::{AllocError, Global};
@@ -20,7 +19,7 @@ pub(crate) fn report_fault<E: Write>(
         return Stop::from(AllocError);
     }
     let _ = writeln!(errors, "kadm: {dump}: line {}: {}", fault.line, fault.cause);
-    Stop::refused(DUMP, Reason::BadDump)
+    Stop::refused(Part::Dump, Reason::BadDump)
 }
 
 /// Reports that the principals of a dump make no database. Returns how the command ends.
@@ -29,7 +28,7 @@ pub(crate) fn report_no_database<E: Write>(errors: &mut E) -> Stop<'static> {
         errors,
         "kadm: no principal with a key is krbtgt/REALM@REALM, or one is there twice"
     );
-    Stop::refused(DUMP, Reason::BadDump)
+    Stop::refused(Part::Dump, Reason::BadDump)
 }
 
 /// Reports that the keys of a principal can't be decrypted. Returns how the command ends.
@@ -46,7 +45,7 @@ pub(crate) fn report_key_fault<E: Write>(
         return Stop::from(error);
     }
     let _ = writeln!(errors, "{fault}");
-    Stop::refused(STASH, Reason::BadStash)
+    Stop::refused(Part::Stash, Reason::BadStash)
 }
 
 /// Reports what has no place in a database of this realm, a line each. Returns whether there is nothing.

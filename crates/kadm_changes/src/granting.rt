@@ -7,7 +7,7 @@ ghost use Rattle.principal_rows.specs.declared.row.Row as rows;
 ghost use Rattle.kadm_changes.specs.Granting.{IsCleared, IsGiven, IsGranted, IsOlderDropped, IsReplaced, IsUserAdded};
 ghost use Rattle.kadm_changes.specs.Granting.{Makes, key_change, older_numbers, password_expiry};
 ghost use Rattle.kadm_changes.specs.Updates.{GivesPassword, GivesRandom};
-ghost use Rattle.kadm_changes.specs.Words.{path_of};
+ghost use Rattle.kadm_changes.specs.Texts.{path_of};
 
 use crate::databases::apply;
 use crate::denying::deny_service;

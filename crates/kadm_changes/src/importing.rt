@@ -5,8 +5,8 @@ ghost use Rattle.kadm_changes.specs.Updates.{IsImported};
 
 use crate::draft::Draft;
 use crate::granting::Recipient;
+use crate::reason::Part;
 use crate::stop::Stop;
-use crate::words::KEYTAB;
 use cred_files::Keytab;
 use file_store::{Store, read_file};
 use krb_fields::Name;
@@ -27,7 +27,7 @@ pub(crate) fn import<'p, T: Store>(
 {
     match read_versions(store, draft, to, keytab) {
         Ok(versions) => Ok(add_imported(draft, to.who, versions)?),
-        Err(stop) => Err(stop.about(KEYTAB, keytab)),
+        Err(stop) => Err(stop.about(Part::Keytab, keytab)),
     }
 }
 

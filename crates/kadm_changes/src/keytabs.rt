@@ -8,10 +8,9 @@ ghost use Rattle.kadm_changes.specs.Worlds.{WroteKeytab};
 use crate::context::Context;
 use crate::databases::{lock_database, read_database};
 use crate::joining::joined;
-use crate::reason::Reason;
+use crate::reason::{Part, Reason};
 use crate::stop::Stop;
 use crate::target::Target;
-use crate::words::OUT;
 use cred_files::{CredFault, Keytab, KeytabEntry};
 use file_store::{
     FileFault, FileRights, LOCK_END, Store, Written, file_rights, first_octet, folder_of, has_file,
@@ -71,10 +70,10 @@ fn check_path<'p, T: Store>(alloc: Global, store: &mut T, path: &'p str) -> Resu
     ensures unchanged { T.world store.new ≡ T.world store.old }
 {
     if path.ends_with(LOCK_END) {
-        return Err(Stop::refused(OUT, Reason::IsLock));
+        return Err(Stop::refused(Part::NewKeytab, Reason::IsLock));
     }
     if has_lock(alloc, store, path)? {
-        return Err(Stop::refused(OUT, Reason::IsDatabase));
+        return Err(Stop::refused(Part::NewKeytab, Reason::IsDatabase));
     }
     let first = first_octet(alloc, store, path)?;
     if is_other_file(first) {
@@ -175,7 +174,7 @@ fn check_owner<'p, T: Store>(store: &mut T, path: &'p str) -> Result<(), Stop<'p
     if is_ours(file, folder) {
         return Ok(());
     }
-    Err(Stop::refused(OUT, Reason::NotOurs))
+    Err(Stop::refused(Part::NewKeytab, Reason::NotOurs))
 }
 
 /// Checks whether the user who runs the program owns a file.

@@ -12,15 +12,15 @@
 //! let locked = lock_database(&mut context, &mut store, &target)?;
 //! let database = read_database(&mut context, &mut store, target.db)?;
 //! let mut draft = Draft { alloc, database };
-//! let note = update_in_batch(&mut store, &mut draft, &line, update, found.as_ref())?;
+//! let note = update_in_batch(&mut store, &mut draft, &line, whole, update, found.as_ref())?;
 //! let written = write_database(alloc, &mut store, &locked, &draft.database)?;
 //! ```
 //!
-//! It reads no command line and prints no result: `kadm` does. `principals` makes or refuses each change of a row, and
-//! `principals_text` reads and writes the text of a database.
+//! It knows no word of a command line and prints no result: `kadm` turns words into these values. `principals` makes or
+//! refuses each change of a row, and `principals_text` reads and writes the text of a database.
 #![tactic(auto)]
 
-mod assigning;
+mod asking;
 mod changes;
 mod context;
 mod databases;
@@ -37,13 +37,11 @@ mod passwords;
 mod realm;
 mod reason;
 mod stop;
-mod subject;
 mod target;
 mod updates;
-mod words;
 
-pub use assigning::{SettingForm, SettingWords, setting_at};
-pub use changes::{ChangeArgs, Changes, InitArgs, make_realm};
+pub use asking::{AskedSetting, SettingForm};
+pub use changes::{ChangeArgs, InitArgs, make_realm};
 pub use context::{Context, Progress};
 pub use databases::{Locked, lock_database, read_database, write_database};
 pub use draft::Draft;
@@ -53,9 +51,7 @@ pub use keytabs::{KeytabArgs, write_keytab};
 pub use note::Note;
 pub use passwords::{FoundLine, FoundPassword, PasswordArgs, PasswordGrant, find_password};
 pub use realm::report_realm;
-pub use reason::{RealmEnd, Reason, Refusal};
+pub use reason::{Part, RealmEnd, Reason, Refusal};
 pub use stop::Stop;
-pub use subject::{Subject, begin_line};
 pub use target::Target;
 pub use updates::{RowArgs, RowUpdate, Update, make_update, update_in_batch};
-pub use words::{DB, KEYTAB, NAME, has_flag, value_at, value_of};

@@ -2,18 +2,17 @@
 ghost use Rattle.std.specs.Prelude.{◌≡◌, IfOk, IfSome};
 ghost use Rattle.kadm_changes.specs.Found.{HasPassword, IsFound, IsFoundIn, IsFoundLine};
 ghost use Rattle.kadm_changes.specs.Updates.{IsPasswordOf, IsSecretOf};
-ghost use Rattle.kadm_changes.specs.Words.{path_of};
+ghost use Rattle.kadm_changes.specs.Texts.{path_of};
 ghost use Rattle.file_store.specs.World.{HasFirstLine};
 
 use crate::context::Context;
 use crate::databases::read_database;
 use crate::granting::Grant;
 use crate::realm::is_tgs_text;
-use crate::reason::{RealmEnd, Reason};
+use crate::reason::{Part, RealmEnd, Reason};
 use crate::stop::Stop;
 use crate::target::Target;
 use crate::updates::{RowArgs, RowUpdate, Update};
-use crate::words::{NAME, PASSWORD_FILE};
 use file_store::{FileCause, FileFault, STANDARD_INPUT, Store, ask_password, read_password};
 use krb_fields::component_to_text;
 use std::alloc::{AllocError, Global};
@@ -210,7 +209,7 @@ fn file_password<'p, T: Store>(
     ensures unchanged { T.world store.new ≡ T.world store.old }
 {
     let Some(path) = args.file else {
-        return Err(Stop::refused(NAME, Reason::NoPassword));
+        return Err(Stop::refused(Part::Name, Reason::NoPassword));
     };
     likely(found_or_read(alloc, store, path, found)?, args.any)
 }
@@ -263,7 +262,7 @@ fn password_at<'p, T: Store>(
 
 /// Returns the stop for a source with too long a password.
 fn too_long(source: &str) -> Stop<'_> {
-    Stop::refused_value(PASSWORD_FILE, source, Reason::LongPassword)
+    Stop::refused_value(Part::PasswordFile, source, Reason::LongPassword)
 }
 
 /// Returns the password, unless it is unlikely and only likely ones are accepted.
@@ -271,7 +270,7 @@ fn likely(pass: Vec<u8>, any: bool) -> Result<Vec<u8>, Stop<'static>>
     ensures { IfOk result (λ likely. likely.items ≡ pass.items) }
 {
     if !any && is_unlikely(&pass) {
-        return Err(Stop::refused(NAME, Reason::BadPassword));
+        return Err(Stop::refused(Part::Name, Reason::BadPassword));
     }
     Ok(pass)
 }
@@ -294,7 +293,7 @@ fn asked_password<'p, T: Store, W: Write, E: Write>(
 {
     let database = read_database(context, store, asked.db)?;
     if !asked.may_be_tgs && is_tgs_text(context.alloc, &database, asked.name) {
-        return Err(Stop::refused(NAME, Reason::EndsRealm(RealmEnd::Guessable)));
+        return Err(Stop::refused(Part::Name, Reason::EndsRealm(RealmEnd::Guessable)));
     }
     let realm = component_to_text(context.alloc, database.realm())?;
     if store.is_terminal() {
@@ -327,7 +326,7 @@ fn ask_twice<T: Store>(
     }
     let again = ask_once(alloc, store, name, realm)?;
     if again != pass {
-        return Err(Stop::refused(NAME, Reason::Mismatch));
+        return Err(Stop::refused(Part::Name, Reason::Mismatch));
     }
     Ok(pass)
 }

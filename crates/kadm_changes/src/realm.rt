@@ -3,10 +3,9 @@ ghost use Rattle.std.specs.Prelude.{◌≡◌, ◌&&◌, ◌<◌, ◌↔◌, not
 ghost use Rattle.krb_fields.specs.Granting.{tgs_principal};
 ghost use Rattle.kadm_changes.specs.Realm.{IsAhead, IsAsOpen, IsGone, KeepsRealm, MayHaveKeys, MayHavePassword, tgs_policy};
 
-use crate::reason::{RealmEnd, Reason};
+use crate::reason::{Part, RealmEnd, Reason};
 use crate::stop::Stop;
 use crate::updates::RowUpdate;
-use crate::words::{NAME, value_at};
 use file_store::{Store, read_clock};
 use krb_fields::{Name, Second, component_to_text, tgs_name};
 use principal_rows::Policy;
@@ -31,14 +30,14 @@ pub(crate) fn tgs_policy(database: &Database) -> Policy
 }
 
 /// Refuses a changed database in which the policy of `krbtgt/REALM` keeps everybody from logging in, and did not
-/// before; `whole` allows that. The refusal names the principal as the words do.
+/// before; `whole` allows that. The refusal names the principal as the command does.
 pub(crate) fn check_realm<'p, T: Store>(
     alloc: Global,
     store: &mut T,
     database: &Database,
     whole: bool,
     before: Policy,
-    words: &'p [&'p str],
+    names: &[&'p str],
 ) -> Result<(), Stop<'p>>
     ensures kept { OnOk result (KeepsRealm whole (T.world store.old) before (tgs_policy database.now)) }
     ensures unchanged { T.world store.new ≡ T.world store.old }
@@ -48,7 +47,7 @@ pub(crate) fn check_realm<'p, T: Store>(
     }
     let end = realm_end(store, before, tgs_policy(database))?;
     match end {
-        Some(end) => Err(protected(alloc, database, words, end)),
+        Some(end) => Err(protected(alloc, database, names, end)),
         None => Ok(()),
     }
 }
@@ -165,7 +164,7 @@ fn check_guess(
         return Ok(());
     }
     if is_tgs(alloc, database, who)? {
-        return Err(Stop::refused(NAME, Reason::EndsRealm(RealmEnd::Guessable)));
+        return Err(Stop::refused(Part::Name, Reason::EndsRealm(RealmEnd::Guessable)));
     }
     Ok(())
 }
@@ -178,30 +177,21 @@ pub(crate) fn is_tgs(alloc: Global, database: &Database, who: &Name) -> Result<b
     Ok(who.is_same(&tgs))
 }
 
-/// Returns the refusal of the end of a realm. It names `krbtgt/REALM` as the words do.
-fn protected<'p>(
-    alloc: Global,
-    database: &Database,
-    words: &'p [&'p str],
-    end: RealmEnd,
-) -> Stop<'p> {
-    let stop = Stop::refused(NAME, Reason::EndsRealm(end));
-    match tgs_word(alloc, database, words) {
-        Some(name) => stop.about(NAME, name),
+/// Returns the refusal of the end of a realm. It names `krbtgt/REALM` as the command does.
+fn protected<'p>(alloc: Global, database: &Database, names: &[&'p str], end: RealmEnd) -> Stop<'p> {
+    let stop = Stop::refused(Part::Name, Reason::EndsRealm(end));
+    match tgs_text(alloc, database, names) {
+        Some(name) => stop.about(Part::Name, name),
         None => stop,
     }
 }
 
-/// Returns the first text among the words that names `krbtgt/REALM`.
-fn tgs_word<'p>(alloc: Global, database: &Database, words: &'p [&'p str]) -> Option<&'p str> {
-    let mut rest = words;
-    while let [word, others @ ..] = rest {
-        if let Some(name) = value_at(NAME, word, others)
-            && is_tgs_text(alloc, database, name)
-        {
+/// Returns the first of these texts that names `krbtgt/REALM`.
+fn tgs_text<'p>(alloc: Global, database: &Database, names: &[&'p str]) -> Option<&'p str> {
+    for name in names {
+        if is_tgs_text(alloc, database, name) {
             return Some(name);
         }
-        rest = others;
     }
     None
 }

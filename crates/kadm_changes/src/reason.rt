@@ -1,14 +1,38 @@
 //! Why a command is refused, and for which value.
+use crate::asking::SettingForm;
 use cred_files::CredFault;
 use principals::ChangeFault;
 use principals_text::ReadFault;
 
+/// What of a command is refused.
+#[derive(Clone, Copy, PartialEq, Eq)]
+pub enum Part {
+    /// The name of a principal.
+    Name,
+    /// The database.
+    Database,
+    /// The name of a new realm.
+    Realm,
+    /// The file of a password.
+    PasswordFile,
+    /// A keytab to read.
+    Keytab,
+    /// A keytab to write.
+    NewKeytab,
+    /// A dump of MIT's database.
+    Dump,
+    /// The stash file of a dump.
+    Stash,
+    /// A setting of a policy.
+    Setting(SettingForm),
+}
+
 /// What is refused, and why.
 #[derive(Clone, Copy)]
 pub struct Refusal<'p> {
-    /// The option whose value a report begins with. If that is empty or left out, the report begins with the option.
-    pub option: &'p str,
-    /// The value; `None` if it is the first that the command line has for the option.
+    /// The part of the command.
+    pub part: Part,
+    /// Its text; `None` if it is the first that the command has for this part.
     pub value: Option<&'p str>,
     /// Why it is refused.
     pub reason: Reason,

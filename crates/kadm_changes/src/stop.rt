@@ -1,8 +1,7 @@
 //! Why a command ends early.
 ghost use Rattle.kadm_changes.specs.Stops.{IsFailed};
 
-use crate::reason::{Reason, Refusal};
-use crate::words::{DB, KEYTAB, NAME, OUT, REALM};
+use crate::reason::{Part, Reason, Refusal};
 use cred_files::CredFault;
 use file_store::FileFault;
 use krb_fields::NameFault;
@@ -36,10 +35,10 @@ pub enum Stop<'p> {
 }
 
 impl Stop<'_> {
-    /// Returns the refusal of the value that the command line has for an option.
-    pub(crate) fn refused(option: &'static str, reason: Reason) -> Stop<'static> {
+    /// Returns the refusal of what the command has for a part.
+    pub(crate) fn refused(part: Part, reason: Reason) -> Stop<'static> {
         Stop::Refused(Refusal {
-            option,
+            part,
             value: None,
             reason,
         })
@@ -53,20 +52,20 @@ impl Stop<'_> {
 }
 
 impl<'p> Stop<'p> {
-    /// Returns the refusal of this value of an option.
-    pub(crate) fn refused_value(option: &'static str, value: &'p str, reason: Reason) -> Stop<'p> {
+    /// Returns the refusal of this text of a part.
+    pub(crate) fn refused_value(part: Part, value: &'p str, reason: Reason) -> Stop<'p> {
         Stop::Refused(Refusal {
-            option,
+            part,
             value: Some(value),
             reason,
         })
     }
 
-    /// Returns the same; a refusal without a value now has this value of this option.
-    pub(crate) fn about(self, option: &'static str, value: &'p str) -> Stop<'p> {
+    /// Returns the same; a refusal without a text now has this text of this part.
+    pub(crate) fn about(self, part: Part, value: &'p str) -> Stop<'p> {
         match self {
             Stop::Refused(refusal) if refusal.value.is_none() => {
-                Stop::refused_value(option, value, refusal.reason)
+                Stop::refused_value(part, value, refusal.reason)
             }
             stop => stop,
         }
@@ -100,7 +99,7 @@ impl From<io::Error> for Stop<'_> {
 impl From<NameFault> for Stop<'_> {
     fn from(fault: NameFault) -> Self {
         match fault {
-            NameFault::BadName => Stop::refused(NAME, Reason::BadName),
+            NameFault::BadName => Stop::refused(Part::Name, Reason::BadName),
             NameFault::Memory => Stop::from(AllocError),
         }
     }
@@ -110,7 +109,7 @@ impl From<ReadFault> for Stop<'_> {
     fn from(fault: ReadFault) -> Self {
         match fault {
             ReadFault::Memory => Stop::from(AllocError),
-            fault => Stop::refused(DB, Reason::Database(fault)),
+            fault => Stop::refused(Part::Database, Reason::Database(fault)),
         }
     }
 }
@@ -119,8 +118,8 @@ impl From<ChangeFault> for Stop<'_> {
     fn from(fault: ChangeFault) -> Self {
         match fault {
             ChangeFault::Memory => Stop::from(AllocError),
-            ChangeFault::BadName => Stop::refused(NAME, Reason::BadName),
-            fault => Stop::refused(NAME, Reason::Change(fault)),
+            ChangeFault::BadName => Stop::refused(Part::Name, Reason::BadName),
+            fault => Stop::refused(Part::Name, Reason::Change(fault)),
         }
     }
 }
@@ -130,7 +129,7 @@ impl From<CredFault> for Stop<'_> {
     fn from(fault: CredFault) -> Self {
         match fault {
             CredFault::BadMagic | CredFault::Truncated | CredFault::BadEntry => {
-                Stop::refused(OUT, Reason::Keytab(fault))
+                Stop::refused(Part::NewKeytab, Reason::Keytab(fault))
             }
             // the others concern caches
             _ => Stop::from(AllocError),
@@ -142,7 +141,10 @@ impl From<CredFault> for Stop<'_> {
 impl From<KeyListFault> for Stop<'_> {
     fn from(fault: KeyListFault) -> Self {
         match fault {
-            KeyListFault::Empty | KeyListFault::Doubled => Stop::refused(KEYTAB, Reason::NoKeys),
+            KeyListFault::Empty | KeyListFault::Doubled => Stop::refused(
+                Part::Keytab,
+                Reason::NoKeys,
+            ),
             KeyListFault::Memory => Stop::from(AllocError),
         }
     }
@@ -157,7 +159,7 @@ impl<'p> From<FileFault<'p>> for Stop<'p> {
 /// Returns what is wrong with a realm.
 pub(crate) fn of_realm(fault: NameFault) -> Stop<'static> {
     match fault {
-        NameFault::BadName => Stop::refused(REALM, Reason::BadRealm),
+        NameFault::BadName => Stop::refused(Part::Realm, Reason::BadRealm),
         NameFault::Memory => Stop::from(AllocError),
     }
 }

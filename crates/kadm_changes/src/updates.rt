@@ -1,13 +1,12 @@
 //! The commands that change a database. Each reads it once and writes it once.
 ghost use Rattle.std.specs.Prelude.{◌≡◌, OnOk, OnErr};
-ghost use Rattle.kadm_changes.specs.Changing.{AreChanged};
+ghost use Rattle.kadm_changes.specs.Asking.{all_asked};
 ghost use Rattle.kadm_changes.specs.Found.{IsFoundIn};
 ghost use Rattle.kadm_changes.specs.Realm.{KeepsRealm, MayHaveKeys, tgs_policy};
 ghost use Rattle.kadm_changes.specs.Updates.{AreKept, IsMigrated, IsRowChanged, IsRowGiven, IsRowKept, IsRowUpdated, IsUpdated};
-ghost use Rattle.kadm_changes.specs.Words.{texts};
 ghost use Rattle.kadm_changes.specs.Worlds.{Rewritten, Updated};
 
-use crate::changes::{Changes, change_all, check_names, migrate_rows, set_all};
+use crate::changes::{ChangeArgs, change_all, check_names, migrate_rows, set_all};
 use crate::context::Context;
 use crate::databases::{lock_database, read_database, write_database};
 use crate::denying::is_user;
@@ -18,9 +17,7 @@ use crate::note::Note;
 use crate::passwords::{FoundPassword, PasswordGrant, batch_password, new_password};
 use crate::realm::{check_password, check_realm, report_realm, tgs_policy};
 use crate::stop::Stop;
-use crate::subject::{Subject, begin_line};
 use crate::target::Target;
-use enctypes::Etype;
 use file_store::{Store, Written};
 use krb_fields::Name;
 use principals::Database;
@@ -32,21 +29,19 @@ use std::io::Write;
 pub enum Update<'a> {
     /// Gives one principal keys, or adds it with them.
     Row(RowArgs<'a>),
-    /// Changes each principal that the words of the command line name, without new keys.
-    Changes(Changes<'a>),
+    /// Changes each principal that the command names, without new keys.
+    Changes(ChangeArgs),
     /// Makes rows of an earlier version those of this one.
     Migrate { users_are_no_services: bool },
 }
 
-/// A principal that gets keys, and then the settings of the command line with these words.
+/// A principal that gets keys, and then the settings that the command asks for.
 #[derive(Clone, Copy)]
 pub struct RowArgs<'a> {
     /// The text of its name.
     pub name: &'a str,
     /// The keys that it gets.
     pub how: RowUpdate<'a>,
-    /// The words of the command line, which may ask for settings.
-    pub words: &'a [&'a str],
 }
 
 /// The keys that a principal gets.
@@ -68,12 +63,12 @@ pub fn make_update<'p, T: Store, W: Write, E: Write>(
     update: Update<'p>,
 ) -> Result<Written, Stop<'p>>
     ensures done { OnOk result
-        (Updated (T.world store.old) target.now.whole_realm target.now.db.now target.now.etypes.items update.entry (T.world store.new)) }
+        (Updated (T.world store.old) target.now update.entry (T.world store.new)) }
     ensures unchanged { OnErr result (T.world store.new ≡ T.world store.old) }
 {
     match update {
         Update::Row(to) => update_row(context, store, target, &to),
-        Update::Changes(changes) => update_rows(context, store, target, &changes),
+        Update::Changes(how) => update_rows(context, store, target, how),
         Update::Migrate {
             users_are_no_services,
         } => migrate(context, store, target, users_are_no_services),
@@ -88,7 +83,7 @@ fn update_row<'p, T: Store, W: Write, E: Write>(
     to: &RowArgs<'p>,
 ) -> Result<Written, Stop<'p>>
     ensures done { OnOk result (Rewritten (T.world store.old) target.now.db.now
-        (IsRowUpdated (T.world store.old) target.now.whole_realm target.now.etypes.items to.now) (T.world store.new)) }
+        (IsRowUpdated (T.world store.old) target.now.whole_realm target.now to.now) (T.world store.new)) }
     ensures unchanged { OnErr result (T.world store.new ≡ T.world store.old) }
 {
     let alloc = context.alloc;
@@ -103,7 +98,14 @@ fn update_row<'p, T: Store, W: Write, E: Write>(
         etypes: &target.etypes,
         pass: &pass,
     };
-    keep_row(store, &mut draft, &recipient, to, target.whole_realm)?;
+    keep_row(
+        store,
+        &mut draft,
+        &recipient,
+        &to.how,
+        target,
+        target.whole_realm,
+    )?;
     let written = write_database(alloc, store, &locked, &draft.database)?;
     report_note(
         &mut context.errors,
@@ -115,33 +117,29 @@ fn update_row<'p, T: Store, W: Write, E: Write>(
 
 /// Reports what an administrator may not expect of a change that was made. Ignores a failed write.
 fn report_note<E: Write>(errors: &mut E, name: &str, note: Option<Note>) {
-    let subject = Subject {
-        words: &[],
-        line: None,
-    };
     if let Some(note) = note {
-        begin_line(errors, &subject);
+        let _ = write!(errors, "kadm: ");
         let _ = note.write(errors, name);
     }
 }
 
-/// Changes each principal that the words of the command line name, without new keys.
+/// Changes each principal that the command names, without new keys.
 fn update_rows<'p, T: Store, W: Write, E: Write>(
     context: &mut Context<W, E>,
     store: &mut T,
     target: &Target<'p>,
-    changes: &Changes<'p>,
+    how: ChangeArgs,
 ) -> Result<Written, Stop<'p>>
     ensures done { OnOk result (Rewritten (T.world store.old) target.now.db.now
-        (AreKept (T.world store.old) target.now.whole_realm (texts changes.now.words.now) changes.now.how) (T.world store.new)) }
+        (AreKept (T.world store.old) target.now.whole_realm target.now how) (T.world store.new)) }
     ensures unchanged { OnErr result (T.world store.new ≡ T.world store.old) }
 {
     let alloc = context.alloc;
-    check_names(alloc, changes.words)?;
+    check_names(alloc, &target.names)?;
     let locked = lock_database(context, store, target)?;
     let database = read_database(context, store, target.db)?;
     let mut draft = Draft { alloc, database };
-    keep_all(store, &mut draft, changes, target.whole_realm)?;
+    keep_all(store, &mut draft, target, how, target.whole_realm)?;
     let written = write_database(alloc, store, &locked, &draft.database)?;
     if target.whole_realm {
         report_realm(alloc, &mut context.errors, &draft.database);
@@ -174,19 +172,19 @@ fn migrate<'p, T: Store, W: Write, E: Write>(
 pub fn update_in_batch<'p, T: Store>(
     store: &mut T,
     draft: &mut Draft,
-    etypes: &[Etype],
+    target: &Target<'p>,
     whole: bool,
     update: Update<'p>,
     found: Option<&FoundPassword>,
 ) -> Result<Option<Note>, Stop<'p>>
     requires found { IsFoundIn (T.world store.old) found }
-    ensures done { OnOk result (IsUpdated (T.world store.old) whole etypes.now update.entry draft.old.database draft.new.database) }
+    ensures done { OnOk result (IsUpdated (T.world store.old) whole target.now update.entry draft.old.database draft.new.database) }
     ensures unchanged { T.world store.new ≡ T.world store.old }
 {
     match update {
-        Update::Row(to) => row_in_batch(store, draft, etypes, whole, &to, found),
-        Update::Changes(changes) => {
-            keep_all(store, draft, &changes, whole)?;
+        Update::Row(to) => row_in_batch(store, draft, target, whole, &to, found),
+        Update::Changes(how) => {
+            keep_all(store, draft, target, how, whole)?;
             Ok(None)
         }
         Update::Migrate {
@@ -202,13 +200,13 @@ pub fn update_in_batch<'p, T: Store>(
 fn row_in_batch<'p, T: Store>(
     store: &mut T,
     draft: &mut Draft,
-    etypes: &[Etype],
+    target: &Target<'p>,
     whole: bool,
     to: &RowArgs<'p>,
     found: Option<&FoundPassword>,
 ) -> Result<Option<Note>, Stop<'p>>
     requires found { IsFoundIn (T.world store.old) found }
-    ensures done { OnOk result (IsRowUpdated (T.world store.old) whole etypes.now to.now draft.old.database draft.new.database) }
+    ensures done { OnOk result (IsRowUpdated (T.world store.old) whole target.now to.now draft.old.database draft.new.database) }
     ensures unchanged { T.world store.new ≡ T.world store.old }
 {
     let who = Name::from_text(draft.alloc, to.name)?;
@@ -216,10 +214,10 @@ fn row_in_batch<'p, T: Store>(
     let expired = expiring(&draft.database, &who).is_some();
     let recipient = Recipient {
         who: &who,
-        etypes,
+        etypes: &target.etypes,
         pass: &pass,
     };
-    keep_row(store, draft, &recipient, to, whole)?;
+    keep_row(store, draft, &recipient, &to.how, target, whole)?;
     Ok(note_of(to, &who, &draft.database, expired))
 }
 
@@ -229,39 +227,48 @@ fn keep_row<'p, T: Store>(
     store: &mut T,
     draft: &mut Draft,
     recipient: &Recipient<'_>,
-    to: &RowArgs<'p>,
+    how: &RowUpdate<'p>,
+    target: &Target<'p>,
     whole: bool,
 ) -> Result<(), Stop<'p>>
-    ensures changed { OnOk result (IsRowKept (T.world store.old) whole recipient.now.etypes.now recipient.now.pass.now to.now
-        recipient.now.who.now.components draft.old.database draft.new.database) }
+    ensures changed { OnOk result (IsRowKept (T.world store.old) whole recipient.now.etypes.now
+        (all_asked target.now.settings.items) recipient.now.pass.now how.now recipient.now.who.now.components draft.old.database draft.new.database) }
     ensures unchanged { T.world store.new ≡ T.world store.old }
 {
     let before = tgs_policy(&draft.database);
-    change_row(store, draft, recipient, to)?;
-    check_password(draft.alloc, &draft.database, whole, recipient.who, &to.how)?;
-    check_realm(draft.alloc, store, &draft.database, whole, before, to.words)
-}
-
-/// Changes each principal that the words of the command line name, and refuses what would end the whole realm.
-fn keep_all<'p, T: Store>(
-    store: &mut T,
-    draft: &mut Draft,
-    changes: &Changes<'p>,
-    whole: bool,
-) -> Result<(), Stop<'p>>
-    ensures changed { OnOk result (AreKept (T.world store.old) whole (texts changes.now.words.now) changes.now.how
-        draft.old.database draft.new.database) }
-    ensures unchanged { T.world store.new ≡ T.world store.old }
-{
-    let before = tgs_policy(&draft.database);
-    change_all(store, draft, changes)?;
+    change_row(store, draft, recipient, how, target)?;
+    check_password(draft.alloc, &draft.database, whole, recipient.who, how)?;
     check_realm(
         draft.alloc,
         store,
         &draft.database,
         whole,
         before,
-        changes.words,
+        &target.names,
+    )
+}
+
+/// Changes each principal that the command names, and refuses what would end the whole realm.
+fn keep_all<'p, T: Store>(
+    store: &mut T,
+    draft: &mut Draft,
+    target: &Target<'p>,
+    how: ChangeArgs,
+    whole: bool,
+) -> Result<(), Stop<'p>>
+    ensures changed { OnOk result (AreKept (T.world store.old) whole target.now how
+        draft.old.database draft.new.database) }
+    ensures unchanged { T.world store.new ≡ T.world store.old }
+{
+    let before = tgs_policy(&draft.database);
+    change_all(store, draft, target, how)?;
+    check_realm(
+        draft.alloc,
+        store,
+        &draft.database,
+        whole,
+        before,
+        &target.names,
     )
 }
 
@@ -280,20 +287,21 @@ fn keep_migrated<T: Store>(
     check_realm(draft.alloc, store, &draft.database, whole, before, &[])
 }
 
-/// Gives keys to a principal, and then makes the settings of the command line. After an `Err` it may be changed in
-/// part.
+/// Gives keys to a principal, and then makes the settings that the command asks for. After an `Err` it may be changed
+/// in part.
 fn change_row<'p, T: Store>(
     store: &mut T,
     draft: &mut Draft,
     recipient: &Recipient<'_>,
-    to: &RowArgs<'p>,
+    how: &RowUpdate<'p>,
+    target: &Target<'p>,
 ) -> Result<(), Stop<'p>>
-    ensures changed { OnOk result (IsRowChanged (T.world store.old) recipient.now.etypes.now recipient.now.pass.now to.now
-        recipient.now.who.now.components draft.old.database draft.new.database) }
+    ensures changed { OnOk result (IsRowChanged (T.world store.old) recipient.now.etypes.now
+        (all_asked target.now.settings.items) recipient.now.pass.now how.now recipient.now.who.now.components draft.old.database draft.new.database) }
     ensures unchanged { T.world store.new ≡ T.world store.old }
 {
-    give_row(store, draft, recipient, &to.how)?;
-    set_all(store, draft, recipient.who, to.words)
+    give_row(store, draft, recipient, how)?;
+    set_all(store, draft, recipient.who, target)
 }
 
 /// Gives keys to a principal. After an `Err` it may be changed in part.

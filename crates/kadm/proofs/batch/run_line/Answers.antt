@@ -1,6 +1,6 @@
 use Rattle.std.proofs.Common.{◌∙◌, ap, map, string_bytes, subst}
 use Rattle.kadm.specs.Lines.{IsSpelledMade}
-use Rattle.kadm_changes.specs.Words.{texts}
+use Rattle.kadm_changes.specs.Texts.{texts}
 use Rattle.kadm.specs.Words.{in_batch}
 use Rattle.kadm.proofs.Reading.{found_in}
 use Rattle.kadm.proofs.batch.run_line.Goals as goal

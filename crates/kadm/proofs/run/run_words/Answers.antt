@@ -1,7 +1,7 @@
 use Rattle.std.proofs.Common.{rules, Ok, Err}
 use Rattle.kadm.specs.Ends.{IsEnd, IsStopped}
 use Rattle.kadm_changes.specs.Stops.{IsFailed}
-use Rattle.kadm_changes.specs.Words.{texts}
+use Rattle.kadm_changes.specs.Texts.{texts}
 use Rattle.kadm_changes.specs.declared.stop.Stop.{Stop}
 use Rattle.command_line.specs.declared.status.Status.{Status}
 use Rattle.kadm.proofs.Ending.{failed_after, spelled_end, spelled_stop}

@@ -1,5 +1,5 @@
 use Rattle.std.proofs.Common.{◌≡◌, ◌++◌, map, take, string_bytes}
-use Rattle.kadm_changes.specs.Words.{texts}
+use Rattle.kadm_changes.specs.Texts.{texts}
 use Rattle.kadm.proofs.words.push_all.Given as goal
 
 abbrev pub invariant-loop-other : goal.invariant-loop-other

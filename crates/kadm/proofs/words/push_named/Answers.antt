@@ -1,5 +1,5 @@
 use Rattle.std.proofs.Common.{◌≡◌, ◌++◌, ◌-◌, drop, false, length, subst, sym, take}
-use Rattle.kadm_changes.specs.Words.{texts}
+use Rattle.kadm_changes.specs.Texts.{texts}
 use Rattle.kadm.specs.Words.{named}
 use Rattle.kadm.proofs.Naming.{named_end, named_on}
 use Rattle.kadm.proofs.words.push_named.Goals as goal

@@ -1,5 +1,5 @@
 use Rattle.std.proofs.Common.{◌≡◌, ◌++◌, false, length}
-use Rattle.kadm_changes.specs.Words.{texts}
+use Rattle.kadm_changes.specs.Texts.{texts}
 use Rattle.kadm.specs.Words.{named}
 use Rattle.kadm.proofs.words.push_named.Given as goal
 

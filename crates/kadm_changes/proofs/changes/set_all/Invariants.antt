@@ -1,15 +1,15 @@
 use Rattle.std.proofs.Common.{◌≡◌, length}
 use Rattle.principals.specs.Database.{Principals}
-use Rattle.kadm_changes.specs.Changing.{AreMade, SetBy}
-use Rattle.kadm_changes.specs.Words.{texts}
+use Rattle.kadm_changes.specs.Asking.{all_asked}
+use Rattle.kadm_changes.specs.Changing.{AreSet}
 use Rattle.kadm_changes.proofs.changes.set_all.Given as goal
 
--- whatever the settings of the coming words make of the database, those of all words make of the first one
+-- whatever the coming settings make of the database, all of them make of the first one
 abbrev pub invariant-loop-rest : goal.invariant-loop-rest
 invariant-loop-rest g l =
     (g.T.Store.world l.store ≡ g.T.Store.world l.fn.store)
-    × ((new : Principals) → AreMade (SetBy (g.T.Store.world l.fn.store) (texts l.words) l.who.components) (texts l.rest) l.draft.database new
-    → AreMade (SetBy (g.T.Store.world l.fn.store) (texts l.words) l.who.components) (texts l.words) l.fn.draft.database new)
+    × ((new : Principals) → AreSet (g.T.Store.world l.fn.store) (all_asked l.rest) l.who.components l.draft.database new
+    → AreSet (g.T.Store.world l.fn.store) (all_asked l.target.settings.items) l.who.components l.fn.draft.database new)
 
 abbrev pub decreases-loop-rest : goal.decreases-loop-rest
 decreases-loop-rest g l = length l.rest

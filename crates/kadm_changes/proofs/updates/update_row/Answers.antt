@@ -6,7 +6,7 @@ use Rattle.kadm_changes.proofs.updates.update_row.Goals as goal
 
 pub returns-clause-done : goal.returns-clause-done
 returns-clause-done g c =
-    rewritten _ _ _ _ _ _ _ _ (IsRowUpdated (g.T.Store.world c.args.store.now) c.args.target.now.whole_realm c.args.target.now.etypes.items c.args.to.now)
+    rewritten _ _ _ _ _ _ _ _ (IsRowUpdated (g.T.Store.world c.args.store.now) c.args.target.now.whole_realm c.args.target.now c.args.to.now)
     c.in_ok-database.database c.keep_row.new.draft.database c.in_ok-pass.ensures.unchanged c.in_ok-locked.ensures.unchanged
     c.in_ok-database.ensures.unchanged c.in_ok-keep_row.ensures.unchanged c.in_ok-locked.ensures.locked c.in_ok-database.ensures.read
     (row_updated _ _ _ _ _ _ c.in_ok-who.who.components c.in_ok-pass.pass.items _ _ _

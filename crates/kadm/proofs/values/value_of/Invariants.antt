@@ -1,6 +1,7 @@
 use Rattle.std.proofs.Common.{◌≡◌, length}
-use Rattle.kadm_changes.specs.Words.{texts, value_of}
-use Rattle.kadm_changes.proofs.words.value_of.Given as goal
+use Rattle.kadm_changes.specs.Texts.{texts}
+use Rattle.kadm.specs.Values.{value_of}
+use Rattle.kadm.proofs.values.value_of.Given as goal
 
 abbrev pub invariant-loop-rest : goal.invariant-loop-rest
 invariant-loop-rest l = value_of (texts l.rest) l.option ≡ value_of (texts l.words) l.option

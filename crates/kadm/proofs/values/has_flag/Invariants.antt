@@ -1,6 +1,7 @@
 use Rattle.std.proofs.Common.{◌≡◌, length}
-use Rattle.kadm_changes.specs.Words.{has_flag, texts}
-use Rattle.kadm_changes.proofs.words.has_flag.Given as goal
+use Rattle.kadm_changes.specs.Texts.{texts}
+use Rattle.kadm.specs.Values.{has_flag}
+use Rattle.kadm.proofs.values.has_flag.Given as goal
 
 abbrev pub invariant-loop-rest : goal.invariant-loop-rest
 invariant-loop-rest l = has_flag (texts l.rest) l.flag ≡ has_flag (texts l.words) l.flag
