@@ -43,7 +43,7 @@ OF_CODE = (
 OF_OTHERS = {"array::from_fn", "krb5.h", "krb5_verify_init_creds"}
 # Options that each command has, and those of other programs that a page names alone.
 GENERAL = {"--help", "--version"}
-OTHERS = {"--allow-holes", "--collector"}
+OTHERS = {"--allow-holes", "--canonicalize", "--collector"}
 
 
 def read(name):
