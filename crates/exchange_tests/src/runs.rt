@@ -2,14 +2,10 @@
 //! record. Its journal fails once. And starts without a journal that find the one of an earlier server.
 use journal::{Doubt, Start};
 use kdc_core::{Account, Bears, TgsOutcome};
-use kdc_files::{HandedOver, JournalBeginning, MemoryJournal};
+use kdc_files::{HandedOver, JournalBeginning};
 use kdc_hub::{Action, Event, Look, MemoryRows, Peer, Totals, WireCall};
-use kdc_reports::{
-    CountedLog, LogFormat, MemoryEntry, MemoryLog, MemoryMetrics, MemoryTally, Refused,
-};
-use kdcd_run::{
-    Given, HostCall, MemoryHost, MemorySockets, Outlets, Ran, ServeOptions, run_server,
-};
+use kdc_reports::{LogFormat, MemoryEntry, MemoryMetrics, Refused};
+use kdcd_run::{Given, HostCall, MemoryHost, Ran, ServeOptions, run_server};
 use krb_elements::Octets;
 use krb_fields::Moment;
 use principal_rows::Limits;
@@ -186,15 +182,7 @@ fn options(
 }
 
 /// A server that has run.
-type Finished = Ran<
-    MemorySockets,
-    MemoryJournal,
-    CountedLog<MemoryLog>,
-    Vec<u8>,
-    MemoryTally,
-    MemoryRows,
-    MemoryMetrics,
->;
+type Finished = Ran<MemoryHost>;
 
 /// Runs a server. Returns the word for its refusal if it does not start.
 fn run(
@@ -202,12 +190,7 @@ fn run(
     host: &mut MemoryHost,
     options: &ServeOptions<'static>,
 ) -> Result<Finished, &'static str> {
-    let outlets = Outlets {
-        log: CountedLog::new(MemoryLog::new(alloc)),
-        errors: Vec::new(alloc),
-        tally: MemoryTally::new(alloc),
-    };
-    match run_server(alloc, host, options, outlets) {
+    match run_server(alloc, host, options) {
         Ok(ran) => Ok(ran),
         Err(fault) => Err(fault.refusal().unwrap_or("another fault")),
     }
@@ -316,7 +299,8 @@ fn are_calls(record: Option<&[HostCall]>) -> bool {
                 HostCall::Held { udp, tcp },
                 HostCall::ReadJournals { path, .. },
                 HostCall::Showed(at),
-                HostCall::BeganJournal { beginning, .. },
+                HostCall::BeganJournal(beginning),
+                HostCall::TookRows,
             ],
         ) => {
             rows.len() == 3

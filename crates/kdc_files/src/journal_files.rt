@@ -1,4 +1,6 @@
 //! The files of a journal: which process holds them, and what is found in them.
+ghost use Rattle.std.specs.Prelude.{◌≡◌, IfOk, None};
+
 use crate::files::{ServerFileCause, read_up_to, read_whole};
 use crate::journal_store::{JournalPlace, SystemJournal};
 use crate::journals::Journals;
@@ -19,18 +21,21 @@ const LONGEST_BOOT_ID: usize = 255;
 
 /// The journals at a path, and their files, which this process holds.
 #[derive(Drop)]
-pub struct OpenedJournals<'a, F, W> {
+pub struct OpenedJournals<F> {
     /// What was read from the files.
     pub journals: Journals,
     /// The files, locked against other servers.
-    pub files: SystemJournal<'a, F, W>,
+    pub files: F,
 }
 
 /// Opens the journal at a place, and reads its files. A turn that was cut is finished first.
 pub fn open_journals<'a, F: Files<File = File>, W: Write + Drop>(
     alloc: Global,
     place: JournalPlace<'a, '_, F, W>,
-) -> Result<OpenedJournals<'a, F, W>, ServerFileCause> {
+) -> Result<OpenedJournals<SystemJournal<'a, F, W>>, ServerFileCause>
+    // It removes none.
+    ensures { IfOk result (λ opened. opened.journals.removed ≡ None) }
+{
     let files = place.files;
     let mut held = SystemJournal::open(alloc, place)?;
     let boot = boot_id(alloc, files)?;

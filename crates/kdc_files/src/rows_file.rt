@@ -1,5 +1,5 @@
 //! The rows of a realm from a file, which may be replaced while they are served.
-ghost use Rattle.std.specs.Prelude.{None};
+ghost use Rattle.std.specs.Prelude.{None, false};
 
 use crate::files::{ServerFileCause, read_whole};
 use crate::key_files::{KeyFile, say_rights};
@@ -159,6 +159,8 @@ impl<'a, F: Files + Clock, W: Write + Drop> RowsFile<'a, F, W> {
 
 impl<F: Files + Clock, W: Write + Drop> RowSource for RowsFile<'_, F, W> {
     ghost recorded = { λ _. None };
+
+    ghost is_fixed = { λ _. false };
 
     fn look(&mut self, alloc: Global) -> Look {
         self.say();

@@ -20,7 +20,7 @@ use Rattle.kdc_hub.proofs.Rounds.{records_nothing, records_on, saturated_both}
 use Rattle.kdc_hub.specs.declared.rows.Look.{Look}
 use Rattle.kdc_hub.specs.declared.rows.Look.TheVariants.{Unchanged, Changed, Failed}
 use Rattle.kdc_hub.specs.declared.totals.Totals.{Totals}
-use Rattle.kdc_hub.specs.Life.{ArePeriods, IsLife, IsLived, IsPeriod, Period, due, replacement, rounds_in, tidied_by, tidying, turns_of}
+use Rattle.kdc_hub.specs.Life.{ArePeriods, IsLife, IsLived, IsPeriod, MayFind, Period, due, replacement, rounds_in, tidied_by, tidying, turns_of}
 
 flat_map-one : {X A : Type 0} (f : X → List A) (xs : List X) (x : X) → flat_map f (xs ++ x ∷ []) ≡ flat_map f xs ++ f x
 flat_map-one f xs x = flat_map-append f xs (x ∷ []) ∙ ap (λ l. flat_map f xs ++ l) (flat_map-cons f x [] ∙ append-nil (f x))
@@ -29,24 +29,25 @@ count_on : {X : Type 0} (p : X → Bool) (xs ys : List X) → count_by p (xs ++ 
 count_on p xs ys = sum_by-append (λ x. cond (p x) 1 0) xs ys
 
 -- the life so far, and when the last tidying was
-pub record LivesOn (wire : Option (List WireCall)) (source : Option (List Look)) (start : HubState) (lengths : List ℕ) (totals : Totals) (wire_after : Option (List WireCall)) (source_after : Option (List Look)) (new : HubState) (tidied : Option Moment) : Type 0 where
-  pub lived : IsLived wire source start lengths totals wire_after source_after new
+pub record LivesOn (wire : Option (List WireCall)) (is_fixed : Bool) (source : Option (List Look)) (start : HubState) (lengths : List ℕ) (totals : Totals) (wire_after : Option (List WireCall)) (source_after : Option (List Look)) (new : HubState) (tidied : Option Moment) : Type 0 where
+  pub lived : IsLived wire is_fixed source start lengths totals wire_after source_after new
   pub last : tidied ≡ tidied_by None lived.periods
 
 tidied_on : (tidied : Option Moment) (ps : List Period) (p : Period) → tidied_by tidied (ps ++ p ∷ []) ≡ option_or p.tidied (tidied_by tidied ps)
 tidied_on tidied [] p = refl
 tidied_on tidied (q ∷ ps) p = tidied_on (option_or q.tidied tidied) ps p
 
-pub none_lived : (wire : Option (List WireCall)) (source : Option (List Look)) (start : HubState) (totals : Totals) → totals.events ≡ 0 → totals.faults ≡ 0 → totals.refused ≡ 0
-    → LivesOn wire source start [] totals wire source start None
+pub none_lived : (wire : Option (List WireCall)) (is_fixed : Bool) (source : Option (List Look)) (start : HubState) (totals : Totals) → totals.events ≡ 0 → totals.faults ≡ 0 → totals.refused ≡ 0
+    → LivesOn wire is_fixed source start [] totals wire source start None
 unfolding ArePeriods
-none_lived wire source start totals events faults refused = record {
+none_lived wire is_fixed source start totals events faults refused = record {
   lived = record {
     periods = [];
     each = tt;
     many = refl;
     did = records_nothing wire;
     found = records_nothing source;
+    fixed = tt;
     hub = refl;
     events = events;
     faults = faults;
@@ -54,6 +55,11 @@ none_lived wire source start totals events faults refused = record {
   };
   last = refl;
 }
+
+found_on : (is_fixed : Bool) (ps : List Period) (p : Period) → AllByRecursion (λ period. MayFind is_fixed period.look) ps → MayFind is_fixed p.look
+    → AllByRecursion (λ period. MayFind is_fixed period.look) (ps ++ p ∷ [])
+found_on is_fixed [] p all one = (one, tt)
+found_on is_fixed (q ∷ ps) p all one = (all.0, found_on is_fixed ps p all.1 one)
 
 -- a history continues from the hub that it left, and a log is a history
 module _ (goes_on : (start : HubState) (turns later : List Turn) → after_turns start (turns ++ later) ≡ after_turns (after_turns start turns) later)
@@ -69,10 +75,10 @@ module _ (goes_on : (start : HubState) (turns later : List Turn) → after_turns
         (subst (λ (h : HubState). AreRounds (after_turns h (replacement p.look)) p.rounds) (ap (after_turns hub) (flat_map-cons turns_of q ps) ∙ goes_on hub (turns_of q) (flat_map turns_of ps)) r) d,
   )
 
-  module _ (wire : Option (List WireCall)) (source : Option (List Look)) (start : HubState) (lengths : List ℕ) (totals : Totals) (wire_then : Option (List WireCall)) (source_then : Option (List Look)) (hub : HubState) (tidied : Option Moment)
-      (so_far : LivesOn wire source start lengths totals wire_then source_then hub tidied)
-      (n : ℕ) (served : Served) (wire_after : Option (List WireCall)) (source_after : Option (List Look)) (new : HubState) (tidied_after : Option Moment) (b : IsPeriod wire_then source_then hub tidied n served wire_after source_after new tidied_after) where
-    abbrev a : IsLived wire source start lengths totals wire_then source_then hub
+  module _ (wire : Option (List WireCall)) (is_fixed : Bool) (source : Option (List Look)) (start : HubState) (lengths : List ℕ) (totals : Totals) (wire_then : Option (List WireCall)) (source_then : Option (List Look)) (hub : HubState) (tidied : Option Moment)
+      (so_far : LivesOn wire is_fixed source start lengths totals wire_then source_then hub tidied)
+      (n : ℕ) (served : Served) (wire_after : Option (List WireCall)) (source_after : Option (List Look)) (new : HubState) (tidied_after : Option Moment) (b : IsPeriod wire_then is_fixed source_then hub tidied n served wire_after source_after new tidied_after) where
+    abbrev a : IsLived wire is_fixed source start lengths totals wire_then source_then hub
     a = so_far.lived
 
     abbrev last : Period
@@ -112,7 +118,7 @@ module _ (goes_on : (start : HubState) (turns later : List Turn) → after_turns
         ∙ ap (after_turns start) (sym (flat_map-one turns_of a.periods last))
 
     pub one_more : (u : Totals) → u.events ≡ totals.events + served.events → u.faults ≡ min (totals.faults + served.faults) (2 ^ 64 - 1) → u.refused ≡ totals.refused + served.refused
-        → LivesOn wire source start (lengths ++ n ∷ []) u wire_after source_after new tidied_after
+        → LivesOn wire is_fixed source start (lengths ++ n ∷ []) u wire_after source_after new tidied_after
     one_more u events faults refused = record {
       lived = record {
         periods = a.periods ++ last ∷ [];
@@ -120,6 +126,7 @@ module _ (goes_on : (start : HubState) (turns later : List Turn) → after_turns
         many = map-append (λ period. length period.rounds) a.periods (last ∷ []) ∙ (λ i. a.many i ++ b.run.many i ∷ []);
         did = subst (λ l. Records wire l wire_after) (sym more_did) (records_on wire _ wire_then _ wire_after a.did b.run.recorded);
         found = subst (λ l. Records source l source_after) (sym (map-append (λ period. period.look) a.periods (last ∷ []))) (records_on source _ source_then _ source_after a.found b.found);
+        fixed = found_on is_fixed a.periods last a.fixed b.fixed;
         hub = stands;
         events = events ∙ (let e = a.events in let f = b.run.events in omega (arith, e, f, more_events));
         faults = faults
@@ -130,6 +137,13 @@ module _ (goes_on : (start : HubState) (turns later : List Turn) → after_turns
       };
       last = b.tidies.after ∙ ap (option_or (due tidied served.last)) so_far.last ∙ sym (tidied_on None a.periods last);
     }
+
+-- the rows of a source that is fixed stay fixed
+pub same_period : (one other : Bool) → one ≡ other → (wire : Option (List WireCall)) (source : Option (List Look)) (start : HubState) (tidied : Option Moment) (n : ℕ) (served : Served)
+    (wire_after : Option (List WireCall)) (source_after : Option (List Look)) (new : HubState) (tidied_after : Option Moment)
+    → IsPeriod wire one source start tidied n served wire_after source_after new tidied_after → IsPeriod wire other source start tidied n served wire_after source_after new tidied_after
+same_period one other is wire source start tidied n served wire_after source_after new tidied_after period =
+    subst (λ fixed. IsPeriod wire fixed source start tidied n served wire_after source_after new tidied_after) is period
 
 -- one more of the same
 pub replicate-one : (n x : ℕ) → replicate n x ++ x ∷ [] ≡ replicate (n + 1) x
@@ -165,9 +179,9 @@ periods_go_on (p ∷ ps) =
 
 -- with the laws of all histories
 pub is_life : ((start : HubState) (turns : List Turn) → IsOneRun start turns) → ServesAlike → Unaffected → MovesNothingElse → TidiesUnseen → CanBeResumed → OneTicketInProcess
-    → (wire : Option (List WireCall)) (source : Option (List Look)) (start : HubState) (lengths : List ℕ) (totals : Totals) (wire_after : Option (List WireCall)) (source_after : Option (List Look)) (new : HubState)
-    → IsLived wire source start lengths totals wire_after source_after new → IsLife wire source start lengths totals wire_after source_after new
-is_life one_run alike unaffected moved unseen resumable one_ticket wire source start lengths totals wire_after source_after new lived =
+    → (wire : Option (List WireCall)) (is_fixed : Bool) (source : Option (List Look)) (start : HubState) (lengths : List ℕ) (totals : Totals) (wire_after : Option (List WireCall)) (source_after : Option (List Look)) (new : HubState)
+    → IsLived wire is_fixed source start lengths totals wire_after source_after new → IsLife wire is_fixed source start lengths totals wire_after source_after new
+is_life one_run alike unaffected moved unseen resumable one_ticket wire is_fixed source start lengths totals wire_after source_after new lived =
     let turns = flat_map turns_of lived.periods in
     record {
       lived = lived;

@@ -1,7 +1,7 @@
 -- The life of a server: looks at a source of rows, rounds between them, and a tidying at most once a minute.
 use Rattle.std.specs.Prelude.{◌≡◌, ◌/◌, ◌%◌, ℕ, ⊤, List, [], ◌∷◌, ◌++◌, length, map}
-use Rattle.std.specs.Prelude.{pos, ◌+ℤ◌, int_lt, not, ◌&&◌, if◌then◌else◌, replicate, count_by, Option, Some, None}
-use Rattle.std.specs.List.{flat_map}
+use Rattle.std.specs.Prelude.{pos, ◌+ℤ◌, int_lt, Bool, true, not, ◌&&◌, if◌then◌else◌, replicate, count_by, Option, Some, None}
+use Rattle.std.specs.List.{AllByRecursion, flat_map}
 use Rattle.std.specs.Option.{option_or}
 use Rattle.krb_fields.specs.Name.{Components}
 use Rattle.krb_fields.specs.declared.moment.Moment.{Moment}
@@ -68,9 +68,14 @@ ArePeriods tidied hub (period ∷ periods) =
 abbrev pub periods_of : ℕ → List ℕ
 periods_of rounds = replicate (rounds / 16) 16 ++ rounds % 16 ∷ []
 
--- The records of the Wire and of the source before and afterwards, the hub before and afterwards, and the counts.
-pub record IsLived (wire : Option (List WireCall)) (source : Option (List Look)) (start : HubState) (lengths : List ℕ)
-    (totals : Totals) (wire_after : Option (List WireCall)) (source_after : Option (List Look))
+-- where the rows are fixed, a look finds none that are new
+abbrev pub MayFind : Bool → Look → Type 0
+MayFind is_fixed look = is_fixed ≡ true → look ≡ Unchanged
+
+-- The records of the Wire and of the source before and afterwards, whether the source's rows never change, the hub
+-- before and afterwards, and the counts.
+pub record IsLived (wire : Option (List WireCall)) (is_fixed : Bool) (source : Option (List Look)) (start : HubState)
+    (lengths : List ℕ) (totals : Totals) (wire_after : Option (List WireCall)) (source_after : Option (List Look))
     (new : HubState) : Type 0 where
   pub periods : List Period
   pub each : ArePeriods None start periods
@@ -79,6 +84,7 @@ pub record IsLived (wire : Option (List WireCall)) (source : Option (List Look))
   pub did : Records wire (flat_map did_in (rounds_in periods)) wire_after
   -- there were this many looks at the source, and this is what they found
   pub found : Records source (map (λ period. period.look) periods) source_after
+  pub fixed : AllByRecursion (λ period. MayFind is_fixed period.look) periods
   -- the rows that were found, the polled events with the added ends, and the tidyings are one history
   pub hub : new ≡ after_turns start (flat_map turns_of periods)
   pub events : totals.events ≡ count_by is_event (flat_map did_in (rounds_in periods))
@@ -86,10 +92,10 @@ pub record IsLived (wire : Option (List WireCall)) (source : Option (List Look))
   pub refused : totals.refused ≡ count_by is_refused (flat_map entries_of (rounds_in periods))
 
 -- It is a history of one process, and the laws of all histories hold of it.
-pub record IsLife (wire : Option (List WireCall)) (source : Option (List Look)) (start : HubState) (lengths : List ℕ)
-    (totals : Totals) (wire_after : Option (List WireCall)) (source_after : Option (List Look))
+pub record IsLife (wire : Option (List WireCall)) (is_fixed : Bool) (source : Option (List Look)) (start : HubState)
+    (lengths : List ℕ) (totals : Totals) (wire_after : Option (List WireCall)) (source_after : Option (List Look))
     (new : HubState) : Type 0 where
-  pub lived : IsLived wire source start lengths totals wire_after source_after new
+  pub lived : IsLived wire is_fixed source start lengths totals wire_after source_after new
   pub one_run : IsOneRun start (flat_map turns_of lived.periods)
   pub isolation : ServesAlikeFrom start (flat_map turns_of lived.periods)
   pub unaffected : UnaffectedFrom start (flat_map turns_of lived.periods)
@@ -99,10 +105,11 @@ pub record IsLife (wire : Option (List WireCall)) (source : Option (List Look)) 
   pub one_ticket : (c : Components) → OneForEach (tickets_sent c start (flat_map turns_of lived.periods))
 
 -- the result of a look
-pub record HasLooked (source : Option (List Look)) (start : HubState) (source_after : Option (List Look))
-    (new : HubState) : Type 0 where
+pub record HasLooked (is_fixed : Bool) (source : Option (List Look)) (start : HubState)
+    (source_after : Option (List Look)) (new : HubState) : Type 0 where
   pub look : Look
   pub found : Records source (look ∷ []) source_after
+  pub fixed : MayFind is_fixed look
   pub hub : new ≡ after_turns start (replacement look)
 
 -- the result of a tidying, if there was one, and the moment of the last one
@@ -112,11 +119,12 @@ pub record HasTidied (start : HubState) (tidied last : Option Moment) (new : Hub
   pub after : tidied_after ≡ option_or (due tidied last) tidied
 
 -- the result of a look, of this many rounds after it, and perhaps of a tidying
-pub record IsPeriod (wire : Option (List WireCall)) (source : Option (List Look)) (start : HubState)
+pub record IsPeriod (wire : Option (List WireCall)) (is_fixed : Bool) (source : Option (List Look)) (start : HubState)
     (tidied : Option Moment) (n : ℕ) (served : Served) (wire_after : Option (List WireCall))
     (source_after : Option (List Look)) (new : HubState) (tidied_after : Option Moment) : Type 0 where
   pub look : Look
   pub middle : HubState
   pub found : Records source (look ∷ []) source_after
+  pub fixed : MayFind is_fixed look
   pub run : IsRun wire (after_turns start (replacement look)) n served wire_after middle
   pub tidies : HasTidied middle tidied served.last new tidied_after

@@ -54,8 +54,8 @@ pub fn serve_life<W: Wire, S: RowSource, R: Rng, O: Onlooker<W, S, R>>(
     // The records of the Wire and of the source, and the hub at the end, are those of one history, which is one run of
     // the key distribution centre. No authenticator gets two different tickets in it. What others send changes nothing
     // for a client. What is dropped changes nothing either, if no request is before an earlier tidying.
-    ensures life { IsLife (W.recorded wire.old) (S.recorded source.old) (hub_state R.stream hub.old) (periods_of rounds) result
-        (W.recorded wire.new) (S.recorded source.new) (hub_state R.stream hub.new) }
+    ensures life { IsLife (W.recorded wire.old) (S.is_fixed source.old) (S.recorded source.old) (hub_state R.stream hub.old)
+        (periods_of rounds) result (W.recorded wire.new) (S.recorded source.new) (hub_state R.stream hub.new) }
     ensures counted { IsCounted (W.fault_count wire.old) result.faults (W.fault_count wire.new) }
 {
     one_run();
@@ -103,8 +103,10 @@ fn serve_period<W: Wire, S: RowSource, R: Rng>(
     tidied: &mut Tidyings,
     rounds: u32,
 ) -> Served
-    ensures period { IsPeriod (W.recorded wire.old) (S.recorded source.old) (hub_state R.stream hub.old) tidied.old.last rounds result
-        (W.recorded wire.new) (S.recorded source.new) (hub_state R.stream hub.new) tidied.new.last }
+    ensures period { IsPeriod (W.recorded wire.old) (S.is_fixed source.old) (S.recorded source.old) (hub_state R.stream hub.old)
+        tidied.old.last rounds result (W.recorded wire.new) (S.recorded source.new) (hub_state R.stream hub.new)
+        tidied.new.last }
+    ensures stays { S.is_fixed source.new ≡ S.is_fixed source.old }
     ensures counted { IsCounted (W.fault_count wire.old) result.faults (W.fault_count wire.new) }
     ensures few_events { result.events ≤ rounds }
     ensures few_refused { result.refused ≤ rounds }
@@ -165,8 +167,9 @@ fn due(tidied: &Option<Moment>, last: &Option<Moment>) -> Option<Moment>
 
 /// Replaces the rows that are served by those of the source, if they changed.
 fn take_rows<S: RowSource, R: Rng>(alloc: Global, source: &mut S, hub: &mut Hub<R>)
-    ensures { HasLooked (S.recorded source.old) (hub_state R.stream hub.old) (S.recorded source.new)
-        (hub_state R.stream hub.new) }
+    ensures looked { HasLooked (S.is_fixed source.old) (S.recorded source.old) (hub_state R.stream hub.old)
+        (S.recorded source.new) (hub_state R.stream hub.new) }
+    ensures stays { S.is_fixed source.new ≡ S.is_fixed source.old }
 {
     match source.look(alloc) {
         Look::Changed(database) => {

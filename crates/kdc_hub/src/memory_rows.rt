@@ -62,6 +62,8 @@ impl RowSource for MemoryRows {
 
     ghost recorded = { λ s. complete s.is_whole s.looks.items };
 
+    ghost is_fixed = { λ _. false };
+
     fn look(&mut self, alloc: Global) -> Look {
         let Some(look) = self.coming.pop_front() else {
             self.keep(Ok(Look::Unchanged));

@@ -1,8 +1,9 @@
 //! The source of a realm's rows while it is served.
-ghost use Rattle.std.specs.Prelude.{◌≡◌, ◌∷◌, [], List, Option, IfOk};
+ghost use Rattle.std.specs.Prelude.{◌≡◌, ◌∷◌, [], Bool, true, List, Option, IfOk};
 ghost use Rattle.kdc_hub.specs.Wire.{Records};
-ghost use Rattle.kdc_hub.specs.Recorded.{recorded_by_any};
+ghost use Rattle.kdc_hub.specs.Recorded.{is_fixed_if, recorded_by_any};
 ghost use Rattle.kdc_hub.specs.declared.rows.Look.{Look};
+ghost use Rattle.kdc_hub.specs.declared.rows.Look.TheVariants.{Unchanged};
 
 use kdc_core::OtherRealm;
 use principals::Database;
@@ -56,13 +57,19 @@ pub trait RowSource {
     // What the looks so far have found, in order, if the source has a record.
     ghost recorded: { Self → Option (List Look) };
 
+    // Whether its rows never change.
+    ghost is_fixed: { Self → Bool };
+
     /// Checks whether there are other rows than those that the source gave last.
     fn look(&mut self, alloc: Global) -> Look
-        ensures records { Records (recorded self.old) (result ∷ []) (recorded self.new) };
+        ensures records { Records (recorded self.old) (result ∷ []) (recorded self.new) }
+        ensures fixed { is_fixed self.old ≡ true → result ≡ Unchanged }
+        ensures stays { is_fixed self.new ≡ is_fixed self.old };
 
     /// Learns whether the rows of the last look are served from now on.
     fn report(&mut self, taken: Result<(), OtherRealm>)
-        ensures records { recorded self.new ≡ recorded self.old };
+        ensures records { recorded self.new ≡ recorded self.old }
+        ensures stays { is_fixed self.new ≡ is_fixed self.old };
 
     /// Returns the state of the rows that are served.
     fn state(&self) -> RowsState;
@@ -71,6 +78,8 @@ pub trait RowSource {
 /// Without a source the rows never change.
 impl<S: RowSource> RowSource for Option<S> {
     ghost recorded = { recorded_by_any S.recorded };
+
+    ghost is_fixed = { is_fixed_if S.is_fixed };
 
     fn look(&mut self, alloc: Global) -> Look {
         match self {

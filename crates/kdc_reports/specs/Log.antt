@@ -9,6 +9,8 @@ use Rattle.kdc_hub.specs.declared.event.Action.{Action}
 use Rattle.kdc_hub.specs.declared.event.Action.TheVariants.{SendTo, Pass, Write, Close}
 use Rattle.kdc_hub.specs.declared.event.CloseReason.{CloseReason}
 use Rattle.kdc_hub.specs.declared.event.CloseReason.TheVariants.{NoRequest, BadLength, Full, OutOfMemory}
+use Rattle.kdc_hub.specs.declared.event.Event.{Event}
+use Rattle.kdc_hub.specs.declared.event.Event.TheVariants.{Datagram, Opened, Bytes, Closed}
 use Rattle.kdc_hub.specs.declared.wires.WireCall.{WireCall}
 use Rattle.kdc_hub.specs.declared.wires.WireCall.TheVariants.{Polled, Waited, Missed, Acted, Failed}
 use Rattle.request_log.specs.Counts.{Asked}
@@ -31,6 +33,21 @@ moment_after at (Waited now) = at
 moment_after at Missed = at
 moment_after at (Acted action) = at
 moment_after at (Failed action) = at
+
+-- the address that the connection of an event came from, if it is known
+abbrev pub source_of : (ℕ → Option SocketAddr) → Event → Option SocketAddr
+source_of peer_of (Datagram peer request) = None
+source_of peer_of (Opened conn) = peer_of conn
+source_of peer_of (Bytes conn piece) = peer_of conn
+source_of peer_of (Closed conn) = peer_of conn
+
+-- the last event, after something that a Wire did
+abbrev pub arrival_after : (ℕ → Option SocketAddr) → Arrival → WireCall → Arrival
+arrival_after peer_of came (Polled at event) = record { at = at; source = source_of peer_of event }
+arrival_after peer_of came (Waited at) = came
+arrival_after peer_of came Missed = came
+arrival_after peer_of came (Acted action) = came
+arrival_after peer_of came (Failed action) = came
 
 -- what is counted of an entry
 abbrev pub asked_by : LogEntry → Asked

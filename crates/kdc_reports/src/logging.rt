@@ -1,7 +1,7 @@
 //! Logging the requests of a server.
 ghost use Rattle.std.specs.Prelude.{◌≡◌, ◌∷◌, [], Bool, List, Option, option_copied};
 ghost use Rattle.kdc_hub.specs.Wire.{Records, polled};
-ghost use Rattle.kdc_reports.specs.Log.{LogsAll, LogsIf, asker_of, closing_reports, entries_by, moment_after};
+ghost use Rattle.kdc_reports.specs.Log.{LogsAll, LogsIf, arrival_after, asker_of, closing_reports, entries_by, source_of};
 ghost use Rattle.kdc_reports.specs.Log.{entries_of, reports};
 ghost use Rattle.kdc_reports.specs.LogLaws.{log_if_records};
 ghost use Rattle.kdc_files.specs.Recorded.{record_of};
@@ -40,12 +40,12 @@ pub struct Arrival {
 }
 
 /// Returns the last event after a poll.
-pub fn arrival_after(
-    peers: &impl Peers,
+pub fn arrival_after<P: Peers>(
+    peers: &P,
     came: Arrival,
     outcome: &Result<(Moment, Option<Event>), WireFault>,
 ) -> Arrival
-    ensures { result.at ≡ moment_after came.at (polled outcome.now) }
+    ensures { result ≡ arrival_after (P.peer_of peers.now) came (polled outcome.now) }
 {
     match outcome {
         Ok((at, Some(event))) => Arrival {
@@ -58,7 +58,9 @@ pub fn arrival_after(
 }
 
 /// Returns the address that the connection of an event came from, if it is known.
-fn source_of(peers: &impl Peers, event: &Event) -> Option<SocketAddr> {
+fn source_of<P: Peers>(peers: &P, event: &Event) -> Option<SocketAddr>
+    ensures { result ≡ source_of (P.peer_of peers.now) event.now }
+{
     match event {
         Event::Opened { conn } | Event::Bytes { conn, .. } | Event::Closed { conn } => {
             peers.peer(*conn)

@@ -1,5 +1,6 @@
 mod Counts
 mod Idle
+mod Looking
 mod Places
 mod Queues
 mod Spent

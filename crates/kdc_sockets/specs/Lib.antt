@@ -2,3 +2,4 @@ pub mod Given
 pub mod Table
 pub mod Queue
 pub mod Unsent
+pub mod Lost

@@ -13,6 +13,7 @@ use Rattle.kdc_hub.specs.declared.event.Action.TheVariants.{SendTo, Pass, Write,
 use Rattle.kdc_hub.specs.declared.event.Event.{Event}
 use Rattle.kdc_hub.specs.declared.event.Event.TheVariants.{Datagram, Opened, Bytes, Closed}
 use Rattle.kdc_sockets.specs.declared.connection.Connection.{Connection}
+use Rattle.kdc_sockets.specs.declared.given.Given.{Given}
 use Rattle.kdc_sockets.specs.Given.{given_more, is_all_given, nothing_given}
 use Rattle.kdc_sockets.specs.Unsent.{IsLeftOf}
 
@@ -197,10 +198,30 @@ pub record EndsSpent (old : Table) (event : Event) (new : Table) : Type 0 where
 abbrev pub EndsSpentFirst : Table → Option Event → Table → Type 0
 EndsSpentFirst old event new = (conn : ℕ) → IsSpent old conn → IsSomeAnd event (λ event. EndsSpent old event new)
 
--- it was given nothing so far, if it is held
+-- the same connections are spent
+abbrev pub SpentAlike : Table → Table → Type 0
+SpentAlike old new = (conn : ℕ) → (IsSpent old conn → IsSpent new conn) × (IsSpent new conn → IsSpent old conn)
+
+-- The end is of a spent connection, and all others are open as before. What these have still to send may have gone to
+-- their sockets meanwhile.
+pub record ReportsSpent (old : Table) (event : Event) (new : Table) : Type 0 where
+  pub conn : ℕ
+  pub event_is : event ≡ Closed conn
+  pub spent : IsSpent old conn
+  pub ended : is_open new conn ≡ false
+  pub others : (other : ℕ) → (other ≡ conn → ⊥) → is_open new other ≡ is_open old other
+
+-- While a connection is spent, nothing is polled but the end of one that is.
+abbrev pub ReportsSpentFirst : Table → Option Event → Table → Type 0
+ReportsSpentFirst old event new = (conn : ℕ) → IsSpent old conn → IsSomeAnd event (λ event. ReportsSpent old event new)
+
+-- it was given this so far, if it is held
+abbrev pub IsGiven : Table → ℕ → Given → Type 0
+IsGiven table conn given =
+    (connection : Connection) → held_at table conn ≡ Some connection → connection.given ≡ given
+
 abbrev pub IsGivenNothing : Table → ℕ → Type 0
-IsGivenNothing table conn =
-    (connection : Connection) → held_at table conn ≡ Some connection → connection.given ≡ nothing_given
+IsGivenNothing table conn = IsGiven table conn nothing_given
 
 -- it is idle since a moment, if it is held
 abbrev pub IsIdleSince : Table → ℕ → Instant → Type 0

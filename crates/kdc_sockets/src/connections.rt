@@ -4,7 +4,7 @@ ghost use Rattle.std.specs.Prelude.{IfOk, IfNone, IfSome, OnErr, OnOk, option_co
 ghost use Rattle.kdc_hub.specs.Hub.{most_connections};
 ghost use Rattle.kdc_sockets.specs.declared.connection.Connection.{Connection};
 ghost use Rattle.kdc_sockets.specs.Table.{AddsNone, AreAll, AreFew, AreUnused, EndsOne, EndsWaiting};
-ghost use Rattle.kdc_sockets.specs.Table.{EndsSpent, FitsHub, HasEnded, IsGivenNothing, IsSpent, NoneSpent};
+ghost use Rattle.kdc_sockets.specs.Table.{EndsSpent, FitsHub, HasEnded, IsGiven, IsGivenNothing, IsSpent, NoneSpent};
 ghost use Rattle.kdc_sockets.specs.Table.{NoneWaits, Waits};
 ghost use Rattle.kdc_sockets.specs.Given.{nothing_given};
 ghost use Rattle.kdc_sockets.specs.Table.{IsIdleSince, IsLongestIdle, IsWritten, KeepsOpen, KeepsOthers};
@@ -375,6 +375,8 @@ impl Connections {
         ensures flushed { is_open self.new.held.entries conn ≡ is_open self.old.held.entries conn }
         ensures idle { (connection : Connection) → held_at self.old.held.entries conn ≡ Some connection →
             connection.is_closing ≡ false → IsIdleSince self.new.held.entries conn connection.idle_since }
+        ensures given { (connection : Connection) → held_at self.old.held.entries conn ≡ Some connection →
+            connection.is_closing ≡ false → IsGiven self.new.held.entries conn connection.given }
         ensures others { KeepsOthers self.old.held.entries conn self.new.held.entries }
     {
         let Some(connection) = self.held.get_mut(&conn) else {

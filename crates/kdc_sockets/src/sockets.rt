@@ -2,7 +2,8 @@
 ghost use Rattle.std.specs.Prelude.{◌≡◌, false, IfNone, IfOk, IfSome, OnErr, OnOk, option_map};
 ghost use Rattle.kdc_hub.specs.Rounds.{action_connection};
 ghost use Rattle.kdc_sockets.specs.Queue.{has};
-ghost use Rattle.kdc_sockets.specs.Table.{EndsSpentFirst, HasEnded, IsDone, IsLost, IsReadFrom, KeepsOthersOf, held_at};
+ghost use Rattle.kdc_sockets.specs.Table.{EndsSpentFirst, HasEnded, IsDone, IsLost, IsReadFrom, KeepsOthersOf, OpensAlike};
+ghost use Rattle.kdc_sockets.specs.Table.{ReportsSpentFirst, SpentAlike, held_at};
 
 use crate::bind_fault::BindFault;
 use crate::connections::Connections;
@@ -137,15 +138,27 @@ impl<C: Clock + Drop> Sockets<C> {
     /// no event if none comes. While some sockets are known to be ready, it polls the others only in every sixteenth
     /// call.
     pub fn next(&mut self, alloc: Global) -> io::Result<(Moment, Option<Event>)>
-        ensures { IfOk result (λ next. IsReadFrom self.new.connections.held.entries next.1) }
+        ensures first { IfOk result (λ next. ReportsSpentFirst self.old.connections.held.entries next.1
+            self.new.connections.held.entries) }
+        ensures reads { IfOk result (λ next. IsReadFrom self.new.connections.held.entries next.1) }
     {
-        if !self.ready.is_empty() && self.unlooked < MOST_UNLOOKED {
-            self.unlooked = self.unlooked.saturating_add(1);
-            let next = self.next_known(alloc)?;
-            if next.1.is_some() {
-                return Ok(next);
-            }
+        if self.ready.is_empty() || self.unlooked >= MOST_UNLOOKED {
+            return self.next_looked(alloc);
         }
+        self.unlooked = self.unlooked.saturating_add(1);
+        let next = self.next_known(alloc)?;
+        if next.1.is_some() {
+            return Ok(next);
+        }
+        self.next_looked(alloc)
+    }
+
+    /// Polls which sockets are ready, and returns the next event of these.
+    fn next_looked(&mut self, alloc: Global) -> io::Result<(Moment, Option<Event>)>
+        ensures first { IfOk result (λ next. ReportsSpentFirst self.old.connections.held.entries next.1
+            self.new.connections.held.entries) }
+        ensures reads { IfOk result (λ next. IsReadFrom self.new.connections.held.entries next.1) }
+    {
         self.look()?;
         self.next_known(alloc)
     }
@@ -214,7 +227,10 @@ impl<C: Clock + Drop> Sockets<C> {
     }
 
     /// Polls which sockets are ready, and waits for one if none was known to be.
-    fn look(&mut self) -> io::Result<()> {
+    fn look(&mut self) -> io::Result<()>
+        ensures spent { OnOk result (SpentAlike self.old.connections.held.entries self.new.connections.held.entries) }
+        ensures alike { OnOk result (OpensAlike self.old.connections.held.entries self.new.connections.held.entries) }
+    {
         self.unlooked = 0;
         let wait = if self.ready.is_empty() {
             self.wait
@@ -380,7 +396,9 @@ impl<C: Clock + Drop> Sockets<C> {
     }
 
     /// Returns how many datagrams and pieces were lost so far because memory ran out.
-    pub fn lost_requests(&self) -> u64 {
+    pub fn lost_requests(&self) -> u64
+        ensures { result ≡ self.now.lost }
+    {
         self.lost
     }
 

@@ -1,4 +1,8 @@
 //! The wire over sockets.
+ghost use Rattle.std.specs.Prelude.{◌≡◌, option_map};
+ghost use Rattle.kdc_sockets.specs.Lost.{lost_by};
+ghost use Rattle.kdc_sockets.specs.Table.{held_at};
+
 use crate::bind_fault::BindFault;
 use crate::sockets::Sockets;
 use kdc_hub::{Action, Event, Peers, Wire, WireFault};
@@ -48,12 +52,16 @@ impl<C: Clock + Drop> SocketWire<C> {
     }
 
     /// Returns how many datagrams and pieces of streams were lost so far because memory ran out before they were read.
-    pub fn lost_requests(&self) -> u64 {
+    pub fn lost_requests(&self) -> u64
+        ensures { result ≡ lost_by self.now }
+    {
         self.sockets.lost_requests()
     }
 }
 
 impl<C: Clock + Drop> Peers for SocketWire<C> {
+    ghost peer_of = { λ w conn. option_map (λ connection. connection.peer) (held_at w.sockets.connections.held.entries conn) };
+
     fn peer(&self, conn: u64) -> Option<SocketAddr> {
         self.sockets.peer(conn)
     }

@@ -4,11 +4,14 @@ ghost use Rattle.std.specs.Prelude.{None};
 use crate::args::journal_beside;
 use file_store::{LONGEST_FILE, now, open_plain, random_octets};
 use kdc_files::{
-    FileJournal, JournalBeginning, JournalPlace, Journals, KeyFile, Leftover, OpenedJournals,
-    RowsFile, ServerFileCause, SystemJournal, begin_journal, open_journals, read_up_to,
-    refuse_journal, say_rights,
+    FileJournal, JournalBeginning, JournalPlace, KeyFile, Leftover, OpenedJournals, RowsFile,
+    ServerFileCause, SystemJournal, begin_journal, open_journals, read_up_to, refuse_journal,
+    say_rights,
 };
-use kdc_reports::{JournalNews, MetricsFile, MetricsPaths, Started};
+use kdc_reports::{
+    CountedLog, FaultCount, JournalNews, LogFormat, MetricsFile, MetricsPaths, RequestLines,
+    Started,
+};
 use kdc_sockets::{BindFault, SharedWriter, SocketWire};
 use kdcd_run::{Host, ServeOptions, StartNews};
 use krb_fields::Moment;
@@ -35,11 +38,11 @@ pub struct SystemHost<'a> {
     rt: &'a HostRuntime,
     /// The file of the database, until it is handed over.
     rows: Option<RowsFile<'a, HostRuntime, Errors>>,
-    /// The files of the journal, once it was read and until it begins.
-    held: Option<SystemFiles<'a>>,
     /// The file of the numbers, until it is handed over, if there is to be one.
     metrics: Option<MetricsFile<'a, HostRuntime, Errors>>,
     errors: Errors,
+    /// The format of the log, if there is to be one.
+    log: Option<LogFormat>,
     /// The addresses of the sockets, once they are open.
     udp: Vec<SocketAddr>,
     tcp: Vec<SocketAddr>,
@@ -61,9 +64,9 @@ impl<'a> SystemHost<'a> {
         Ok(SystemHost {
             rt,
             rows: Some(RowsFile::new(rt, options.db, errors.share()?)),
-            held: None,
             metrics: metrics_of(rt, options, errors)?,
             errors: errors.share()?,
+            log: options.log,
             udp: Vec::new(rt.alloc()),
             tcp: Vec::new(rt.alloc()),
             db: options.db,
@@ -81,11 +84,19 @@ impl<'a> Host for SystemHost<'a> {
 
     type SocketFault = BindFault;
 
+    type JournalFiles = SystemFiles<'a>;
+
     type Journal = Option<FileJournal<'a, HostRuntime, Errors>>;
 
     type Rows = RowsFile<'a, HostRuntime, Errors>;
 
     type Metrics = MetricsFile<'a, HostRuntime, Errors>;
+
+    type Log = CountedLog<Option<RequestLines<Errors>>>;
+
+    type Errors = Errors;
+
+    type Tally = FaultCount;
 
     ghost recorded = { λ _. None };
 
@@ -128,27 +139,17 @@ impl<'a> Host for SystemHost<'a> {
         Ok(sockets)
     }
 
-    fn read_journals(&mut self, alloc: Global, path: &str) -> Result<Journals, ServerFileCause> {
+    fn read_journals(
+        &mut self,
+        alloc: Global,
+        path: &str,
+    ) -> Result<OpenedJournals<SystemFiles<'a>>, ServerFileCause> {
         let place = JournalPlace {
             files: self.rt,
             path,
             lines: self.errors.share()?,
         };
-        let OpenedJournals { journals, files } = open_journals(alloc, place)?;
-        self.held = Some(files);
-        // A reading removes no file.
-        let Journals {
-            boot,
-            found,
-            seal,
-            ..
-        } = journals;
-        Ok(Journals {
-            boot,
-            found,
-            seal,
-            removed: None,
-        })
+        open_journals(alloc, place)
     }
 
     fn refuse_journal(
@@ -168,13 +169,9 @@ impl<'a> Host for SystemHost<'a> {
     fn begin_journal(
         &mut self,
         alloc: Global,
-        path: &str,
+        files: SystemFiles<'a>,
         beginning: JournalBeginning,
     ) -> Result<Option<FileJournal<'a, HostRuntime, Errors>>, ServerFileCause> {
-        let _ = path;
-        let Some(files) = self.held.take() else {
-            return Err(ServerFileCause::from(Error::from(ErrorKind::NotFound)));
-        };
         Ok(Some(begin_journal(alloc, files, beginning, self.journal_size)?))
     }
 
@@ -197,8 +194,30 @@ impl<'a> Host for SystemHost<'a> {
         let _ = write!(self.errors, "{started}");
     }
 
-    fn take_rows(&mut self) -> Option<RowsFile<'a, HostRuntime, Errors>> {
-        self.rows.take()
+    fn open_log(
+        &mut self,
+        _alloc: Global,
+    ) -> Result<CountedLog<Option<RequestLines<Errors>>>, AllocError> {
+        let lines = match self.log {
+            Some(format) => Some(RequestLines::new(self.errors.share()?, format)),
+            None => None,
+        };
+        Ok(CountedLog::new(lines))
+    }
+
+    fn open_errors(&mut self, _alloc: Global) -> Result<Errors, AllocError> {
+        self.errors.share()
+    }
+
+    fn open_tally(&mut self, _alloc: Global) -> FaultCount {
+        FaultCount::new()
+    }
+
+    fn take_rows(&mut self) -> Result<RowsFile<'a, HostRuntime, Errors>, ServerFileCause> {
+        match self.rows.take() {
+            Some(rows) => Ok(rows),
+            None => Err(ServerFileCause::from(Error::from(ErrorKind::NotFound))),
+        }
     }
 
     fn take_metrics(&mut self) -> Option<MetricsFile<'a, HostRuntime, Errors>> {

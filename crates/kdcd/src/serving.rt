@@ -1,26 +1,13 @@
 //! Serving a realm: `kdcd serve`.
 use crate::host::{Errors, SystemHost};
 use command_line::Status;
-use kdc_reports::{CountedLog, FaultCount, RequestLines};
 use kdc_sockets::{BindFault, ReadyWriter, SharedWriter};
-use kdcd_run::{Host, Outlets, Ran, ServeOptions, SystemPart, run_server};
-use std::alloc::AllocError;
+use kdcd_run::{Ran, ServeOptions, SystemPart, run_server};
 use std::io;
 use std::io::Write;
 
 /// Why a server did not start.
 pub type StartFault<'a> = kdcd_run::StartFault<'a, BindFault>;
-
-/// A server that has served all its rounds.
-type SystemRan<'a> = Ran<
-    <SystemHost<'a> as Host>::Sockets,
-    <SystemHost<'a> as Host>::Journal,
-    CountedLog<Option<RequestLines<Errors>>>,
-    Errors,
-    FaultCount,
-    <SystemHost<'a> as Host>::Rows,
-    <SystemHost<'a> as Host>::Metrics,
->;
 
 /// Serves as the options say, with lines on standard error, and gives the status. The inner error is a failed write.
 pub fn serve_realm<'a>(
@@ -29,17 +16,16 @@ pub fn serve_realm<'a>(
 ) -> Result<io::Result<Status>, StartFault<'a>> {
     let mut errors = errors_of(rt)?;
     let mut host = SystemHost::new(rt, options, &errors)?;
-    let outlets = Outlets {
-        log: CountedLog::new(open_log(options, &errors)?),
-        errors: errors.share()?,
-        tally: FaultCount::new(),
-    };
-    let ran = run_server(rt.alloc(), &mut host, options, outlets)?;
+    let ran = run_server(rt.alloc(), &mut host, options)?;
     Ok(say_served(rt, &mut errors, &ran))
 }
 
 /// Says how much was served, and how many lines of the log were lost, if any.
-fn say_served(rt: &HostRuntime, errors: &mut Errors, ran: &SystemRan<'_>) -> io::Result<Status> {
+fn say_served(
+    rt: &HostRuntime,
+    errors: &mut Errors,
+    ran: &Ran<SystemHost<'_>>,
+) -> io::Result<Status> {
     let totals = &ran.totals;
     println!(rt;
         "served {} {} {}",
@@ -64,15 +50,4 @@ fn errors_of<'a>(rt: &HostRuntime) -> Result<Errors, StartFault<'a>> {
         Ok(errors) => Ok(SharedWriter::new(rt.alloc(), errors)?),
         Err(error) => Err(StartFault::System(SystemPart::StandardError, error)),
     }
-}
-
-/// The log of requests, if the options ask for one.
-fn open_log(
-    options: &ServeOptions<'_>,
-    errors: &Errors,
-) -> Result<Option<RequestLines<Errors>>, AllocError> {
-    let Some(format) = options.log else {
-        return Ok(None);
-    };
-    Ok(Some(RequestLines::new(errors.share()?, format)))
 }

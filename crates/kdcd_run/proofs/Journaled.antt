@@ -1,9 +1,10 @@
 -- What processes did with the files of their journal is all that the law of restarts asks of these files.
-use Rattle.std.proofs.Common.{◌≡◌, List, [], ◌∷◌, Option, ℕ, subst}
+use Rattle.std.proofs.Common.{◌≡◌, false, List, [], ◌∷◌, Option, ℕ, subst, sym}
 use Rattle.krb_fields.specs.declared.moment.Moment.{Moment}
 use Rattle.replay.specs.declared.seen.Resumption.{Resumption}
 use Rattle.kdc_hub.specs.Hub.{HubState}
 use Rattle.kdc_hub.specs.Life.{Period}
+use Rattle.journal.specs.Counting.{FollowsThrough, ReadIsLater}
 use Rattle.journal.specs.Decision.{Place, next_start, start_of}
 use Rattle.journal.specs.Holding.{IsSafe}
 use Rattle.journal.specs.declared.decision.Found.{Found}
@@ -22,7 +23,16 @@ resumes_next place older Nothing beside found check is = absurd cc
 resumes_next place older (Broken lost) beside found check is = absurd cc
 resumes_next place older (Whole j) beside found check is = is
 
-module _ (laws : LivesHold) where
+module _ (laws : LivesHold) (counted : ReadIsLater) where
+  -- the stages between two processes are a life in which no start forgets what the first one knew
+  stages_follow : (at : Moment) (r : Resumption) (periods : List Period) (did : OnJournal) (w left found : World) (before : List Stage)
+      → KeepsAll at r periods did w left → FollowsThrough (known_after at r periods) (past_of did) false before left found
+      → IsLife before left found × StagesFollow (known_after at r periods) (past_of did) before
+  stages_follow at r periods did w left found before keeps through =
+      let both = counted did before w left found keeps.has_begun keeps.calls
+      (subst (λ k. FollowsThrough k (past_of did) false before left found) (sym keeps.kept) through) in
+      (both.0, subst (λ k. StagesFollow k (past_of did) before) keeps.kept both.1)
+
   module _ (at : Moment) (r : Resumption) (periods : List Period) (did : OnJournal) (w left found : World) (before : List Stage)
       (keeps : KeepsAll at r periods did w left) (life : IsLife before left found)
       (follows : StagesFollow (known_after at r periods) (past_of did) before) where
@@ -55,10 +65,11 @@ module _ (laws : LivesHold) where
   are_processes : (at : Moment) (hub : HubState) (r : Resumption) (periods : List Period) (did : OnJournal) (w : World) (ns : List Journaled)
       → AreJournaled at hub r periods did w ns → AreProcesses at hub r periods (processes_in ns)
   are_processes at hub r periods did w [] are = are
-  are_processes at hub r periods did w (n ∷ ns) (left, found, lived, keeps, life, follows, may, late, opens, rest) = (
+  are_processes at hub r periods did w (n ∷ ns) (left, found, lived, keeps, through, may, late, opens, rest) = (
     lived,
     late,
-    may_start at r periods did w left found n.before keeps life follows n.process.at n.process.start may,
+    (let both = stages_follow at r periods did w left found n.before keeps through in
+        may_start at r periods did w left found n.before keeps both.0 both.1 n.process.at n.process.start may),
     opens,
     are_processes n.process.at _ _ n.process.periods n.did found ns rest,
   )

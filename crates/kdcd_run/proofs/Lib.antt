@@ -1,5 +1,6 @@
 pub mod Ready
 pub mod Serving
+mod Fixed
 mod Handings
 mod Restarts
 mod Journaled

@@ -1,6 +1,7 @@
 -- What a server's sockets, its journal and its log have recorded stays what its tally says, by each poll and each act.
 use Rattle.std.proofs.Common.{◌≡◌, true, false, List, [], ◌∷◌, ◌++◌, map, Option, Some, None, Result, Ok, Err, refl, sym, ap, subst, ◌∙◌, append_assoc}
 use Rattle.std.specs.Prelude.{ℕ, Bool, IfSome, not}
+use Rattle.std.specs.declared.net.socket_addr.SocketAddr.{SocketAddr}
 use Rattle.std.specs.Result.{is_ok}
 use Rattle.std.proofs.lemmas.List.{append-nil, map-append}
 use Rattle.std.proofs.lemmas.List.Elements.{filter-append}
@@ -9,13 +10,13 @@ use Rattle.kdc_core.specs.Account.{Account}
 use Rattle.kdc_hub.specs.declared.event.Action.{Action}
 use Rattle.kdc_hub.specs.declared.event.Event.{Event}
 use Rattle.kdc_hub.specs.declared.wires.WireCall.{WireCall}
-use Rattle.kdc_hub.specs.declared.wires.WireCall.TheVariants.{Acted, Failed}
+use Rattle.kdc_hub.specs.declared.wires.WireCall.TheVariants.{Acted, Failed, Missed, Polled, Waited}
 use Rattle.kdc_hub.specs.declared.wires.WireFault.{WireFault}
 use Rattle.kdc_hub.specs.Wire.{Records, acted, is_fault, polled}
 use Rattle.kdc_hub.proofs.Rounds.{records_nothing, records_on}
 use Rattle.kdc_files.specs.Journal.{Handed, handed_by}
 use Rattle.request_log.specs.Entry.{LogEntry}
-use Rattle.kdc_reports.specs.Log.{LogsAll, asker_of, entries_of, moment_after, reported}
+use Rattle.kdc_reports.specs.Log.{LogsAll, arrival_after, asker_of, entries_of, moment_after, reported}
 use Rattle.kdc_files.specs.Recorded.{IsNew}
 use Rattle.kdcd_run.specs.Served.{HasServed, Serves, handed_in, handed_of, in_order, last_came, said, said_of, says, succeeded}
 use Rattle.kdcd_run.specs.Withheld.{EndsOnly}
@@ -101,6 +102,15 @@ ends_record recorded HangsUp keeps old new None is = ap recorded is
 ends_record recorded HangsUp keeps old new (Some conn) is = keeps old new conn is
 
 -- ---- polls
+
+-- when the last event came
+pub arrived_at : (peer_of : ℕ → Option SocketAddr) (came : Arrival) (did : WireCall)
+    → (arrival_after peer_of came did).at ≡ moment_after came.at did
+arrived_at peer_of came (Polled at event) = refl
+arrived_at peer_of came (Waited at) = refl
+arrived_at peer_of came Missed = refl
+arrived_at peer_of came (Acted action) = refl
+arrived_at peer_of came (Failed action) = refl
 
 polls_hand_nothing : (at : Moment) (r : Result (Moment × Option Event) WireFault) → [] ≡ handed_of at (polled r)
 polls_hand_nothing at (Ok (came, Some event)) = refl

@@ -1,7 +1,7 @@
 -- The record of a host in memory.
 use Rattle.std.specs.Prelude.{ℕ, List, [], None}
 use Rattle.journal.specs.declared.decision.Found.TheVariants.{Nothing}
-use Rattle.kdcd_run.specs.Starting.{BeganJournal, Drew, HasNoJournal, Held, HostDid, ReadJournals, ReadRows, ReadSeed, Showed}
+use Rattle.kdcd_run.specs.Starting.{BeganJournal, Drew, HasNoJournal, Held, HostDid, ReadJournals, ReadRows, ReadSeed, Showed, TookRows}
 use Rattle.kdc_files.specs.declared.journals.Journals.{Journals}
 use Rattle.kdcd_run.specs.declared.memory_host.HostCall.{HostCall}
 use Rattle.kdcd_run.specs.declared.memory_host.HostCall.TheVariants as calls
@@ -15,7 +15,8 @@ did_by (calls.Held udp tcp) = Held udp.items tcp.items
 did_by (calls.ReadJournals path journals) = ReadJournals path journals
 did_by (calls.HasNoJournal removed) = HasNoJournal removed
 did_by (calls.Showed at) = Showed at
-did_by (calls.BeganJournal path beginning) = BeganJournal path beginning
+did_by (calls.BeganJournal beginning) = BeganJournal beginning
+did_by calls.TookRows = TookRows
 
 -- this boot, and no journals
 abbrev pub no_journals : List ℕ → Journals

@@ -16,7 +16,8 @@ use Rattle.kdc_hub.specs.Hub.{HubState}
 use Rattle.kdc_hub.specs.Life.{ArePeriods, Period, turns_of}
 use Rattle.journal.specs.Holding.{IsStart}
 use Rattle.journal.specs.Life as journal
-use Rattle.journal.specs.Life.{IsLife, IsProcess, Past, Stage, StagesFollow, kept_by_process, past_after_all, past_of}
+use Rattle.journal.specs.Counting.{FollowsThrough}
+use Rattle.journal.specs.Life.{IsProcess, Past, Stage, kept_by_process, past_after_all, past_of}
 use Rattle.journal.specs.World.{World}
 use Rattle.journal.specs.declared.decision.Found.{Found}
 use Rattle.journal.specs.declared.decision.Start.{Start}
@@ -60,8 +61,7 @@ AreJournaled at hub r periods did w (n ∷ ns) =
     (left found : World)
     × ArePeriods None hub periods
     × KeepsAll at r periods did w left
-    × IsLife n.before left found
-    × StagesFollow (known_after at r periods) (past_of did) n.before
+    × FollowsThrough (known_after at r periods) (past_of did) false n.before left found
     × MayResume (past_after_all (past_of did) n.before) found n.process.at n.process.start
     × IsLate n.process.start (events_in hub (flat_map turns_of periods))
     × OpensFrom n.process.at n.process.from n.process.start

@@ -96,10 +96,10 @@ AreAt (Some path) journals = journals.removed ≡ None
 AreAt None journals =
     (journals.found.older ≡ Nothing) × (journals.found.newer ≡ Nothing) × (journals.found.beside ≡ Nothing)
 
--- and in the end the journal begins
-abbrev pub began : Option (List ℕ) → JournalBeginning → List HostDid
-began (Some path) beginning = BeganJournal path beginning ∷ []
-began None beginning = []
+-- and in the end the journal begins, if there is to be one
+abbrev pub began : Bool → JournalBeginning → List HostDid
+began true beginning = BeganJournal beginning ∷ []
+began false beginning = []
 
 -- ---- a start
 

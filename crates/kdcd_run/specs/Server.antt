@@ -1,5 +1,5 @@
 -- How a server starts and runs.
-use Rattle.std.specs.Prelude.{◌≡◌, ◌-◌, ◌^◌, ℕ, ℤ, List, Option, Some, None}
+use Rattle.std.specs.Prelude.{◌≡◌, ◌-◌, ◌^◌, ℕ, ℤ, Bool, true, false, List, [], ◌∷◌, Option, Some, None, is_some}
 use Rattle.std.specs.Option.{option_copied}
 use Rattle.krb_fields.specs.declared.moment.Moment.{Moment}
 use Rattle.kdc_hub.specs.declared.wires.WireCall.{WireCall}
@@ -11,7 +11,7 @@ use Rattle.kdc_hub.specs.Life.{IsLife, periods_of}
 use Rattle.kdc_reports.specs.Clocks.{refused_at_start}
 use Rattle.kdcd_run.specs.Resuming.{IsReady, began, found_at}
 use Rattle.kdc_files.specs.Recorded.{IsNew}
-use Rattle.kdcd_run.specs.Starting.{HostDid}
+use Rattle.kdcd_run.specs.Starting.{HostDid, TookRows}
 use Rattle.kdcd_run.specs.declared.options.ServeOptions.{ServeOptions}
 use Rattle.kdc_files.specs.declared.journals.JournalBeginning.{JournalBeginning}
 use Rattle.kdcd_run.specs.declared.host.StartNews.{StartNews}
@@ -23,7 +23,7 @@ pub record IsStarted (options : ServeOptions) (before after : Option (List HostD
   pub beginning : JournalBeginning
   pub middle : Option (List HostDid)
   pub ready : IsReady options before middle hub beginning news.row_count
-  pub begins : Records middle (began (option_copied options.journal) beginning) after
+  pub begins : Records middle (began (is_some (option_copied options.journal)) beginning) after
   pub moment : at ≡ beginning.at
   pub floor_is : floor ≡ beginning.floor
   pub found : news.journal ≡ found_at (option_copied options.journal) beginning.start beginning.at
@@ -34,13 +34,23 @@ abbrev pub rounds_of : Option ℕ → ℕ
 rounds_of (Some rounds) = rounds
 rounds_of None = 2 ^ 64 - 1
 
--- a start, and then a life over the hub of that start; nothing was looked at before
+-- what is asked of the host for the rows after the start: their source, unless they are fixed
+abbrev pub taking : Bool → List HostDid
+taking true = []
+taking false = TookRows ∷ []
+
+-- A start, the source of the rows, and then a life over the hub of that start. Nothing was polled, tried or looked at
+-- before. Each change that the source gives replaces the rows; if they are fixed, no look finds any.
 pub record HasRun (options : ServeOptions) (before after : Option (List HostDid)) (news : StartNews)
-    (tally tally_after : Option (List WireCall)) (rows_after : Option (List Look)) (totals : Totals) (new : HubState) : Type 0 where
+    (tally_after : Option (List WireCall)) (rows_after : Option (List Look)) (totals : Totals) (new : HubState) : Type 0 where
   pub hub : HubState
   pub at : Moment
   pub floor : ℤ
+  pub middle : Option (List HostDid)
+  pub tally : Option (List WireCall)
   pub rows : Option (List Look)
-  pub started : IsStarted options before after hub at floor news
+  pub started : IsStarted options before middle hub at floor news
+  pub took : Records middle (taking options.is_fixed) after
+  pub tried : IsNew tally
   pub looks : IsNew rows
-  pub life : IsLife tally rows hub (periods_of (rounds_of options.rounds)) totals tally_after rows_after new
+  pub life : IsLife tally options.is_fixed rows hub (periods_of (rounds_of options.rounds)) totals tally_after rows_after new

@@ -15,7 +15,8 @@ use Rattle.kdc_files.specs.declared.journals.Journals.{Journals}
 -- A call of a host that succeeded, with its outcome: it read the rows of the database; it read the octets of the file
 -- of the seed at a path; the system gave random octets; sockets for datagrams and sockets that take connections are
 -- held at these addresses from then on; it holds the journal at a path, and read these; no journal is beside the
--- database, and what was removed there asked for this floor; the clock showed a moment; the journal at a path began so.
+-- database, and what was removed there asked for this floor; the clock showed a moment; the journal that was read began
+-- so; it handed over the source of the rows.
 pub data HostDid : Type 0 where
   ReadRows : Principals → HostDid
   ReadSeed : List ℕ → List ℕ → HostDid
@@ -24,7 +25,8 @@ pub data HostDid : Type 0 where
   ReadJournals : List ℕ → Journals → HostDid
   HasNoJournal : Option ℤ → HostDid
   Showed : Moment → HostDid
-  BeganJournal : List ℕ → JournalBeginning → HostDid
+  BeganJournal : JournalBeginning → HostDid
+  TookRows : HostDid
 
 -- the octets come from the file that the option names, or else from the system
 abbrev pub seeding : Option (List ℕ) → List ℕ → HostDid

@@ -3,7 +3,7 @@ ghost use Rattle.kdcd_run.specs.Handing.{HandsAllInLife, HandsAllInRounds};
 ghost use Rattle.kdcd_run.specs.Journaled.{OneTicketThroughJournals};
 ghost use Rattle.kdcd_run.specs.Processes.{OneTicketThroughRestarts};
 
-use journal::{every_journal, every_journal_life};
+use journal::{every_counted_life, every_journal, every_journal_life};
 use kdc_core::any_run;
 use kdc_hub::one_run;
 
@@ -26,10 +26,13 @@ pub fn every_restart()
 }
 
 /// The same, where nothing is asked of what the files of the journal hold: each process does with them what a
-/// `JournalFile` promises, and the next start finds what that left, or refuses to resume.
+/// `JournalFile` promises, and the next start finds what that left, or refuses to resume. Of a start between them that
+/// refuses nothing is asked of its floor but that it reads the files and has the floor that they ask for, and that this
+/// is not below the one that the process before it began with.
 pub fn every_journaled_restart()
     ensures one_ticket { OneTicketThroughJournals }
 {
     every_journal_life();
+    every_counted_life();
     every_restart();
 }

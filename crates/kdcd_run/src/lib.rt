@@ -4,8 +4,7 @@
 //!
 //! ```
 //! let options = ServeOptions { db: "database", udp, tcp, rounds: None, .. };
-//! let outlets = Outlets { log, errors, tally: FaultCount::new() }; // `FaultCount` of `kdc_reports`
-//! let ran = run_server(alloc, &mut host, &options, outlets)?;
+//! let ran = run_server(alloc, &mut host, &options)?;
 //! println!(rt; "served {} {} {}", ran.totals.events, ran.totals.faults, ran.totals.refused)?;
 //! ```
 //!
@@ -20,6 +19,7 @@ mod laws;
 mod memory_host;
 mod memory_sockets;
 mod options;
+mod outlets;
 mod quiet;
 mod reporter;
 mod resuming;
@@ -36,7 +36,7 @@ pub use crate::memory_sockets::MemorySockets;
 pub use crate::options::ServeOptions;
 pub use crate::reporter::Reporter;
 pub use crate::server::{Ran, Server, run_server};
-pub use crate::server_wire::{Outlets, ServerWire, StartTimes};
+pub use crate::server_wire::ServerWire;
 pub use crate::sockets::Sockets;
 pub use crate::starting::{StartFault, SystemPart};
 pub use crate::withheld::Withheld;

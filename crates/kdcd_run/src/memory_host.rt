@@ -4,14 +4,16 @@ ghost use Rattle.std.specs.Option.{option_copied};
 ghost use Rattle.kdc_hub.specs.Wire.{Records};
 ghost use Rattle.kdcd_run.specs.InMemory.{did_by, no_journals};
 ghost use Rattle.kdc_files.specs.InMemory.{seen_as};
-ghost use Rattle.kdcd_run.specs.Starting.{BeganJournal, HasNoJournal, Held, HostDid, ReadJournals, ReadRows, ReadSeed};
+ghost use Rattle.kdcd_run.specs.Starting.{HasNoJournal, Held, HostDid, ReadJournals, ReadRows, ReadSeed};
 
 use crate::host::{Host, StartNews};
 use crate::memory_sockets::MemorySockets;
 use journal::{Found, FoundFiles};
-use kdc_files::{JournalBeginning, Journals, MemoryJournal, Record, ServerFileCause};
+use kdc_files::{
+    JournalBeginning, Journals, MemoryJournal, OpenedJournals, Record, ServerFileCause,
+};
 use kdc_hub::{Event, Look, MemoryRows};
-use kdc_reports::MemoryMetrics;
+use kdc_reports::{CountedLog, MemoryLog, MemoryMetrics, MemoryTally};
 use krb_elements::Octets;
 use krb_fields::Moment;
 use principals::Database;
@@ -47,11 +49,10 @@ pub enum HostCall {
     HasNoJournal(Option<i64>),
     /// Its clock showed this moment.
     Showed(Moment),
-    /// It began a journal at a path.
-    BeganJournal {
-        path: Octets,
-        beginning: JournalBeginning,
-    },
+    /// It began the journal that was read.
+    BeganJournal(JournalBeginning),
+    /// It handed over the source of its rows.
+    TookRows,
 }
 
 /// The sockets of a host in memory can be held once.
@@ -142,11 +143,19 @@ impl Host for MemoryHost {
 
     type SocketFault = AlreadyHeld;
 
+    type JournalFiles = ();
+
     type Journal = MemoryJournal;
 
     type Rows = MemoryRows;
 
     type Metrics = MemoryMetrics;
+
+    type Log = CountedLog<MemoryLog>;
+
+    type Errors = Vec<u8>;
+
+    type Tally = MemoryTally;
 
     ghost recorded = { λ h. seen_as did_by h.calls };
 
@@ -183,10 +192,17 @@ impl Host for MemoryHost {
         Ok(MemorySockets::new(alloc, coming))
     }
 
-    fn read_journals(&mut self, alloc: Global, path: &str) -> Result<Journals, ServerFileCause> {
+    fn read_journals(
+        &mut self,
+        alloc: Global,
+        path: &str,
+    ) -> Result<OpenedJournals<()>, ServerFileCause> {
         let journals = no_journals(alloc)?;
         self.note(journals_read(alloc, path));
-        Ok(journals)
+        Ok(OpenedJournals {
+            journals,
+            files: (),
+        })
     }
 
     fn refuse_journal(
@@ -205,11 +221,11 @@ impl Host for MemoryHost {
     fn begin_journal(
         &mut self,
         alloc: Global,
-        path: &str,
+        _files: (),
         beginning: JournalBeginning,
     ) -> Result<MemoryJournal, ServerFileCause> {
         let keeps_before_fault = self.keeps_before_fault;
-        self.note(journal_begun(alloc, path, beginning));
+        self.note(Ok(HostCall::BeganJournal(beginning)));
         Ok(MemoryJournal::new(alloc, keeps_before_fault))
     }
 
@@ -221,9 +237,24 @@ impl Host for MemoryHost {
         self.announced = Some(news);
     }
 
-    fn take_rows(&mut self) -> Option<MemoryRows> {
-        let looks = self.looks.take()?;
-        Some(MemoryRows::new(self.alloc, looks))
+    fn take_rows(&mut self) -> Result<MemoryRows, ServerFileCause> {
+        let Some(looks) = self.looks.take() else {
+            return Err(ServerFileCause::from(Error::from(ErrorKind::NotFound)));
+        };
+        self.note(Ok(HostCall::TookRows));
+        Ok(MemoryRows::new(self.alloc, looks))
+    }
+
+    fn open_log(&mut self, alloc: Global) -> Result<CountedLog<MemoryLog>, AllocError> {
+        Ok(CountedLog::new(MemoryLog::new(alloc)))
+    }
+
+    fn open_errors(&mut self, alloc: Global) -> Result<Vec<u8>, AllocError> {
+        Ok(Vec::new(alloc))
+    }
+
+    fn open_tally(&mut self, alloc: Global) -> MemoryTally {
+        MemoryTally::new(alloc)
     }
 
     fn take_metrics(&mut self) -> Option<MemoryMetrics> {
@@ -282,18 +313,5 @@ fn journals_read(alloc: Global, path: &str) -> Result<HostCall, AllocError>
     Ok(HostCall::ReadJournals {
         path: Octets::from_slice(alloc, path.as_bytes())?,
         journals: no_journals(alloc)?,
-    })
-}
-
-fn journal_begun(
-    alloc: Global,
-    path: &str,
-    beginning: JournalBeginning,
-) -> Result<HostCall, AllocError>
-    ensures { IfOk result (λ call. did_by call ≡ BeganJournal path.now beginning) }
-{
-    Ok(HostCall::BeganJournal {
-        path: Octets::from_slice(alloc, path.as_bytes())?,
-        beginning,
     })
 }

@@ -65,6 +65,8 @@ impl Wire for MemorySockets {
 }
 
 impl Peers for MemorySockets {
+    ghost peer_of = { λ s. ⟦<MemoryWire as Peers>⟧.peer_of s.wire };
+
     fn peer(&self, conn: u64) -> Option<SocketAddr> {
         self.wire.peer(conn)
     }
@@ -72,6 +74,8 @@ impl Peers for MemorySockets {
 
 impl Sockets for MemorySockets {
     ghost HangsUp = { λ old conn new. (new.wire ≡ old.wire) × Records old.ended (conn ∷ []) new.ended };
+
+    ghost lost_count = { λ _. 0 };
 
     ghost keeps_record = { λ old new conn is. ap (λ w. ⟦<MemoryWire as Wire>⟧.recorded w) is.0 };
 

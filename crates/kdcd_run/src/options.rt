@@ -35,3 +35,10 @@ pub struct ServeOptions<'a> {
     /// The format of the log on standard error, if there is one.
     pub log: Option<LogFormat>,
 }
+
+impl<'a> ServeOptions<'a> {
+    /// Returns the path that an error about the journal names: its own, or that of the database beside it.
+    pub(crate) fn journal_place(&self) -> &'a str {
+        self.journal.unwrap_or(self.db)
+    }
+}

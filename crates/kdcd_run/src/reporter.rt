@@ -3,13 +3,13 @@ ghost use Rattle.std.specs.Prelude.{◌≡◌, IfOk};
 ghost use Rattle.kdc_reports.specs.Numbers.{numbers_text};
 ghost use Rattle.kdcd_run.specs.Reporter.{due, refused_until, second_of};
 
+use crate::host::Host;
 use crate::server_wire::ServerWire;
 use file_store::VERSION;
-use kdc_files::JournalWriter;
-use kdc_hub::{Hub, Onlooker, RowSource, RowsState, Served, ServerView, Wire};
-use kdc_reports::{LogNumbers, LogWriter, MetricsWriter, Numbers, Refused, Tally, push_numbers};
+use kdc_hub::{Hub, Onlooker, RowSource, RowsState, Served, ServerView};
+use kdc_reports::{LogNumbers, MetricsWriter, Numbers, Refused, Tally, push_numbers};
 use krb_fields::Moment;
-use rand_core::Rng;
+use rand_chacha::ChaCha20Rng;
 use request_log::Counts;
 use std::alloc::{AllocError, Global};
 
@@ -21,8 +21,8 @@ const USUAL_TEXT: usize = 16_384;
 
 /// Reports the numbers of a server, if they are to be written. It counts what the server served.
 #[derive(Drop)]
-pub struct Reporter<M> {
-    writer: Option<M>,
+pub struct Reporter<H: Host> {
+    writer: Option<H::Metrics>,
     started: Moment,
     refused: Option<Refused>,
     /// When they were reported last, if they were.
@@ -32,9 +32,13 @@ pub struct Reporter<M> {
     memory_faults: u64,
 }
 
-impl<M> Reporter<M> {
+impl<H: Host> Reporter<H> {
     /// Returns the reporter of a server that started at this moment.
-    pub fn new(writer: Option<M>, started: Moment, refused: Option<Refused>) -> Reporter<M> {
+    pub fn new(
+        writer: Option<H::Metrics>,
+        started: Moment,
+        refused: Option<Refused>,
+    ) -> Reporter<H> {
         Reporter {
             writer,
             started,
@@ -52,12 +56,10 @@ impl<M> Reporter<M> {
     }
 
     /// Returns what takes the texts, if anything does.
-    pub fn into_writer(self) -> Option<M> {
+    pub fn into_writer(self) -> Option<H::Metrics> {
         self.writer
     }
-}
 
-impl<M: MetricsWriter> Reporter<M> {
     /// Writes a text. Without memory for it there is none this time.
     fn write(&mut self, alloc: Global, numbers: &Numbers, counts: &Counts) {
         let Some(writer) = &mut self.writer else {
@@ -69,12 +71,7 @@ impl<M: MetricsWriter> Reporter<M> {
     }
 
     /// Returns the numbers of a server whose rows are in this state.
-    fn numbers_of<S: Wire, J: JournalWriter, L: LogWriter + LogNumbers, E, T: Tally, R: Rng>(
-        &self,
-        wire: &ServerWire<S, J, L, E, T>,
-        rows: RowsState,
-        hub: &Hub<R>,
-    ) -> Numbers {
+    fn numbers_of(&self, wire: &ServerWire<H>, rows: RowsState, hub: &Hub<ChaCha20Rng>) -> Numbers {
         let withheld = wire.withheld();
         Numbers {
             started: second_of(self.started.sec),
@@ -101,17 +98,12 @@ impl<M: MetricsWriter> Reporter<M> {
     }
 }
 
-impl<S, J, L, E, T, Q, R, M> Onlooker<ServerWire<S, J, L, E, T>, Q, R> for Reporter<M>
-where
-    S: Wire,
-    J: JournalWriter,
-    L: LogWriter + LogNumbers,
-    T: Tally,
-    Q: RowSource,
-    R: Rng,
-    M: MetricsWriter,
-{
-    fn see(&mut self, alloc: Global, server: &ServerView<'_, ServerWire<S, J, L, E, T>, Q, R>) {
+impl<H: Host> Onlooker<ServerWire<H>, Option<H::Rows>, ChaCha20Rng> for Reporter<H> {
+    fn see(
+        &mut self,
+        alloc: Global,
+        server: &ServerView<'_, ServerWire<H>, Option<H::Rows>, ChaCha20Rng>,
+    ) {
         if self.writer.is_none() {
             return;
         }

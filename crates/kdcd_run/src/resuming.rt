@@ -1,5 +1,5 @@
 //! What a start makes of the journals that it finds.
-ghost use Rattle.std.specs.Prelude.{◌≡◌, ◌∷◌, [], IfOk, Some, None, true, false, option_copied};
+ghost use Rattle.std.specs.Prelude.{◌≡◌, ◌∷◌, [], IfOk, Some, None, true, false, is_some, option_copied};
 ghost use Rattle.kdc_hub.specs.Wire.{Records};
 ghost use Rattle.krb_fields.specs.Moment.{IsSecond};
 ghost use Rattle.kdcd_run.specs.Starting.{HasNoJournal, ReadJournals};
@@ -13,7 +13,7 @@ use crate::options::ServeOptions;
 use crate::starting::StartFault;
 use journal::{Found, FoundFiles, Place, Start, greater, start_of};
 use kdc_core::{Kdc, Opening};
-use kdc_files::Journals;
+use kdc_files::{Journals, OpenedJournals};
 use krb_elements::Octets;
 use krb_fields::{Moment, SKEW};
 use principal_rows::Limits;
@@ -23,26 +23,31 @@ use std::alloc::{AllocError, Global};
 /// By how many seconds the floor of a start is above its clock.
 const RESTART_FLOOR: i64 = SKEW + 1;
 
+/// The journals of a server, and their files, if it is to have a journal.
+pub(crate) type ServerJournals<H> = OpenedJournals<Option<<H as Host>::JournalFiles>>;
+
 /// Reads the journals at the options' path; without a path there are none, and none is beside the database. A start
 /// that is to be the first is refused if there are some.
 pub(crate) fn read_journals<'a, H: Host>(
     alloc: Global,
     host: &mut H,
     options: &ServeOptions<'a>,
-) -> Result<Journals, StartFault<'a, H::SocketFault>>
-    ensures reading { IfOk result (λ journals.
-        Records (H.recorded host.old) (reading (option_copied options.now.journal) journals) (H.recorded host.new)) }
-    ensures found { IfOk result (λ journals. AreAt (option_copied options.now.journal) journals) }
-    ensures first { IfOk result (λ journals. may_be_first options.now.is_first journals ≡ true) }
+) -> Result<ServerJournals<H>, StartFault<'a, H::SocketFault>>
+    ensures reading { IfOk result (λ opened.
+        Records (H.recorded host.old) (reading (option_copied options.now.journal) opened.journals)
+        (H.recorded host.new)) }
+    ensures files { IfOk result (λ opened. is_some opened.files ≡ is_some (option_copied options.now.journal)) }
+    ensures found { IfOk result (λ opened. AreAt (option_copied options.now.journal) opened.journals) }
+    ensures first { IfOk result (λ opened. may_be_first options.now.is_first opened.journals ≡ true) }
 {
-    let journals = match options.journal {
+    let opened = match options.journal {
         Some(path) => journals_at(alloc, host, path)?,
         None => without_journal(alloc, host, options)?,
     };
-    if !may_be_first(options.is_first, &journals) {
-        return Err(StartFault::NotFirst(options.journal.unwrap_or(options.db)));
+    if !may_be_first(options.is_first, &opened.journals) {
+        return Err(StartFault::NotFirst(options.journal_place()));
     }
-    Ok(journals)
+    Ok(opened)
 }
 
 /// Reads the journals at a path.
@@ -50,13 +55,17 @@ fn journals_at<'a, H: Host>(
     alloc: Global,
     host: &mut H,
     path: &'a str,
-) -> Result<Journals, StartFault<'a, H::SocketFault>>
-    ensures record { IfOk result (λ journals.
-        Records (H.recorded host.old) (ReadJournals path.now journals ∷ []) (H.recorded host.new)) }
-    ensures kept { IfOk result (λ journals. journals.removed ≡ None) }
+) -> Result<ServerJournals<H>, StartFault<'a, H::SocketFault>>
+    ensures record { IfOk result (λ opened.
+        Records (H.recorded host.old) (ReadJournals path.now opened.journals ∷ []) (H.recorded host.new)) }
+    ensures files { IfOk result (λ opened. is_some opened.files ≡ true) }
+    ensures kept { IfOk result (λ opened. opened.journals.removed ≡ None) }
 {
     match host.read_journals(alloc, path) {
-        Ok(journals) => Ok(journals),
+        Ok(opened) => Ok(OpenedJournals {
+            journals: opened.journals,
+            files: Some(opened.files),
+        }),
         Err(fault) => Err(StartFault::File(path, fault)),
     }
 }
@@ -66,15 +75,19 @@ fn without_journal<'a, H: Host>(
     alloc: Global,
     host: &mut H,
     options: &ServeOptions<'a>,
-) -> Result<Journals, StartFault<'a, H::SocketFault>>
-    ensures record { IfOk result (λ journals.
-        Records (H.recorded host.old) (HasNoJournal journals.removed ∷ []) (H.recorded host.new)) }
-    ensures older { IfOk result (λ journals. journals.found.older ≡ Nothing) }
-    ensures newer { IfOk result (λ journals. journals.found.newer ≡ Nothing) }
-    ensures beside { IfOk result (λ journals. journals.found.beside ≡ Nothing) }
+) -> Result<ServerJournals<H>, StartFault<'a, H::SocketFault>>
+    ensures record { IfOk result (λ opened.
+        Records (H.recorded host.old) (HasNoJournal opened.journals.removed ∷ []) (H.recorded host.new)) }
+    ensures files { IfOk result (λ opened. opened.files ≡ None) }
+    ensures older { IfOk result (λ opened. opened.journals.found.older ≡ Nothing) }
+    ensures newer { IfOk result (λ opened. opened.journals.found.newer ≡ Nothing) }
+    ensures beside { IfOk result (λ opened. opened.journals.found.beside ≡ Nothing) }
 {
     match host.refuse_journal(alloc, options.is_first) {
-        Ok(removed) => Ok(no_journals(alloc, removed)),
+        Ok(removed) => Ok(OpenedJournals {
+            journals: no_journals(alloc, removed),
+            files: None,
+        }),
         Err(fault) => Err(StartFault::File(options.db, fault)),
     }
 }

@@ -1,40 +1,30 @@
 //! The wire of a server.
-ghost use Rattle.std.specs.Prelude.{◌≡◌, ◌∷◌, [], ℕ, true, false, None};
+ghost use Rattle.std.specs.Prelude.{◌≡◌, ◌∷◌, [], true, false, None};
 ghost use Rattle.std.specs.Result.{is_ok};
 ghost use Rattle.kdc_hub.specs.Wire.{IsCounted, Records, acted, faults_of, polled};
 ghost use Rattle.kdc_hub.specs.Rounds.{action_connection};
 ghost use Rattle.kdc_reports.specs.Clocks.{clock_after};
 ghost use Rattle.kdc_files.specs.Journal.{handed_by, is_kept};
-ghost use Rattle.kdc_reports.specs.Log.{LogsAll, entries_of, moment_after};
+ghost use Rattle.kdc_reports.specs.Log.{LogsAll, arrival_after, entries_of};
 ghost use Rattle.kdc_reports.specs.Memory.{after_act, memory_after};
 ghost use Rattle.kdc_files.specs.Recorded.{IsNew};
 ghost use Rattle.kdcd_run.specs.Served.{Serves};
 ghost use Rattle.kdcd_run.specs.Quiet.{quiet_withholds};
 ghost use Rattle.kdcd_run.specs.Withheld.{EndsOnly, may_send, withheld_after};
 
+use crate::host::Host;
+use crate::outlets::Outlets;
 use crate::quiet::quiet_withholds;
 use crate::sockets::Sockets;
 use crate::withheld::Withheld;
-use kdc_files::{JournalWriter, keep_for};
+use kdc_files::keep_for;
 use kdc_hub::{Action, Event, Wire, WireFault};
 use kdc_reports::{
-    Arrival, ClockWatch, LogWriter, MemoryWatch, Tally, Tried, arrival_after, log_action,
-    watch_clock, watch_memory,
+    Arrival, ClockWatch, MemoryWatch, Tally, Tried, arrival_after, log_action, watch_clock,
+    watch_memory,
 };
 use krb_fields::Moment;
 use std::alloc::Global;
-use std::io::Write;
-
-/// What a server writes to, and what counts its failed calls.
-#[derive(Drop)]
-pub struct Outlets<L, E, T> {
-    /// Takes an entry for each request.
-    pub log: L,
-    /// Where it is said that the clock went back, and that memory ran out.
-    pub errors: E,
-    /// Counts the polls and acts that failed.
-    pub tally: T,
-}
 
 /// The times of a server's start.
 #[derive(Clone, Copy)]
@@ -53,36 +43,37 @@ pub struct StartTimes {
 ///
 /// Its record is that of its tally: all that was polled, and all acts that were tried, with those that were withheld.
 #[derive(Drop)]
-pub struct ServerWire<S: Wire, J: JournalWriter, L: LogWriter, E, T: Tally> {
-    sockets: S,
-    tally: T,
-    journal: J,
-    log: L,
+pub struct ServerWire<H: Host> {
+    sockets: H::Sockets,
+    tally: H::Tally,
+    journal: H::Journal,
+    log: H::Log,
     /// The second before which it is quiet, if the start is.
     quiet_until: Option<i64>,
     clock: ClockWatch,
     memory: MemoryWatch,
     withheld: Withheld,
     /// Where it is said that the clock went back, and that memory ran out.
-    errors: E,
+    errors: H::Errors,
     /// The last event, or the start.
     came: Arrival,
     // The sockets, the journal and the log have recorded what the tally says.
-    ghost served: { ∥ Serves (T.recorded tally) (S.recorded sockets) (J.handed journal) (L.logged log) came.at ∥₁ },
+    ghost served: { ∥ Serves (H.Tally.recorded tally) (H.Sockets.recorded sockets) (H.Journal.handed journal)
+        (H.Log.logged log) came.at ∥₁ },
 }
 
-impl<S: Wire, J: JournalWriter, L: LogWriter, E, T: Tally> ServerWire<S, J, L, E, T> {
+impl<H: Host> ServerWire<H> {
     /// The wire of a server with these times.
     pub fn new(
-        sockets: S,
-        journal: J,
-        outlets: Outlets<L, E, T>,
+        sockets: H::Sockets,
+        journal: H::Journal,
+        outlets: Outlets<H>,
         times: StartTimes,
-    ) -> ServerWire<S, J, L, E, T>
-        requires sockets { IsNew (S.recorded sockets) }
-        requires journal { IsNew (J.handed journal) }
-        requires log { IsNew (L.logged outlets.log) }
-        requires tally { IsNew (T.recorded outlets.tally) }
+    ) -> ServerWire<H>
+        requires sockets { IsNew (H.Sockets.recorded sockets) }
+        requires journal { IsNew (H.Journal.handed journal) }
+        requires log { IsNew (H.Log.logged outlets.log) }
+        requires tally { IsNew (H.Tally.recorded outlets.tally) }
         ensures sockets { result.sockets ≡ sockets }
         ensures journal { result.journal ≡ journal }
         ensures log { result.log ≡ outlets.log }
@@ -111,28 +102,28 @@ impl<S: Wire, J: JournalWriter, L: LogWriter, E, T: Tally> ServerWire<S, J, L, E
     }
 
     /// Returns the log of its requests.
-    pub fn log(&self) -> &L
+    pub fn log(&self) -> &H::Log
         ensures { result.now ≡ self.now.log }
     {
         &self.log
     }
 
     /// Returns the sockets below it.
-    pub fn sockets(&self) -> &S
+    pub fn sockets(&self) -> &H::Sockets
         ensures { result.now ≡ self.now.sockets }
     {
         &self.sockets
     }
 
     /// Returns the tally of what was polled and of the acts that were tried.
-    pub fn tally(&self) -> &T
+    pub fn tally(&self) -> &H::Tally
         ensures { result.now ≡ self.now.tally }
     {
         &self.tally
     }
 
     /// Returns the journal of the authenticators that it recorded.
-    pub fn journal(&self) -> &J
+    pub fn journal(&self) -> &H::Journal
         ensures { result.now ≡ self.now.journal }
     {
         &self.journal
@@ -153,20 +144,26 @@ impl<S: Wire, J: JournalWriter, L: LogWriter, E, T: Tally> ServerWire<S, J, L, E
     }
 }
 
-impl<S: Sockets, J: JournalWriter, L: LogWriter, E: Write, T: Tally> Wire
-    for ServerWire<S, J, L, E, T> {
-    ghost recorded = { λ o. T.recorded o.tally };
+impl<H: Host> Wire for ServerWire<H> {
+    ghost recorded = { λ o. H.Tally.recorded o.tally };
 
-    ghost fault_count = { λ o. T.fault_count o.tally };
+    ghost fault_count = { λ o. H.Tally.fault_count o.tally };
 
     /// Polls the sockets, and looks at the clock and at what the last event got.
     fn poll(&mut self, alloc: Global) -> Result<(Moment, Option<Event>), WireFault>
-        ensures records { Records (T.recorded self.old.tally) (polled result ∷ []) (T.recorded self.new.tally) }
-        ensures counted { IsCounted (T.fault_count self.old.tally) (faults_of result) (T.fault_count self.new.tally) }
-        ensures polls { Records (S.recorded self.old.sockets) (polled result ∷ []) (S.recorded self.new.sockets) }
-        ensures came { self.new.came.at ≡ moment_after self.old.came.at (polled result) }
+        ensures records { Records (H.Tally.recorded self.old.tally) (polled result ∷ [])
+            (H.Tally.recorded self.new.tally) }
+        ensures counted { IsCounted (H.Tally.fault_count self.old.tally) (faults_of result)
+            (H.Tally.fault_count self.new.tally) }
+        ensures polls { Records (H.Sockets.recorded self.old.sockets) (polled result ∷ [])
+            (H.Sockets.recorded self.new.sockets) }
+        // The log's entries name the peer of the event's connection, as the sockets know it.
+        ensures came { self.new.came
+            ≡ arrival_after (H.Sockets.peer_of self.new.sockets) self.old.came (polled result) }
         ensures clock { self.new.clock ≡ clock_after self.old.clock (polled result) }
-        ensures memory { (lost : ℕ) × (self.new.memory ≡ memory_after lost self.old.memory (polled result)) }
+        // How many requests were lost before they were read is what the sockets counted.
+        ensures memory { self.new.memory
+            ≡ memory_after (H.Sockets.lost_count self.new.sockets) self.old.memory (polled result) }
         ensures withheld { self.new.withheld ≡ self.old.withheld }
         ensures journal { self.new.journal ≡ self.old.journal }
         ensures log { self.new.log ≡ self.old.log }
@@ -183,24 +180,29 @@ impl<S: Sockets, J: JournalWriter, L: LogWriter, E: Write, T: Tally> Wire
 
     /// Does an action, or withholds it and ends its connection.
     fn act(&mut self, alloc: Global, action: &Action) -> Result<(), WireFault>
-        ensures records { Records (T.recorded self.old.tally) (acted action.now result ∷ []) (T.recorded self.new.tally) }
-        ensures counted { IsCounted (T.fault_count self.old.tally) (faults_of result) (T.fault_count self.new.tally) }
+        ensures records { Records (H.Tally.recorded self.old.tally) (acted action.now result ∷ [])
+            (H.Tally.recorded self.new.tally) }
+        ensures counted { IsCounted (H.Tally.fault_count self.old.tally) (faults_of result)
+            (H.Tally.fault_count self.new.tally) }
         // The authenticator that the reply makes the KDC remember is handed to the journal, and no other.
-        ensures handed { Records (J.handed self.old.journal) (handed_by self.old.came.at action.now) (J.handed self.new.journal) }
+        ensures handed { Records (H.Journal.handed self.old.journal) (handed_by self.old.came.at action.now)
+            (H.Journal.handed self.new.journal) }
         // If the journal has kept all, and the start is not quiet about it, the action is done.
-        ensures sent { may_send J.is_whole self.new.journal self.old.quiet_until self.old.came.at action.now ≡ true
-            → Records (S.recorded self.old.sockets) (acted action.now result ∷ []) (S.recorded self.new.sockets) }
+        ensures sent { may_send H.Journal.is_whole self.new.journal self.old.quiet_until self.old.came.at action.now ≡ true
+            → Records (H.Sockets.recorded self.old.sockets) (acted action.now result ∷ [])
+            (H.Sockets.recorded self.new.sockets) }
         // Otherwise nothing is sent, and a connection ends: so an authenticator is kept before the reply to its request
         // is sent, and a client on a connection can ask another server at once.
-        ensures withheld { may_send J.is_whole self.new.journal self.old.quiet_until self.old.came.at action.now ≡ false
-            → EndsOnly S.HangsUp self.old.sockets (action_connection action.now) self.new.sockets × (is_ok result ≡ false) }
+        ensures withheld { may_send H.Journal.is_whole self.new.journal self.old.quiet_until self.old.came.at action.now
+            ≡ false → EndsOnly H.Sockets.HangsUp self.old.sockets (action_connection action.now) self.new.sockets
+            × (is_ok result ≡ false) }
         // The log has an entry for the request that the action answers, if it answers one, and no other.
-        ensures logged { LogsAll L.Logs self.old.log (entries_of self.old.came action.now (is_ok result)) self.new.log }
+        ensures logged { LogsAll H.Log.Logs self.old.log (entries_of self.old.came action.now (is_ok result)) self.new.log }
         ensures came { self.new.came ≡ self.old.came }
         ensures clock { self.new.clock ≡ self.old.clock }
         ensures memory { self.new.memory ≡ after_act self.old.memory action.now }
         ensures withheld_count { self.new.withheld ≡ withheld_after self.old.withheld
-            (is_kept J.is_whole self.new.journal action.now)
+            (is_kept H.Journal.is_whole self.new.journal action.now)
             (quiet_withholds self.old.quiet_until self.old.came.at action.now) }
         ensures quiet { self.new.quiet_until ≡ self.old.quiet_until }
     {

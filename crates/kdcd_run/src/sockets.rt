@@ -1,5 +1,6 @@
 //! What a server asks of its sockets.
 ghost use Rattle.std.specs.Prelude.{◌≡◌, ℕ, ⊤, refl};
+ghost use Rattle.kdc_sockets.specs.Lost.{lost_by};
 
 use kdc_hub::{Peers, Wire};
 use kdc_sockets::SocketWire;
@@ -14,8 +15,12 @@ pub trait Sockets: Wire + Peers {
     fn hang_up(&mut self, conn: u64)
         ensures { HangsUp self.old conn self.new };
 
+    // How many requests were lost so far because memory ran out before they were read.
+    ghost lost_count: { Self → ℕ };
+
     /// Returns how many requests were lost so far because memory ran out before they were read.
-    fn lost(&self) -> u64;
+    fn lost(&self) -> u64
+        ensures { result ≡ lost_count self.now };
 
     // The end of a connection is neither a poll nor an act.
     ghost keeps_record: { (old new : Self) (conn : ℕ) → HangsUp old conn new
@@ -24,6 +29,8 @@ pub trait Sockets: Wire + Peers {
 
 impl<C: Clock + Drop> Sockets for SocketWire<C> {
     ghost HangsUp = { λ old conn new. ⊤ };
+
+    ghost lost_count = { lost_by };
 
     ghost keeps_record = { λ old new conn is. refl };
 

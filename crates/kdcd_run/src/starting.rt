@@ -14,7 +14,7 @@ use crate::options::ServeOptions;
 use crate::resuming::{decide, floor_by, open, read_journals};
 use file_store::{CLOCK, RANDOM_OCTETS};
 use kdc_core::Opening;
-use kdc_files::{JournalBeginning, ServerFileCause, seed_in};
+use kdc_files::{JournalBeginning, OpenedJournals, ServerFileCause, seed_in};
 use kdc_hub::Hub;
 use krb_elements::Octets;
 use krb_fields::Moment;
@@ -96,11 +96,13 @@ impl<S> StartFault<'_, S> {
 
 /// A server that has its sockets, before its first round, and what its journal is to begin with, if it has one.
 #[derive(Drop)]
-pub struct ReadyServer<S> {
+pub struct ReadyServer<H: Host> {
     /// The hub, whose KDC was opened or has resumed.
     pub hub: Hub<ChaCha20Rng>,
     /// The sockets, which were opened before the journals were read.
-    pub sockets: S,
+    pub sockets: H::Sockets,
+    /// The files of the journals that were read, if it is to have a journal.
+    pub files: Option<H::JournalFiles>,
     /// The moment and the floor of the start are those in it.
     pub beginning: JournalBeginning,
     /// The number of rows that it serves.
@@ -114,10 +116,11 @@ pub fn ready<'a, H: Host>(
     alloc: Global,
     host: &mut H,
     options: &ServeOptions<'a>,
-) -> Result<ReadyServer<H::Sockets>, StartFault<'a, H::SocketFault>>
+) -> Result<ReadyServer<H>, StartFault<'a, H::SocketFault>>
     ensures start { IfOk result (λ ready. IsReady options.now (H.recorded host.old) (H.recorded host.new)
         (hub_state chacha20 ready.hub) ready.beginning ready.row_count) }
     ensures sockets { IfOk result (λ ready. IsNew (H.Sockets.recorded ready.sockets)) }
+    ensures files { IfOk result (λ ready. is_some ready.files ≡ is_some (option_copied options.now.journal)) }
 {
     let rows = match host.read_rows(alloc) {
         Ok(rows) => rows,
@@ -129,14 +132,22 @@ pub fn ready<'a, H: Host>(
         Ok(sockets) => sockets,
         Err(fault) => return Err(StartFault::Sockets(fault)),
     };
-    let beginning = begin(alloc, host, options, &rows)?;
-    let hub = hub_of(alloc, options, rows, seed, &beginning)?;
+    let Beginning { files, journal } = begin(alloc, host, options, &rows)?;
+    let hub = hub_of(alloc, options, rows, seed, &journal)?;
     Ok(ReadyServer {
         hub,
         sockets,
-        beginning,
+        files,
+        beginning: journal,
         row_count,
     })
+}
+
+/// What a journal is to begin with, and in which files, if there is to be one.
+#[derive(Drop)]
+struct Beginning<F> {
+    files: Option<F>,
+    journal: JournalBeginning,
 }
 
 /// Reads the journals, and then the clock. Returns what the journal is to begin with.
@@ -145,19 +156,20 @@ fn begin<'a, H: Host>(
     host: &mut H,
     options: &ServeOptions<'a>,
     rows: &Database,
-) -> Result<JournalBeginning, StartFault<'a, H::SocketFault>>
-    ensures did { IfOk result (λ beginning. Records (H.recorded host.old)
-        (reading (option_copied options.now.journal) beginning.journals ++ Showed beginning.at ∷ [])
+) -> Result<Beginning<H::JournalFiles>, StartFault<'a, H::SocketFault>>
+    ensures did { IfOk result (λ begins. Records (H.recorded host.old)
+        (reading (option_copied options.now.journal) begins.journal.journals ++ Showed begins.journal.at ∷ [])
         (H.recorded host.new)) }
-    ensures found { IfOk result (λ beginning. AreAt (option_copied options.now.journal) beginning.journals) }
-    ensures first { IfOk result (λ beginning. may_be_first options.now.is_first beginning.journals ≡ true) }
-    ensures decided { IfOk result (λ beginning.
-        IsDecided rows.now beginning.journals beginning.at beginning.start) }
-    ensures realm { IfOk result (λ beginning. beginning.realm ≡ rows.now.realm) }
-    ensures floor { IfOk result (λ beginning.
-        beginning.floor ≡ (known_before (opened_by options.now.is_first beginning.at) beginning.start).floor) }
+    ensures files { IfOk result (λ begins. is_some begins.files ≡ is_some (option_copied options.now.journal)) }
+    ensures found { IfOk result (λ begins. AreAt (option_copied options.now.journal) begins.journal.journals) }
+    ensures first { IfOk result (λ begins. may_be_first options.now.is_first begins.journal.journals ≡ true) }
+    ensures decided { IfOk result (λ begins.
+        IsDecided rows.now begins.journal.journals begins.journal.at begins.journal.start) }
+    ensures realm { IfOk result (λ begins. begins.journal.realm ≡ rows.now.realm) }
+    ensures floor { IfOk result (λ begins. begins.journal.floor
+        ≡ (known_before (opened_by options.now.is_first begins.journal.at) begins.journal.start).floor) }
 {
-    let journals = read_journals(alloc, host, options)?;
+    let OpenedJournals { journals, files } = read_journals(alloc, host, options)?;
     let at = match host.now() {
         Ok(at) => at,
         Err(error) => return Err(StartFault::System(SystemPart::Clock, error)),
@@ -165,12 +177,15 @@ fn begin<'a, H: Host>(
     let start = decide(alloc, rows, &journals, at)?;
     let realm = Octets::from_slice(alloc, rows.realm())?;
     let floor = floor_by(opened_by(options.is_first, at), &start);
-    Ok(JournalBeginning {
-        realm,
-        at,
-        floor,
-        start,
-        journals,
+    Ok(Beginning {
+        files,
+        journal: JournalBeginning {
+            realm,
+            at,
+            floor,
+            start,
+            journals,
+        },
     })
 }
 

@@ -1,0 +1,6 @@
+-- How many requests sockets have lost because memory ran out before they were read.
+use Rattle.std.specs.Prelude.{ℕ}
+use Rattle.kdc_sockets.specs.declared.wire.SocketWire.{SocketWire}
+
+abbrev pub lost_by : {C : Type 0} → SocketWire C → ℕ
+lost_by wire = wire.sockets.lost
