@@ -22,12 +22,7 @@ pub fn are_handled(
     Ok(true)
 }
 
-fn is_handled(
-    alloc: Global,
-    kdc: &mut Kdc,
-    event: &[Event],
-    outcome: &str,
-) -> Result<bool, Fail> {
+fn is_handled(alloc: Global, kdc: &mut Kdc, event: &[Event], outcome: &str) -> Result<bool, Fail> {
     let reply = reply_to(alloc, kdc, event)?;
     has_come(alloc, &reply, outcome)
 }
@@ -55,12 +50,14 @@ fn handled(alloc: Global, kdc: &mut Kdc, event: &[Event]) -> Result<Option<Vec<u
 }
 
 fn handle(alloc: Global, kdc: &mut Kdc, event: &[Event]) -> Result<Option<Vec<u8>>, AllocError> {
-    let Some(Event::Request {
-        at,
-        random,
-        room,
-        request,
-    }) = event.first()
+    let Some(
+        Event::Request {
+            at,
+            random,
+            room,
+            request,
+        },
+    ) = event.first()
     else {
         return Ok(None);
     };
