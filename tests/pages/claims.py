@@ -87,7 +87,7 @@ def in_words(name):
 
 def logged(kind):
     """The names of rules in the log, by their names in the code."""
-    crate = {"AsRefusal": "as_exchange", "TgsRefusal": "tgs_opening", "ApRefusal": "ap_presented"}[kind]
+    crate = {"AsRefusal": "as_exchange", "TgsRefusal": "tgs_opening", "ApRefusal": "ap_req"}[kind]
     return dict(re.findall(rf'{kind}::(\w+) => "([\w-]+)"', read(f"crates/{crate}/src/refusal.rt")))
 
 
@@ -106,7 +106,7 @@ def as_rules():
 def tgs_rules():
     names, known = logged("TgsRefusal") | {f"Ap.{name}": word for name, word in logged("ApRefusal").items()}, codes()
     code_of = coded("TgsRefusal", "crates/tgs_opening/src/refusal.rt")
-    code_of |= {f"Ap.{name}": code for name, code in coded("ApRefusal", "crates/ap_presented/src/refusal.rt").items()}
+    code_of |= {f"Ap.{name}": code for name, code in coded("ApRefusal", "crates/ap_req/src/refusal.rt").items()}
     code_of["Ap.ForeignClient"] = "KdcErrPolicy"
     rule = r"(?:Refuses|Records) \(?tgs\.(?:(Ap) ap_refusals\.)?(\w+)|(Repeats) "
     listed = re.findall(rule, read("crates/tgs_exchange/specs/Refusals.antt"))

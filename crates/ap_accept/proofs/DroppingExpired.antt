@@ -8,7 +8,7 @@ use Rattle.std.specs.FinMap as map
 use Rattle.std.proofs.lemmas.Int.{ints, clamps}
 use Rattle.std.proofs.lemmas.Bool.Decides.{nat_tests}
 use Rattle.krb_fields.specs.Name.{Components, name_total}
-use Rattle.lists.proofs.Values.{get-retain_values, passing}
+use Rattle.rule_lists.proofs.Values.{get-retain_values, passing}
 use Rattle.replay.specs.Stamp.{Stamp, stamp_cmp, is_from}
 use Rattle.replay.specs.declared.cache.ReplayCache.{ReplayCache}
 use Rattle.replay.proofs.Settled.{IsSettled}

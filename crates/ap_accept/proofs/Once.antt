@@ -6,7 +6,7 @@ use Rattle.std.specs.List.{AllByRecursion}
 use Rattle.std.specs.Ordering.{eq_by_cmp}
 use Rattle.krb_types.specs.ApReq.{ApReq}
 use Rattle.krb_fields.specs.Name.{Components, name_cmp, same_name}
-use Rattle.lists.specs.Refusals.{first_holding}
+use Rattle.rule_lists.specs.Refusals.{first_holding}
 use Rattle.replay.specs.ReplayCache.{recorded, verdict}
 use Rattle.replay.specs.Run.{collected, with_any, EachOnce}
 use Rattle.replay.specs.Stamp.{Stamp, stamp_cmp}
@@ -23,10 +23,10 @@ use Rattle.ap_accept.specs.StageLaws.{recorded_staged, request_staged}
 use Rattle.ap_accept.specs.Stages.{if_presented, refusal_by, seen_by, seen_if, unless_seen}
 use Rattle.ap_accept.specs.Run.{AcceptedOnce, Call, Event, Accept, Replace, Resume, accepted_at, accepted_in, after_call, after_event, is_party, stamp_if}
 use Rattle.ap_accept.specs.State.{cache_of}
-use Rattle.ap_presented.specs.Validity.{ticket_terms}
+use Rattle.ap_req.specs.Validity.{ticket_terms}
 use Rattle.ap_accept.specs.Validity.{validity_rules}
 use Rattle.ap_accept.specs.declared.presented.Presented.{Presented}
-use Rattle.ap_presented.specs.declared.refusal.ApRefusal.{ApRefusal}
+use Rattle.ap_req.specs.declared.refusal.ApRefusal.{ApRefusal}
 use Rattle.ap_accept.specs.declared.state.State.{State}
 use Rattle.ap_accept.proofs.Frame.{accepts_keeps, recording_keeps}
 use Rattle.ap_accept.proofs.DroppingExpired.{both, still_settled}

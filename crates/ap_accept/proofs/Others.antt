@@ -2,8 +2,8 @@
 use Rattle.std.proofs.Common.{◌≡◌, ◌∙◌, ℕ, ℤ, Bool, true, false, not, cond, List, [], ◌∷◌, Option, Some, None, Result, Ok, Err, is_some, refl, ap, sym, subst}
 use Rattle.std.specs.Prelude.{IfOk}
 use Rattle.std.specs.Ordering.{eq_by_cmp}
-use Rattle.lists.specs.Refusals.{Rule, decided}
-use Rattle.lists.specs.Stages.{◌>>=◌}
+use Rattle.rule_lists.specs.Refusals.{Rule, decided}
+use Rattle.rule_lists.specs.Stages.{◌>>=◌}
 use Rattle.cred_files.specs.Keytab.{newest, passes}
 use Rattle.cred_files.specs.declared.keytab_entry.KeytabEntry.{KeytabEntry}
 use Rattle.krb_fields.specs.Name.{Components, name_cmp, same_name}
@@ -11,12 +11,12 @@ use Rattle.krb_fields.specs.PrincipalName.{Name}
 use Rattle.krb_fields.specs.declared.moment.Moment.{Moment}
 use Rattle.krb_types.specs.ApReq.{ApReq}
 use Rattle.krb_types.specs.EncTicketPart.{EncTicketPart}
-use Rattle.ap_presented.specs.HeldKey.{lacks_key, lacks_version}
-use Rattle.ap_presented.specs.Keytab.{held_in, service_of}
-use Rattle.ap_presented.specs.Tickets.{is_other_version, part_of, shown_ticket}
-use Rattle.ap_presented.specs.declared.authenticated.Authenticated.{Authenticated}
-use Rattle.ap_presented.specs.declared.refusal.ApRefusal.{ApRefusal}
-use Rattle.ap_presented.specs.declared.refusal.ApRefusal.TheVariants.{BadVersion, BadMessageType, SessionKeyAsked, NotForUs, NoKey, BadKeyVersion, TicketNotOpened}
+use Rattle.ap_req.specs.HeldKey.{lacks_key, lacks_version}
+use Rattle.ap_req.specs.Keytab.{held_in, service_of}
+use Rattle.ap_req.specs.Tickets.{is_other_version, part_of, shown_ticket}
+use Rattle.ap_req.specs.declared.authenticated.Authenticated.{Authenticated}
+use Rattle.ap_req.specs.declared.refusal.ApRefusal.{ApRefusal}
+use Rattle.ap_req.specs.declared.refusal.ApRefusal.TheVariants.{BadVersion, BadMessageType, SessionKeyAsked, NotForUs, NoKey, BadKeyVersion, TicketNotOpened}
 use Rattle.ap_accept.specs.Accepts.{Answer, IsAfter, IsAnswer, accepted, accepts, answer_by, request_of}
 use Rattle.ap_accept.specs.Named.{accepts_for, accepts_keyless, is_for_another}
 use Rattle.ap_accept.specs.Presented.{authenticated, presented}

@@ -8,7 +8,7 @@ use Rattle.krb_der.specs.declared.fault.DerFault.{DerFault}
 use Rattle.krb_elements.specs.Format.{whole}
 use Rattle.krb_elements.specs.Laws.{IsWhole, whole_ok}
 use Rattle.krb_fields.specs.declared.moment.Moment.{Moment}
-use Rattle.sealed_parts.specs.Parts.{ok_of}
+use Rattle.encrypted_data.specs.Parts.{ok_of}
 use Rattle.ap_accept.specs.Accepts.{Answer, IsAfter, IsAnswer, accepts, recorded_by, recorded_of, request_of}
 use Rattle.ap_accept.specs.Fault.{Fails}
 use Rattle.ap_accept.specs.Presented.{presented}
@@ -19,7 +19,7 @@ use Rattle.ap_accept.specs.declared.accepted.Accepted.{Accepted}
 use Rattle.ap_accept.specs.declared.fault.ApFault.{ApFault}
 use Rattle.ap_accept.specs.declared.fault.ApFault.TheVariants.{NotAnApReq, Refused, Memory}
 use Rattle.ap_accept.specs.declared.presented.Presented.{Presented}
-use Rattle.ap_presented.specs.declared.refusal.ApRefusal.{ApRefusal}
+use Rattle.ap_req.specs.declared.refusal.ApRefusal.{ApRefusal}
 use Rattle.ap_accept.specs.declared.state.State.{State}
 
 staged_ruled : (state : State) (at : Moment) (confounder octets : List ℕ) (ap : ApReq) (wanted : Bool) (p : Presented) → request_of octets ≡ Some ap → wanted ≡ asks_reply ap → presented state.keytab ap ≡ Ok p

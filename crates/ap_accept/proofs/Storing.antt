@@ -3,7 +3,7 @@ use Rattle.std.proofs.Common.{◌≡◌, true, false, Result, Ok, Err, OnOk, OnE
 use Rattle.std.specs.FinMap as map
 use Rattle.std.specs.Option.{unwrap_or}
 use Rattle.krb_fields.specs.Name.{Components, name_cmp, name_total, name_exact}
-use Rattle.lists.proofs.Exchanges.{taken_is, absent_is, still_there, put_back, put_back_same}
+use Rattle.rule_lists.proofs.Exchanges.{taken_is, absent_is, still_there, put_back, put_back_same}
 
 -- stores f of a name's value; d is the value of a name that has none
 module _ {V : Type 0} (m : map.FinMap name_cmp V) (name : Components) (f : V → V) (d : V) where

@@ -8,7 +8,7 @@ use Rattle.krb_fields.specs.Name.{Components}
 use Rattle.krb_fields.specs.declared.code.Code.{Code}
 use Rattle.krb_fields.specs.declared.moment.Moment.{Moment}
 use Rattle.krb_types.specs.EncTicketPart.{EncTicketPart}
-use Rattle.sealed_parts.specs.Parts.{ok_of}
+use Rattle.encrypted_data.specs.Parts.{ok_of}
 use Rattle.replay.specs.ReplayCache.{recorded}
 use Rattle.replay.specs.Stamp.{Stamp}
 use Rattle.replay.specs.declared.cache.ReplayCache.{ReplayCache}
@@ -24,8 +24,8 @@ use Rattle.ap_accept.specs.declared.fault.ApFault.{ApFault}
 use Rattle.ap_accept.specs.declared.fault.ApFault.TheVariants.{NotAnApReq, Refused, Memory as NoMemory}
 use Rattle.ap_accept.specs.declared.presented.Presented.{Presented}
 use Rattle.ap_accept.specs.declared.state.State.{State}
-use Rattle.ap_presented.specs.Refusal.{code_of}
-use Rattle.ap_presented.specs.declared.refusal.ApRefusal.{ApRefusal}
+use Rattle.ap_req.specs.Refusal.{code_of}
+use Rattle.ap_req.specs.declared.refusal.ApRefusal.{ApRefusal}
 
 -- ---- what the table says of a request
 

@@ -1,12 +1,12 @@
 -- The authenticator of an AP-REQ (RFC 4120, section 3.2.3).
 use Rattle.std.specs.Prelude.{List, [], ◌∷◌, Option, Result}
-use Rattle.lists.specs.Refusals.{Rule, decided}
+use Rattle.rule_lists.specs.Refusals.{Rule, decided}
 use Rattle.enctypes.specs.declared.key.Key.{Key}
 use Rattle.krb_types.specs.Authenticator.{Authenticator}
 use Rattle.krb_types.specs.EncTicketPart.{EncTicketPart}
-use Rattle.ap_presented.specs.Authenticators.{is_mismatched, subkey_in}
-use Rattle.ap_presented.specs.declared.refusal.ApRefusal.{ApRefusal}
-use Rattle.ap_presented.specs.declared.refusal.ApRefusal.TheVariants.{BadMatch, BadSubkey}
+use Rattle.ap_req.specs.Authenticators.{is_mismatched, subkey_in}
+use Rattle.ap_req.specs.declared.refusal.ApRefusal.{ApRefusal}
+use Rattle.ap_req.specs.declared.refusal.ApRefusal.TheVariants.{BadMatch, BadSubkey}
 
 abbrev pub authenticator_rules : EncTicketPart → Authenticator → List (Rule ApRefusal)
 authenticator_rules part auth = (is_mismatched part auth, BadMatch) ∷ []

@@ -2,7 +2,7 @@
 use Rattle.std.specs.Prelude.{ℕ, Bool, not, nat_eq, List, [], ◌∷◌, Option, Some, None}
 use Rattle.std.specs.Cmp.Lexicographic.{pointwise}
 use Rattle.std.specs.Ordering.{int_eq}
-use Rattle.lists.specs.Refusals.{Rule, first_holding}
+use Rattle.rule_lists.specs.Refusals.{Rule, first_holding}
 use Rattle.enctypes.specs.Etype.{checksum_type}
 use Rattle.enctypes.specs.KeyUsage.{usage_number}
 use Rattle.enctypes.specs.Sealing.{mac}

@@ -5,7 +5,7 @@ use Rattle.std.specs.Option.{unwrap_or}
 use Rattle.std.specs.FinMap as map
 use Rattle.krb_fields.specs.Name.{Components, name_cmp}
 use Rattle.krb_fields.specs.Skew.{skew}
-use Rattle.lists.specs.Values.{retain_values}
+use Rattle.rule_lists.specs.Values.{retain_values}
 use Rattle.replay.specs.Failures.{no_failures}
 use Rattle.replay.specs.ReplayCache.{verdict}
 use Rattle.replay.specs.Stamp.{Stamp, is_from}

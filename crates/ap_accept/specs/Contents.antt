@@ -14,8 +14,8 @@ use Rattle.krb_types.specs.Authenticator.{Authenticator, authenticator}
 use Rattle.krb_types.specs.EncTicketPart.{EncTicketPart, enc_ticket_part}
 use Rattle.replay.specs.ReplayCache.{verdict}
 use Rattle.replay.specs.declared.verdict.Verdict.{Verdict}
-use Rattle.sealed_parts.specs.Encrypted.{decrypted}
-use Rattle.sealed_parts.specs.Keys.{key_of, type_numbered}
+use Rattle.encrypted_data.specs.Encrypted.{decrypted}
+use Rattle.encrypted_data.specs.Keys.{key_of, type_numbered}
 use Rattle.ap_accept.specs.State.{cache_of}
 use Rattle.ap_accept.specs.declared.presented.Presented.{Presented}
 use Rattle.ap_accept.specs.declared.state.State.{State}

@@ -6,8 +6,8 @@ use Rattle.krb_fields.specs.NameLimits.{is_component, is_within_limits}
 use Rattle.krb_fields.specs.declared.moment.Moment.{Moment}
 use Rattle.krb_types.specs.ApReq.{ApReq}
 use Rattle.krb_types.specs.KrbError.{KrbError, krb_error}
-use Rattle.ap_presented.specs.Refusal.{code_of}
-use Rattle.ap_presented.specs.declared.refusal.ApRefusal.{ApRefusal}
+use Rattle.ap_req.specs.Refusal.{code_of}
+use Rattle.ap_req.specs.declared.refusal.ApRefusal.{ApRefusal}
 use Rattle.ap_accept.specs.declared.fault.ApFault.{ApFault}
 use Rattle.ap_accept.specs.declared.fault.ApFault.TheVariants.{NotAnApReq, Refused, Memory}
 use Rattle.ap_accept.specs.declared.label.TicketLabel.{TicketLabel}

@@ -13,7 +13,7 @@ use Rattle.krb_types.specs.EncApRepPart.{enc_ap_rep_part, enc_ap_rep_part_form}
 use Rattle.krb_fields.specs.NameLimits.{is_component, is_within_limits}
 use Rattle.krb_fields.specs.declared.moment.Moment.{Moment}
 use Rattle.krb_types.specs.KrbError.{krb_error, krb_error_of, krb_error_form}
-use Rattle.ap_presented.specs.declared.refusal.ApRefusal.{ApRefusal}
+use Rattle.ap_req.specs.declared.refusal.ApRefusal.{ApRefusal}
 use Rattle.ap_accept.specs.Label.{error_of, is_nameable}
 use Rattle.ap_accept.specs.Reply.{reply_part}
 use Rattle.ap_accept.specs.declared.label.TicketLabel.{TicketLabel}

@@ -7,12 +7,12 @@ use Rattle.krb_fields.specs.PrincipalName.{Name}
 use Rattle.krb_types.specs.Authenticator.{Authenticator}
 use Rattle.krb_types.specs.EncTicketPart.{EncTicketPart}
 use Rattle.cred_files.specs.declared.keytab_entry.KeytabEntry.{KeytabEntry}
-use Rattle.lists.specs.Stages.{◌>>=◌}
-use Rattle.ap_presented.specs.Authenticators.{authenticator_of, session_key_of}
-use Rattle.ap_presented.specs.Keytab.{held_in}
-use Rattle.ap_presented.specs.Tickets.{shown_ticket}
-use Rattle.ap_presented.specs.declared.authenticated.Authenticated.{Authenticated}
-use Rattle.ap_presented.specs.declared.refusal.ApRefusal.{ApRefusal}
+use Rattle.rule_lists.specs.Stages.{◌>>=◌}
+use Rattle.ap_req.specs.Authenticators.{authenticator_of, session_key_of}
+use Rattle.ap_req.specs.Keytab.{held_in}
+use Rattle.ap_req.specs.Tickets.{shown_ticket}
+use Rattle.ap_req.specs.declared.authenticated.Authenticated.{Authenticated}
+use Rattle.ap_req.specs.declared.refusal.ApRefusal.{ApRefusal}
 use Rattle.ap_accept.specs.Authenticators.{subkey_of}
 use Rattle.ap_accept.specs.declared.presented.Presented.{Presented}
 

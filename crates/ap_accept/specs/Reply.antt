@@ -11,7 +11,7 @@ use Rattle.krb_fields.specs.Flags.{has_bit}
 use Rattle.krb_fields.specs.declared.ap_option.ApOption.TheVariants.{MutualRequired}
 use Rattle.krb_types.specs.Authenticator.{Authenticator}
 use Rattle.krb_types.specs.EncApRepPart.{EncApRepPart, enc_ap_rep_part}
-use Rattle.sealed_parts.specs.Encrypted.{encrypted, decrypted}
+use Rattle.encrypted_data.specs.Encrypted.{encrypted, decrypted}
 
 -- the authenticator's time and nothing else
 abbrev pub reply_part : Authenticator → EncApRepPart

@@ -1,17 +1,17 @@
 -- The rules by which an acceptor refuses an AP-REQ: one table in the order in which they are asked (RFC 4120, section
--- 3.2.3). It is stated by itself, apart from the rules in `ap_presented`, by which the code decides. So a mistake in
+-- 3.2.3). It is stated by itself, apart from the rules in `ap_req`, by which the code decides. So a mistake in
 -- those is no mistake here.
 use Rattle.std.specs.Prelude.{ℤ, pos, ◌+ℤ◌, ◌-ℤ◌, ⊤, Bool, true, false, not, ◌&&◌, ◌||◌, nat_eq, int_lt, is_some}
 use Rattle.std.specs.Prelude.{is_none, if◌then◌else◌, List, [], ◌∷◌, Option, Some, None}
 use Rattle.std.specs.Cmp.Lexicographic.{pointwise}
 use Rattle.std.specs.Option.{unwrap_or}
 use Rattle.std.specs.Ordering.{eq_by_cmp, int_eq}
-use Rattle.ap_presented.specs.declared.refusal.ApRefusal.{ApRefusal}
-use Rattle.ap_presented.specs.declared.refusal.ApRefusal.TheVariants.{BadVersion, BadMessageType, SessionKeyAsked}
-use Rattle.ap_presented.specs.declared.refusal.ApRefusal.TheVariants.{NotForUs, NoKey, BadKeyVersion, TicketNotOpened}
-use Rattle.ap_presented.specs.declared.refusal.ApRefusal.TheVariants.{ForeignClient, BoundAddress, BadSessionKey}
-use Rattle.ap_presented.specs.declared.refusal.ApRefusal.TheVariants.{AuthenticatorNotOpened, BadMatch, BadSubkey}
-use Rattle.ap_presented.specs.declared.refusal.ApRefusal.TheVariants.{Skewed, Repeated, Full, NotYetValid, TicketExpired}
+use Rattle.ap_req.specs.declared.refusal.ApRefusal.{ApRefusal}
+use Rattle.ap_req.specs.declared.refusal.ApRefusal.TheVariants.{BadVersion, BadMessageType, SessionKeyAsked}
+use Rattle.ap_req.specs.declared.refusal.ApRefusal.TheVariants.{NotForUs, NoKey, BadKeyVersion, TicketNotOpened}
+use Rattle.ap_req.specs.declared.refusal.ApRefusal.TheVariants.{ForeignClient, BoundAddress, BadSessionKey}
+use Rattle.ap_req.specs.declared.refusal.ApRefusal.TheVariants.{AuthenticatorNotOpened, BadMatch, BadSubkey}
+use Rattle.ap_req.specs.declared.refusal.ApRefusal.TheVariants.{Skewed, Repeated, Full, NotYetValid, TicketExpired}
 use Rattle.cred_files.specs.Keytab.{entry_for, newest, passes}
 use Rattle.cred_files.specs.declared.keytab_entry.KeytabEntry.{KeytabEntry}
 use Rattle.krb_types.specs.ApReq.{ApReq}
@@ -27,10 +27,10 @@ use Rattle.krb_fields.specs.declared.code.Code.TheVariants as codes
 use Rattle.krb_fields.specs.declared.ticket_flag.TicketFlag.TheVariants.{Invalid}
 use Rattle.krb_types.specs.Authenticator.{Authenticator}
 use Rattle.krb_types.specs.EncTicketPart.{EncTicketPart}
-use Rattle.lists.specs.Optional.{holds_of}
+use Rattle.rule_lists.specs.Optional.{holds_of}
 use Rattle.replay.specs.declared.verdict.Verdict.{Verdict}
 use Rattle.replay.specs.declared.verdict.Verdict.TheVariants as verdicts
-use Rattle.sealed_parts.specs.Keys.{type_numbered}
+use Rattle.encrypted_data.specs.Keys.{type_numbered}
 use Rattle.ap_accept.specs.Contents.{Contents, service_of, subkey_of}
 
 -- ---- the conditions: of the request and the keytab

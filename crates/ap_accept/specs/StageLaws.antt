@@ -3,19 +3,19 @@ use Rattle.std.proofs.Common.{◌≡◌, ℕ, ℤ, ◌++◌, Bool, true, false, 
 use Rattle.std.proofs.Common.{None, Result, Ok, Err, is_some, is_none, refl, ap, sym, ◌∙◌}
 use Rattle.std.specs.Prelude.{⊤, IfSome, IfErr, if◌then◌else◌, drop, map, take, option_map, option_and_then}
 use Rattle.std.specs.List.{AllByRecursion}
-use Rattle.lists.specs.Refusals.{Rule, decided, first_holding, unless_found, unless_refused}
-use Rattle.lists.specs.Stages.{◌>>=◌}
-use Rattle.ap_presented.specs.Authenticators.{subkey_in}
-use Rattle.ap_presented.specs.Keytab.{held_in}
-use Rattle.ap_presented.specs.Refusal.{code_of}
-use Rattle.ap_presented.specs.Tickets.{opened_with, shown_ticket}
-use Rattle.ap_presented.specs.Validity.{ticket_terms}
-use Rattle.ap_presented.specs.declared.refusal.ApRefusal.{ApRefusal}
-use Rattle.ap_presented.specs.declared.refusal.ApRefusal.TheVariants.{BadVersion, BadMessageType, SessionKeyAsked}
-use Rattle.ap_presented.specs.declared.refusal.ApRefusal.TheVariants.{NotForUs, NoKey, BadKeyVersion, TicketNotOpened}
-use Rattle.ap_presented.specs.declared.refusal.ApRefusal.TheVariants.{BadSessionKey}
-use Rattle.ap_presented.specs.declared.refusal.ApRefusal.TheVariants.{AuthenticatorNotOpened, BadSubkey}
-use Rattle.ap_presented.specs.declared.refusal.ApRefusal.TheVariants.{NotYetValid, TicketExpired}
+use Rattle.rule_lists.specs.Refusals.{Rule, decided, first_holding, unless_found, unless_refused}
+use Rattle.rule_lists.specs.Stages.{◌>>=◌}
+use Rattle.ap_req.specs.Authenticators.{subkey_in}
+use Rattle.ap_req.specs.Keytab.{held_in}
+use Rattle.ap_req.specs.Refusal.{code_of}
+use Rattle.ap_req.specs.Tickets.{opened_with, shown_ticket}
+use Rattle.ap_req.specs.Validity.{ticket_terms}
+use Rattle.ap_req.specs.declared.refusal.ApRefusal.{ApRefusal}
+use Rattle.ap_req.specs.declared.refusal.ApRefusal.TheVariants.{BadVersion, BadMessageType, SessionKeyAsked}
+use Rattle.ap_req.specs.declared.refusal.ApRefusal.TheVariants.{NotForUs, NoKey, BadKeyVersion, TicketNotOpened}
+use Rattle.ap_req.specs.declared.refusal.ApRefusal.TheVariants.{BadSessionKey}
+use Rattle.ap_req.specs.declared.refusal.ApRefusal.TheVariants.{AuthenticatorNotOpened, BadSubkey}
+use Rattle.ap_req.specs.declared.refusal.ApRefusal.TheVariants.{NotYetValid, TicketExpired}
 use Rattle.cred_files.specs.Keytab.{entry_for, newest, passes}
 use Rattle.cred_files.specs.declared.keytab_entry.KeytabEntry.{KeytabEntry}
 use Rattle.enctypes.specs.KeyUsage.{usage_number}
@@ -31,7 +31,7 @@ use Rattle.krb_types.specs.EncTicketPart.{EncTicketPart, enc_ticket_part}
 use Rattle.replay.specs.ReplayCache.{verdict}
 use Rattle.replay.specs.declared.verdict.Verdict.{Verdict}
 use Rattle.replay.specs.declared.verdict.Verdict.TheVariants as verdicts
-use Rattle.sealed_parts.specs.Keys.{key_of, type_numbered}
+use Rattle.encrypted_data.specs.Keys.{key_of, type_numbered}
 use Rattle.ap_accept.specs.Accepts.{accepts, answer_by, answered, code_by, if_request, recorded_of, refused_by}
 use Rattle.ap_accept.specs.Accepts.{request_of, unless_before, IsAnswer, IsCoded}
 use Rattle.ap_accept.specs.Contents.{Contents, authenticator_in, contents, entry_in, presented_in, service_of}

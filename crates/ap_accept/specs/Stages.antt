@@ -1,15 +1,15 @@
--- The stages in which the code decides on an AP-REQ, by the rules of `ap_presented`. They decide as the table does
+-- The stages in which the code decides on an AP-REQ, by the rules of `ap_req`. They decide as the table does
 -- (`accepts_staged` of `StageLaws`).
 use Rattle.std.specs.Prelude.{ℕ, ℤ, ⊤, Bool, List, Option, Some, None, Result, Ok, Err}
-use Rattle.lists.specs.Refusals.{first_holding}
+use Rattle.rule_lists.specs.Refusals.{first_holding}
 use Rattle.krb_types.specs.ApReq.{ApReq}
 use Rattle.krb_fields.specs.declared.moment.Moment.{Moment}
 use Rattle.replay.specs.ReplayCache.{verdict}
 use Rattle.replay.specs.declared.verdict.Verdict.{Verdict}
 use Rattle.replay.specs.declared.verdict.Verdict.TheVariants as verdicts
-use Rattle.ap_presented.specs.Validity.{ticket_terms}
-use Rattle.ap_presented.specs.declared.refusal.ApRefusal.{ApRefusal}
-use Rattle.ap_presented.specs.declared.refusal.ApRefusal.TheVariants.{Skewed, Repeated, Full}
+use Rattle.ap_req.specs.Validity.{ticket_terms}
+use Rattle.ap_req.specs.declared.refusal.ApRefusal.{ApRefusal}
+use Rattle.ap_req.specs.declared.refusal.ApRefusal.TheVariants.{Skewed, Repeated, Full}
 use Rattle.ap_accept.specs.Accepts.{Answer, accepted_with, answered, cache_for, request_of, stamp_of}
 use Rattle.ap_accept.specs.Presented.{presented}
 use Rattle.ap_accept.specs.Reply.{asks_reply}

@@ -16,7 +16,7 @@ use crate::receipt::Receipt;
 use crate::replies::reply_if;
 use crate::state::State;
 use crate::validity::ticket_refusal;
-use ap_presented::{ApRefusal, ticket_terms};
+use ap_req::{ApRefusal, ticket_terms};
 use cred_files::Principal;
 use krb_elements::Octets;
 use krb_fields::{ApOption, Moment};

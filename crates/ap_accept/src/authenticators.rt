@@ -2,10 +2,10 @@
 ghost use Rattle.std.specs.Prelude.{◌≡◌};
 ghost use Rattle.ap_accept.specs.Authenticators.{authenticator_rules, subkey_of};
 
-use ap_presented::{ApRefusal, is_mismatched, subkey_in};
+use ap_req::{ApRefusal, is_mismatched, subkey_in};
 use enctypes::Key;
 use krb_types::{Authenticator, EncTicketPart};
-use lists::decide;
+use rule_lists::decide;
 
 /// Returns the subkey of an authenticator, after checking that the authenticator matches the ticket.
 pub fn subkey_of(

@@ -5,7 +5,7 @@ ghost use Rattle.ap_accept.specs.Checksum.{checksum_fault, checksum_rules, code_
 use crate::accepted::Accepted;
 use enctypes::{Key, KeyUsage, verify};
 use krb_fields::{Code, Typed};
-use lists::first_holding;
+use rule_lists::first_holding;
 use std::error::Error;
 use std::fmt;
 

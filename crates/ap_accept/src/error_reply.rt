@@ -4,7 +4,7 @@ ghost use Rattle.krb_types.specs.KrbError.{krb_error};
 ghost use Rattle.ap_accept.specs.Label.{error_bytes, error_of, is_nameable};
 
 use crate::label::TicketLabel;
-use ap_presented::ApRefusal;
+use ap_req::ApRefusal;
 use krb_fields::{Moment, is_component};
 use krb_types::{KrbError, encode_krb_error};
 use std::alloc::{AllocError, Global};

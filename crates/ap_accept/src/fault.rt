@@ -4,7 +4,7 @@ ghost use Rattle.ap_accept.specs.declared.fault.ApFault.TheVariants.{Refused, Me
 ghost use Rattle.ap_accept.specs.declared.fault.ResumeFault.TheVariants as resuming;
 
 use crate::refusal_texts::refusal_text;
-use ap_presented::ApRefusal;
+use ap_req::ApRefusal;
 use std::alloc::{AllocError, AllocFailed};
 use std::error::Error;
 use std::fmt;

@@ -51,7 +51,7 @@ mod validity;
 
 pub use accepted::Accepted;
 pub use acceptor::Acceptor;
-pub use ap_presented::ApRefusal;
+pub use ap_req::ApRefusal;
 pub use checksum::ChecksumFault;
 pub use fault::{ApFault, ResumeFault};
 pub use label::TicketLabel;

@@ -1,19 +1,19 @@
 //! What an AP-REQ presents: its ticket and its authenticator, decrypted (RFC 4120, section 3.2.3).
 ghost use Rattle.std.specs.Prelude.{◌≡◌, IfOk};
-ghost use Rattle.ap_presented.specs.Keytab.{held_in};
-ghost use Rattle.ap_presented.specs.Tickets.{shown_ticket};
+ghost use Rattle.ap_req.specs.Keytab.{held_in};
+ghost use Rattle.ap_req.specs.Tickets.{shown_ticket};
 ghost use Rattle.ap_accept.specs.Fault.{Gives};
 ghost use Rattle.ap_accept.specs.Presented.{authenticated, full_name, presented};
 
 use crate::authenticators::subkey_of;
 use crate::fault::ApFault;
-use ap_presented::{ApRefusal, Authenticated, authenticator_of, held_in, session_key_of};
+use ap_req::{ApRefusal, Authenticated, authenticator_of, held_in, session_key_of};
 use cred_files::Keytab;
 use enctypes::{Key, KeyUsage};
 use krb_elements::{KerberosString, Seq};
 use krb_fields::{Name, NameRef};
 use krb_types::{ApReqRef, Authenticator, EncTicketPart};
-use lists::Attempt;
+use rule_lists::Attempt;
 use std::alloc::{AllocError, Global};
 
 /// A ticket and an authenticator that match.
@@ -72,7 +72,7 @@ fn shown_ticket(
     ensures { IfOk result (λ found. found ≡ shown_ticket (held_in keytab.now request.now.ticket) request.now) }
 {
     let held = held_in(keytab, &request.ticket, service);
-    ap_presented::shown_ticket(alloc, None, &held, request)
+    ap_req::shown_ticket(alloc, None, &held, request)
 }
 
 /// Checks that the sender of the ticket has its session key, and reads the subkey.

@@ -1,5 +1,5 @@
 //! A sentence for each rule that refuses an AP-REQ, for logs.
-use ap_presented::ApRefusal;
+use ap_req::ApRefusal;
 
 /// Returns the name of the refusal's code in RFC 4120, section 7.5.9, and a sentence that says what the rule found.
 pub fn refusal_text(refusal: ApRefusal) -> &'static str {

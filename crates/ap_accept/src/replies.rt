@@ -3,7 +3,7 @@ ghost use Rattle.std.specs.Prelude.{◌≡◌, ◌<◌, ◌≤◌, ◌^◌, leng
 ghost use Rattle.enctypes.specs.KeyUsage.{usage_number};
 ghost use Rattle.krb_types.specs.ApRep.{ap_rep};
 ghost use Rattle.krb_types.specs.EncApRepPart.{enc_ap_rep_part};
-ghost use Rattle.sealed_parts.specs.Encrypted.{decrypted};
+ghost use Rattle.encrypted_data.specs.Encrypted.{decrypted};
 ghost use Rattle.ap_accept.specs.Reply.{IsApReply, reply_if, reply_of, reply_part};
 
 use crate::presented::Presented;
@@ -12,7 +12,7 @@ use enctypes::{Key, KeyUsage};
 use krb_elements::Octets;
 use krb_fields::EncryptedData;
 use krb_types::{ApRep, Authenticator, EncApRepPart, encode_ap_rep};
-use sealed_parts::seal_part;
+use encrypted_data::seal_part;
 use std::alloc::{AllocError, Global};
 
 /// Returns the bytes of the AP-REP, if it is asked for.

@@ -1,11 +1,11 @@
 //! Whether a ticket is valid (RFC 4120, section 3.2.3).
 ghost use Rattle.std.specs.Prelude.{◌≡◌};
-ghost use Rattle.lists.specs.Refusals.{first_holding};
+ghost use Rattle.rule_lists.specs.Refusals.{first_holding};
 ghost use Rattle.ap_accept.specs.Validity.{is_not_yet_valid, validity_rules};
 
-use ap_presented::{ApRefusal, has_ended, has_not_started};
+use ap_req::{ApRefusal, has_ended, has_not_started};
 use krb_fields::{Moment, TicketFlag};
-use lists::first_holding;
+use rule_lists::first_holding;
 use ticket_times::TicketTerms;
 
 /// Returns the first rule that makes the ticket invalid at this moment.

@@ -2,7 +2,7 @@
 use Rattle.std.specs.Prelude.{ℕ, List, [], Option, Some, None, Result, Ok, Err, option_map}
 use Rattle.std.specs.Result.{result_ok}
 use Rattle.krb_fields.specs.declared.moment.Moment.{Moment}
-use Rattle.ap_presented.specs.Refusal.{word_of}
+use Rattle.ap_req.specs.Refusal.{word_of}
 use Rattle.ap_accept.specs.Accepts.{request_of}
 use Rattle.ap_accept.specs.Checksum.{checksum_fault}
 use Rattle.ap_accept.specs.Label.{error_bytes, label_of}

@@ -1,7 +1,7 @@
 -- The numbers by which C knows the results of calls.
 use Rattle.std.specs.Prelude.{ℤ, pos, negsuc, Option, Some, None, Result, Ok, Err}
 use Rattle.krb_fields.specs.Code as codes
-use Rattle.ap_presented.specs.Refusal.{code_of}
+use Rattle.ap_req.specs.Refusal.{code_of}
 use Rattle.ap_accept.specs.Checksum.{code_of_fault}
 use Rattle.ap_accept.specs.declared.accepted.Accepted.{Accepted}
 use Rattle.ap_accept.specs.declared.checksum.ChecksumFault.{ChecksumFault}

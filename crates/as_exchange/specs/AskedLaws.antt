@@ -9,8 +9,8 @@ use Rattle.krb_types.specs.ReqBody.{ReqBody}
 use Rattle.preauth.specs.Keys.{first_key}
 use Rattle.preauth.specs.declared.timestamp.Outcome.{Outcome}
 use Rattle.principal_rows.specs.declared.row.Row.{Row}
-use Rattle.lists.specs.RefusalLaws.{decided_found}
-use Rattle.lists.specs.Refusals.{Rule, decided}
+use Rattle.rule_lists.specs.RefusalLaws.{decided_found}
+use Rattle.rule_lists.specs.Refusals.{Rule, decided}
 use Rattle.ticket_times.specs.declared.times.Times.{Times}
 use Rattle.as_exchange.specs.View.{AsView}
 use Rattle.as_exchange.specs.Terms.{admission_of, terms, terms_if, terms_of, times_of}

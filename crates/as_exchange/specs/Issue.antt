@@ -5,7 +5,7 @@ use Rattle.enctypes.specs.declared.key_usage.KeyUsage.TheVariants.{AsRepEncPart}
 use Rattle.kdc_replies.specs.Grant.{session_key}
 use Rattle.kdc_replies.specs.Reply.{reply_of}
 use Rattle.kdc_replies.specs.declared.grant.Grant.{Grant}
-use Rattle.sealed_parts.specs.declared.encrypting.PartKey.{PartKey}
+use Rattle.encrypted_data.specs.declared.encrypting.PartKey.{PartKey}
 use Rattle.krb_fields.specs.declared.numbers.TheConstants.{AS_REP, ENC_AS_REP_PART}
 use Rattle.krb_fields.specs.PaData.{PaData}
 use Rattle.krb_fields.specs.Salt.{default_salt}

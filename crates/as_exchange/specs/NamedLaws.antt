@@ -18,8 +18,8 @@ use Rattle.preauth.specs.Keys.{first_key, key_by, key_named}
 use Rattle.preauth.specs.declared.timestamp.Outcome.{Outcome}
 use Rattle.principal_rows.specs.Versions.{current}
 use Rattle.principal_rows.specs.declared.row.Row.{Row}
-use Rattle.lists.specs.RefusalLaws.{decided_found}
-use Rattle.lists.specs.Refusals.{Rule, decided}
+use Rattle.rule_lists.specs.RefusalLaws.{decided_found}
+use Rattle.rule_lists.specs.Refusals.{Rule, decided}
 use Rattle.ticket_times.specs.declared.times.Times.{Times}
 use Rattle.as_exchange.specs.View.{AsView}
 use Rattle.as_exchange.specs.Known.{IsKnown}

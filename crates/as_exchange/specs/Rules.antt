@@ -4,8 +4,8 @@ use Rattle.std.specs.Prelude.{ℤ, pos, Bool, true, false, not, ◌&&◌, ◌||�
 use Rattle.std.specs.Prelude.{Some, None, Result, option_map}
 use Rattle.std.specs.Ordering.{int_eq}
 use Rattle.std.specs.Cmp.Lexicographic.{pointwise}
-use Rattle.lists.specs.Optional.{holds_of}
-use Rattle.lists.specs.Refusals.{Rule, decided}
+use Rattle.rule_lists.specs.Optional.{holds_of}
+use Rattle.rule_lists.specs.Refusals.{Rule, decided}
 use Rattle.kdc_replies.specs.Standing.{denies_tickets, has_come, is_disabled, is_expired}
 use Rattle.krb_fields.specs.declared.numbers.TheConstants.{PVNO, AS_REQ}
 use Rattle.krb_fields.specs.declared.kdc_option.KdcOption.TheVariants.{Forwarded, Proxy, AllowPostdate, Postdated}

@@ -9,8 +9,8 @@ use Rattle.krb_fields.specs.Name.{Components}
 use Rattle.krb_fields.specs.declared.moment.Moment.{Moment}
 use Rattle.krb_types.specs.KdcReq.{Received}
 use Rattle.preauth.specs.declared.timestamp.Outcome.{Outcome}
-use Rattle.lists.specs.ClearLaws.{AreClear, decided_clear}
-use Rattle.lists.specs.ConditionLaws.{clear_of}
+use Rattle.rule_lists.specs.ClearLaws.{AreClear, decided_clear}
+use Rattle.rule_lists.specs.ConditionLaws.{clear_of}
 use Rattle.ticket_times.specs.declared.times.Times.{Times}
 use Rattle.as_exchange.specs.View.{AsView}
 use Rattle.as_exchange.specs.Terms.{admission_of, terms, times_of}

@@ -24,7 +24,7 @@ use krb_fields::numbers::{AS_REP, ENC_AS_REP_PART};
 use krb_fields::{Flags, Moment, PaData};
 use krb_types::ReqBodyRef;
 use preauth::etype_info2;
-use sealed_parts::PartKey;
+use encrypted_data::PartKey;
 use std::alloc::{AllocError, Global};
 use ticket_times::as_flags;
 

@@ -14,7 +14,7 @@ use kdc_replies::{Incoming, denies_tickets, has_come, is_disabled, is_expired};
 use krb_fields::numbers::{AS_REQ, PVNO};
 use krb_fields::{KdcOption, Moment};
 use krb_types::{KdcReqRef, ReqBodyRef};
-use lists::decide;
+use rule_lists::decide;
 use preauth::{Outcome, check_timestamp, is_locked};
 use principal_rows::Row;
 use std::alloc::{AllocError, Global};

@@ -1,4 +1,4 @@
-//! Tests of the cryptographic crates, `aes_cts` to `sealed_parts`. The values are the standards' own vectors, and those
+//! Tests of the cryptographic crates, `aes_cts` to `encrypted_data`. The values are the standards' own vectors, and those
 //! of other implementations: Python's hashlib and its package cryptography.
 
 mod aes;

@@ -10,7 +10,7 @@ use Rattle.enctypes.specs.Etype.{default_count}
 use Rattle.krb_fields.specs.PrincipalName.{Name}
 use Rattle.krb_fields.specs.Salt.{default_salt}
 use Rattle.krb_types.specs.EtypeInfo2Entry.{EtypeInfo2Entry}
-use Rattle.sealed_parts.specs.Keys.{type_numbered}
+use Rattle.encrypted_data.specs.Keys.{type_numbered}
 use Rattle.client_core.specs.declared.fault.ClientFault.{ClientFault}
 use Rattle.client_core.specs.declared.fault.ClientFault.TheVariants.{CannotOpen, CountTooLarge}
 

@@ -7,8 +7,8 @@ use Rattle.krb_fields.specs.declared.numbers.TheConstants.{PVNO, AP_REQ}
 use Rattle.krb_fields.specs.Typed.{Typed}
 use Rattle.krb_fields.specs.declared.moment.Moment.{Moment}
 use Rattle.krb_types.specs.Authenticator.{Authenticator, authenticator}
-use Rattle.sealed_parts.specs.Encrypted.{encrypted}
-use Rattle.sealed_parts.specs.Keys.{key_part}
+use Rattle.encrypted_data.specs.Encrypted.{encrypted}
+use Rattle.encrypted_data.specs.Keys.{key_part}
 use Rattle.client_core.specs.declared.sessions.Session.{Session}
 
 -- a checksum of at most 16777216 bytes

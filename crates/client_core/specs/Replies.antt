@@ -3,8 +3,8 @@ use Rattle.std.specs.Prelude.{ℕ, ℤ, pos, ◌-ℤ◌, unsigned_abs, int_lt, n
 use Rattle.std.specs.Prelude.{if◌then◌else◌, List, [], ◌∷◌, Option, Some, None, Result, Ok, Err}
 use Rattle.std.specs.Ordering.{int_eq, eq_by_cmp}
 use Rattle.std.specs.Cmp.Lexicographic.{pointwise}
-use Rattle.lists.specs.Optional.{holds_of}
-use Rattle.lists.specs.Refusals.{Rule, decided, unless_found}
+use Rattle.rule_lists.specs.Optional.{holds_of}
+use Rattle.rule_lists.specs.Refusals.{Rule, decided, unless_found}
 use Rattle.cred_files.specs.declared.credential.Credential.{Credential}
 use Rattle.enctypes.specs.Etype.{number}
 use Rattle.enctypes.specs.KeyUsage.{usage_number}
@@ -26,8 +26,8 @@ use Rattle.krb_types.specs.KdcRep.{KdcRep, kdc_rep}
 use Rattle.krb_types.specs.Under.{under}
 use Rattle.krb_types.specs.KrbError.{KrbError, krb_error}
 use Rattle.krb_types.specs.Ticket.{Ticket}
-use Rattle.sealed_parts.specs.Encrypted.{decrypted}
-use Rattle.sealed_parts.specs.Parts.{ok_of}
+use Rattle.encrypted_data.specs.Encrypted.{decrypted}
+use Rattle.encrypted_data.specs.Parts.{ok_of}
 use Rattle.client_core.specs.declared.asked.Asked.{Asked}
 use Rattle.client_core.specs.declared.fault.ClientFault.{ClientFault}
 use Rattle.client_core.specs.declared.fault.ClientFault.TheVariants.{NotAReply, Refused}

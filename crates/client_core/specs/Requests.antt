@@ -21,7 +21,7 @@ use Rattle.krb_types.specs.KdcReq.{KdcReq, request_type}
 use Rattle.krb_types.specs.ReqBody.{ReqBody, req_body}
 use Rattle.krb_types.specs.declared.kdc_req.Exchange.{Exchange}
 use Rattle.krb_types.specs.declared.kdc_req.Exchange.TheVariants.{As, Tgs}
-use Rattle.sealed_parts.specs.Encrypted.{encrypted}
+use Rattle.encrypted_data.specs.Encrypted.{encrypted}
 use Rattle.client_core.specs.declared.asked.Asked.{Asked}
 use Rattle.client_core.specs.Presenting.{authenticator_of, presents}
 use Rattle.client_core.specs.declared.sessions.Session.{Session}

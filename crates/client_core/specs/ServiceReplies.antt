@@ -1,7 +1,7 @@
 -- How a client reads a service's reply: AP-REP (RFC 4120, sections 3.2.5 and 5.5.2).
 use Rattle.std.specs.Prelude.{ℕ, not, ◌||◌, nat_eq, List, [], ◌∷◌, Some, Result, Ok, Err}
 use Rattle.std.specs.Ordering.{int_eq}
-use Rattle.lists.specs.Refusals.{Rule, decided, unless_found}
+use Rattle.rule_lists.specs.Refusals.{Rule, decided, unless_found}
 use Rattle.enctypes.specs.Etype.{number}
 use Rattle.enctypes.specs.KeyUsage.{usage_number}
 use Rattle.enctypes.specs.declared.key.Key.{Key}
@@ -10,8 +10,8 @@ use Rattle.krb_types.specs.ApRep.{ApRep, ap_rep}
 use Rattle.krb_elements.specs.Format.{whole}
 use Rattle.krb_fields.specs.declared.moment.Moment.{Moment}
 use Rattle.krb_types.specs.EncApRepPart.{EncApRepPart, enc_ap_rep_part}
-use Rattle.sealed_parts.specs.Encrypted.{decrypted}
-use Rattle.sealed_parts.specs.Parts.{ok_of}
+use Rattle.encrypted_data.specs.Encrypted.{decrypted}
+use Rattle.encrypted_data.specs.Parts.{ok_of}
 use Rattle.client_core.specs.declared.fault.ClientFault.{ClientFault}
 use Rattle.client_core.specs.declared.fault.Mismatch.TheVariants.{Times}
 use Rattle.client_core.specs.declared.fault.Rejection.{Rejection}

@@ -5,8 +5,8 @@ use Rattle.enctypes.specs.declared.key.Key.{Key}
 use Rattle.krb_elements.specs.Format.{whole}
 use Rattle.krb_fields.specs.NameLimits.{is_component, is_within_limits}
 use Rattle.krb_types.specs.Ticket.{Ticket, ticket}
-use Rattle.sealed_parts.specs.Keys.{key_of}
-use Rattle.sealed_parts.specs.Parts.{ok_of}
+use Rattle.encrypted_data.specs.Keys.{key_of}
+use Rattle.encrypted_data.specs.Parts.{ok_of}
 use Rattle.client_core.specs.declared.sessions.Session.{Session}
 
 -- the key, if its type is one of the four

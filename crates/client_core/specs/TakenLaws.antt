@@ -15,10 +15,10 @@ use Rattle.krb_fields.specs.Name.{name_cmp, same_name}
 use Rattle.krb_fields.specs.PrincipalName.{Name}
 use Rattle.krb_types.specs.EncKdcRepPart.{EncKdcRepPart}
 use Rattle.krb_types.specs.KdcRep.{KdcRep, kdc_rep}
-use Rattle.lists.specs.ClearLaws.{decided_clear}
-use Rattle.lists.specs.RefusalLaws.{decided_found}
-use Rattle.lists.specs.Refusals.{unless_found}
-use Rattle.sealed_parts.specs.Parts.{ok_of}
+use Rattle.rule_lists.specs.ClearLaws.{decided_clear}
+use Rattle.rule_lists.specs.RefusalLaws.{decided_found}
+use Rattle.rule_lists.specs.Refusals.{unless_found}
+use Rattle.encrypted_data.specs.Parts.{ok_of}
 use Rattle.client_core.specs.declared.asked.Asked.{Asked}
 use Rattle.client_core.specs.declared.fault.ClientFault.{ClientFault}
 use Rattle.client_core.specs.declared.fault.Rejection.{Rejection}

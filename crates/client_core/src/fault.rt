@@ -4,7 +4,7 @@ ghost use Rattle.client_core.specs.Faults.{IsGiven, fault_of, unless_rejected};
 ghost use Rattle.client_core.specs.declared.fault.ClientFault.TheVariants.{Memory};
 
 use krb_elements::Octets;
-use lists::Attempt;
+use rule_lists::Attempt;
 use std::alloc::{AllocError, AllocFailed};
 use std::error::Error;
 use std::fmt;

@@ -1,6 +1,6 @@
 //! The key of a password, given a KDC's information about its types (RFC 4120, section 5.2.7.5).
 ghost use Rattle.std.specs.Prelude.{◌≡◌, ◌≤◌, IfOk, IfSome, option_copied};
-ghost use Rattle.sealed_parts.specs.Keys as keys;
+ghost use Rattle.encrypted_data.specs.Keys as keys;
 ghost use Rattle.client_core.specs.Faults.{Gives};
 ghost use Rattle.client_core.specs.Passwords.{count_if, count_in, count_of, entry_of, key_as, password_key, salt_of};
 
@@ -9,8 +9,8 @@ use enctypes::{Etype, Key, string_to_key};
 use krb_elements::{KerberosString, Octets, Seq};
 use krb_fields::Name;
 use krb_types::EtypeInfo2Entry;
-use lists::Attempt;
-use sealed_parts::type_numbered;
+use rule_lists::Attempt;
+use encrypted_data::type_numbered;
 use std::alloc::{AllocError, Global};
 
 /// The greatest count of iterations of string-to-key that a client accepts from a KDC.

@@ -6,7 +6,7 @@ ghost use Rattle.krb_elements.specs.Codec.{written};
 ghost use Rattle.krb_fields.specs.NameLimits.{IsComponent, IsWithinLimits};
 ghost use Rattle.krb_types.specs.Authenticator as parts;
 ghost use Rattle.krb_types.specs.Ticket.{ticket};
-ghost use Rattle.sealed_parts.specs.Encrypted.{decrypted};
+ghost use Rattle.encrypted_data.specs.Encrypted.{decrypted};
 ghost use Rattle.client_core.specs.Presenting.{IsShortChecksum, authenticator_of, number_part, presents, subkey_part};
 
 use crate::sessions::Session;
@@ -16,7 +16,7 @@ use krb_elements::UInt32;
 use krb_fields::numbers::{AP_REQ, PVNO};
 use krb_fields::{Flags, Moment, Typed};
 use krb_types::{ApReq, Authenticator, encode_ap_req};
-use sealed_parts::{PartKey, encrypted, key_part};
+use encrypted_data::{PartKey, encrypted, key_part};
 use std::alloc::{AllocError, Global};
 
 /// Returns the authenticator, which the client encrypts with the session key.

@@ -2,7 +2,7 @@
 ghost use Rattle.std.specs.Prelude.{◌≡◌, ◌<◌, ◌^◌, ◌||◌, not, length, IfOk, IfSome, option_copied};
 ghost use Rattle.enctypes.specs.KeyUsage.{usage_number};
 ghost use Rattle.krb_types.specs.Ticket.{ticket};
-ghost use Rattle.lists.specs.Optional.{holds_of};
+ghost use Rattle.rule_lists.specs.Optional.{holds_of};
 ghost use Rattle.client_core.specs.Faults.{Gives};
 ghost use Rattle.client_core.specs.Replies.{as_part, ends_too_late, if_part, if_reply};
 ghost use Rattle.client_core.specs.Replies.{is_other_nonce, is_other_service, is_principal};
@@ -26,8 +26,8 @@ use krb_elements::{Octets, OctetsRef, read};
 use krb_fields::numbers::{AS_REP, ENC_AS_REP_PART, ENC_TGS_REP_PART, PVNO, TGS_REP};
 use krb_fields::{EncryptedDataRef, KdcOption, Moment, SKEW};
 use krb_types::{EncKdcRepPart, KdcRepRef, KrbErrorRef, TicketRef, Under, read_kdc_rep};
-use lists::{Attempt, decide};
-use sealed_parts::open_part;
+use rule_lists::{Attempt, decide};
+use encrypted_data::open_part;
 use std::alloc::{AllocError, Global};
 use std::cmp::Ordering;
 

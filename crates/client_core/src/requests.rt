@@ -9,7 +9,7 @@ ghost use Rattle.krb_types.specs.PaEncTsEnc as parts;
 ghost use Rattle.krb_types.specs.KdcReq.{SpellsKdcReq, message};
 ghost use Rattle.krb_types.specs.ReqBody.{req_body};
 ghost use Rattle.krb_types.specs.declared.kdc_req.Exchange.TheVariants.{As};
-ghost use Rattle.sealed_parts.specs.Encrypted.{decrypted};
+ghost use Rattle.encrypted_data.specs.Encrypted.{decrypted};
 ghost use Rattle.client_core.specs.Asked.{IsAskable};
 ghost use Rattle.client_core.specs.Requests.{asks_as, asks_with_timestamp, request_of, sealed_timestamp};
 ghost use Rattle.client_core.specs.Requests.{timestamp_data, timestamp_part};
@@ -21,7 +21,7 @@ use krb_elements::{Octets, Seq, write};
 use krb_fields::numbers::{PA_ENC_TIMESTAMP, PVNO};
 use krb_fields::{Moment, PaData};
 use krb_types::{Exchange, KdcReq, PaEncTsEnc, ReqBody, encode_kdc_req};
-use sealed_parts::{PartKey, encrypted};
+use encrypted_data::{PartKey, encrypted};
 use std::alloc::{AllocError, Global};
 
 /// Returns the bytes of an AS-REQ without preauthentication.

@@ -1,7 +1,7 @@
 //! Reads a service's reply: AP-REP (RFC 4120, sections 3.2.5 and 5.5.2).
 ghost use Rattle.std.specs.Prelude.{◌≡◌, IfOk};
 ghost use Rattle.krb_types.specs.EncApRepPart.{enc_ap_rep_part};
-ghost use Rattle.sealed_parts.specs.Encrypted.{decrypted};
+ghost use Rattle.encrypted_data.specs.Encrypted.{decrypted};
 ghost use Rattle.client_core.specs.Faults.{Gives};
 ghost use Rattle.client_core.specs.ServiceReplies.{ap_part, ap_part_rules, ap_reply_in, ap_rules, if_ap_part};
 ghost use Rattle.client_core.specs.ServiceReplies.{if_ap_reply, reads_ap, repeated};
@@ -12,8 +12,8 @@ use enctypes::{Key, KeyUsage};
 use krb_elements::read;
 use krb_fields::Moment;
 use krb_types::{ApRepRef, EncApRepPart};
-use lists::{Attempt, decide};
-use sealed_parts::open_part;
+use rule_lists::{Attempt, decide};
+use encrypted_data::open_part;
 use std::alloc::Global;
 
 /// Returns the contents of an AP-REP under the session key, or the first fault. `sent` is the moment of the AP-REQ.

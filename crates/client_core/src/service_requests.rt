@@ -7,7 +7,7 @@ ghost use Rattle.krb_elements.specs.Codec.{written};
 ghost use Rattle.krb_fields.specs.NameLimits.{IsComponent, IsWithinLimits};
 ghost use Rattle.krb_types.specs.Authenticator as parts;
 ghost use Rattle.krb_types.specs.Ticket.{ticket};
-ghost use Rattle.sealed_parts.specs.Encrypted.{decrypted};
+ghost use Rattle.encrypted_data.specs.Encrypted.{decrypted};
 ghost use Rattle.client_core.specs.Presenting.{IsShortChecksum};
 ghost use Rattle.client_core.specs.ServiceRequests.{ap_authenticator, ap_options, asks_ap};
 ghost use Rattle.client_core.specs.Sessions as definitions;

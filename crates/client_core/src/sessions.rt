@@ -9,7 +9,7 @@ use enctypes::Key;
 use krb_elements::read;
 use krb_fields::is_component;
 use krb_types::{Ticket, TicketRef};
-use sealed_parts::key_of;
+use encrypted_data::key_of;
 use std::alloc::{AllocError, Global};
 
 /// The greatest size of a ticket, or of a checksum, that a client sends, in bytes.

@@ -8,7 +8,7 @@ ghost use Rattle.krb_types.specs.Authenticator as parts;
 ghost use Rattle.krb_types.specs.KdcReq.{SpellsKdcReq, message};
 ghost use Rattle.krb_types.specs.ReqBody.{req_body};
 ghost use Rattle.krb_types.specs.declared.kdc_req.Exchange.TheVariants.{Tgs};
-ghost use Rattle.sealed_parts.specs.Encrypted.{decrypted};
+ghost use Rattle.encrypted_data.specs.Encrypted.{decrypted};
 ghost use Rattle.client_core.specs.Asked.{IsAskable};
 ghost use Rattle.client_core.specs.Requests.{asks_tgs, body_checksum, body_of, tgs_authenticator, tgs_data};
 ghost use Rattle.client_core.specs.Requests.{request_of, tgs_presents};

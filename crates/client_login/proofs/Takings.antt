@@ -20,7 +20,7 @@ use Rattle.enctypes.specs.declared.key.Key.{Key}
 use Rattle.krb_fields.specs.declared.moment.Moment.{Moment}
 use Rattle.krb_types.specs.KdcRep.{KdcRep}
 use Rattle.krb_types.specs.Ticket.{Ticket}
-use Rattle.lists.specs.Refusals.{unless_found}
+use Rattle.rule_lists.specs.Refusals.{unless_found}
 use Rattle.client_login.specs.Faults.{IsFirstFault, IsFurtherFault, IsNoKey, IsRejection, IsTgsRejection}
 use Rattle.client_login.specs.Faults.{IsUnheard, SaysFirst, SaysRefused, SaysTgs, info_for, info_said, named_by}
 use Rattle.client_login.specs.Keys.{IsOwnKey}

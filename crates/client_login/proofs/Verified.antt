@@ -6,7 +6,7 @@ use Rattle.std.specs.Cmp.Lexicographic.{pointwise, bytes_decides}
 use Rattle.std.specs.Ordering.{int_eq, eq_by_cmp}
 use Rattle.std.specs.declared.net.socket_addr.SocketAddr.{SocketAddr}
 use Rattle.std.proofs.lemmas.Bool.Decides.{Decides-int_eq}
-use Rattle.ap_presented.specs.Keytab.{ticket_key}
+use Rattle.ap_req.specs.Keytab.{ticket_key}
 use Rattle.client_core.specs.Replies.{is_principal}
 use Rattle.client_core.specs.Sessions.{ticket_in}
 use Rattle.client_core.specs.Taken.{AreSame}
@@ -17,7 +17,7 @@ use Rattle.enctypes.specs.declared.key.Key.{Key}
 use Rattle.krb_fields.specs.Name.{name_cmp, same_name}
 use Rattle.krb_types.specs.Ticket.{Ticket}
 use Rattle.krb_types.specs.EncTicketPart.{EncTicketPart}
-use Rattle.lists.specs.Refusals.{unless_found}
+use Rattle.rule_lists.specs.Refusals.{unless_found}
 use Rattle.client_login.specs.Faults.{IsFurtherFault}
 use Rattle.client_login.specs.Logins.{IsFurther}
 use Rattle.client_login.specs.Verifying.{IsTicketOf, IsUnverified, IsValidAt, if_of, if_valid, is_of}

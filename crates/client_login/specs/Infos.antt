@@ -8,7 +8,7 @@ use Rattle.krb_fields.specs.declared.numbers.TheConstants.{AS_REP, PA_ETYPE_INFO
 use Rattle.krb_fields.specs.PaData.{PaData, pa_data}
 use Rattle.krb_types.specs.EtypeInfo2Entry.{EtypeInfo2Entry, etype_info2_entry}
 use Rattle.krb_types.specs.KdcRep.{KdcRep}
-use Rattle.sealed_parts.specs.Parts.{ok_of}
+use Rattle.encrypted_data.specs.Parts.{ok_of}
 
 -- the list that the bytes encode, or an empty one
 abbrev pub info_in : List ℕ → List EtypeInfo2Entry

@@ -16,7 +16,7 @@ use Rattle.krb_types.specs.EtypeInfo2Entry.{EtypeInfo2Entry}
 use Rattle.client_login.specs.declared.secrets.Secret.{Secret}
 use Rattle.client_login.specs.declared.secrets.Secret.TheVariants as secrets
 use Rattle.client_login.specs.declared.secrets.Password.{Password}
-use Rattle.sealed_parts.specs.Keys.{type_numbered}
+use Rattle.encrypted_data.specs.Keys.{type_numbered}
 
 -- ---- a keytab
 

@@ -5,8 +5,8 @@ use Rattle.std.specs.Prelude.{Result, Ok, Err}
 use Rattle.std.specs.Cmp.Lexicographic.{pointwise}
 use Rattle.std.specs.Ordering.{int_eq}
 use Rattle.std.specs.declared.net.socket_addr.SocketAddr.{SocketAddr}
-use Rattle.ap_presented.specs.Keytab.{ticket_key}
-use Rattle.ap_presented.specs.Validity.{has_ended, has_not_started, ticket_terms}
+use Rattle.ap_req.specs.Keytab.{ticket_key}
+use Rattle.ap_req.specs.Validity.{has_ended, has_not_started, ticket_terms}
 use Rattle.client_core.specs.Replies.{is_principal}
 use Rattle.client_core.specs.Sessions.{ticket_in}
 use Rattle.client_core.specs.Taken.{AreSame}
@@ -21,8 +21,8 @@ use Rattle.krb_fields.specs.Typed.{Typed}
 use Rattle.krb_fields.specs.declared.ticket_flag.TicketFlag.TheVariants.{Invalid}
 use Rattle.krb_types.specs.Ticket.{Ticket}
 use Rattle.krb_types.specs.EncTicketPart.{EncTicketPart, enc_ticket_part}
-use Rattle.lists.specs.Refusals.{unless_found}
-use Rattle.sealed_parts.specs.Parts.{opened_as}
+use Rattle.rule_lists.specs.Refusals.{unless_found}
+use Rattle.encrypted_data.specs.Parts.{opened_as}
 use Rattle.ticket_times.specs.TicketTerms.{has_flag}
 use Rattle.client_login.specs.Faults.{IsFurtherFault}
 use Rattle.client_login.specs.Logins.{IsFurther}

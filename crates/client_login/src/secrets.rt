@@ -18,7 +18,7 @@ use krb_elements::{Octets, Seq};
 use krb_fields::Name;
 use krb_fields::numbers::AS_REP;
 use krb_types::{EtypeInfo2Entry, KdcRepRef};
-use sealed_parts::type_numbered;
+use encrypted_data::type_numbered;
 use std::alloc::{AllocError, Global};
 
 /// A client's secret, which proves who it is.

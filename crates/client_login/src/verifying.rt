@@ -15,15 +15,15 @@ ghost use Rattle.client_login.specs.Verifying.{is_valid, opened, part_by, part_i
 use crate::client::KdcClient;
 use crate::faults::{Doubt, LoginError, LoginFault};
 use crate::network::Network;
-use ap_presented::{has_ended, has_not_started, keytab_key, ticket_terms};
+use ap_req::{has_ended, has_not_started, keytab_key, ticket_terms};
 use cred_files::{Credential, Keytab, Principal, SessionKey};
 use enctypes::{Key, KeyUsage};
 use krb_elements::read;
 use krb_fields::{Moment, Name, TicketFlag, Typed};
 use krb_types::{EncTicketPart, TicketRef};
-use lists::Attempt;
+use rule_lists::Attempt;
 use rand_core::Rng;
-use sealed_parts::open_part;
+use encrypted_data::open_part;
 use std::alloc::{AllocError, Global};
 use std::cmp::Ordering;
 

@@ -28,7 +28,7 @@
 //!
 //! Nothing here draws random bytes: the caller supplies each confounder and the bytes of each random key. There is no
 //! DES, RC4 or Camellia. No contract says how long a call takes, or that keys are wiped. It encodes no message:
-//! `sealed_parts` seals values.
+//! `encrypted_data` seals values.
 #![tactic(auto)]
 
 mod aes_key;

@@ -5,7 +5,7 @@ use kdc_core::{Account, Bears, TgsOutcome};
 use kdc_files::{HandedOver, JournalBeginning};
 use kdc_hub::{Action, Event, Look, MemoryRows, Peer, Totals, WireCall};
 use kdc_reports::{LogFormat, MemoryEntry, MemoryMetrics, Refused};
-use kdcd_run::{Given, HostCall, MemoryHost, Ran, ServeOptions, run_server};
+use kdc_server::{Given, HostCall, MemoryHost, Ran, ServeOptions, run_server};
 use krb_elements::Octets;
 use krb_fields::Moment;
 use principal_rows::Limits;

@@ -5,7 +5,7 @@ use Rattle.std.specs.Int.{int_max, int_min}
 use Rattle.std.specs.List.{filter}
 use Rattle.std.specs.Cmp.Lexicographic.{pointwise}
 use Rattle.krb_fields.specs.Skew.{skew}
-use Rattle.lists.specs.Refusals.{first_holding}
+use Rattle.rule_lists.specs.Refusals.{first_holding}
 use Rattle.replay.specs.Opening.{opening_floor}
 use Rattle.replay.specs.declared.opening.Opening.TheVariants.{Restart}
 use Rattle.replay.specs.declared.seen.Resumption.{Resumption}

@@ -14,7 +14,7 @@ use crate::keeping::floor_on;
 use crate::reading::Journal;
 use krb_elements::Seq;
 use krb_fields::{Moment, SKEW};
-use lists::first_holding;
+use rule_lists::first_holding;
 use replay::{Opening, Resumption, Seen};
 use std::alloc::{AllocError, Global};
 use std::fmt;

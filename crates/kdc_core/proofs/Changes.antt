@@ -4,7 +4,7 @@ use Rattle.std.proofs.Common.{is_some, refl, ap, sym, ◌∙◌}
 use Rattle.std.specs.FinMap as map
 use Rattle.std.specs.FinMap.{get-insert, get-remove}
 use Rattle.std.specs.Ordering.{eq_by_cmp}
-use Rattle.lists.specs.Refusals.{Rule, first_holding}
+use Rattle.rule_lists.specs.Refusals.{Rule, first_holding}
 use Rattle.krb_fields.specs.Name.{Components, name_cmp, name_total, same_name}
 use Rattle.krb_fields.specs.NameLimits.{is_within_limits}
 use Rattle.principal_rows.specs.Row.{first_row}

@@ -35,7 +35,7 @@ use Rattle.tgs_exchange.specs.View.{TgsView}
 use Rattle.tgs_exchange.specs.declared.decision.Decision.{Decision}
 use Rattle.tgs_exchange.specs.declared.decision.Decision.TheVariants.{Refuses, Records, Repeats, Issues}
 use Rattle.tgs_opening.specs.declared.presented.Presented.{Presented}
-use Rattle.ap_presented.specs.declared.refusal.ApRefusal.TheVariants.{Repeated}
+use Rattle.ap_req.specs.declared.refusal.ApRefusal.TheVariants.{Repeated}
 use Rattle.tgs_opening.specs.declared.refusal.TgsRefusal.TheVariants.{Ap}
 use Rattle.replay.specs.Opening.{opening_floor}
 use Rattle.replay.specs.Tidied.{empty_cache}

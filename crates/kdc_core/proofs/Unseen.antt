@@ -16,7 +16,7 @@ use Rattle.principals.specs.Change.{changed, refusal}
 use Rattle.principals.specs.Database.{Principals}
 use Rattle.principals.specs.declared.change.Change.{Change as PrincipalChange}
 use Rattle.principals.specs.declared.change.ChangeFault.{ChangeFault}
-use Rattle.lists.specs.Refusals.{first_holding}
+use Rattle.rule_lists.specs.Refusals.{first_holding}
 use Rattle.replay.proofs.Unseen.{recorded_tidied, tidied_says, tidied_twice}
 use Rattle.replay.specs.ReplayCache.{recorded, verdict}
 use Rattle.replay.specs.Stamp.{Stamp}

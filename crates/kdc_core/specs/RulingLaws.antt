@@ -16,7 +16,7 @@ use Rattle.tgs_exchange.specs.RefusalsLaws.{by_presented, refusing, ruled}
 use Rattle.tgs_exchange.specs.View.{TgsView}
 use Rattle.tgs_exchange.specs.declared.decision.Decision.{Decision}
 use Rattle.tgs_exchange.specs.declared.decision.Decision.TheVariants.{Refuses, Records, Repeats, Issues}
-use Rattle.ap_presented.specs.declared.refusal.ApRefusal.TheVariants.{Repeated}
+use Rattle.ap_req.specs.declared.refusal.ApRefusal.TheVariants.{Repeated}
 use Rattle.tgs_opening.specs.Opening.{presented}
 use Rattle.tgs_opening.specs.declared.presented.Presented.{Presented}
 use Rattle.tgs_opening.specs.declared.refusal.TgsRefusal.TheVariants.{Ap}

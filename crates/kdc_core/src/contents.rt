@@ -12,9 +12,9 @@ ghost use Rattle.kdc_core.specs.View.{components_of, row_of, ticket_view};
 use kdc_state::State;
 use krb_fields::NameRef;
 use krb_types::{Exchange, KdcReqRef, read_kdc_req};
-use lists::Attempt;
+use rule_lists::Attempt;
 use principal_rows::Row;
-use sealed_parts::ReadyKeys;
+use encrypted_data::ReadyKeys;
 use std::alloc::Global;
 use tgs_opening::{Presented, Rejection, TicketView, tgs_open};
 

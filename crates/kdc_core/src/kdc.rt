@@ -39,7 +39,7 @@ use krb_fields::{Code, Moment, Name};
 use principal_rows::{Limits, Row};
 use principals::{Change, ChangeFault, Database};
 use replay::Resumption;
-use sealed_parts::ReadyKeys;
+use encrypted_data::ReadyKeys;
 use std::alloc::{AllocError, Global};
 use std::error::Error;
 use std::fmt;

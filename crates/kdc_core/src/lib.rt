@@ -33,7 +33,7 @@ mod tgs_replies;
 mod timed_request;
 
 pub use account::{Account, Answer};
-pub use ap_presented::ApRefusal;
+pub use ap_req::ApRefusal;
 pub use as_exchange::{AsOutcome, AsRefusal};
 pub use kdc::{Kdc, OtherRealm};
 pub use kdc_replies::Granted;

@@ -14,7 +14,7 @@
 //! is handed.
 //!
 //! It does not decide whether a start resumes, or what a journal's octets mean: `journal` does. `principals_text` reads
-//! the text of a database. A server's start, and the wire that hands authenticators over, are in `kdcd_run`.
+//! the text of a database. A server's start, and the wire that hands authenticators over, are in `kdc_server`.
 #![tactic(auto)]
 
 mod files;

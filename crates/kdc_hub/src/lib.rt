@@ -13,7 +13,7 @@
 //!
 //! It does not decide a reply: `kdc_core` does. It opens no socket and no file: a `Wire` does, such as that of
 //! `kdc_sockets`, and a `RowSource`, such as that of `kdc_files`. It reads no clock: each event has its moment. It
-//! writes no journal and no log: the wire of `kdcd_run` does.
+//! writes no journal and no log: the wire of `kdc_server` does.
 #![tactic(auto)]
 
 mod connections;

@@ -10,7 +10,7 @@ use Rattle.krb_fields.specs.NameLimits.{IsWithinLimits}
 use Rattle.krb_fields.specs.Typed.{Typed, typed}
 use Rattle.krb_types.specs.EncKdcRepPart.{EncKdcRepPart}
 use Rattle.krb_types.specs.EncTicketPart.{EncTicketPart}
-use Rattle.sealed_parts.specs.Keys.{key_part}
+use Rattle.encrypted_data.specs.Keys.{key_part}
 use Rattle.kdc_replies.specs.declared.grant.Grant.{Grant}
 
 -- A realm and names that have rows, whose encodings are short. What is copied from a ticket came in a request.

@@ -15,9 +15,9 @@ use Rattle.krb_types.specs.declared.kdc_req.Exchange.TheVariants.{As, Tgs}
 use Rattle.krb_types.specs.KrbError.{KrbError, krb_error}
 use Rattle.krb_types.specs.Ticket.{Ticket}
 use Rattle.kdc_replies.specs.declared.grant.Grant.{Grant}
-use Rattle.sealed_parts.specs.declared.encrypting.PartKey.{PartKey}
+use Rattle.encrypted_data.specs.declared.encrypting.PartKey.{PartKey}
 use Rattle.kdc_replies.specs.declared.tickets.ServiceKey.{ServiceKey}
-use Rattle.sealed_parts.specs.Encrypted.{decrypted}
+use Rattle.encrypted_data.specs.Encrypted.{decrypted}
 use Rattle.kdc_replies.specs.Grant.{ticket_part, reply_part}
 use Rattle.kdc_replies.specs.Reply.{reply_of, granted_ticket}
 

@@ -14,9 +14,9 @@ use Rattle.krb_types.specs.Ticket.{Ticket}
 use Rattle.preauth.specs.Keys.{key_named}
 use Rattle.principal_rows.specs.declared.row.Row.{Row}
 use Rattle.kdc_replies.specs.declared.grant.Grant.{Grant}
-use Rattle.sealed_parts.specs.declared.encrypting.PartKey.{PartKey}
+use Rattle.encrypted_data.specs.declared.encrypting.PartKey.{PartKey}
 use Rattle.kdc_replies.specs.declared.tickets.ServiceKey.{ServiceKey}
-use Rattle.sealed_parts.specs.Encrypted.{encrypted, decrypted}
+use Rattle.encrypted_data.specs.Encrypted.{encrypted, decrypted}
 use Rattle.kdc_replies.specs.Grant.{ticket_part, reply_part}
 
 abbrev pub ticket_confounder : List ℕ → List ℕ

@@ -4,7 +4,7 @@ use Rattle.std.specs.Ordering.{eq_by_cmp}
 use Rattle.krb_fields.specs.Name.{Components, name_cmp}
 use Rattle.principal_rows.specs.declared.row.Row.{Row}
 use Rattle.krb_fields.specs.Granting.{tgs_principal}
-use Rattle.lists.specs.Optional.{holds_of}
+use Rattle.rule_lists.specs.Optional.{holds_of}
 
 -- a time has come
 abbrev pub has_come : Option ℤ → ℤ → Bool

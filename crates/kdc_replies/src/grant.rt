@@ -10,7 +10,7 @@ use krb_elements::{KerberosStringRef, Lent, Octets, Seq, UInt32};
 use krb_fields::numbers::{DOMAIN_X500_COMPRESS, LR_NONE};
 use krb_fields::{Flags, Name, Typed};
 use krb_types::{EncKdcRepPart, EncTicketPart, LastReq};
-use sealed_parts::key_part;
+use encrypted_data::key_part;
 use std::alloc::{AllocError, Global};
 use ticket_times::Times;
 

@@ -6,7 +6,7 @@ ghost use Rattle.krb_types.specs.EncKdcRepPart.{enc_kdc_rep_part};
 ghost use Rattle.krb_types.specs.KdcRep.{kdc_rep};
 ghost use Rattle.krb_types.specs.Under.{under};
 ghost use Rattle.enctypes.specs.KeyUsage.{usage_number};
-ghost use Rattle.sealed_parts.specs.Encrypted.{decrypted};
+ghost use Rattle.encrypted_data.specs.Encrypted.{decrypted};
 ghost use Rattle.kdc_replies.specs.Grant.{IsShort, reply_part, ticket_part};
 ghost use Rattle.kdc_replies.specs.Reply.{OpensAlike, sealed_part, reply_of};
 
@@ -16,7 +16,7 @@ use krb_der::KTime;
 use krb_elements::{Lent, Seq, UInt32, write};
 use krb_fields::{EncryptedData, PaData};
 use krb_types::{KdcRep, Under};
-use sealed_parts::{PartKey, ReadyKeys};
+use encrypted_data::{PartKey, ReadyKeys};
 use std::alloc::{AllocError, Global};
 
 /// What a reply with a ticket needs besides the grant and the keys.

@@ -1,6 +1,6 @@
 //! The standing of a principal by its row, if it has one.
 ghost use Rattle.std.specs.Prelude.{◌≡◌, not, option_copied, option_map};
-ghost use Rattle.lists.specs.Optional.{holds_of};
+ghost use Rattle.rule_lists.specs.Optional.{holds_of};
 ghost use Rattle.kdc_replies.specs.Standing.{denies_tickets, has_come, is_disabled, is_expired, is_tgs};
 
 use krb_fields::{Moment, NameRef, Second};

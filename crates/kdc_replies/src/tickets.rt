@@ -3,7 +3,7 @@ ghost use Rattle.std.specs.Prelude.{◌≡◌, ◌≤◌, ◌+◌, pos, length, 
 ghost use Rattle.enctypes.specs.KeyUsage.{usage_number};
 ghost use Rattle.enctypes.specs.declared.key_usage.KeyUsage.TheVariants.{Ticket as TicketUsage};
 ghost use Rattle.krb_types.specs.EncTicketPart.{enc_ticket_part};
-ghost use Rattle.sealed_parts.specs.Encrypted.{decrypted};
+ghost use Rattle.encrypted_data.specs.Encrypted.{decrypted};
 ghost use Rattle.kdc_replies.specs.Grant.{IsShort, ticket_part};
 ghost use Rattle.kdc_replies.specs.Reply.{ticket_confounder, granted_ticket};
 
@@ -13,7 +13,7 @@ use krb_elements::{Lent, UInt32};
 use krb_fields::EncryptedData;
 use krb_fields::numbers::PVNO;
 use krb_types::Ticket;
-use sealed_parts::{PartKey, ReadyKeys};
+use encrypted_data::{PartKey, ReadyKeys};
 use std::alloc::{AllocError, Global};
 
 /// A key of a service, which encrypts its tickets.

@@ -14,7 +14,7 @@
 //! [`MemoryLog`], [`MemoryTally`] and [`MemoryMetrics`] keep what they are given in memory, for tests.
 //!
 //! It does not lay out a line of the log or count requests: `request_log` does. It gathers no numbers and does not
-//! decide when they are written: `kdcd_run` does.
+//! decide when they are written: `kdc_server` does.
 #![tactic(auto)]
 
 mod clock_watch;

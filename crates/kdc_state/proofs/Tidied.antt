@@ -8,10 +8,10 @@ use Rattle.replay.specs.declared.keep.Kept.{Kept}
 use Rattle.replay.specs.declared.cache.ReplayCache.{ReplayCache}
 use Rattle.replay.specs.Tidied.{empty_cache, floor_on, is_empty, tidied}
 use Rattle.replay.proofs.Tidying.{is_empty_cache, tidied_empty}
-use Rattle.lists.specs.Changed.{change_values}
-use Rattle.lists.specs.Values.{retain_values}
-use Rattle.lists.proofs.Changed.{get-change_values}
-use Rattle.lists.proofs.Values.{get-retain_values, passing}
+use Rattle.rule_lists.specs.Changed.{change_values}
+use Rattle.rule_lists.specs.Values.{retain_values}
+use Rattle.rule_lists.proofs.Changed.{get-change_values}
+use Rattle.rule_lists.proofs.Values.{get-retain_values, passing}
 use Rattle.kdc_state.specs.State.{cache_of, tidied_state}
 use Rattle.kdc_state.specs.declared.state.State.{State}
 

@@ -10,8 +10,8 @@ use Rattle.replay.specs.declared.keep.Kept.{Kept}
 use Rattle.replay.specs.declared.cache.ReplayCache.{ReplayCache}
 use Rattle.replay.specs.declared.opening.Opening.{Opening}
 use Rattle.replay.specs.declared.opening.Opening.TheVariants.{Restart}
-use Rattle.lists.specs.Changed.{change_values}
-use Rattle.lists.specs.Values.{retain_values}
+use Rattle.rule_lists.specs.Changed.{change_values}
+use Rattle.rule_lists.specs.Values.{retain_values}
 use Rattle.kdc_state.specs.declared.state.State.{State}
 use Rattle.replay.specs.Opening.{opening_floor}
 use Rattle.replay.specs.Tidied.{empty_cache, floor_on, is_empty, tidied}

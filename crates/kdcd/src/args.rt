@@ -4,7 +4,7 @@ use clap::error::Error;
 use clap::{Arg, ArgMatches, Command};
 use command_line::{FlagRow, OptionRow, SubcommandRow, Times, subcommand, with_subcommands};
 use kdc_reports::LogFormat;
-use kdcd_run::ServeOptions;
+use kdc_server::ServeOptions;
 use principal_rows::Limits;
 use std::alloc::{AllocError, Global};
 use std::net::SocketAddr;

@@ -13,7 +13,7 @@ use kdc_reports::{
     Started,
 };
 use kdc_sockets::{BindFault, SharedWriter, SocketWire};
-use kdcd_run::{Host, ServeOptions, StartNews};
+use kdc_server::{Host, ServeOptions, StartNews};
 use krb_fields::Moment;
 use principal_rows::Limits;
 use principals::Database;

@@ -2,12 +2,12 @@
 use crate::host::{Errors, SystemHost};
 use command_line::Status;
 use kdc_sockets::{BindFault, ReadyWriter, SharedWriter};
-use kdcd_run::{Ran, ServeOptions, SystemPart, run_server};
+use kdc_server::{Ran, ServeOptions, SystemPart, run_server};
 use std::io;
 use std::io::Write;
 
 /// Why a server did not start.
-pub type StartFault<'a> = kdcd_run::StartFault<'a, BindFault>;
+pub type StartFault<'a> = kdc_server::StartFault<'a, BindFault>;
 
 /// Serves as the options say, with lines on standard error, and gives the status. The inner error is a failed write.
 pub fn serve_realm<'a>(

@@ -24,30 +24,30 @@ use Rattle.krb_fields.specs.declared.ap_option.ApOption.TheVariants.{MutualRequi
 use Rattle.krb_fields.specs.declared.moment.Moment.{Moment}
 use Rattle.krb_types.specs.Authenticator.{Authenticator, authenticator}
 use Rattle.krb_types.specs.EncTicketPart.{EncTicketPart, enc_ticket_part}
-use Rattle.lists.specs.Refusals.{first_holding, unless_refused, unless_found}
+use Rattle.rule_lists.specs.Refusals.{first_holding, unless_refused, unless_found}
 use Rattle.replay.specs.declared.verdict.Verdict.{Verdict}
-use Rattle.sealed_parts.specs.Encrypted.{decrypted}
-use Rattle.sealed_parts.specs.KeyLaws.{key_again}
-use Rattle.sealed_parts.specs.Keys.{type_numbered}
+use Rattle.encrypted_data.specs.Encrypted.{decrypted}
+use Rattle.encrypted_data.specs.KeyLaws.{key_again}
+use Rattle.encrypted_data.specs.Keys.{type_numbered}
 use Rattle.kdc_replies.specs.Issue.{Issue, issued_ticket, issued_ticket_part}
 use Rattle.client_core.specs.Presenting.{subkey_part}
 use Rattle.client_core.specs.ServiceRequests.{ap_authenticator, ap_options, asks_ap}
 use Rattle.client_core.specs.declared.service_asked.ServiceAsked.{ServiceAsked}
 use Rattle.ap_accept.specs.Accepts.{Answer, accepted, accepts, answer_by, recorded_by, recorded_of, request_of}
-use Rattle.ap_presented.specs.Authenticators.{authenticator_of, session_key_of, subkey_in}
-use Rattle.ap_presented.specs.Keytab.{held_in, service_of, ticket_key}
-use Rattle.ap_presented.specs.Tickets.{opened_with, shown_ticket}
+use Rattle.ap_req.specs.Authenticators.{authenticator_of, session_key_of, subkey_in}
+use Rattle.ap_req.specs.Keytab.{held_in, service_of, ticket_key}
+use Rattle.ap_req.specs.Tickets.{opened_with, shown_ticket}
 use Rattle.ap_accept.specs.Authenticators.{subkey_of}
 use Rattle.ap_accept.specs.Presented.{presented, presented_as}
 use Rattle.ap_accept.specs.PresentedLaws.{all_found}
 use Rattle.ap_accept.specs.Reply.{asks_reply}
 use Rattle.ap_accept.specs.StageLaws.{accepts_staged, recorded_staged}
 use Rattle.ap_accept.specs.Stages.{if_presented, refusal_by, seen_by, seen_if, staged_if, unless_seen}
-use Rattle.ap_presented.specs.Validity.{ticket_terms}
+use Rattle.ap_req.specs.Validity.{ticket_terms}
 use Rattle.ap_accept.specs.Validity.{validity_rules}
 use Rattle.ap_accept.specs.declared.presented.Presented.{Presented}
-use Rattle.ap_presented.specs.declared.refusal.ApRefusal.{ApRefusal}
-use Rattle.ap_presented.specs.declared.refusal.ApRefusal.TheVariants.{AuthenticatorNotOpened, BadKeyVersion, BadMatch, BadMessageType, BadSessionKey, BadSubkey, BadVersion, BoundAddress, ForeignClient, NoKey, NotForUs, NotYetValid, SessionKeyAsked, TicketExpired, TicketNotOpened}
+use Rattle.ap_req.specs.declared.refusal.ApRefusal.{ApRefusal}
+use Rattle.ap_req.specs.declared.refusal.ApRefusal.TheVariants.{AuthenticatorNotOpened, BadKeyVersion, BadMatch, BadMessageType, BadSessionKey, BadSubkey, BadVersion, BoundAddress, ForeignClient, NoKey, NotForUs, NotYetValid, SessionKeyAsked, TicketExpired, TicketNotOpened}
 use Rattle.ap_accept.specs.declared.state.State.{State}
 use Rattle.krb_joined.specs.Credential.{issued_credential, issued_session}
 use Rattle.krb_joined.specs.Joined.{MayBeAccepted}

@@ -13,8 +13,8 @@ use Rattle.krb_elements.specs.Laws.{whole_ok}
 use Rattle.krb_fields.specs.declared.moment.Moment.{Moment}
 use Rattle.krb_types.specs.Authenticator.{Authenticator}
 use Rattle.krb_types.specs.EncApRepPart.{EncApRepPart}
-use Rattle.lists.specs.Refusals.{first_holding, unless_found, unless_refused}
-use Rattle.sealed_parts.specs.Parts.{ok_of}
+use Rattle.rule_lists.specs.Refusals.{first_holding, unless_found, unless_refused}
+use Rattle.encrypted_data.specs.Parts.{ok_of}
 use Rattle.client_core.specs.Faults.{unless_rejected}
 use Rattle.client_core.specs.Replies.{refusal_in}
 use Rattle.client_core.specs.ServiceReplies.{if_ap_part, if_ap_reply, reads_ap}

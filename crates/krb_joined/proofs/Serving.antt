@@ -11,9 +11,9 @@ use Rattle.krb_elements.specs.Laws.{whole_ok}
 use Rattle.krb_fields.specs.declared.moment.Moment.{Moment}
 use Rattle.krb_types.specs.Authenticator.{Authenticator, authenticator}
 use Rattle.krb_types.specs.EncApRepPart.{EncApRepPart}
-use Rattle.sealed_parts.specs.Encrypted.{decrypted}
+use Rattle.encrypted_data.specs.Encrypted.{decrypted}
 use Rattle.kdc_replies.specs.Issue.{Issue}
-use Rattle.sealed_parts.specs.Parts.{ok_of}
+use Rattle.encrypted_data.specs.Parts.{ok_of}
 use Rattle.client_core.specs.Faults.{Fails}
 use Rattle.client_core.specs.ServiceReplies.{reads_ap}
 use Rattle.client_core.specs.ServiceRequests.{ap_authenticator, asks_ap}

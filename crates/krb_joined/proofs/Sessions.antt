@@ -9,9 +9,9 @@ use Rattle.enctypes.specs.declared.etype.Etype.TheVariants.{Aes128CtsHmacSha256_
 use Rattle.enctypes.specs.declared.key.Key.{Key}
 use Rattle.krb_der.specs.Spelling.{IsBytes}
 use Rattle.krb_types.specs.ReplyTicketLaws.{ticket_again}
-use Rattle.sealed_parts.specs.KeyLaws.{key_again}
-use Rattle.sealed_parts.specs.Keys.{key_of}
-use Rattle.sealed_parts.specs.Parts.{ok_of}
+use Rattle.encrypted_data.specs.KeyLaws.{key_again}
+use Rattle.encrypted_data.specs.Keys.{key_of}
+use Rattle.encrypted_data.specs.Parts.{ok_of}
 use Rattle.kdc_replies.specs.Issue.{Issue, IsIssued, issued_reply, reply_type}
 use Rattle.client_core.specs.Credentials.{in_16_bits}
 use Rattle.client_core.specs.Sessions.{session, session_key, session_by}

@@ -4,7 +4,7 @@ use Rattle.cred_files.specs.declared.credential.Credential.{Credential}
 use Rattle.enctypes.specs.Etype.{key_len}
 use Rattle.enctypes.specs.KeyUsage.{usage_number}
 use Rattle.enctypes.specs.declared.key_usage.KeyUsage.TheVariants.{Ticket as TicketUsage}
-use Rattle.sealed_parts.specs.Encrypted.{decrypted}
+use Rattle.encrypted_data.specs.Encrypted.{decrypted}
 use Rattle.kdc_replies.specs.Issue.{Issue, issued_part, issued_reply, issued_ticket, issued_ticket_part, reply_type}
 use Rattle.krb_types.specs.EncTicketPart.{enc_ticket_part}
 use Rattle.client_core.specs.Credentials.{credential_of}

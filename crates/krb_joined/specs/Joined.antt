@@ -13,8 +13,8 @@ use Rattle.kdc_replies.specs.Issue.{Issue, issued_ticket, issued_ticket_part}
 use Rattle.kdc_state.specs.declared.state.State as kdc_states
 use Rattle.replay.specs.ReplayCache.{verdict}
 use Rattle.replay.specs.declared.verdict.Verdict.TheVariants.{Fresh}
-use Rattle.ap_presented.specs.Keytab.{service_of, ticket_key}
-use Rattle.ap_presented.specs.Validity.{ticket_terms}
+use Rattle.ap_req.specs.Keytab.{service_of, ticket_key}
+use Rattle.ap_req.specs.Validity.{ticket_terms}
 use Rattle.ap_accept.specs.Accepts.{Answer, IsAfter, IsAnswer, accepts}
 use Rattle.ap_accept.specs.State.{cache_of}
 use Rattle.ap_accept.specs.declared.accepted.Accepted.{Accepted}

@@ -13,7 +13,7 @@
 //! let octets = encode_krb_error(alloc, &error)?;
 //! ```
 //!
-//! Nothing here encrypts or decrypts: encrypted parts are read and written as they are, and `sealed_parts` opens and
+//! Nothing here encrypts or decrypts: encrypted parts are read and written as they are, and `encrypted_data` opens and
 //! makes them.
 #![tactic(auto)]
 

@@ -11,7 +11,7 @@ use Rattle.krb_types.specs.PaEncTsEnc.{PaEncTsEnc, pa_enc_ts_enc}
 use Rattle.enctypes.specs.KeyUsage.{usage_number}
 use Rattle.enctypes.specs.declared.key.Key.{Key}
 use Rattle.enctypes.specs.declared.key_usage.KeyUsage.TheVariants.{PaEncTimestamp}
-use Rattle.sealed_parts.specs.Parts.{ok_of, opened_as}
+use Rattle.encrypted_data.specs.Parts.{ok_of, opened_as}
 use Rattle.principal_rows.specs.declared.row.Row.{Row}
 use Rattle.principal_rows.specs.Versions.{current}
 use Rattle.preauth.specs.declared.timestamp.Outcome.{Outcome}

@@ -10,7 +10,7 @@ use krb_fields::numbers::PA_ENC_TIMESTAMP;
 use krb_fields::{EncryptedDataRef, Moment, PaDataRef, SKEW};
 use krb_types::PaEncTsEnc;
 use principal_rows::{KeyList, Row};
-use sealed_parts::ReadyKeys;
+use encrypted_data::ReadyKeys;
 use std::alloc::{AllocError, Global};
 
 /// What a request shows about the client's key.

@@ -6,9 +6,9 @@ ghost use Rattle.std.specs.Prelude.{◌≡◌, T, Bool, false, IfOk, IfErr, IsOk
 ghost use Rattle.std.specs.Prelude.{option_map, slice_get};
 ghost use Rattle.std.specs.FinMap as map;
 ghost use Rattle.krb_fields.specs.Name.{Components, name_cmp};
-ghost use Rattle.lists.specs.Entries.{IsAt, IsGap};
-ghost use Rattle.lists.specs.Changed.{change_values};
-ghost use Rattle.lists.specs.Values.{retain_values};
+ghost use Rattle.rule_lists.specs.Entries.{IsAt, IsGap};
+ghost use Rattle.rule_lists.specs.Changed.{change_values};
+ghost use Rattle.rule_lists.specs.Values.{retain_values};
 ghost use Rattle.principal_rows.specs.NameMap.{name_of, pairs};
 
 use krb_fields::{Name, NameRef};

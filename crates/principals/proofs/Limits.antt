@@ -3,7 +3,7 @@ use Rattle.std.proofs.Common.{◌≡◌, List, ℕ, Bool, true, false, not, Opti
 use Rattle.std.specs.FinMap.{contains_key}
 use Rattle.krb_fields.specs.Name.{Components}
 use Rattle.krb_fields.specs.NameLimits.{is_component, is_within_limits, IsComponent, IsWithinLimits}
-use Rattle.lists.specs.Refusals.{first_holding}
+use Rattle.rule_lists.specs.Refusals.{first_holding}
 use Rattle.principals.specs.Change.{add_rules}
 use Rattle.principals.specs.Database.{Principals}
 use Rattle.krb_fields.specs.Granting.{tgs_principal}

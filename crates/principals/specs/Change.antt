@@ -2,8 +2,8 @@
 use Rattle.std.specs.Prelude.{ℕ, not, ◌==◌, List, [], ◌∷◌, Option, Some, None, is_none}
 use Rattle.std.specs.Ordering.{eq_by_cmp}
 use Rattle.std.specs.FinMap.{get, contains_key, insert, remove}
-use Rattle.lists.specs.Optional.{holds_of}
-use Rattle.lists.specs.Refusals.{Rule, first_holding}
+use Rattle.rule_lists.specs.Optional.{holds_of}
+use Rattle.rule_lists.specs.Refusals.{Rule, first_holding}
 use Rattle.krb_fields.specs.Name.{Components, name_cmp}
 use Rattle.krb_fields.specs.NameLimits.{is_within_limits}
 use Rattle.principal_rows.specs.Row.{first_row}

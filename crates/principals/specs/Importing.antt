@@ -1,7 +1,7 @@
 -- Principals that are added with versions of their keys.
 use Rattle.std.specs.Prelude.{List, Option}
 use Rattle.std.specs.FinMap.{insert}
-use Rattle.lists.specs.Refusals.{first_holding}
+use Rattle.rule_lists.specs.Refusals.{first_holding}
 use Rattle.krb_fields.specs.Name.{Components}
 use Rattle.principal_rows.specs.Policy.{default_policy}
 use Rattle.principal_rows.specs.declared.row.KeyVersion.{KeyVersion}

@@ -2,7 +2,7 @@
 ghost use Rattle.std.specs.Prelude.{◌≡◌, ◌↔◌, ◌≤◌, length, IfOk, IfSome, IfNone, IsTrue, OnOk, OnErr, IsOkUnless};
 ghost use Rattle.std.specs.Prelude.{None, Some, if◌then◌else◌, option_copied, option_map, slice_get};
 ghost use Rattle.std.specs.FinMap as map;
-ghost use Rattle.lists.specs.Refusals.{first_holding};
+ghost use Rattle.rule_lists.specs.Refusals.{first_holding};
 ghost use Rattle.krb_fields.specs.NameLimits.{IsComponent, IsWithinLimits};
 ghost use Rattle.std.specs.Ordering.{eq_by_cmp};
 ghost use Rattle.krb_fields.specs.Name.{Components, name_cmp};
@@ -17,7 +17,7 @@ use crate::split_name::row_of;
 use crate::{Change, ChangeFault, RowChange};
 use krb_elements::KerberosString;
 use krb_fields::{Name, NameFault, NameRef, is_component, tgs_name};
-use lists::first_holding;
+use rule_lists::first_holding;
 use principal_rows::{Entry, KeyList, NameMap, Policy, Row};
 use std::alloc::{AllocError, Global};
 use std::marker::Model;

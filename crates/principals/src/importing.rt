@@ -1,6 +1,6 @@
 //! Principals that are added with versions of their keys, such as those from another realm's database.
 ghost use Rattle.std.specs.Prelude.{◌≡◌, Err, IfNone, IfSome, IsOkUnless, OnErr, OnOk};
-ghost use Rattle.lists.specs.Refusals.{first_holding};
+ghost use Rattle.rule_lists.specs.Refusals.{first_holding};
 ghost use Rattle.principal_rows.specs.Policy.{default_policy};
 ghost use Rattle.principal_rows.specs.Row.{IsRow};
 ghost use Rattle.principals.specs.Change.{add_rules};

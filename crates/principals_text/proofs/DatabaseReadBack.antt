@@ -7,7 +7,7 @@ use Rattle.std.proofs.lemmas.Cmp.{nat_list_cmp_total, tied_itself}
 use Rattle.std.specs.FinMap.{FinMap, find, is_sorted, entries_sorted, get, empty, insert, entries, from_entries, get-insert, get-empty, get-entries, same_map, slice_cmp-IsAntisymmetric, nat_cmp-IsAntisymmetric}
 use Rattle.std.specs.FinMap.Entries.{below_all}
 use Rattle.serde_json.specs.Data.{Data, Members, no_members, member, put}
-use Rattle.lists.proofs.Entries.{first, second, less}
+use Rattle.rule_lists.proofs.Entries.{first, second, less}
 use Rattle.krb_fields.specs.Name.{Components, name_cmp, name_total, name_exact, same_name, tied_exactly}
 use Rattle.krb_fields.specs.NameLimits.{IsWithinLimits}
 use Rattle.krb_fields.specs.NameText.{component_text, text_of}

@@ -12,7 +12,7 @@ use Rattle.std.specs.FinMap.{FinMap, from_sorted, is_sorted}
 use Rattle.std.specs.FinMap as map
 use Rattle.replay.specs.Stamp.{Stamp, stamp_cmp, is_from}
 use Rattle.replay.proofs.Stamps.{stamp_total, stamp_exact}
-use Rattle.lists.proofs.Ordered.{retained, count_is}
+use Rattle.rule_lists.proofs.Ordered.{retained, count_is}
 
 seconds_rise : (a b : ℤ) (o r : Ordering) → o ≡ int_cmp a b → ordering_then o r ≡ Less → a ≤ℤ b
 seconds_rise a b Less r is e = let h = int_ranked a b Less is in omega (arith, ints)

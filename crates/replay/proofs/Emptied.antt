@@ -11,7 +11,7 @@ use Rattle.std.specs.FinMap.Entries.{where_key}
 use Rattle.std.proofs.lemmas.Cmp.{int_ranked}
 use Rattle.std.proofs.lemmas.Int.{ints, clamps}
 use Rattle.std.proofs.lemmas.List.Elements.{All-head, All-tail}
-use Rattle.lists.proofs.Ordered.{get_is}
+use Rattle.rule_lists.proofs.Ordered.{get_is}
 use Rattle.replay.specs.Stamp.{Stamp, stamp_cmp, is_from}
 use Rattle.replay.specs.Tidied.{raised}
 use Rattle.replay.proofs.Stamps.{stamp_total}

@@ -2,7 +2,7 @@
 use Rattle.std.proofs.Common.{◌≡◌, Some, refl, sym, ap, ◌∙◌}
 use Rattle.std.specs.Prelude.{slice_get}
 use Rattle.as_exchange.specs.declared.refusal.AsRefusal.TheVariants.{BadVersion as AsBadVersion}
-use Rattle.ap_presented.specs.declared.refusal.ApRefusal.TheVariants.{BadVersion as ApBadVersion}
+use Rattle.ap_req.specs.declared.refusal.ApRefusal.TheVariants.{BadVersion as ApBadVersion}
 use Rattle.tgs_opening.specs.declared.refusal.TgsRefusal.TheVariants.{BadVersion as TgsBadVersion, Ap}
 use Rattle.replay.specs.declared.keep.Bears.TheVariants.{Ticket}
 use Rattle.request_log.specs.declared.kind.Kind.{Kind}

@@ -5,7 +5,7 @@ use Rattle.std.specs.Cmp.Lexicographic.{pointwise}
 use Rattle.as_exchange.specs.Refusal as as_refusals
 use Rattle.as_exchange.specs.declared.refusal.AsRefusal.{AsRefusal}
 use Rattle.as_exchange.specs.declared.refusal.AsRefusal.TheVariants.{BadVersion as AsBadVersion}
-use Rattle.ap_presented.specs.declared.refusal.ApRefusal.TheVariants.{BadVersion as ApBadVersion}
+use Rattle.ap_req.specs.declared.refusal.ApRefusal.TheVariants.{BadVersion as ApBadVersion}
 use Rattle.tgs_opening.specs.Refusal as tgs_refusals
 use Rattle.tgs_opening.specs.declared.refusal.TgsRefusal.{TgsRefusal}
 use Rattle.tgs_opening.specs.declared.refusal.TgsRefusal.TheVariants.{BadVersion as TgsBadVersion, Ap}

@@ -22,7 +22,7 @@ use Rattle.replay.specs.Kept.{nothing_kept}
 use Rattle.tgs_opening.specs.Refusal.{code_of}
 use Rattle.tgs_opening.specs.declared.presented.Presented.{Presented}
 use Rattle.tgs_opening.specs.declared.refusal.TgsRefusal.{TgsRefusal}
-use Rattle.ap_presented.specs.declared.refusal.ApRefusal.TheVariants.{Repeated}
+use Rattle.ap_req.specs.declared.refusal.ApRefusal.TheVariants.{Repeated}
 use Rattle.tgs_opening.specs.declared.refusal.TgsRefusal.TheVariants.{Ap}
 use Rattle.tgs_exchange.specs.View.{TgsView}
 use Rattle.tgs_exchange.specs.Decision.{decision}

@@ -6,8 +6,8 @@ use Rattle.kdc_replies.specs.ServiceTermsLaws.{found_terms}
 use Rattle.krb_fields.specs.PrincipalName.{Name}
 use Rattle.krb_types.specs.ReqBody.{ReqBody}
 use Rattle.principal_rows.specs.declared.row.Row.{Row}
-use Rattle.lists.specs.RefusalLaws.{decided_found}
-use Rattle.lists.specs.Refusals.{Rule, decided, first_holding}
+use Rattle.rule_lists.specs.RefusalLaws.{decided_found}
+use Rattle.rule_lists.specs.Refusals.{Rule, decided, first_holding}
 use Rattle.replay.specs.declared.keep.Kept.{Kept}
 use Rattle.replay.specs.declared.verdict.Verdict.{Verdict}
 use Rattle.replay.specs.declared.verdict.Verdict.TheVariants.{Fresh, Skew, Repeat, Full as NoPlace}
@@ -16,7 +16,7 @@ use Rattle.tgs_opening.specs.declared.presented.Presented.{Presented}
 use Rattle.tgs_opening.specs.declared.refusal.TgsRefusal.{TgsRefusal}
 use Rattle.tgs_opening.specs.declared.refusal.TgsRefusal.TheVariants.{NeverValid}
 use Rattle.tgs_exchange.specs.View.{TgsView}
-use Rattle.ap_presented.specs.Validity.{ticket_terms}
+use Rattle.ap_req.specs.Validity.{ticket_terms}
 use Rattle.tgs_exchange.specs.Terms.{admission_of, terms, terms_if, terms_by, times_of}
 use Rattle.tgs_exchange.specs.Rules.{admitted, client_rules, rules_by}
 use Rattle.tgs_exchange.specs.NamedLaws.{admitted_terms, found_by}

@@ -2,7 +2,7 @@
 -- stored, and the ticket that is issued are read from it.
 use Rattle.std.specs.Borrow.{Bor}
 use Rattle.std.specs.Prelude.{ℤ, ⊤, Option, Some, None, Result, Ok, Err}
-use Rattle.lists.specs.Refusals.{first_holding}
+use Rattle.rule_lists.specs.Refusals.{first_holding}
 use Rattle.krb_types.specs.ReqBody.{ReqBody}
 use Rattle.replay.specs.ReplayCache.{verdict}
 use Rattle.replay.specs.Stamp.{Stamp}
@@ -11,7 +11,7 @@ use Rattle.replay.specs.declared.verdict.Verdict.{Verdict}
 use Rattle.replay.specs.declared.verdict.Verdict.TheVariants.{Fresh, Skew, Repeat, Full as NoPlace}
 use Rattle.tgs_opening.specs.declared.presented.Presented.{Presented}
 use Rattle.tgs_opening.specs.declared.refusal.TgsRefusal.{TgsRefusal}
-use Rattle.ap_presented.specs.declared.refusal.ApRefusal.TheVariants.{Skewed, Full}
+use Rattle.ap_req.specs.declared.refusal.ApRefusal.TheVariants.{Skewed, Full}
 use Rattle.tgs_opening.specs.declared.refusal.TgsRefusal.TheVariants.{Ap}
 use Rattle.tgs_exchange.specs.View.{TgsView}
 use Rattle.tgs_exchange.specs.Rules.{client_rules, admitted}

@@ -4,7 +4,7 @@
 use Rattle.std.proofs.Common.{◌≡◌, ℤ, Option, Some, None, Result, Ok, Err, IfOk, refl, sym, subst}
 use Rattle.std.specs.Borrow.{Bor}
 use Rattle.std.specs.Prelude.{⊤}
-use Rattle.lists.specs.Refusals.{first_holding}
+use Rattle.rule_lists.specs.Refusals.{first_holding}
 use Rattle.krb_types.specs.ReqBody.{ReqBody}
 use Rattle.replay.specs.declared.keep.Kept.{Kept}
 use Rattle.replay.specs.declared.verdict.Verdict.{Verdict}
@@ -14,7 +14,7 @@ use Rattle.tgs_opening.specs.declared.refusal.TgsRefusal.{TgsRefusal}
 use Rattle.tgs_opening.specs.declared.refusal.TgsRefusal.TheVariants.{NeverValid}
 use Rattle.tgs_exchange.specs.View.{TgsView}
 use Rattle.tgs_exchange.specs.Known.{IsKnown}
-use Rattle.ap_presented.specs.Validity.{ticket_terms}
+use Rattle.ap_req.specs.Validity.{ticket_terms}
 use Rattle.tgs_exchange.specs.Terms.{terms, times_of}
 use Rattle.tgs_exchange.specs.Rules.{admitted, client_rules, rules_by}
 use Rattle.tgs_exchange.specs.NamedLaws.{IsNamed, admitted_named}

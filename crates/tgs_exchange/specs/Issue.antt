@@ -5,7 +5,7 @@ use Rattle.enctypes.specs.declared.key_usage.KeyUsage.TheVariants.{TgsRepEncPart
 use Rattle.kdc_replies.specs.Grant.{session_key}
 use Rattle.kdc_replies.specs.Reply.{reply_of}
 use Rattle.kdc_replies.specs.declared.grant.Grant.{Grant}
-use Rattle.sealed_parts.specs.declared.encrypting.PartKey.{PartKey}
+use Rattle.encrypted_data.specs.declared.encrypting.PartKey.{PartKey}
 use Rattle.krb_fields.specs.declared.numbers.TheConstants.{TGS_REP, ENC_TGS_REP_PART}
 use Rattle.krb_fields.specs.declared.moment.Moment.{Moment}
 use Rattle.krb_types.specs.KdcRep.{KdcRep}
@@ -13,7 +13,7 @@ use Rattle.krb_types.specs.ReqBody.{ReqBody}
 use Rattle.ticket_times.specs.Flags.{tgs_flags}
 use Rattle.tgs_opening.specs.declared.presented.Presented.{Presented}
 use Rattle.tgs_exchange.specs.View.{TgsView}
-use Rattle.ap_presented.specs.Validity.{ticket_terms}
+use Rattle.ap_req.specs.Validity.{ticket_terms}
 use Rattle.tgs_exchange.specs.declared.terms.Admission.{Admission}
 
 -- the client, its authtime and the authorization data are those of the presented ticket

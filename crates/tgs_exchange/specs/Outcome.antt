@@ -19,12 +19,12 @@ use Rattle.replay.specs.declared.keep.Bears.{Bears}
 use Rattle.replay.specs.declared.keep.Kept.{Kept}
 use Rattle.tgs_opening.specs.Refusal.{code_of}
 use Rattle.tgs_opening.specs.declared.presented.Presented.{Presented}
-use Rattle.ap_presented.specs.declared.refusal.ApRefusal.TheVariants.{Repeated}
+use Rattle.ap_req.specs.declared.refusal.ApRefusal.TheVariants.{Repeated}
 use Rattle.tgs_opening.specs.declared.refusal.TgsRefusal.TheVariants.{Ap}
 use Rattle.tgs_exchange.specs.View.{TgsView}
 use Rattle.tgs_exchange.specs.Decision.{decision}
 use Rattle.tgs_exchange.specs.Issue.{reply_key_of, tgs_rep}
-use Rattle.ap_presented.specs.Validity.{ticket_terms}
+use Rattle.ap_req.specs.Validity.{ticket_terms}
 use Rattle.tgs_exchange.specs.Answer.{is_ticket, tgs_error}
 use Rattle.tgs_exchange.specs.declared.decision.Decision.{Decision}
 use Rattle.tgs_exchange.specs.declared.decision.Decision.TheVariants.{Refuses, Records, Repeats, Issues}

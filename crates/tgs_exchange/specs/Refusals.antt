@@ -4,13 +4,13 @@ use Rattle.std.specs.Prelude.{ℕ, ℤ, pos, Bool, true, false, not, nat_eq, is_
 use Rattle.std.specs.Prelude.{option_map}
 use Rattle.std.specs.Ordering.{int_eq}
 use Rattle.std.specs.Cmp.Lexicographic.{pointwise}
-use Rattle.lists.specs.Optional.{holds_of}
-use Rattle.lists.specs.Refusals.{Rule, first_holding}
-use Rattle.ap_presented.specs.Authenticators.{authenticator_in, is_mismatched, subkey_in}
-use Rattle.ap_presented.specs.HeldKey.{HeldKey, lacks_key, lacks_version}
-use Rattle.ap_presented.specs.Tickets.{is_other_version, part_of}
-use Rattle.ap_presented.specs.Validity.{has_ended, ticket_terms}
-use Rattle.ap_presented.specs.declared.refusal.ApRefusal.TheVariants as ap_refusals
+use Rattle.rule_lists.specs.Optional.{holds_of}
+use Rattle.rule_lists.specs.Refusals.{Rule, first_holding}
+use Rattle.ap_req.specs.Authenticators.{authenticator_in, is_mismatched, subkey_in}
+use Rattle.ap_req.specs.HeldKey.{HeldKey, lacks_key, lacks_version}
+use Rattle.ap_req.specs.Tickets.{is_other_version, part_of}
+use Rattle.ap_req.specs.Validity.{has_ended, ticket_terms}
+use Rattle.ap_req.specs.declared.refusal.ApRefusal.TheVariants as ap_refusals
 use Rattle.enctypes.specs.declared.key.Key.{Key}
 use Rattle.enctypes.specs.declared.key_usage.KeyUsage.TheVariants.{TgsReqAuthenticator}
 use Rattle.kdc_replies.specs.Standing.{is_disabled, is_expired}
@@ -28,7 +28,7 @@ use Rattle.replay.specs.ReplayCache.{verdict}
 use Rattle.replay.specs.declared.keep.Kept.{Kept}
 use Rattle.replay.specs.declared.verdict.Verdict.{Verdict}
 use Rattle.replay.specs.declared.verdict.Verdict.TheVariants.{Fresh, Skew, Repeat, Full as NoPlace}
-use Rattle.sealed_parts.specs.Keys.{key_of}
+use Rattle.encrypted_data.specs.Keys.{key_of}
 use Rattle.tgs_opening.specs.Authenticators.{is_modified, is_other_type}
 use Rattle.tgs_opening.specs.Tickets.{ap_req_in, held_key, tgs_data}
 use Rattle.tgs_opening.specs.View.{TicketView}

@@ -1,16 +1,16 @@
 -- The stages in which a TGS-REQ is decided find what the one list of rules says.
 use Rattle.std.proofs.Common.{◌≡◌, ◌+◌, ℤ, Bool, true, false, List, [], ◌∷◌, ◌++◌, length, Option, Some, None, Result, Ok, Err, refl, sym, ap, ◌∙◌}
 use Rattle.std.specs.Prelude.{if◌then◌else◌, is_none, drop, option_map}
-use Rattle.lists.specs.ClearLaws.{decided_clear}
-use Rattle.lists.specs.ConditionLaws.{clear_of}
-use Rattle.lists.specs.Refusals.{Rule, decided, first_holding, unless_refused}
-use Rattle.lists.specs.Stages.{◌>>=◌}
-use Rattle.ap_presented.specs.Authenticators.{authenticator_in, authenticator_of, part_rules, session_key_of, subkey_in}
-use Rattle.ap_presented.specs.HeldKey.{HeldKey}
-use Rattle.ap_presented.specs.Tickets.{part_of, shown_ticket as shown_by, ticket_rules}
-use Rattle.ap_presented.specs.declared.authenticated.Authenticated.{Authenticated}
-use Rattle.ap_presented.specs.declared.refusal.ApRefusal.{ApRefusal}
-use Rattle.ap_presented.specs.declared.refusal.ApRefusal.TheVariants as ap_refusals
+use Rattle.rule_lists.specs.ClearLaws.{decided_clear}
+use Rattle.rule_lists.specs.ConditionLaws.{clear_of}
+use Rattle.rule_lists.specs.Refusals.{Rule, decided, first_holding, unless_refused}
+use Rattle.rule_lists.specs.Stages.{◌>>=◌}
+use Rattle.ap_req.specs.Authenticators.{authenticator_in, authenticator_of, part_rules, session_key_of, subkey_in}
+use Rattle.ap_req.specs.HeldKey.{HeldKey}
+use Rattle.ap_req.specs.Tickets.{part_of, shown_ticket as shown_by, ticket_rules}
+use Rattle.ap_req.specs.declared.authenticated.Authenticated.{Authenticated}
+use Rattle.ap_req.specs.declared.refusal.ApRefusal.{ApRefusal}
+use Rattle.ap_req.specs.declared.refusal.ApRefusal.TheVariants as ap_refusals
 use Rattle.enctypes.specs.declared.key.Key.{Key}
 use Rattle.enctypes.specs.declared.key_usage.KeyUsage.TheVariants.{TgsReqAuthenticator}
 use Rattle.krb_types.specs.ApReq.{ApReq}
@@ -21,7 +21,7 @@ use Rattle.principal_rows.specs.declared.row.Row.{Row}
 use Rattle.replay.specs.declared.keep.Kept.{Kept}
 use Rattle.replay.specs.declared.verdict.Verdict.{Verdict}
 use Rattle.replay.specs.declared.verdict.Verdict.TheVariants.{Fresh, Skew, Repeat, Full as NoPlace}
-use Rattle.sealed_parts.specs.Keys.{key_of}
+use Rattle.encrypted_data.specs.Keys.{key_of}
 use Rattle.tgs_opening.specs.Authenticators.{authenticator_rules, subkey_of}
 use Rattle.tgs_opening.specs.Opening.{authenticated, by_authenticated, by_ticket, opened_ticket, presented, presented_as}
 use Rattle.tgs_opening.specs.Refusal.{by_ap, place_of}
@@ -33,7 +33,7 @@ use Rattle.tgs_opening.specs.declared.refusal.TgsRefusal.{TgsRefusal}
 use Rattle.tgs_opening.specs.declared.refusal.TgsRefusal.TheVariants as tgs
 use Rattle.tgs_opening.specs.declared.rejection.Rejection.{Rejection}
 use Rattle.ticket_times.specs.declared.times.Times.{Times}
-use Rattle.ap_presented.specs.Validity.{ticket_terms}
+use Rattle.ap_req.specs.Validity.{ticket_terms}
 use Rattle.tgs_exchange.specs.Decision.{by_admission, by_client, by_verdict, decision, verdict_on}
 use Rattle.tgs_exchange.specs.Refusals.{Proved, Shown, TgsFacts, facts_by, facts_of, facts_shown, key_shown, part_shown}
 use Rattle.tgs_exchange.specs.Refusals.{proved_by, refusals, ruling, shown_in}

@@ -4,8 +4,8 @@
 use Rattle.std.specs.Prelude.{ℤ, Bool, false, not, ◌&&◌, ◌||◌, nat_eq, int_lt, is_none, is_some, List, []}
 use Rattle.std.specs.Prelude.{◌∷◌, Option, Some, None, Result, option_map}
 use Rattle.std.specs.Cmp.Lexicographic.{pointwise}
-use Rattle.lists.specs.Optional.{holds_of}
-use Rattle.lists.specs.Refusals.{Rule, decided}
+use Rattle.rule_lists.specs.Optional.{holds_of}
+use Rattle.rule_lists.specs.Refusals.{Rule, decided}
 use Rattle.krb_fields.specs.PrincipalName.{Name}
 use Rattle.krb_fields.specs.declared.kdc_option.KdcOption.{KdcOption}
 use Rattle.krb_fields.specs.declared.kdc_option.KdcOption as options
@@ -24,8 +24,8 @@ use Rattle.tgs_opening.specs.declared.presented.Presented.{Presented}
 use Rattle.tgs_opening.specs.declared.refusal.TgsRefusal.{TgsRefusal}
 use Rattle.tgs_opening.specs.declared.refusal.TgsRefusal.TheVariants.{ClientUnknown, ClientDisabled, ClientExpired}
 use Rattle.tgs_opening.specs.declared.refusal.TgsRefusal.TheVariants.{TicketRevoked}
-use Rattle.ap_presented.specs.Validity.{has_ended, has_not_started, ticket_terms}
-use Rattle.ap_presented.specs.declared.refusal.ApRefusal.TheVariants.{NotYetValid, TicketExpired}
+use Rattle.ap_req.specs.Validity.{has_ended, has_not_started, ticket_terms}
+use Rattle.ap_req.specs.declared.refusal.ApRefusal.TheVariants.{NotYetValid, TicketExpired}
 use Rattle.tgs_opening.specs.declared.refusal.TgsRefusal.TheVariants.{Ap, ServiceUnknown}
 use Rattle.tgs_opening.specs.declared.refusal.TgsRefusal.TheVariants.{ServiceDenied, ServiceRevoked, ServiceExpired}
 use Rattle.tgs_opening.specs.declared.refusal.TgsRefusal.TheVariants.{OtherService, AuthorizationData}

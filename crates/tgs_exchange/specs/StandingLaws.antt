@@ -8,9 +8,9 @@ use Rattle.kdc_replies.specs.GoodStandingLaws.{in_good_standing}
 use Rattle.krb_fields.specs.Name.{Components}
 use Rattle.krb_fields.specs.declared.moment.Moment.{Moment}
 use Rattle.krb_types.specs.ReqBody.{ReqBody}
-use Rattle.lists.specs.ClearLaws.{AreClear, decided_clear}
-use Rattle.lists.specs.ConditionLaws.{clear_of}
-use Rattle.lists.specs.Refusals.{first_holding, unless_refused}
+use Rattle.rule_lists.specs.ClearLaws.{AreClear, decided_clear}
+use Rattle.rule_lists.specs.ConditionLaws.{clear_of}
+use Rattle.rule_lists.specs.Refusals.{first_holding, unless_refused}
 use Rattle.replay.specs.declared.keep.Kept.{Kept}
 use Rattle.replay.specs.declared.verdict.Verdict.{Verdict}
 use Rattle.replay.specs.declared.verdict.Verdict.TheVariants.{Fresh, Skew, Repeat, Full}
@@ -22,7 +22,7 @@ use Rattle.tgs_opening.specs.declared.refusal.TgsRefusal.TheVariants.{ClientDisa
 use Rattle.tgs_opening.specs.declared.refusal.TgsRefusal.TheVariants.{NeverValid, ServiceDenied, ServiceExpired}
 use Rattle.tgs_opening.specs.declared.refusal.TgsRefusal.TheVariants.{ServiceRevoked, ServiceUnknown}
 use Rattle.tgs_exchange.specs.View.{TgsView}
-use Rattle.ap_presented.specs.Validity.{ticket_terms}
+use Rattle.ap_req.specs.Validity.{ticket_terms}
 use Rattle.tgs_exchange.specs.Terms.{admission_of, terms, times_of}
 use Rattle.tgs_exchange.specs.Rules.{admitted, client_rules, rules_by}
 use Rattle.tgs_exchange.specs.Decision.{by_admission, by_client, by_verdict, verdict_on}

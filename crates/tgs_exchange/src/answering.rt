@@ -25,7 +25,7 @@ use crate::issuing::{granted_of, tgs_rep};
 use crate::outcome::TgsOutcome;
 use crate::terms::Admission;
 use crate::view::TgsView;
-use ap_presented::ApRefusal;
+use ap_req::ApRefusal;
 use kdc_replies::{Incoming, too_big};
 use krb_elements::Octets;
 use krb_fields::Moment;

@@ -1,6 +1,6 @@
 //! Decides on a TGS-REQ whose ticket and authenticator were decrypted: once, before anything is written.
 ghost use Rattle.std.specs.Prelude.{◌≡◌, IfOk};
-ghost use Rattle.lists.specs.Refusals.{first_holding};
+ghost use Rattle.rule_lists.specs.Refusals.{first_holding};
 ghost use Rattle.replay.specs.ReplayCache.{verdict_copied};
 ghost use Rattle.tgs_exchange.specs.Decision.{by_admission, by_client, by_verdict, decision, decision_copied};
 ghost use Rattle.tgs_exchange.specs.Decision.{verdict_on};
@@ -10,10 +10,10 @@ use crate::decision::Decision;
 use crate::rules::{admitted, client_rules};
 use crate::terms::{Admission, terms_for};
 use crate::view::TgsView;
-use ap_presented::ApRefusal;
+use ap_req::ApRefusal;
 use krb_fields::Moment;
 use krb_types::ReqBodyRef;
-use lists::first_holding;
+use rule_lists::first_holding;
 use replay::{Kept, Verdict};
 use std::alloc::{AllocError, Global};
 use tgs_opening::{Presented, TgsRefusal};

@@ -9,11 +9,11 @@ ghost use Rattle.tgs_exchange.specs.Rules.{is_service_denied, starts_late};
 
 use crate::terms::{Admission, Terms, admission_of, times_of};
 use crate::view::TgsView;
-use ap_presented::{ApRefusal, has_ended, has_not_started, ticket_terms};
+use ap_req::{ApRefusal, has_ended, has_not_started, ticket_terms};
 use kdc_replies::{denies_tickets, is_disabled, is_expired};
 use krb_fields::{KdcOption, Moment, Name, Second, TicketFlag};
 use krb_types::ReqBodyRef;
-use lists::decide;
+use rule_lists::decide;
 use principal_rows::Row;
 use tgs_opening::{Presented, TgsRefusal, is_named};
 use ticket_times::{TicketTerms, Times, asks, keeps_ticket, starts_too_late};

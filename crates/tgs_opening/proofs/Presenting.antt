@@ -1,15 +1,15 @@
 -- The result for a decrypted ticket.
 use Rattle.std.proofs.Common.{◌≡◌, ◌<◌, ℕ, List, length, Option, Some, None, Ok, Err, refl, ap, sym, ◌∙◌, arith}
 use Rattle.std.specs.Prelude.{IfSome}
-use Rattle.lists.specs.RefusalLaws.{decided_found}
+use Rattle.rule_lists.specs.RefusalLaws.{decided_found}
 use Rattle.enctypes.specs.declared.key.Key.{Key}
 use Rattle.enctypes.specs.declared.key_usage.KeyUsage.TheVariants.{TgsReqAuthenticator}
 use Rattle.krb_types.specs.ApReq.{ApReq}
 use Rattle.krb_types.specs.Authenticator.{Authenticator}
 use Rattle.krb_types.specs.EncTicketPart.{EncTicketPart, enc_ticket_part}
 use Rattle.krb_types.specs.KdcReq.{Received}
-use Rattle.sealed_parts.specs.Parts.{IsSpelledWithin}
-use Rattle.ap_presented.specs.Authenticators.{authenticator_of, session_key_of}
+use Rattle.encrypted_data.specs.Parts.{IsSpelledWithin}
+use Rattle.ap_req.specs.Authenticators.{authenticator_of, session_key_of}
 use Rattle.tgs_opening.specs.Authenticators.{subkey_of}
 use Rattle.tgs_opening.specs.Opening.{authenticated}
 use Rattle.tgs_opening.specs.PartLaws.{AreFew, few_data}

@@ -3,8 +3,8 @@
 use Rattle.std.specs.Prelude.{ℕ, Bool, not, nat_eq, is_none, List, [], ◌∷◌, Option, Result}
 use Rattle.std.specs.Ordering.{int_eq}
 use Rattle.std.specs.Cmp.Lexicographic.{pointwise}
-use Rattle.lists.specs.Optional.{holds_of}
-use Rattle.lists.specs.Refusals.{Rule, decided}
+use Rattle.rule_lists.specs.Optional.{holds_of}
+use Rattle.rule_lists.specs.Refusals.{Rule, decided}
 use Rattle.enctypes.specs.Etype.{checksum_type}
 use Rattle.enctypes.specs.Sealing.{mac}
 use Rattle.enctypes.specs.KeyUsage.{usage_number}
@@ -13,8 +13,8 @@ use Rattle.enctypes.specs.declared.key_usage.KeyUsage.TheVariants.{TgsReqAuthent
 use Rattle.krb_fields.specs.Typed.{Typed}
 use Rattle.krb_types.specs.Authenticator.{Authenticator}
 use Rattle.krb_types.specs.EncTicketPart.{EncTicketPart}
-use Rattle.ap_presented.specs.Authenticators.{is_mismatched, subkey_in}
-use Rattle.ap_presented.specs.declared.refusal.ApRefusal.TheVariants.{BadMatch, BadSubkey}
+use Rattle.ap_req.specs.Authenticators.{is_mismatched, subkey_in}
+use Rattle.ap_req.specs.declared.refusal.ApRefusal.TheVariants.{BadMatch, BadSubkey}
 use Rattle.tgs_opening.specs.declared.refusal.TgsRefusal.{TgsRefusal}
 use Rattle.tgs_opening.specs.declared.refusal.TgsRefusal.TheVariants.{Ap, NoChecksum, BadChecksumType, Modified}
 

@@ -3,9 +3,9 @@
 use Rattle.std.specs.Prelude.{Some, None, Result, Ok, Err}
 use Rattle.enctypes.specs.declared.key_usage.KeyUsage.TheVariants.{TgsReqAuthenticator}
 use Rattle.krb_types.specs.KdcReq.{Received}
-use Rattle.lists.specs.Stages.{◌>>=◌}
-use Rattle.ap_presented.specs.Authenticators.{authenticator_of, session_key_of}
-use Rattle.ap_presented.specs.declared.authenticated.Authenticated.{Authenticated}
+use Rattle.rule_lists.specs.Stages.{◌>>=◌}
+use Rattle.ap_req.specs.Authenticators.{authenticator_of, session_key_of}
+use Rattle.ap_req.specs.declared.authenticated.Authenticated.{Authenticated}
 use Rattle.tgs_opening.specs.Authenticators.{subkey_of}
 use Rattle.tgs_opening.specs.Refusal.{by_ap}
 use Rattle.tgs_opening.specs.Tickets.{ap_req_of, shown_ticket}

@@ -2,8 +2,8 @@
 use Rattle.std.proofs.Common.{◌≡◌, Option, Some, None, Result, Ok, Err, refl, ap}
 use Rattle.krb_fields.specs.PrincipalName.{Name}
 use Rattle.krb_types.specs.KdcReq.{Received}
-use Rattle.lists.specs.StageLaws.{ok_is}
-use Rattle.ap_presented.specs.declared.authenticated.Authenticated.{Authenticated}
+use Rattle.rule_lists.specs.StageLaws.{ok_is}
+use Rattle.ap_req.specs.declared.authenticated.Authenticated.{Authenticated}
 use Rattle.tgs_opening.specs.Opening.{authenticated, by_authenticated, by_ticket, opened_ticket, presented}
 use Rattle.tgs_opening.specs.Opening.{presented_as}
 use Rattle.tgs_opening.specs.View.{TicketView}

@@ -7,7 +7,7 @@ use Rattle.krb_elements.specs.WrittenLaws.{tlv_longer}
 use Rattle.krb_fields.specs.PrincipalName.{name}
 use Rattle.krb_fields.specs.Typed.{Typed, typed, typed_form}
 use Rattle.krb_types.specs.EncTicketPart.{EncTicketPart, enc_ticket_part, enc_ticket_part_form}
-use Rattle.sealed_parts.specs.Parts.{IsSpelledWithin}
+use Rattle.encrypted_data.specs.Parts.{IsSpelledWithin}
 use Rattle.krb_elements.specs.InsideLaws.{IsAtMost, IsInside, in_contents, in_optional, past_field, past_optional}
 use Rattle.krb_elements.specs.InsideLaws.{part_of}
 

@@ -2,9 +2,9 @@
 use Rattle.std.specs.Prelude.{ℕ, ◌+◌, List, [], ◌∷◌, ◌++◌, map, Result, Ok, Err, codes as octets}
 use Rattle.krb_fields.specs.declared.code.Code.{Code}
 use Rattle.krb_fields.specs.declared.code.Code as codes
-use Rattle.ap_presented.specs.Refusal.{code_by}
-use Rattle.ap_presented.specs.Refusal as ap_refusals
-use Rattle.ap_presented.specs.declared.refusal.ApRefusal.{ApRefusal}
+use Rattle.ap_req.specs.Refusal.{code_by}
+use Rattle.ap_req.specs.Refusal as ap_refusals
+use Rattle.ap_req.specs.declared.refusal.ApRefusal.{ApRefusal}
 use Rattle.tgs_opening.specs.declared.refusal.TgsRefusal.{TgsRefusal}
 use Rattle.tgs_opening.specs.declared.refusal.TgsRefusal.TheVariants.{BadVersion, BadMessageType, NoApReq}
 use Rattle.tgs_opening.specs.declared.refusal.TgsRefusal.TheVariants.{MalformedApReq, Ap, NoChecksum, BadChecksumType}

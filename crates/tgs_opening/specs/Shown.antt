@@ -11,7 +11,7 @@ use Rattle.krb_types.specs.ReqBody.{ReqBody}
 use Rattle.krb_types.specs.EncTicketPart.{EncTicketPart, enc_ticket_part}
 use Rattle.preauth.specs.Keys.{key_named}
 use Rattle.principal_rows.specs.declared.row.Row.{Row}
-use Rattle.sealed_parts.specs.Parts.{opened_as}
+use Rattle.encrypted_data.specs.Parts.{opened_as}
 use Rattle.tgs_opening.specs.Tickets.{ap_req_in, is_for_asked, is_for_tgs, tgs_data}
 use Rattle.tgs_opening.specs.View.{TicketView}
 

@@ -4,11 +4,11 @@ use Rattle.std.proofs.Common.{ℕ, ℤ, List, subst}
 use Rattle.std.specs.Prelude.{◌&&◌, not, if◌then◌else◌, nat_eq}
 use Rattle.std.specs.Cmp.Lexicographic.{pointwise}
 use Rattle.std.proofs.lemmas.Bool.{and_parts}
-use Rattle.lists.specs.ClearLaws.{decided_clear}
-use Rattle.lists.specs.ConditionLaws.{clear_of}
-use Rattle.lists.specs.RefusalLaws.{decided_found}
-use Rattle.lists.specs.StageLaws.{ok_is, stage_ok}
-use Rattle.lists.specs.Stages.{◌>>=◌}
+use Rattle.rule_lists.specs.ClearLaws.{decided_clear}
+use Rattle.rule_lists.specs.ConditionLaws.{clear_of}
+use Rattle.rule_lists.specs.RefusalLaws.{decided_found}
+use Rattle.rule_lists.specs.StageLaws.{ok_is, stage_ok}
+use Rattle.rule_lists.specs.Stages.{◌>>=◌}
 use Rattle.enctypes.specs.KeyUsage.{usage_number}
 use Rattle.enctypes.specs.declared.key.Key.{Key}
 use Rattle.enctypes.specs.declared.key_usage.KeyUsage.TheVariants.{Ticket as TicketUsage}
@@ -19,11 +19,11 @@ use Rattle.krb_types.specs.ReqBody.{ReqBody}
 use Rattle.krb_types.specs.EncTicketPart.{EncTicketPart, enc_ticket_part}
 use Rattle.preauth.specs.Keys.{key_named}
 use Rattle.principal_rows.specs.declared.row.Row.{Row}
-use Rattle.sealed_parts.specs.Parts.{opened_as}
-use Rattle.ap_presented.specs.Refusal.{place_of}
-use Rattle.ap_presented.specs.Tickets.{opened_with, part_of, shown_ticket as shown, ticket_rules}
-use Rattle.ap_presented.specs.declared.refusal.ApRefusal.{ApRefusal}
-use Rattle.ap_presented.specs.declared.refusal.ApRefusal.TheVariants.{NotForUs, TicketNotOpened}
+use Rattle.encrypted_data.specs.Parts.{opened_as}
+use Rattle.ap_req.specs.Refusal.{place_of}
+use Rattle.ap_req.specs.Tickets.{opened_with, part_of, shown_ticket as shown, ticket_rules}
+use Rattle.ap_req.specs.declared.refusal.ApRefusal.{ApRefusal}
+use Rattle.ap_req.specs.declared.refusal.ApRefusal.TheVariants.{NotForUs, TicketNotOpened}
 use Rattle.tgs_opening.specs.Opening.{opened_ticket, presented}
 use Rattle.tgs_opening.specs.OpeningLaws.{ticket_opened}
 use Rattle.tgs_opening.specs.Refusal.{by_ap}

@@ -5,8 +5,8 @@ use Rattle.std.specs.Prelude.{List, [], ◌∷◌, Option, Some, None, Result}
 use Rattle.std.specs.List.{list_any}
 use Rattle.std.specs.Ordering.{int_eq, eq_by_cmp}
 use Rattle.std.specs.Cmp.Lexicographic.{pointwise}
-use Rattle.lists.specs.Optional.{holds_of}
-use Rattle.lists.specs.Refusals.{Rule, decided}
+use Rattle.rule_lists.specs.Optional.{holds_of}
+use Rattle.rule_lists.specs.Refusals.{Rule, decided}
 use Rattle.krb_elements.specs.Format.{whole}
 use Rattle.krb_fields.specs.declared.numbers.TheConstants.{PVNO, TGS_REQ, PA_TGS_REQ}
 use Rattle.krb_fields.specs.EncryptedData.{EncryptedData}
@@ -18,16 +18,16 @@ use Rattle.krb_types.specs.KdcReq.{Received}
 use Rattle.krb_types.specs.ReqBody.{ReqBody}
 use Rattle.krb_types.specs.Ticket.{Ticket}
 use Rattle.enctypes.specs.declared.key.Key.{Key}
-use Rattle.sealed_parts.specs.Parts.{ok_of}
+use Rattle.encrypted_data.specs.Parts.{ok_of}
 use Rattle.preauth.specs.Keys.{has_key, key_named}
 use Rattle.preauth.specs.Timestamp.{first_of}
 use Rattle.principal_rows.specs.declared.row.KeyVersion.{KeyVersion}
 use Rattle.principal_rows.specs.declared.row.Row.{Row}
 use Rattle.krb_fields.specs.Granting.{tgs_principal}
 use Rattle.ticket_times.specs.Asked.{keeps_ticket}
-use Rattle.ap_presented.specs.Authenticators.{is_same}
-use Rattle.ap_presented.specs.HeldKey.{HeldKey}
-use Rattle.ap_presented.specs.Tickets.{shown_ticket as shown}
+use Rattle.ap_req.specs.Authenticators.{is_same}
+use Rattle.ap_req.specs.HeldKey.{HeldKey}
+use Rattle.ap_req.specs.Tickets.{shown_ticket as shown}
 use Rattle.tgs_opening.specs.Refusal.{by_ap}
 use Rattle.tgs_opening.specs.View.{TicketView}
 use Rattle.tgs_opening.specs.declared.refusal.TgsRefusal.{TgsRefusal}

@@ -6,12 +6,12 @@ ghost use Rattle.enctypes.specs.Sealing.{mac};
 ghost use Rattle.tgs_opening.specs.Authenticators.{authenticator_rules, is_modified, is_other_type, subkey_of};
 
 use crate::refusal::TgsRefusal;
-use ap_presented::{ApRefusal, is_mismatched, subkey_in};
+use ap_req::{ApRefusal, is_mismatched, subkey_in};
 use enctypes::{Key, KeyUsage};
 use krb_fields::Typed;
 use krb_types::{Authenticator, EncTicketPart};
-use lists::decide;
-use sealed_parts::ReadyKeys;
+use rule_lists::decide;
+use encrypted_data::ReadyKeys;
 
 /// Returns the subkey, after checking that the authenticator matches the ticket and the bytes of the request's body.
 pub fn subkey_of(

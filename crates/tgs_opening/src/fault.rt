@@ -4,7 +4,7 @@ ghost use Rattle.tgs_opening.specs.declared.fault.TgsFault.TheVariants.{Refused,
 ghost use Rattle.tgs_opening.specs.declared.refusal.TgsRefusal.TheVariants.{Ap};
 
 use crate::refusal::TgsRefusal;
-use ap_presented::ApRefusal;
+use ap_req::ApRefusal;
 use std::alloc::AllocError;
 
 /// Why the ticket and the authenticator of a TGS-REQ were not accepted.

@@ -11,7 +11,7 @@
 //! let client = &presented.ticket.cname;
 //! ```
 //!
-//! [`TgsRefusal`] has the rules of the whole exchange. Those that every AP-REQ has to pass are in `ap_presented`.
+//! [`TgsRefusal`] has the rules of the whole exchange. Those that every AP-REQ has to pass are in `ap_req`.
 //!
 //! Nothing here depends on the replay cache, on the client's row or on the time: `tgs_exchange` decides by these.
 #![tactic(auto)]

@@ -15,10 +15,10 @@ use crate::refusal::TgsRefusal;
 use crate::rejection::Rejection;
 use crate::tickets::{ap_req_of, shown_ticket};
 use crate::view::TicketView;
-use ap_presented::{Authenticated, authenticator_of, session_key_of};
+use ap_req::{Authenticated, authenticator_of, session_key_of};
 use enctypes::KeyUsage;
 use krb_types::KdcReqRef;
-use lists::Attempt;
+use rule_lists::Attempt;
 use std::alloc::{AllocError, Global};
 
 /// Decrypts and checks what a TGS-REQ presents. Otherwise returns the first rule that refuses it, with the ticket's

@@ -2,7 +2,7 @@
 ghost use Rattle.std.specs.Prelude.{◌≡◌, ◌<◌};
 ghost use Rattle.tgs_opening.specs.Refusal.{code_of, place_of, refusal_count, word_of};
 
-use ap_presented::ApRefusal;
+use ap_req::ApRefusal;
 use krb_fields::Code;
 
 /// The rules that refuse a TGS-REQ. They concern its receipt (RFC 4120, sections 3.2.3 and 3.3.2), revoked tickets

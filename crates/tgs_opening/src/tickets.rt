@@ -1,23 +1,23 @@
 //! The ticket that a TGS-REQ presents, and the key that decrypts it (RFC 4120, sections 3.2.3 and 3.3.2).
 ghost use Rattle.std.specs.Prelude.{◌≡◌, ◌<◌, length, ◌&&◌, nat_eq, IfOk, IfSome, is_none, option_copied};
 ghost use Rattle.std.specs.Cmp.Lexicographic.{pointwise};
-ghost use Rattle.lists.specs.Optional.{holds_of};
+ghost use Rattle.rule_lists.specs.Optional.{holds_of};
 ghost use Rattle.krb_types.specs.EncTicketPart.{enc_ticket_part};
-ghost use Rattle.sealed_parts.specs.Parts.{IsSpelledWithin};
-ghost use Rattle.ap_presented.specs.Tickets.{shown_ticket as shown};
+ghost use Rattle.encrypted_data.specs.Parts.{IsSpelledWithin};
+ghost use Rattle.ap_req.specs.Tickets.{shown_ticket as shown};
 ghost use Rattle.tgs_opening.specs.Tickets.{addressee, ap_req_in, ap_req_of, held_by, held_key, holds_type};
 ghost use Rattle.tgs_opening.specs.Tickets.{is_for_asked, is_named, is_ours, request_rules, row_of, tgs_data};
 ghost use Rattle.tgs_opening.specs.Tickets.{if_service, ticket_key};
 
 use crate::refusal::TgsRefusal;
 use crate::view::TicketView;
-use ap_presented::{ApRefusal, HeldKey};
+use ap_req::{ApRefusal, HeldKey};
 use enctypes::Key;
 use krb_elements::OctetsRef;
 use krb_fields::numbers::{PA_TGS_REQ, PVNO, TGS_REQ};
 use krb_fields::{EncryptedDataRef, Name, NameRef};
 use krb_types::{ApReqRef, EncTicketPart, KdcReqRef, ReqBodyRef, TicketRef, read_ap_req};
-use lists::{Attempt, decide};
+use rule_lists::{Attempt, decide};
 use preauth::{first_of, key_by, key_numbered};
 use principal_rows::{Row, Versions};
 use principals::names_tgs;
@@ -84,7 +84,7 @@ pub fn shown_ticket(
     let whom = addressee_of(alloc, view.realm, body, &ap.ticket.sname)?;
     let is_ours = is_for_us(view, &ap.ticket, whom);
     let held = held_by(is_ours, row_of(view, whom), &ap.ticket.enc_part);
-    ap_presented::shown_ticket(alloc, Some(view.ready), &held, ap)
+    ap_req::shown_ticket(alloc, Some(view.ready), &held, ap)
 }
 
 /// Returns the addressee of a ticket for this service.

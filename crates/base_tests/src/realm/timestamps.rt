@@ -10,7 +10,7 @@ use preauth::{
 };
 use principal_rows::{KeyList, KeyListFault, Limits, Row};
 use replay::Failures;
-use sealed_parts::ReadyKeys;
+use encrypted_data::ReadyKeys;
 use std::alloc::Global;
 use std::process::Abort;
 

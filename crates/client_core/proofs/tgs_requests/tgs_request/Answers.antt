@@ -6,7 +6,7 @@ use Rattle.krb_types.specs.Authenticator as parts
 use Rattle.krb_types.specs.KdcReq.{KdcReq, SpellsKdcReq, message}
 use Rattle.krb_types.specs.declared.kdc_req.Exchange.TheVariants.{Tgs}
 use Rattle.krb_types.specs.ReqBody.{ReqBody}
-use Rattle.sealed_parts.specs.Encrypted.{decrypted}
+use Rattle.encrypted_data.specs.Encrypted.{decrypted}
 use Rattle.client_core.specs.Requests.{body_of, tgs_authenticator, tgs_presents}
 use Rattle.client_core.specs.Sessions.{session}
 use Rattle.client_core.specs.declared.sessions.Session.{Session}

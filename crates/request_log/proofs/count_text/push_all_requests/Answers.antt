@@ -1,7 +1,7 @@
 use Rattle.std.proofs.Common.{rules, ◌≡◌, ◌++◌, ap, sym, ◌∙◌}
 use Rattle.std.specs.List.{flat_map}
 use Rattle.std.proofs.lemmas.Result.{on_ok_weaker}
-use Rattle.ap_presented.specs.Refusal as ap_refusals
+use Rattle.ap_req.specs.Refusal as ap_refusals
 use Rattle.as_exchange.specs.Refusal as as_refusals
 use Rattle.tgs_opening.specs.Refusal as tgs_refusals
 use Rattle.tgs_opening.specs.declared.refusal.TgsRefusal.TheVariants.{Ap}

@@ -1,5 +1,5 @@
 use Rattle.std.proofs.Common.{rules, ◌≡◌, ◌∙◌, ap}
-use Rattle.lists.specs.Refusals.{first_holding}
+use Rattle.rule_lists.specs.Refusals.{first_holding}
 use Rattle.tgs_exchange.specs.Rules.{client_rules}
 use Rattle.tgs_exchange.proofs.deciding.client_refusal.Goals as goal
 

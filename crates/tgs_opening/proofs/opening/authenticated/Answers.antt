@@ -1,7 +1,7 @@
 use Rattle.std.proofs.Common.{rules, ◌≡◌, Ok, Err}
 use Rattle.std.proofs.lemmas.Result.{err_from_is_err_and}
 use Rattle.enctypes.specs.declared.key_usage.KeyUsage.TheVariants.{TgsReqAuthenticator}
-use Rattle.ap_presented.specs.Authenticators.{authenticator_of, session_key_of}
+use Rattle.ap_req.specs.Authenticators.{authenticator_of, session_key_of}
 use Rattle.tgs_opening.specs.Authenticators.{subkey_of}
 use Rattle.tgs_opening.proofs.Presenting.{refused_last}
 use Rattle.tgs_opening.proofs.opening.authenticated.Goals as goal

@@ -1,7 +1,7 @@
 use Rattle.std.proofs.Common.{rules, ◌≡◌, ◌<◌, length, Ok}
 use Rattle.std.specs.Prelude.{IfSome}
 use Rattle.krb_types.specs.EncTicketPart.{enc_ticket_part}
-use Rattle.sealed_parts.specs.Parts.{IsSpelledWithin}
+use Rattle.encrypted_data.specs.Parts.{IsSpelledWithin}
 use Rattle.tgs_opening.specs.Tickets.{ap_req_of, tgs_data}
 use Rattle.tgs_opening.proofs.Presenting.{few_presented}
 use Rattle.tgs_opening.proofs.opening.open_ticket.Goals as goal

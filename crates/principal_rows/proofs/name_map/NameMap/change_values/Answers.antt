@@ -1,7 +1,7 @@
 use Rattle.std.proofs.Common.{◌≡◌, ◌≤◌, ◌<◌, length, get_or, sym, ap, ◌∙◌, arith}
 use Rattle.std.proofs.lemmas.List.{with_items_is}
-use Rattle.lists.specs.Changed.{change_values}
-use Rattle.lists.proofs.Changed.{changed_first, one_changed, values_changed}
+use Rattle.rule_lists.specs.Changed.{change_values}
+use Rattle.rule_lists.proofs.Changed.{changed_first, one_changed, values_changed}
 use Rattle.krb_fields.specs.Name.{name_cmp}
 use Rattle.principal_rows.specs.NameMap.{name_of, pairs, value_of}
 use Rattle.principal_rows.proofs.name_map.NameMap.change_values.Goals as goal

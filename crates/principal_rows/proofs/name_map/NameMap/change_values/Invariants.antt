@@ -1,5 +1,5 @@
 use Rattle.std.proofs.Common.{◌≡◌}
-use Rattle.lists.proofs.Changed.{changed_first}
+use Rattle.rule_lists.proofs.Changed.{changed_first}
 use Rattle.principal_rows.specs.NameMap.{pairs}
 use Rattle.principal_rows.proofs.name_map.NameMap.change_values.Given as goal
 

@@ -1,5 +1,5 @@
 use Rattle.std.proofs.Common.{rules, ◌≡◌, ◌∙◌}
-use Rattle.lists.proofs.Entries.{entries_are}
+use Rattle.rule_lists.proofs.Entries.{entries_are}
 use Rattle.krb_fields.specs.Name.{name_cmp, name_total}
 use Rattle.principal_rows.specs.NameMap.{name_of, value_of, pairs}
 use Rattle.principal_rows.proofs.name_map.NameMap.entries.Goals as goal

@@ -1,7 +1,7 @@
 use Rattle.std.proofs.Common.{ap, ◌∙◌}
 use Rattle.std.specs.FinMap as map
-use Rattle.lists.proofs.Entries.{get_found, get_absent}
-use Rattle.lists.proofs.Removed.{removed, removed_none}
+use Rattle.rule_lists.proofs.Entries.{get_found, get_absent}
+use Rattle.rule_lists.proofs.Removed.{removed, removed_none}
 use Rattle.krb_fields.specs.Name.{name_cmp, name_total, name_exact}
 use Rattle.principal_rows.specs.NameMap.{name_of, value_of}
 use Rattle.principal_rows.proofs.name_map.NameMap.remove.Goals as goal

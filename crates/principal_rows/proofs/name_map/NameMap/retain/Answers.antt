@@ -1,7 +1,7 @@
 use Rattle.std.proofs.Common.{rules, ap, ◌∙◌}
 use Rattle.std.proofs.lemmas.Fn.{filter_same}
-use Rattle.lists.specs.Values.{retain_values}
-use Rattle.lists.proofs.Values.{values_kept}
+use Rattle.rule_lists.specs.Values.{retain_values}
+use Rattle.rule_lists.proofs.Values.{values_kept}
 use Rattle.krb_fields.specs.Name.{name_cmp, name_total, name_exact}
 use Rattle.principal_rows.specs.NameMap.{name_of, value_of}
 use Rattle.principal_rows.proofs.name_map.NameMap.retain.Goals as goal

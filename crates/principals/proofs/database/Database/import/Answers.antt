@@ -1,7 +1,7 @@
 use Rattle.std.proofs.Common.{rules, ◌≡◌, None, sym, subst}
 use Rattle.krb_fields.specs.PrincipalName.{Name}
 use Rattle.krb_fields.specs.NameLimits.{IsWithinLimits}
-use Rattle.lists.specs.Refusals.{first_holding}
+use Rattle.rule_lists.specs.Refusals.{first_holding}
 use Rattle.principals.specs.Change.{add_rules}
 use Rattle.principals.proofs.Limits.{within_limits_if_added}
 use Rattle.principals.proofs.Rows.{is_database-insert}

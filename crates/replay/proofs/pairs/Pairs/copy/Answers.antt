@@ -4,7 +4,7 @@ use Rattle.std.proofs.lemmas.Map.Iter.{rest_more}
 use Rattle.std.specs.Map.Iter.{deref_pair}
 use Rattle.replay.specs.Stamp.{stamp_cmp}
 use Rattle.replay.proofs.Stamps.{stamp_total}
-use Rattle.lists.proofs.Ordered.{copied}
+use Rattle.rule_lists.proofs.Ordered.{copied}
 use Rattle.replay.proofs.pairs.Pairs.copy.Goals as goal
 
 pub loop-stamp-preserved-in_ok-insert : goal.loop-stamp-preserved-in_ok-insert

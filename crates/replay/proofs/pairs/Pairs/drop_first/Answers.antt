@@ -3,7 +3,7 @@ use Rattle.std.proofs.lemmas.Int.{to_z-of_z}
 use Rattle.std.proofs.lemmas.Iterator.Consumers.{count_from_yields_List, YieldsList-from_rest}
 use Rattle.std.specs.FinMap.{retain_keys}
 use Rattle.replay.specs.Stamp.{is_from}
-use Rattle.lists.proofs.Ordered.{popped}
+use Rattle.rule_lists.proofs.Ordered.{popped}
 use Rattle.replay.proofs.Before.{forgotten}
 use Rattle.replay.proofs.Raising.{one_off, all_off}
 use Rattle.replay.proofs.pairs.Pairs.drop_first.Goals as goal

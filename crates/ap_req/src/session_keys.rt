@@ -1,0 +1,27 @@
+//! The session key of a presented ticket (RFC 4120, section 3.2.3).
+ghost use Rattle.std.specs.Prelude.{◌≡◌};
+ghost use Rattle.ap_req.specs.Authenticators.{part_rules, session_key_of};
+
+use crate::refusal::ApRefusal;
+use enctypes::Key;
+use krb_types::EncTicketPart;
+use rule_lists::decide;
+use encrypted_data::key_of;
+
+/// Returns the session key, after checking that the client is of this realm and that the ticket is bound to no address.
+pub fn session_key_of(realm: &[u8], part: &EncTicketPart) -> Result<Key, ApRefusal>
+    ensures { result ≡ session_key_of realm.now part.now }
+{
+    let rules = part_rules(realm, part);
+    let key = key_of(part.key.number, part.key.octets.as_slice());
+    decide(&rules, key, ApRefusal::BadSessionKey)
+}
+
+fn part_rules(realm: &[u8], part: &EncTicketPart) -> [(bool, ApRefusal); 2]
+    ensures { result ≡ part_rules realm.now part.now }
+{
+    [
+        (part.crealm.as_slice() != realm, ApRefusal::ForeignClient),
+        (part.caddr.is_some(), ApRefusal::BoundAddress),
+    ]
+}

@@ -1,0 +1,171 @@
+//! Reporting the numbers of a server every ten seconds.
+ghost use Rattle.std.specs.Prelude.{◌≡◌, IfOk};
+ghost use Rattle.kdc_reports.specs.Numbers.{numbers_text};
+ghost use Rattle.kdc_server.specs.Reporter.{due, refused_until, second_of};
+
+use crate::host::Host;
+use crate::server_wire::ServerWire;
+use file_store::VERSION;
+use kdc_hub::{Hub, Onlooker, RowSource, RowsState, Served, ServerView};
+use kdc_reports::{LogNumbers, MetricsWriter, Numbers, Refused, Tally, push_numbers};
+use krb_fields::Moment;
+use rand_chacha::ChaCha20Rng;
+use request_log::Counts;
+use std::alloc::{AllocError, Global};
+
+/// In seconds.
+const BETWEEN_REPORTS: i64 = 10;
+
+/// The room that a text gets at first. A longer one gets more.
+const USUAL_TEXT: usize = 16_384;
+
+/// Reports the numbers of a server, if they are to be written. It counts what the server served.
+#[derive(Drop)]
+pub struct Reporter<H: Host> {
+    writer: Option<H::Metrics>,
+    started: Moment,
+    refused: Option<Refused>,
+    /// When they were reported last, if they were.
+    reported: Option<Moment>,
+    /// How many events came, and how many ran out of memory. The counts stop at the greatest `u64`.
+    events: u64,
+    memory_faults: u64,
+}
+
+impl<H: Host> Reporter<H> {
+    /// Returns the reporter of a server that started at this moment.
+    pub fn new(
+        writer: Option<H::Metrics>,
+        started: Moment,
+        refused: Option<Refused>,
+    ) -> Reporter<H> {
+        Reporter {
+            writer,
+            started,
+            refused,
+            reported: None,
+            events: 0,
+            memory_faults: 0,
+        }
+    }
+
+    /// Adds what was served.
+    fn add(&mut self, served: &Served) {
+        self.events = self.events.saturating_add(u64::from(served.events));
+        self.memory_faults = self.memory_faults.saturating_add(u64::from(served.refused));
+    }
+
+    /// Returns what takes the texts, if anything does.
+    pub fn into_writer(self) -> Option<H::Metrics> {
+        self.writer
+    }
+
+    /// Writes a text. Without memory for it there is none this time.
+    fn write(&mut self, alloc: Global, numbers: &Numbers, counts: &Counts) {
+        let Some(writer) = &mut self.writer else {
+            return;
+        };
+        if let Ok(text) = text_of(alloc, VERSION, numbers, counts) {
+            writer.write_metrics(&text);
+        }
+    }
+
+    /// Returns the numbers of a server whose rows are in this state.
+    fn numbers_of(&self, wire: &ServerWire<H>, rows: RowsState, hub: &Hub<ChaCha20Rng>) -> Numbers {
+        let withheld = wire.withheld();
+        Numbers {
+            started: second_of(self.started.sec),
+            refused_until: refused_until(self.refused),
+            events: self.events,
+            faults: wire.tally().faults(),
+            memory_faults: self.memory_faults,
+            lost_lines: wire.log().lost_lines(),
+            rows: hub.row_count() as u64,
+            rows_taken: second_of(rows.taken_at.unwrap_or(self.started.sec)),
+            rows_behind: u64::from(rows.is_behind),
+            caches: hub.cache_sizes(),
+            withheld_by_journal: withheld.by_journal,
+            withheld_by_quiet_start: withheld.by_quiet_start,
+            journal_bytes: self.journal_bytes(),
+        }
+    }
+
+    fn journal_bytes(&self) -> u64 {
+        match &self.writer {
+            Some(writer) => writer.journal_bytes(),
+            None => 0,
+        }
+    }
+}
+
+impl<H: Host> Onlooker<ServerWire<H>, Option<H::Rows>, ChaCha20Rng> for Reporter<H> {
+    fn see(
+        &mut self,
+        alloc: Global,
+        server: &ServerView<'_, ServerWire<H>, Option<H::Rows>, ChaCha20Rng>,
+    ) {
+        if self.writer.is_none() {
+            return;
+        }
+        self.add(&server.served);
+        let Some(at) = due(&self.reported, &server.served.last) else {
+            return;
+        };
+        self.reported = Some(at);
+        let Some(counts) = server.wire.log().counts() else {
+            return;
+        };
+        let numbers = self.numbers_of(server.wire, server.source.state(), server.hub);
+        self.write(alloc, &numbers, counts);
+    }
+}
+
+/// Returns the text of a server of this version.
+fn text_of(
+    alloc: Global,
+    version: &str,
+    numbers: &Numbers,
+    counts: &Counts,
+) -> Result<Vec<u8>, AllocError>
+    ensures { IfOk result (λ text. text.items ≡ numbers_text version.now numbers.now counts.now) }
+{
+    let mut text = Vec::with_capacity(alloc, USUAL_TEXT)?;
+    push_numbers(&mut text, version, numbers, counts)?;
+    Ok(text)
+}
+
+/// Returns the second until which all TGS-REQs are refused after the start, or 0.
+fn refused_until(refused: Option<Refused>) -> u64
+    ensures { result ≡ refused_until refused }
+{
+    match refused {
+        Some(Refused::All(until)) => second_of(until),
+        Some(Refused::ServedLater(_)) => 0,
+        None => 0,
+    }
+}
+
+/// Returns a second since 1970, or 0 for one before.
+fn second_of(second: i64) -> u64
+    ensures { result ≡ second_of second }
+{
+    if second < 0 { 0 } else { second.unsigned_abs() }
+}
+
+/// Returns when to report, if that is due: ten seconds after the last report by the moment of the last poll, or if that
+/// is before the report.
+fn due(reported: &Option<Moment>, last: &Option<Moment>) -> Option<Moment>
+    ensures { result ≡ due reported.now last.now }
+{
+    match (reported, last) {
+        (_, None) => None,
+        (None, Some(at)) => Some(*at),
+        (Some(before), Some(at)) => {
+            if before.sec <= at.sec && at.sec < before.sec + BETWEEN_REPORTS {
+                None
+            } else {
+                Some(*at)
+            }
+        }
+    }
+}

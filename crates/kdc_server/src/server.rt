@@ -1,0 +1,198 @@
+//! A server: it starts as its options say, and serves.
+ghost use Rattle.std.specs.Prelude.{◌≡◌, ◌++◌, Bool, true, false, not, None, IfOk, is_some, option_copied};
+ghost use Rattle.kdc_hub.specs.Hub.{hub_state};
+ghost use Rattle.kdc_hub.specs.Wire.{Records};
+ghost use Rattle.kdc_hub.specs.Recorded.{recorded_by_any};
+ghost use Rattle.kdc_server.specs.Starting.{chacha20};
+ghost use Rattle.kdc_server.specs.Quiet.{quiet_until};
+ghost use Rattle.kdc_server.specs.Resuming.{began, found_at};
+ghost use Rattle.kdc_files.specs.Recorded.{IsNew};
+ghost use Rattle.kdc_server.specs.Served.{Serves};
+ghost use Rattle.kdc_server.specs.Server.{HasRun, IsStarted, rounds_of, taking};
+
+use crate::host::{Host, StartNews};
+use crate::options::ServeOptions;
+use crate::outlets::Outlets;
+use crate::quiet::quiet_until;
+use crate::reporter::Reporter;
+use crate::server_wire::{ServerWire, StartTimes};
+use crate::starting::{ReadyServer, StartFault, ready};
+use journal::Start;
+use kdc_files::{JournalBeginning, ServerFileCause};
+use kdc_hub::{Hub, Totals, serve_life};
+use kdc_reports::{JournalFound, refused_at_start};
+use krb_fields::Moment;
+use rand_chacha::ChaCha20Rng;
+use std::alloc::Global;
+
+/// As many rounds as no process serves.
+const ENDLESS: u64 = u64::MAX;
+
+/// A server that has started.
+#[derive(Drop)]
+pub struct Server<H: Host> {
+    /// The hub, with the KDC and the connections.
+    pub hub: Hub<ChaCha20Rng>,
+    /// Its sockets, with its journal and its log.
+    pub wire: ServerWire<H>,
+    /// What is announced of the start.
+    pub news: StartNews,
+}
+
+/// A server that has served all its rounds.
+#[derive(Drop)]
+pub struct Ran<H: Host> {
+    /// The server after its last round.
+    pub server: Server<H>,
+    /// Where its rows came from, unless they were fixed.
+    pub rows: Option<H::Rows>,
+    /// What it counted in all its rounds.
+    pub totals: Totals,
+    /// What took the text of its numbers, if anything did.
+    pub metrics: Option<H::Metrics>,
+}
+
+/// Starts a server as its options say, announces it, and serves its rounds.
+pub fn run_server<'a, H: Host>(
+    alloc: Global,
+    host: &mut H,
+    options: &ServeOptions<'a>,
+) -> Result<Ran<H>, StartFault<'a, H::SocketFault>>
+    // It starts as the host's record says, and then lives over the hub and the wire of that start. Unless its rows are
+    // fixed, they come from the source that the host handed over.
+    ensures run { IfOk result (λ ran. HasRun options.now (H.recorded host.old) (H.recorded host.new) ran.server.news
+        (H.Tally.recorded ran.server.wire.tally) (recorded_by_any H.Rows.recorded ran.rows) ran.totals
+        (hub_state chacha20 ran.server.hub)) }
+    // The sockets, the journal and the log have recorded what was polled and tried in this life.
+    ensures served { IfOk result (λ ran. ∥ Serves (H.Tally.recorded ran.server.wire.tally)
+        (H.Sockets.recorded ran.server.wire.sockets) (H.Journal.handed ran.server.wire.journal)
+        (H.Log.logged ran.server.wire.log) ran.server.wire.came.at ∥₁) }
+{
+    let mut server = start(alloc, host, options)?;
+    let mut rows = take_rows(host, options)?;
+    host.announce(server.news);
+    let rounds = rounds_of(options.rounds);
+    let started = server.wire.came_at();
+    let mut reporter = Reporter::new(host.take_metrics(), started, server.news.refused);
+    let totals = serve_life(
+        alloc,
+        &mut server.wire,
+        &mut rows,
+        &mut server.hub,
+        rounds,
+        &mut reporter,
+    );
+    Ok(Ran {
+        server,
+        rows,
+        totals,
+        metrics: reporter.into_writer(),
+    })
+}
+
+/// Starts a server as its options say.
+pub fn start<'a, H: Host>(
+    alloc: Global,
+    host: &mut H,
+    options: &ServeOptions<'a>,
+) -> Result<Server<H>, StartFault<'a, H::SocketFault>>
+    ensures start { IfOk result (λ server. IsStarted options.now (H.recorded host.old) (H.recorded host.new)
+        (hub_state chacha20 server.hub) server.wire.came.at server.wire.clock.floor
+        server.news) }
+    ensures quiet { IfOk result (λ server.
+        server.wire.quiet_until ≡ quiet_until server.news.refused server.wire.came.at options.now.is_quiet) }
+    ensures journal { IfOk result (λ server.
+        H.Journal.is_there server.wire.journal ≡ is_some (option_copied options.now.journal)) }
+    ensures log { IfOk result (λ server. IsNew (H.Log.logged server.wire.log)) }
+    ensures tally { IfOk result (λ server. IsNew (H.Tally.recorded server.wire.tally)) }
+{
+    let ReadyServer {
+        hub,
+        sockets,
+        files,
+        beginning,
+        row_count,
+    } = ready(alloc, host, options)?;
+    let (at, floor) = (beginning.at, beginning.floor);
+    let found = found_at(options.journal, &beginning.start, at);
+    let outlets = match Outlets::open(alloc, host) {
+        Ok(outlets) => outlets,
+        Err(_) => return Err(StartFault::Memory),
+    };
+    let journal = match begin_journal(alloc, host, files, beginning) {
+        Ok(journal) => journal,
+        Err(fault) => return Err(StartFault::File(options.journal_place(), fault)),
+    };
+    let refused = refused_at_start(floor, at);
+    let times = StartTimes {
+        at,
+        floor,
+        quiet_until: quiet_until(refused, at, options.is_quiet),
+    };
+    Ok(Server {
+        hub,
+        wire: ServerWire::new(sockets, journal, outlets, times),
+        news: StartNews {
+            row_count,
+            journal: found,
+            refused,
+        },
+    })
+}
+
+/// Begins the journal in its files, if the server is to have one.
+fn begin_journal<H: Host>(
+    alloc: Global,
+    host: &mut H,
+    files: Option<H::JournalFiles>,
+    beginning: JournalBeginning,
+) -> Result<H::Journal, ServerFileCause>
+    ensures began { IfOk result (λ _.
+        Records (H.recorded host.old) (began (is_some files) beginning) (H.recorded host.new)) }
+    ensures new { IfOk result (λ journal. IsNew (H.Journal.handed journal)) }
+    ensures there { IfOk result (λ journal. H.Journal.is_there journal ≡ is_some files) }
+{
+    match files {
+        Some(files) => host.begin_journal(alloc, files, beginning),
+        None => Ok(host.no_journal()),
+    }
+}
+
+/// Returns what a start at this moment made of its journal, if it has one.
+fn found_at(path: Option<&str>, start: &Start, at: Moment) -> Option<JournalFound>
+    ensures { result ≡ found_at (option_copied path.entry) start.now at }
+{
+    match path {
+        Some(_) => Some(JournalFound::of(start, at)),
+        None => None,
+    }
+}
+
+/// Takes the source of the rows from a host, unless the rows are fixed.
+fn take_rows<'a, H: Host>(
+    host: &mut H,
+    options: &ServeOptions<'a>,
+) -> Result<Option<H::Rows>, StartFault<'a, H::SocketFault>>
+    ensures took { IfOk result (λ rows.
+        Records (H.recorded host.old) (taking options.now.is_fixed) (H.recorded host.new)) }
+    ensures there { IfOk result (λ rows. is_some rows ≡ not options.now.is_fixed) }
+    ensures new { IfOk result (λ rows. IsNew (recorded_by_any H.Rows.recorded rows)) }
+{
+    if options.is_fixed {
+        return Ok(None);
+    }
+    match host.take_rows() {
+        Ok(rows) => Ok(Some(rows)),
+        Err(fault) => Err(StartFault::File(options.db, fault)),
+    }
+}
+
+/// Returns how many rounds are served.
+fn rounds_of(rounds: Option<u32>) -> u64
+    ensures { result ≡ rounds_of rounds }
+{
+    match rounds {
+        Some(rounds) => u64::from(rounds),
+        None => ENDLESS,
+    }
+}

@@ -1,5 +1,0 @@
-use Rattle.kdc_hub.proofs.Rounds.{records_on}
-use Rattle.kdcd_run.proofs.starting.begin.Goals as goal
-
-pub returns-clause-did : goal.returns-clause-did
-returns-clause-did g c = records_on _ _ _ _ _ c.in_ok-journals.ensures.reading c.in-Ok.ensures
