@@ -57,7 +57,7 @@ pub fn as_rep(
         random: incoming.random,
         ready: incoming.ready,
     };
-    let grant = grant_of(view, incoming, body, admission);
+    let grant = grant_by(view, incoming, body, admission);
     ticket_reply::<AS_REP, ENC_AS_REP_PART>(
         alloc,
         &grant,
@@ -68,7 +68,7 @@ pub fn as_rep(
     )
 }
 
-fn grant_of<'g>(
+fn grant_by<'g>(
     view: &AsView<'g>,
     incoming: &Incoming<'_>,
     body: &ReqBodyRef<'_>,
@@ -111,8 +111,8 @@ fn flags_of(body: &ReqBodyRef<'_>, admission: &Admission) -> Flags
     )
 }
 
-/// Returns the properties of the issued ticket for the request's account.
-pub fn granted_of(at: Moment, body: &ReqBodyRef<'_>, admission: &Admission) -> Granted
+/// Returns the properties of the issued ticket for the request's audit record.
+pub fn granted_by(at: Moment, body: &ReqBodyRef<'_>, admission: &Admission) -> Granted
     ensures { result ≡ granted_by at body.now admission.now }
 {
     let Admission { terms, times, .. } = admission;

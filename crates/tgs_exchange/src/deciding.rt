@@ -8,7 +8,7 @@ ghost use Rattle.tgs_exchange.specs.Rules.{admitted, client_rules};
 
 use crate::decision::Decision;
 use crate::rules::{admitted, client_rules};
-use crate::terms::{Admission, terms_for};
+use crate::terms::{Admission, find_terms};
 use crate::view::TgsView;
 use ap_req::ApRefusal;
 use krb_fields::Moment;
@@ -101,7 +101,7 @@ fn fresh<'v>(
     ensures { IfOk result (λ decided.
         decision_copied decided ≡ by_admission (admitted view.now at.sec body.now presented.now)) }
 {
-    let terms = terms_for(alloc, view, body)?;
+    let terms = find_terms(alloc, view, body)?;
     Ok(by_admission(admitted(view, at, body, presented, terms)))
 }
 
