@@ -15,6 +15,7 @@ ghost use Rattle.as_exchange.specs.Rules.{is_good};
 use crate::rules::is_good;
 use crate::terms::{Admission, Terms};
 use crate::view::AsView;
+use encrypted_data::PartKey;
 use enctypes::KeyUsage;
 use kdc_replies::{
     Grant, Granted, Incoming, ReplyInputs, session_key, ticket_reply, version_number,
@@ -24,7 +25,6 @@ use krb_fields::numbers::{AS_REP, ENC_AS_REP_PART};
 use krb_fields::{Flags, Moment, PaData};
 use krb_types::ReqBodyRef;
 use preauth::etype_info2;
-use encrypted_data::PartKey;
 use std::alloc::{AllocError, Global};
 use ticket_times::as_flags;
 

@@ -7,7 +7,7 @@ ghost use Rattle.kdc_reports.specs.LogLaws.{log_if_records};
 ghost use Rattle.kdc_files.specs.Recorded.{record_of};
 ghost use Rattle.request_log.specs.Entry.{LogEntry};
 
-use kdc_hub::{AuditRecord, Action, CloseReason, Event, Peers, Reply, WireFault};
+use kdc_hub::{Action, AuditRecord, CloseReason, Event, Peers, Reply, WireFault};
 use krb_fields::Moment;
 use request_log::{Asker, Entry, Transport};
 use std::alloc::Global;

@@ -31,7 +31,7 @@ reply_place Tcp false = 3
 abbrev pub is_reply : Carrier → Bool → Asked → Bool
 is_reply transport is_sent asked =
     has_reply (kind_of asked.audit) && nat_eq (reply_place transport is_sent)
-        (reply_place asked.transport asked.is_sent)
+    (reply_place asked.transport asked.is_sent)
 
 -- ---- counts
 

@@ -2,7 +2,7 @@
 ghost use Rattle.std.specs.Prelude.{◌≡◌, option_copied};
 ghost use Rattle.request_log.specs.Kinds.{as_kind, kind_of, tgs_kind};
 
-use kdc_core::{AuditRecord, AsOutcome, AsRefusal, Bears, TgsOutcome, TgsRefusal};
+use kdc_core::{AsOutcome, AsRefusal, AuditRecord, Bears, TgsOutcome, TgsRefusal};
 
 /// What a request was, and what came of it.
 #[derive(Clone, Copy, PartialEq, Eq)]

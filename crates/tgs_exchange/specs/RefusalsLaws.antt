@@ -293,7 +293,7 @@ module _ (v : TgsView) (now : ℤ) (message : Received) where
         (part_stage ap (held_key o message.body.value ap.ticket) (part_of (held_key o message.body.value ap.ticket) ap.ticket.enc_part))
     ap_stage None =
         stage_none Refuses (request_rules message) tgs.MalformedApReq
-            (from_ticket (facts_with_ap_req o v now message None)) go_ap
+        (from_ticket (facts_with_ap_req o v now message None)) go_ap
 
     -- ---- the code's stages find the same
 

@@ -13,8 +13,8 @@ use crate::view::TgsView;
 use ap_req::ApRefusal;
 use krb_fields::Moment;
 use krb_types::ReqBodyRef;
-use rule_lists::first_holding;
 use replay::{Kept, Verdict};
+use rule_lists::first_holding;
 use std::alloc::{AllocError, Global};
 use tgs_opening::{Presented, TgsRefusal};
 
