@@ -1,6 +1,8 @@
 #!/usr/bin/env python3
 """Builds the library for C, crates/ap_accept_c/out/libap_accept.a, with all that a program needs besides the C library:
-the proved functions of crates/ap_accept_c, those of the header (docs/ap_accept.c), and those that allocate.
+the proved functions of crates/ap_accept_c, those of the header (docs/ap_accept.c), and those that allocate. Beside it,
+the same as a shared object, libap_accept.so.3, which exports the functions of the header alone. Its number is the
+header's AP_VERSION.
 
     python3 dev/c_library.py
 
@@ -12,6 +14,7 @@ import argparse
 import importlib.util
 import os
 import pathlib
+import re
 import shutil
 import subprocess
 import sys
@@ -22,6 +25,16 @@ CRATE = TOP / "crates" / "ap_accept_c"
 LIBRARY = CRATE / "out" / "libap_accept.a"
 # What `rt lib` makes, without the functions of the header.
 PROVED = CRATE / "out" / "libap_accept_c.a"
+HEADER = TOP / "docs" / "ap_accept.h"
+MANUAL = TOP / "docs" / "ap_accept.3"
+# What `pkg-config` says of the library.
+PC = """prefix={prefix}
+Name: plovertrunk-accept
+Description: Acceptor of Kerberos AP-REQ messages
+Version: {version}
+Cflags: -I${{prefix}}/include
+Libs: -L${{prefix}}/lib -lap_accept
+"""
 
 
 def kit():
@@ -37,10 +50,45 @@ def complete(proved, made):
     archiver = kit() / "toolchain" / "bin" / "llvm-ar"
     with tempfile.TemporaryDirectory(prefix="c-library-") as folder:
         checks, whole = pathlib.Path(folder, "ap_accept.o"), pathlib.Path(folder, made.name)
-        flags = ["-std=c99", "-O2", "-fPIC", "-Wall", "-Wextra", "-Werror", "-I", TOP / "docs"]
+        flags = ["-std=c99", "-O2", "-fPIC", "-Wall", "-Wextra", "-Werror", "-I", HEADER.parent]
         run(os.environ.get("CC", "cc"), *flags, "-c", "-o", checks, TOP / "docs" / "ap_accept.c")
         run(archiver, "qcsL", whole, proved, checks, kit() / "c" / "liblibc_c.a")
         shutil.copy(whole, made)
+
+
+def version():
+    """The AP_VERSION of the header."""
+    return re.search(r"^#define AP_VERSION (\d+)$", HEADER.read_text(), re.MULTILINE)[1]
+
+
+def shared_name():
+    """The name of the shared object, by which programs that are linked with it ask for it."""
+    return f"libap_accept.so.{version()}"
+
+
+def share(library):
+    """Makes a shared object of the library beside it. It exports the functions of the header alone."""
+    names = re.findall(r"^(?:u?int32_t|size_t) (ap_\w+)\(", HEADER.read_text(), re.MULTILINE)
+    with tempfile.TemporaryDirectory(prefix="c-library-") as folder:
+        script, made = pathlib.Path(folder, "names"), pathlib.Path(folder, shared_name())
+        script.write_text("{ global: " + "".join(f"{name}; " for name in names) + "local: *; };\n")
+        flags = ["-shared", f"-Wl,-soname,{made.name}", f"-Wl,--version-script={script}", "-Wl,-z,defs,-z,relro,-z,now"]
+        run(os.environ.get("CC", "cc"), *flags, "-o", made, *(f"-Wl,-u,{name}" for name in names), library)
+        shutil.copy(made, library.parent)
+
+
+def installed(prefix, library):
+    """What is installed of the library, for each path its bytes and its mode. `library` is the archive; the shared
+    object is beside it. A program is linked with the shared object through a script of the linker, which names it."""
+    name = shared_name()
+    found = {
+        f"{prefix}/include/{HEADER.name}": HEADER.read_bytes(), f"{prefix}/lib/{library.name}": library.read_bytes(),
+        f"{prefix}/lib/{name}": (library.parent / name).read_bytes(),
+        f"{prefix}/lib/libap_accept.so": f"INPUT(-l:{name})\n".encode(),
+        f"{prefix}/lib/pkgconfig/plovertrunk-accept.pc": PC.format(prefix=prefix, version=version()).encode(),
+        f"{prefix}/share/man/man3/{MANUAL.name}": MANUAL.read_bytes()
+    }
+    return {path: (octets, 0o644) for path, octets in found.items()}
 
 
 def run(*words):
@@ -63,6 +111,7 @@ def main():
         built = subprocess.run([rtlib.RATTLE, "build", *words, *how]).returncode
     if not built:
         complete(PROVED, LIBRARY)
+        share(LIBRARY)
     sys.exit(built)
 
 

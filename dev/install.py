@@ -2,8 +2,10 @@
 """Installs `kdcd`, `kadm` and `kclient` with their manual pages, completion for bash and zsh, the units of systemd with
 what they start, and what makes the user `kdcd` and its folder.
 
-    python3 dev/install.py [--programs FOLDER] [--root FOLDER] [--unproved] [PREFIX]
+    python3 dev/install.py [--programs FOLDER] [--root FOLDER] [--unproved] [--library FILE] [PREFIX]
 
+--library also installs the library for C, FILE and the shared object beside it, as `c_library.py` makes them, with the
+header, `plovertrunk-accept.pc` and the manual page.
 PREFIX is /usr/local, or an absolute path. --root installs below a folder, as to make a package; the installed files
 name no folder of it. The programs are those of the crates, as `rt run` leaves them there, or of FOLDER. An unproved
 program, whose version says so, is refused without --unproved. A file that is there is replaced as a whole, so a server
@@ -24,6 +26,7 @@ import secrets
 import subprocess
 import sys
 
+from c_library import installed
 from make_completion import Unreadable, made
 
 TOP = pathlib.Path(__file__).resolve().parent.parent
@@ -176,6 +179,7 @@ def main():
     words.add_argument("--programs", type=pathlib.Path, default=TOP / "crates")
     words.add_argument("--root", type=pathlib.Path, default=pathlib.Path("/"))
     words.add_argument("--unproved", action="store_true")
+    words.add_argument("--library", type=pathlib.Path)
     words.add_argument("prefix", nargs="?", default="/usr/local", metavar="PREFIX")
     given = words.parse_args()
     prefix = os.path.normpath(given.prefix)
@@ -184,6 +188,7 @@ def main():
     os.umask(0o022)
     try:
         files = contents(given.programs, prefix, given.unproved)
+        files |= installed(prefix, given.library) if given.library else {}
         for path in files:
             with folder_of(given.root, path):
                 pass

@@ -3,10 +3,11 @@
 completion for bash and zsh, the units of systemd with what they start, what makes the user and its folder, and the
 pages.
 
-    python3 dev/make_deb.py [--programs FOLDER] [--out FOLDER] [--unproved]
+    python3 dev/make_deb.py [--programs FOLDER] [--out FOLDER] [--unproved] [--library FILE]
 
 The programs are those of the crates, as `rt run` leaves them there, or of FOLDER. An unproved program, whose version
-says so, is refused without --unproved, and the package's version then ends with `~unproved`. The package is
+says so, is refused without --unproved, and the package's version then ends with `~unproved`. With --library it has the
+library for C too, as `install.py` installs it. The package is
 plovertrunk_VERSION_ARCHITECTURE.deb in the folder of --out, or in the current one; the last line is its path.
 Installing it makes the user and the folder; it starts nothing, since no unit names an address of the host yet. Removing
 it stops the server and leaves /var/lib/kdcd. It needs Python 3 and dpkg-deb. The status is 1 if a program is refused or
@@ -20,6 +21,7 @@ import subprocess
 import sys
 import tempfile
 
+from c_library import installed
 from install import MARK, PROGRAMS, TOP, Refused, contents, program_in, version, write
 
 NAME = "plovertrunk"
@@ -139,9 +141,11 @@ def main():
     words.add_argument("--programs", type=pathlib.Path, default=TOP / "crates")
     words.add_argument("--out", type=pathlib.Path, default=pathlib.Path("."))
     words.add_argument("--unproved", action="store_true")
+    words.add_argument("--library", type=pathlib.Path)
     given = words.parse_args()
     try:
         files = packed(contents(given.programs, "/usr", given.unproved))
+        files |= packed(installed("/usr", given.library)) if given.library else {}
         said = [version(program_in(given.programs, name, True)) for name in PROGRAMS]
         print(make(given.out, files, control(files, next((each for each in said if MARK in each), said[0]))))
     except (Refused, OSError, subprocess.SubprocessError) as fault:

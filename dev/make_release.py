@@ -25,11 +25,10 @@ import subprocess
 import sys
 import tarfile
 
-from c_library import LIBRARY
+from c_library import LIBRARY, installed
 from install import PROGRAMS, TOP, Refused, contents, program_in, version, write
 from make_deb import NAME, control, machine, make, packed
 
-HEADER = TOP / "docs" / "ap_accept.h"
 LAST_LINE = re.compile(r"([1-9]\d*) passed, 0 failed")
 
 
@@ -64,9 +63,7 @@ def files_of(programs, library, commit, gate):
     """All files of a release, by their paths: of each the bytes and the mode."""
     if not library.is_file():
         raise Refused(f"{library} is not there: dev/c_library.py builds it")
-    found = packed(contents(programs, "/usr", False))
-    found["/usr/lib/libap_accept.a"] = library.read_bytes(), 0o644
-    found["/usr/include/ap_accept.h"] = HEADER.read_bytes(), 0o644
+    found = packed(contents(programs, "/usr", False) | installed("/usr", library))
     said = f"commit {commit}\ngate {gate}\n"
     return found | {f"/usr/share/doc/{NAME}/COMMIT": (said.encode(), 0o644)}
 

@@ -38,6 +38,12 @@ struct found {
 	size_t length;
 };
 
+/* `Sealing` of protection.rt */
+struct sealing {
+	uint32_t usage;
+	uint8_t random[16];
+};
+
 int32_t ap_accept_c_v3_open(struct holder *holder, const uint8_t *keytab, size_t length, const struct start *start);
 int32_t ap_accept_c_v3_resume(struct holder *holder, const uint8_t *keytab, size_t keytab_length, const uint8_t *saved,
 			      size_t saved_length, uint32_t remembered);
@@ -53,6 +59,15 @@ size_t ap_accept_c_v3_text(struct holder *holder, int32_t status, uint8_t *to, s
 int32_t ap_accept_c_v3_element(struct holder *holder, const struct place *place, uint8_t *to, size_t capacity,
 			       struct found *found);
 int32_t ap_accept_c_v3_check(struct holder *holder, const uint8_t *octets, size_t length);
+int32_t ap_accept_c_v3_key(struct holder *holder, struct ap_key *key);
+int32_t ap_accept_c_v3_seal(const struct ap_key *key, const struct sealing *sealing, const uint8_t *text,
+			    size_t text_length, uint8_t *to, size_t capacity, size_t *length);
+int32_t ap_accept_c_v3_unseal(const struct ap_key *key, uint32_t usage, const uint8_t *sealed, size_t sealed_length,
+			      uint8_t *to, size_t capacity, size_t *length);
+int32_t ap_accept_c_v3_checksum(const struct ap_key *key, uint32_t usage, const uint8_t *text, size_t text_length,
+				uint8_t *to, size_t capacity, size_t *length);
+int32_t ap_accept_c_v3_verify(const struct ap_key *key, uint32_t usage, const uint8_t *text, size_t text_length,
+			      const uint8_t *checksum, size_t checksum_length);
 uint32_t ap_accept_c_v3_version(void);
 
 /* ---- arguments */
@@ -271,6 +286,68 @@ int32_t ap_verify_checksum(struct ap_acceptor *acceptor, const void *octets, siz
 		return AP_BAD_ARGUMENT;
 	holder = holder_of(acceptor);
 	return left(acceptor, &holder, ap_accept_c_v3_check(&holder, bytes_at(octets), octets_length));
+}
+
+int32_t ap_shared_key(struct ap_acceptor *acceptor, struct ap_key *key)
+{
+	struct holder holder;
+
+	if (!is_acceptor(acceptor) || key == NULL)
+		return AP_BAD_ARGUMENT;
+	holder = holder_of(acceptor);
+	return left(acceptor, &holder, ap_accept_c_v3_key(&holder, key));
+}
+
+/* ---- what follows */
+
+/* Whether these are a key, a text and a buffer with a place for its length. */
+static bool are_judged(const struct ap_key *key, const void *text, size_t text_length, const void *to, size_t capacity,
+		       const size_t *length)
+{
+	return key != NULL && are_bytes(text, text_length) && are_bytes(to, capacity) && length != NULL;
+}
+
+int32_t ap_seal(const struct ap_key *key, uint32_t usage, const uint8_t *random, const void *text, size_t text_length,
+		void *to, size_t capacity, size_t *length)
+{
+	struct sealing sealing = { usage, { 0 } };
+	uint8_t none;
+
+	if (!are_judged(key, text, text_length, to, capacity, length) || random == NULL)
+		return AP_BAD_ARGUMENT;
+	memcpy(sealing.random, random, sizeof sealing.random);
+	return ap_accept_c_v3_seal(key, &sealing, bytes_at(text), text_length, to == NULL ? &none : (uint8_t *)to, capacity,
+				   length);
+}
+
+int32_t ap_unseal(const struct ap_key *key, uint32_t usage, const void *sealed, size_t sealed_length, void *to,
+		  size_t capacity, size_t *length)
+{
+	uint8_t none;
+
+	if (!are_judged(key, sealed, sealed_length, to, capacity, length))
+		return AP_BAD_ARGUMENT;
+	return ap_accept_c_v3_unseal(key, usage, bytes_at(sealed), sealed_length, to == NULL ? &none : (uint8_t *)to,
+				     capacity, length);
+}
+
+int32_t ap_checksum(const struct ap_key *key, uint32_t usage, const void *text, size_t text_length, void *to,
+		    size_t capacity, size_t *length)
+{
+	uint8_t none;
+
+	if (!are_judged(key, text, text_length, to, capacity, length))
+		return AP_BAD_ARGUMENT;
+	return ap_accept_c_v3_checksum(key, usage, bytes_at(text), text_length, to == NULL ? &none : (uint8_t *)to,
+				       capacity, length);
+}
+
+int32_t ap_verify(const struct ap_key *key, uint32_t usage, const void *text, size_t text_length,
+		  const void *checksum, size_t checksum_length)
+{
+	if (key == NULL || !are_bytes(text, text_length) || !are_bytes(checksum, checksum_length))
+		return AP_BAD_ARGUMENT;
+	return ap_accept_c_v3_verify(key, usage, bytes_at(text), text_length, bytes_at(checksum), checksum_length);
 }
 
 uint32_t ap_version(void)

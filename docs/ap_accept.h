@@ -24,12 +24,17 @@
  * peer is never the caller's fault. AP_BAD_ARGUMENT is: a null pointer with a length, a null pointer to anything else,
  * a length above PTRDIFF_MAX, a number out of its range, and an acceptor that is none (not initialized, or copied from
  * another place). The acceptor is then as it was: ap_octets returns what it returned before. And the call writes
- * nothing, except that ap_accept sets all of *accepted to zero if the time is out of its range, and ap_octets sets
- * *length to 0 if there is no such part.
+ * nothing, except that ap_accept sets all of *accepted to zero if the time is out of its range, and that *length is set
+ * to 0 if there is no such part, no such usage, or no encryption type with a key's number.
+ *
+ * Threads. The library has no lock, and no variable of its own. Threads may share an acceptor if they hold one lock
+ * around ap_accept and the calls that copy what it accepted. The calls without an acceptor need no lock. Threads with
+ * an acceptor each need none either, but share no replay cache: what one accepted can be replayed to another. So each
+ * then needs a service name and a key of its own.
  *
  * No call can check the caller's part: that a pointer that is not null points to as much memory as the caller says,
- * that no two arguments of a call overlap, that nobody writes into a struct ap_acceptor, and that it stays on the
- * thread that opened it.
+ * that no two arguments of a call overlap, that nobody writes into a struct ap_acceptor, and that no two threads make a
+ * call with one at a time.
  */
 #ifndef AP_ACCEPT_H
 #define AP_ACCEPT_H
@@ -143,6 +148,12 @@ enum ap_part {
 	AP_SERVICE_REALM = 7, /* of the service that the ticket is for */
 	AP_SERVICE_NAME = 8,
 	AP_KRB_ERROR = 9      /* of a refused AP-REQ: the KRB-ERROR, which the service may send (ap_error) */
+};
+
+/* A key: its encryption type, 17 to 20, and its bytes: 16 for the types 17 and 19, 32 for 18 and 20. */
+struct ap_key {
+	int32_t type;
+	uint8_t octets[32];
 };
 
 /* The lists of authorization data (RFC 4120, section 5.2.6): of the ticket, and of the authenticator. */
@@ -280,6 +291,59 @@ size_t ap_text(struct ap_acceptor *acceptor, int32_t status, char *to, size_t ca
  * (there is none), AP_CLOSED or AP_BAD_ARGUMENT.
  */
 int32_t ap_verify_checksum(struct ap_acceptor *acceptor, const void *octets, size_t octets_length);
+
+/*
+ * Copies the key that the service shares with the client that it accepted last: the client's subkey, or the session key
+ * if it chose none (RFC 4120, section 5.5.1). What both say from then on can be protected with it by the four calls
+ * below. They take no acceptor, so they may be made on any thread, and for each client as long as it is served. The
+ * session key or the subkey alone is made of a type of struct ap_accepted and what ap_octets copies.
+ *
+ * AP_DONE, AP_ABSENT (nothing was accepted), AP_CLOSED or AP_BAD_ARGUMENT.
+ */
+int32_t ap_shared_key(struct ap_acceptor *acceptor, struct ap_key *key);
+
+/*
+ * Seals bytes: encrypts them, and adds what shows any change, as the key's encryption type defines it (RFC 3961, 3962
+ * and 8009). krb5_c_encrypt and krb5_c_decrypt of MIT are the counterparts of ap_seal and ap_unseal.
+ *
+ * usage: a number for what the bytes are, 1024 to 2047 (RFC 4120, section 7.5.1). A key has other keys within for each.
+ * Take another number for each kind of message, and for each direction: else a message can be sent back, or in place of
+ * another. These calls number no messages, and find none that is missing or repeated: the application does.
+ * random: 16 random bytes, new in each call.
+ * to, capacity, length: as for ap_octets; there are at most 40 bytes more than text has.
+ *
+ * AP_DONE, AP_TOO_SMALL, AP_NO_MEMORY or AP_BAD_ARGUMENT.
+ */
+int32_t ap_seal(const struct ap_key *key, uint32_t usage, const uint8_t *random, const void *text, size_t text_length,
+		void *to, size_t capacity, size_t *length);
+
+/*
+ * Opens sealed bytes, and releases none before all are checked.
+ *
+ * to, capacity, length: as for ap_octets; there are fewer bytes than sealed has. length is 0 if nothing is opened.
+ *
+ * AP_DONE, AP_BAD_INTEGRITY (nothing was sealed to these bytes with this key and usage), AP_TOO_SMALL, AP_NO_MEMORY or
+ * AP_BAD_ARGUMENT.
+ */
+int32_t ap_unseal(const struct ap_key *key, uint32_t usage, const void *sealed, size_t sealed_length, void *to,
+		  size_t capacity, size_t *length);
+
+/*
+ * Copies the checksum of bytes, of the checksum type for the key's encryption type: 12, 16 or 24 bytes
+ * (krb5_c_make_checksum of MIT).
+ *
+ * AP_DONE, AP_TOO_SMALL or AP_BAD_ARGUMENT.
+ */
+int32_t ap_checksum(const struct ap_key *key, uint32_t usage, const void *text, size_t text_length, void *to,
+		    size_t capacity, size_t *length);
+
+/*
+ * Checks whether these bytes are the checksum of a text.
+ *
+ * AP_DONE, AP_MODIFIED (they are not) or AP_BAD_ARGUMENT.
+ */
+int32_t ap_verify(const struct ap_key *key, uint32_t usage, const void *text, size_t text_length,
+		  const void *checksum, size_t checksum_length);
 
 /* Returns the version of the library: the AP_VERSION of the header that it was built for. */
 uint32_t ap_version(void);

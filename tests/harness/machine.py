@@ -14,7 +14,8 @@ from harness.tests import Given
 from harness.tracer import lacking
 
 SERVICES = TOP / "tests" / "services"
-SANITIZERS = ("-g", "-fsanitize=address,undefined")
+SANITIZERS, OF_THREADS = ("-g", "-fsanitize=address,undefined"), ("-g", "-fsanitize=thread")
+STRICT = ("-std=c11", "-pedantic", "-Wall", "-Wextra", "-Werror")
 # Programs that show whether a compiler finds what a test needs.
 PROBE = "int main(void) { return 0; }\n"
 KRB5_PROBE = "#include <krb5.h>\nint main(void) { krb5_context context; krb5_init_context(&context); return 0; }\n"
@@ -23,8 +24,9 @@ STOCK = {
     "mit": ("krb5kdc", "kdb5_util", "kadmin.local", "kinit", "kvno"), "heimdal": ("kgetcred", "kdc", "kadmin.heimdal")
 }
 CALLED = {"mit": "MIT's krb5kdc", "heimdal": "Heimdal's kdc"}
-# The programs that are compiled: over MIT's library, and over the library for C.
-OVER_KRB5, OVER_OURS = ("ap_client", "mk_req"), ("ap_service", "ap_judged")
+# The programs that are compiled: over MIT's library, over the library for C, over both, and with threads.
+OVER_KRB5, OVER_OURS, OVER_BOTH = ("ap_client", "mk_req"), ("ap_service", "ap_judged"), ("ap_sealed",)
+WITH_THREADS = "ap_threads"
 
 
 class Missing(Exception):
@@ -45,7 +47,7 @@ class Machine:
         self.environment = unpacked(*self.roots.values())
         self.scratch, self.groups, self.alone = scratch, groups, threading.Lock()
         self.library, self.lacks_sanitizers = programs / LIBRARY.name if programs else LIBRARY, False
-        made = {name: str(scratch / name) for name in (*OVER_KRB5, *OVER_OURS)}
+        made = {name: str(scratch / name) for name in (*OVER_KRB5, *OVER_OURS, *OVER_BOTH, WITH_THREADS)}
         self.given = Given(str(programs or TOP / "crates"), self.roots, made)
 
     @staticmethod
@@ -61,7 +63,8 @@ class Machine:
                     raise Missing(CALLED[need])
             else:
                 {
-                    "strace": self.strace, "krb5": self.krb5, "kinit": self.kinit, "services_in_c": self.services_in_c
+                    "strace": self.strace, "krb5": self.krb5, "kinit": self.kinit, "services_in_c": self.services_in_c,
+                    "both_in_c": self.both_in_c, "threads_in_c": self.threads_in_c
                 }[need]()
 
     @staticmethod
@@ -97,12 +100,16 @@ class Machine:
             if ran.returncode:
                 raise RuntimeError(f"{name} is not compiled: {ran.stdout[-600:]}")
 
-    def krb5(self):
-        """Compiles programs that call MIT's library, from the packages or from the system."""
+    def krb5_words(self):
+        """The words by which a compiler finds MIT's library, of the packages or of the system."""
         root = self.roots.get("mit", "/").rstrip("/")
         places = [f"-L{each}" for each in pathlib.Path(root or "/").glob("usr/lib/*/") if root]
         places += ["-I", f"{root}/usr/include", "-I", f"{root}/usr/include/mit-krb5"] if root else []
-        words = (*places, "-Wl,--allow-shlib-undefined", "-lkrb5")
+        return *places, "-Wl,--allow-shlib-undefined", "-lkrb5"
+
+    def krb5(self):
+        """Compiles programs that call MIT's library."""
+        words = self.krb5_words()
         if not self.can_compile(KRB5_PROBE, *words):
             raise Missing("MIT's library with its header (Debian: libkrb5-dev)")
         for name in OVER_KRB5:
@@ -123,4 +130,19 @@ class Machine:
                 if ran.returncode:
                     raise RuntimeError(f"the library for C is not built: {ran.stdout[-600:]}")
             for name in OVER_OURS:
-                self.compile(name, *[] if self.lacks_sanitizers else SANITIZERS, self.library)
+                self.compile(name, *STRICT, *[] if self.lacks_sanitizers else SANITIZERS, self.library)
+
+    def both_in_c(self):
+        """Compiles programs over MIT's library and the library for C."""
+        self.krb5()
+        self.services_in_c()
+        for name in OVER_BOTH:
+            words = [] if self.lacks_sanitizers else SANITIZERS
+            self.compile(name, *words, self.library, *self.krb5_words(), "-lk5crypto")
+
+    def threads_in_c(self):
+        """Compiles a program with threads, with the sanitizer of threads if the compiler has it."""
+        self.services_in_c()
+        if not self.can_compile(PROBE, *OF_THREADS):
+            raise Missing("the sanitizer of threads, which cc has not, or which doesn't run here")
+        self.compile(WITH_THREADS, *STRICT, *OF_THREADS, self.library, "-lpthread")

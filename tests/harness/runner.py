@@ -153,7 +153,7 @@ class Run:
             fault = "it ended without a count"
         if fault:
             return Outcome(test, 0, 1, seconds, [*[f"WRONG {line}" for line in lines[-8:]], f"WRONG {fault}"])
-        if "services_in_c" in test.needs and self.machine.lacks_sanitizers:
+        if {"services_in_c", "both_in_c"} & {*test.needs} and self.machine.lacks_sanitizers:
             lines.insert(
                 0,
                 "left  the sanitizers of addresses and of undefined behavior, which cc has not, or which don't run here"
@@ -196,7 +196,7 @@ def go(run, chosen, shows_all):
 
 
 def uses_stock(test):
-    return test.uses_stock or {"mit", "heimdal", "krb5", "kinit"} & {*test.needs}
+    return test.uses_stock or {"mit", "heimdal", "krb5", "kinit", "both_in_c"} & {*test.needs}
 
 
 def listed(what, lines):

@@ -6,6 +6,7 @@ import shutil
 import subprocess
 import tarfile
 
+from c_library import shared_name
 from install import Refused
 from make_release import passed, release
 
@@ -75,6 +76,7 @@ def files(trial):
     refused = refusal(release, trial.folder, programs, library, *words)
     trial.note("without the library it is refused", "it is not" * (not refused))
     library.write_bytes(b"!<arch>\n")
+    (trial.folder / shared_name()).write_bytes(b"\x7fELF")
     unproved = stand_ins(trial.folder / "unproved", kdcd=UNPROVED)
     refused = refusal(release, trial.folder, unproved, library, *words)
     trial.note("an unproved kdcd is refused", "it is not" * (not refused))
@@ -91,7 +93,7 @@ def files(trial):
     trial.note("both have the same files", differs(octets_in(folder), octets_in(trial.folder / "package")))
     said = (folder / "usr/share/doc/plovertrunk/COMMIT").read_text()
     trial.note("the commit", differs(said, f"commit {COMMIT}\ngate 3 passed, 0 failed\n"))
-    wanted = ("bin/kdcd", "lib/libap_accept.a", "include/ap_accept.h")
+    wanted = ("bin/kdcd", "lib/libap_accept.a", "include/ap_accept.h", f"lib/{shared_name()}")
     trial.note("what it has to have", ", ".join(name for name in wanted if not (folder / "usr" / name).exists()))
     again = release(trial.folder / "two", programs, library, *words)[1]
     trial.note("two runs make the same archive", "they differ" * (again.read_bytes() != archive.read_bytes()))

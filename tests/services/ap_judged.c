@@ -350,6 +350,71 @@ static void has_no_more(const uint8_t *keytab, size_t keytab_length, const uint8
 	expect("close it", ap_close(&acceptor), AP_DONE);
 }
 
+/* The key that both sides share, without a subkey: the session key. What one end seals with it, another opens. */
+static void shares(const uint8_t *keytab, size_t keytab_length, const uint8_t *ap_req, size_t ap_req_length)
+{
+	static const uint8_t random[16];
+	struct ap_acceptor acceptor = AP_ACCEPTOR_INIT;
+	struct ap_accepted numbers;
+	struct ap_key key = { 7, { 7 } };
+	uint8_t octets[LONGEST_KEY], sealed[64], text[64];
+	size_t length = 0;
+	int64_t now = (int64_t)time(NULL);
+
+	expect("a key of a closed one", ap_shared_key(&acceptor, &key), AP_CLOSED);
+	expect("open for a key", opened(&acceptor, keytab, keytab_length, 1024, now, 0), AP_DONE);
+	expect("a key of nobody", ap_shared_key(&acceptor, &key), AP_ABSENT);
+	expect("nothing written", key.type == 7 && key.octets[0] == 7, 1);
+	expect("accepted for a key", taken(&acceptor, now, 0, random, ap_req, ap_req_length, &numbers), AP_DONE);
+	expect("nowhere for a key", ap_shared_key(&acceptor, NULL), AP_BAD_ARGUMENT);
+	expect("a key", ap_shared_key(&acceptor, &key), AP_DONE);
+	expect("its type", key.type, numbers.session_key_type);
+	expect("the session key", ap_octets(&acceptor, AP_SESSION_KEY, octets, sizeof octets, &length), AP_DONE);
+	expect("the same", memcmp(key.octets, octets, length), 0);
+	for (size_t at = length; at < LONGEST_KEY; at++)
+		expect("zeros behind it", key.octets[at], 0);
+	expect("close before it is used", ap_close(&acceptor), AP_DONE);
+	expect("sealed", ap_seal(&key, 1024, random, "text", 4, sealed, sizeof sealed, &length), AP_DONE);
+	expect("opened", ap_unseal(&key, 1024, sealed, length, text, sizeof text, &length), AP_DONE);
+	expect("the text", length == 4 && memcmp(text, "text", 4) == 0, 1);
+}
+
+/* Bad arguments of the calls that take a key. */
+static void protects(void)
+{
+	static const uint8_t random[16];
+	const size_t beyond = (size_t)PTRDIFF_MAX + TOO_LONG;
+	const struct ap_key key = { .type = 17 };
+	uint8_t to[64] = { UNWRITTEN };
+	size_t length = 7;
+
+	expect("no key to seal", ap_seal(NULL, 1024, random, "text", 4, to, 64, &length), AP_BAD_ARGUMENT);
+	expect("no random octets", ap_seal(&key, 1024, NULL, "text", 4, to, 64, &length), AP_BAD_ARGUMENT);
+	expect("no text", ap_seal(&key, 1024, random, NULL, 4, to, 64, &length), AP_BAD_ARGUMENT);
+	expect("a text too long", ap_seal(&key, 1024, random, "text", beyond, to, 64, &length), AP_BAD_ARGUMENT);
+	expect("no buffer", ap_seal(&key, 1024, random, "text", 4, NULL, 64, &length), AP_BAD_ARGUMENT);
+	expect("a buffer too long", ap_seal(&key, 1024, random, "text", 4, to, beyond, &length), AP_BAD_ARGUMENT);
+	expect("no length", ap_seal(&key, 1024, random, "text", 4, to, 64, NULL), AP_BAD_ARGUMENT);
+	expect("no key to open", ap_unseal(NULL, 1024, "text", 4, to, 64, &length), AP_BAD_ARGUMENT);
+	expect("nothing to open", ap_unseal(&key, 1024, NULL, 4, to, 64, &length), AP_BAD_ARGUMENT);
+	expect("nowhere to open", ap_unseal(&key, 1024, "text", 4, NULL, 64, &length), AP_BAD_ARGUMENT);
+	expect("no key to sum", ap_checksum(NULL, 1024, "text", 4, to, 64, &length), AP_BAD_ARGUMENT);
+	expect("nothing to sum", ap_checksum(&key, 1024, NULL, 4, to, 64, &length), AP_BAD_ARGUMENT);
+	expect("no key to verify", ap_verify(NULL, 1024, "text", 4, "sum", 3), AP_BAD_ARGUMENT);
+	expect("nothing to verify", ap_verify(&key, 1024, NULL, 4, "sum", 3), AP_BAD_ARGUMENT);
+	expect("no checksum", ap_verify(&key, 1024, "text", 4, NULL, 3), AP_BAD_ARGUMENT);
+	expect("a checksum too long", ap_verify(&key, 1024, "text", 4, "sum", beyond), AP_BAD_ARGUMENT);
+	expect("nothing written", to[0], UNWRITTEN);
+	expect("the length as it was", (long)length, 7);
+	expect("no octets to open", ap_unseal(&key, 1024, NULL, 0, NULL, 0, &length), AP_BAD_INTEGRITY);
+	expect("no octets opened", (long)length, 0);
+	expect("a checksum of nothing", ap_verify(&key, 1024, NULL, 0, NULL, 0), AP_MODIFIED);
+	expect("nothing, sealed", ap_seal(&key, 1024, random, NULL, 0, to, 64, &length), AP_DONE);
+	expect("its length", (long)length, 28);
+	expect("opened nowhere", ap_unseal(&key, 1024, to, 28, NULL, 0, &length), AP_DONE);
+	expect("of no length", (long)length, 0);
+}
+
 /* The bytes for hexadecimal digits, and their number. */
 static size_t octets_of(const char *digits, uint8_t *to)
 {
@@ -408,7 +473,9 @@ int main(int count, char **words)
 		survives(keytab, length, ap_req, octets_of(words[2], ap_req));
 		says_why(keytab, length, ap_req, octets_of(words[2], ap_req));
 		has_no_more(keytab, length, ap_req, octets_of(words[2], ap_req));
+		shares(keytab, length, ap_req, octets_of(words[2], ap_req));
 	}
+	protects();
 	texts();
 	printf("%d failed\n", failures);
 	return failures != 0;

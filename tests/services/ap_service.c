@@ -4,10 +4,10 @@
  *     ap_service KEYTAB PORT [first] [save=FILE] [for=NAME] [CONNECTIONS]
  *
  * It listens on 127.0.0.1, reads an AP-REQ on each connection, prints who sent it and for which service, or why it is
- * refused, and answers with the AP-REP if the client asks for one. With a NAME it accepts for that service alone. It
- * ends after CONNECTIONS connections, or at SIGTERM. When it ends, it saves in FILE what it accepted, and goes on with
- * that the next time. The word first says that it never ran before. Without it and such a file all clients are refused
- * for 301 seconds (docs/SERVICES.md, 'Starts and restarts').
+ * refused, and answers with the AP-REP if the client asks for one. With a NAME it accepts for that service alone. At
+ * SIGHUP it takes the keys of KEYTAB anew. It ends after CONNECTIONS connections, or at SIGTERM. When it ends, it saves
+ * in FILE what it accepted, and goes on with that the next time. The word first says that it never ran before. Without
+ * it and such a file all clients are refused for 301 seconds (docs/SERVICES.md, 'Starts and restarts').
  *
  * A connection has messages, each after its length in four bytes, the most significant first, as MIT's library writes
  * them (krb5_write_message). The client sends an AP-REQ and gets an AP-REP, or an empty message if it asked for none;
@@ -16,8 +16,10 @@
  * seconds after it was accepted, however slowly its peer sends and reads: a limit for each read alone would let a peer
  * that sends a byte now and then keep it, and all others with it, since this example serves one connection at a time.
  *
- * docs/SERVICES.md, 'In C', says how to build it.
+ * docs/SERVICES.md, 'In C', says how to build it. It is C11, with what POSIX and getrandom add.
  */
+#define _DEFAULT_SOURCE
+
 #include "ap_accept.h"
 
 #include <arpa/inet.h>
@@ -367,23 +369,39 @@ static void open_acceptor(struct ap_acceptor *acceptor, const char *path, bool i
 	}
 }
 
-/* ---- ending */
+/* ---- signals */
 
-static volatile sig_atomic_t is_asked_to_end;
+static volatile sig_atomic_t is_asked_to_end, is_asked_to_read;
 
-static void ask_to_end(int number)
+static void take_signal(int number)
 {
-	(void)number;
-	is_asked_to_end = 1;
+	if (number == SIGHUP)
+		is_asked_to_read = 1;
+	else
+		is_asked_to_end = 1;
+}
+
+/* Takes the keys of the keytab anew. If that can't be read, the old ones stay. */
+static void read_keys(struct ap_acceptor *acceptor, const char *path)
+{
+	size_t length = 0;
+	uint8_t *keytab = file_at(path, &length);
+	int32_t status = keytab == NULL ? AP_BAD_KEYTAB : ap_replace_keytab(acceptor, keytab, length);
+
+	is_asked_to_read = 0;
+	free(keytab);
+	printf("%s\n", status == AP_DONE ? "the keys are read" : "the keytab can't be read: the old keys stay");
 }
 
 /* Waits for a connection. Returns false if the service is asked to end; only here does a signal come in. */
-static bool waits_for_one(int listener, const sigset_t *usual)
+static bool waits_for_one(int listener, const sigset_t *usual, struct ap_acceptor *acceptor, const char *path)
 {
 	fd_set listeners;
 	int ready;
 
 	do {
+		if (is_asked_to_read)
+			read_keys(acceptor, path);
 		FD_ZERO(&listeners);
 		FD_SET(listener, &listeners);
 		ready = is_asked_to_end ? 0 : pselect(listener + 1, &listeners, NULL, NULL, NULL, usual);
@@ -393,12 +411,14 @@ static bool waits_for_one(int listener, const sigset_t *usual)
 
 static sigset_t take_signals(void)
 {
-	struct sigaction end = { .sa_handler = ask_to_end };
-	sigset_t ending, usual;
+	struct sigaction taken = { .sa_handler = take_signal };
+	sigset_t signals, usual;
 
-	sigemptyset(&ending);
-	sigaddset(&ending, SIGTERM);
-	if (sigprocmask(SIG_BLOCK, &ending, &usual) != 0 || sigaction(SIGTERM, &end, NULL) != 0)
+	sigemptyset(&signals);
+	sigaddset(&signals, SIGTERM);
+	sigaddset(&signals, SIGHUP);
+	if (sigprocmask(SIG_BLOCK, &signals, &usual) != 0 || sigaction(SIGTERM, &taken, NULL) != 0 ||
+	    sigaction(SIGHUP, &taken, NULL) != 0)
 		stop("signals can't be taken");
 	return usual;
 }
@@ -445,7 +465,7 @@ int main(int count, char **words)
 	if (ap_set_service(&acceptor, name, strlen(name)) != AP_DONE)
 		stop("the name is not that of a service");
 	listener = listen_on(words[2]);
-	for (; connections != 0 && waits_for_one(listener, &usual); connections -= connections > 0) {
+	for (; connections != 0 && waits_for_one(listener, &usual, &acceptor, words[1]); connections -= connections > 0) {
 		struct connection connection = { .socket = accept(listener, NULL, NULL), .end = milliseconds() + MOST_MILLISECONDS };
 		if (connection.socket < 0)
 			continue;

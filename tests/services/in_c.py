@@ -1,6 +1,7 @@
 """Services in C (`ap_service.c`) in a realm of this repository, for each encryption type: `kadm` makes the realm and
 the keytab, `kdcd serve` issues the tickets, MIT's `kinit` logs in, and `ap_client.c` presents tickets by MIT's library.
-`ap_judged.c` tries what the header says about bad calls and about accepted AP-REQs, with an AP-REQ from `mk_req.c`.
+`ap_judged.c` tries what the header says about bad calls and about accepted AP-REQs, with an AP-REQ from `mk_req.c`;
+`ap_sealed.c` that MIT's library opens what is sealed here, and the other way.
 These programs are compiled as
 
     cc -g -fsanitize=address,undefined -I docs -o NAME tests/services/NAME.c \\
@@ -202,6 +203,14 @@ def by_mit(trial):
 def by_mit_past_its_end(trial):
     """The same, and a ticket that is past its end, which takes six minutes."""
     go(trial, OLD)
+
+
+@test(needs=("both_in_c",), seconds=10)
+def sealing(trial):
+    """What the library for C seals, MIT's opens, and the other way, for each type; checksums likewise."""
+    trial.enter("sealing")
+    ran = subprocess.run([trial.given.made["ap_sealed"]], capture_output=True, text=True, timeout=PATIENCE)
+    trial.same("ap_sealed", (ran.returncode, ran.stdout, ran.stderr), (0, "0 failed\n", ""))
 
 
 @test("kadm", "kdcd", "kclient", needs=("services_in_c",), seconds=60)

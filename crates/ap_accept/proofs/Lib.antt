@@ -7,6 +7,6 @@ pub mod Unseen
 pub mod Ruling
 pub mod Listed
 pub mod Putting
-pub mod Taking
 pub mod Resuming
 pub mod Others
+pub mod Lives

@@ -13,8 +13,10 @@ pub mod Accepts
 pub mod Label
 pub mod Named
 pub mod Checksum
+pub mod Protection
 pub mod Stages
 pub mod Run
+pub mod Lives
 -- laws that proofs cite; readers of a contract don't need them
 pub mod PresentedLaws
 pub mod StageLaws

@@ -3,11 +3,13 @@
 use Rattle.std.specs.Prelude.{◌≡◌, ◌++◌, ◌==◌, ℕ, ℤ, ⊤, List, [], ◌∷◌, take, Option, Some, None, Result, Ok, Err}
 use Rattle.std.specs.Prelude.{if◌then◌else◌, option_map}
 use Rattle.std.specs.FinMap as map
-use Rattle.std.specs.Int.{w64, from_be_bytes, cast_signed}
 use Rattle.std.specs.Str.{bytes_eq}
 use Rattle.sha2.specs.Sha256.{sha256}
 use Rattle.cred_files.specs.Form.{◌>>=◌, part, several}
 use Rattle.cred_files.specs.Format.{signed32, word32}
+use Rattle.cred_files.specs.Wide.{signed64, word64}
+use Rattle.cred_files.specs.declared.fault.Cut.{Cut}
+use Rattle.cred_files.specs.declared.fault.Cut.TheVariants as cuts
 use Rattle.cred_files.specs.declared.keytab_entry.KeytabEntry.{KeytabEntry}
 use Rattle.krb_fields.specs.PrincipalName.{Name}
 use Rattle.principal_rows.specs.NameMap.{pairs}
@@ -29,11 +31,11 @@ abbrev pub Reading : Type 0 → Type 0
 Reading A = List ℕ → Option (A × List ℕ)
 
 abbrev pub word : Reading ℕ
-word bytes = part 8 bytes >>= λ p. Some (from_be_bytes w64 p.0, p.1)
+word = word64
 
 -- seconds since 1970, in two's complement
 abbrev pub second : Reading ℤ
-second bytes = part 8 bytes >>= λ p. Some (cast_signed w64 (from_be_bytes w64 p.0), p.1)
+second = signed64
 
 -- bytes after their number
 abbrev pub octets : Reading (List ℕ)
@@ -116,17 +118,11 @@ abbrev pub Fails : {Y : Type 0} → ResumeFault → Option Y → Type 0
 Fails NotSaved read = read ≡ None
 Fails Memory read = ⊤
 
--- the value is what is read, unless memory ran out
-abbrev pub Reads : {X : Type 0} → Result X ResumeFault → List ℕ → Option (X × List ℕ) → Type 0
-Reads (Ok x) left read = read ≡ Some (x, left)
-Reads (Err fault) left read = Fails fault read
+abbrev pub resume_fault : Cut → ResumeFault
+resume_fault cuts.End = NotSaved
+resume_fault cuts.Memory = Memory
 
--- the same, with the value seen by `view`
-abbrev pub ReadsBy : {X Y : Type 0} → (X → Y) → Result X ResumeFault → List ℕ → Option (Y × List ℕ) → Type 0
-ReadsBy view (Ok x) left read = read ≡ Some (view x, left)
-ReadsBy view (Err fault) left read = Fails fault read
-
--- the same for all bytes
+-- the value is what the bytes hold, unless memory ran out
 abbrev pub IsFound : {X : Type 0} → Result X ResumeFault → Option X → Type 0
 IsFound (Ok x) found = found ≡ Some x
 IsFound (Err fault) found = Fails fault found

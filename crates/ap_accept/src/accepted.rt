@@ -3,6 +3,7 @@ use cred_files::Principal;
 use enctypes::Key;
 use krb_elements::{Octets, Seq, UInt32};
 use krb_fields::{Name, Typed};
+use std::fmt;
 use ticket_times::TicketTerms;
 
 /// An accepted AP-REQ: the service and the client, the ticket's terms, and what the authenticator carries (RFC 4120,
@@ -30,4 +31,19 @@ pub struct Accepted {
     pub authorization: Option<Seq<Typed>>,
     /// The bytes of the AP-REP (RFC 4120, section 5.5.2), if the client asks the service to prove its identity.
     pub ap_rep: Option<Octets>,
+}
+
+/// Debug output may end up in logs, so it shows no key and nothing that is for the application: the client, when the
+/// ticket ends, and the encryption types of the keys.
+impl fmt::Debug for Accepted {
+    fn fmt<W: fmt::Write>(&self, f: &mut fmt::Formatter<W>) -> fmt::Result {
+        write!(
+            f,
+            "Accepted {{ client: {}, endtime: {}, session_key: {:?}, subkey: {:?}, .. }}",
+            self.client,
+            self.ticket.endtime.seconds(),
+            self.session_key,
+            self.subkey,
+        )
+    }
 }

@@ -8,9 +8,8 @@ ghost use Rattle.ap_accept.specs.Clients.{empty_cache};
 ghost use Rattle.ap_accept.specs.Saved.{cache};
 ghost use Rattle.ap_accept.specs.Stamps.{cache_with, listed, with_stamps};
 
-use crate::fault::ResumeFault;
 use crate::saved::{Saved, put_list, put_second, take_list};
-use crate::saved_reader::SavedReader;
+use cred_files::{Cut, Reader};
 use krb_fields::Moment;
 use replay::{Failures, Pairs, ReplayCache};
 use std::alloc::{AllocError, Global};
@@ -138,8 +137,8 @@ fn drop_below(stamps: &mut Vec<(i64, u32)>, floor: i64)
 impl Saved for Client {
     ghost at = { cache };
 
-    fn take(alloc: Global, reader: &mut SavedReader<'_>) -> Result<Client, ResumeFault> {
-        let floor = reader.read_second()?;
+    fn take(alloc: Global, reader: &mut Reader<'_>) -> Result<Client, Cut> {
+        let floor = reader.read_i64()?;
         let stamps = take_list(alloc, reader)?;
         Ok(Client::of(alloc, floor, stamps)?)
     }

@@ -9,10 +9,9 @@ ghost use Rattle.ap_accept.specs.Clients.{opened_clients, with_cache};
 ghost use Rattle.ap_accept.specs.Saved.{clients};
 
 use crate::client::Client;
-use crate::fault::ResumeFault;
 use crate::presented::Presented;
 use crate::saved::{Saved, put_list, put_second, take_list};
-use crate::saved_reader::SavedReader;
+use cred_files::{Cut, Reader};
 use krb_fields::{Moment, Name, SKEW};
 use principal_rows::{NameMap, ValueTest};
 use replay::ReplayCache;
@@ -166,8 +165,8 @@ impl ValueTest<Client> for Lasting {
 impl Saved for Clients {
     ghost at = { clients };
 
-    fn take(alloc: Global, reader: &mut SavedReader<'_>) -> Result<Clients, ResumeFault> {
-        let floor = reader.read_second()?;
+    fn take(alloc: Global, reader: &mut Reader<'_>) -> Result<Clients, Cut> {
+        let floor = reader.read_i64()?;
         let caches = take_list(alloc, reader)?;
         Ok(Clients {
             floor,

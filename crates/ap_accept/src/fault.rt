@@ -1,10 +1,12 @@
 //! Errors of calls of an acceptor.
 ghost use Rattle.std.specs.Prelude.{◌≡◌};
+ghost use Rattle.ap_accept.specs.Saved.{resume_fault};
 ghost use Rattle.ap_accept.specs.declared.fault.ApFault.TheVariants.{Refused, Memory};
 ghost use Rattle.ap_accept.specs.declared.fault.ResumeFault.TheVariants as resuming;
 
 use ap_req::ApRefusal;
-use std::alloc::{AllocError, AllocFailed};
+use cred_files::Cut;
+use std::alloc::AllocError;
 use std::error::Error;
 use std::fmt;
 
@@ -75,10 +77,14 @@ impl From<AllocError> for ResumeFault {
     }
 }
 
-impl<T: Drop> From<AllocFailed<T>> for ResumeFault {
-    ghost from_gives = { λ _ fault. fault ≡ resuming.Memory };
+/// The bytes end too early, or memory ran out.
+impl From<Cut> for ResumeFault {
+    ghost from_gives = { λ cut fault. fault ≡ resume_fault cut };
 
-    fn from(_error: AllocFailed<T>) -> ResumeFault {
-        ResumeFault::Memory
+    fn from(cut: Cut) -> ResumeFault {
+        match cut {
+            Cut::End => ResumeFault::NotSaved,
+            Cut::Memory => ResumeFault::Memory,
+        }
     }
 }

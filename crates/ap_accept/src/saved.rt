@@ -2,10 +2,10 @@
 ghost use Rattle.std.specs.Prelude.{◌≡◌, ◌++◌, length, OnOk};
 ghost use Rattle.cred_files.specs.Form.{several};
 ghost use Rattle.cred_files.specs.Format.{signed32, word32};
-ghost use Rattle.ap_accept.specs.Saved.{entry, list, name, octets, second, stamp, word, Puts, Reads, ReadsBy};
+ghost use Rattle.cred_files.specs.Reading.{Reads, ReadsBy};
+ghost use Rattle.ap_accept.specs.Saved.{entry, list, name, octets, second, stamp, word, Puts};
 
-use crate::fault::ResumeFault;
-use crate::saved_reader::SavedReader;
+use cred_files::{Cut, Reader};
 use krb_elements::{KerberosString, Seq};
 use krb_fields::Name;
 use principal_rows::Entry;
@@ -19,7 +19,7 @@ pub trait Saved: Sized + Drop {
     ghost at: { Reading Self };
 
     /// Reads a value from the front.
-    fn take(alloc: Global, reader: &mut SavedReader<'_>) -> Result<Self, ResumeFault>
+    fn take(alloc: Global, reader: &mut Reader<'_>) -> Result<Self, Cut>
         ensures { Reads result reader.new (Self.at reader.old) };
 
     /// Appends the value. After an `Err` a part of it may have been appended.
@@ -55,6 +55,14 @@ fn put_i32(out: &mut Vec<u8>, number: i32) -> Result<(), AllocError>
     out.extend_from_slice(&number.to_be_bytes())
 }
 
+/// Reads bytes after their length.
+fn read_octets<'a>(reader: &mut Reader<'a>) -> Result<&'a [u8], Cut>
+    ensures { ReadsBy (λ part. part.now) result reader.new (octets reader.old) }
+{
+    let len = reader.read_u64()?;
+    reader.read_part(len as usize)
+}
+
 /// Appends bytes.
 pub fn append(out: &mut Vec<u8>, octets: &[u8]) -> Result<(), AllocError>
     ensures { OnOk result (out.new.items ≡ out.old.items ++ octets.now) }
@@ -65,11 +73,7 @@ pub fn append(out: &mut Vec<u8>, octets: &[u8]) -> Result<(), AllocError>
 // ---- lists
 
 /// Reads this many values.
-fn take_several<T: Saved>(
-    alloc: Global,
-    reader: &mut SavedReader<'_>,
-    count: u64,
-) -> Result<Vec<T>, ResumeFault>
+fn take_several<T: Saved>(alloc: Global, reader: &mut Reader<'_>, count: u64) -> Result<Vec<T>, Cut>
     ensures { ReadsBy (λ v. v.items) result reader.new (several T.at count reader.old) }
 {
     let mut values = Vec::new(alloc);
@@ -81,13 +85,10 @@ fn take_several<T: Saved>(
 }
 
 /// Reads values after their number.
-pub fn take_list<T: Saved>(
-    alloc: Global,
-    reader: &mut SavedReader<'_>,
-) -> Result<Vec<T>, ResumeFault>
+pub fn take_list<T: Saved>(alloc: Global, reader: &mut Reader<'_>) -> Result<Vec<T>, Cut>
     ensures { ReadsBy (λ v. v.items) result reader.new (list T.at reader.old) }
 {
-    let count = reader.read_word()?;
+    let count = reader.read_u64()?;
     take_several(alloc, reader, count)
 }
 
@@ -115,8 +116,8 @@ pub fn put_list<T: Saved>(out: &mut Vec<u8>, values: &[T]) -> Result<(), AllocEr
 impl Saved for (i64, u32) {
     ghost at = { stamp };
 
-    fn take(_alloc: Global, reader: &mut SavedReader<'_>) -> Result<(i64, u32), ResumeFault> {
-        let ctime = reader.read_second()?;
+    fn take(_alloc: Global, reader: &mut Reader<'_>) -> Result<(i64, u32), Cut> {
+        let ctime = reader.read_i64()?;
         let cusec = reader.read_u32()?;
         Ok((ctime, cusec))
     }
@@ -131,8 +132,8 @@ impl Saved for (i64, u32) {
 impl Saved for KerberosString {
     ghost at = { octets };
 
-    fn take(alloc: Global, reader: &mut SavedReader<'_>) -> Result<KerberosString, ResumeFault> {
-        let octets = reader.read_octets()?;
+    fn take(alloc: Global, reader: &mut Reader<'_>) -> Result<KerberosString, Cut> {
+        let octets = read_octets(reader)?;
         Ok(KerberosString::from_slice(alloc, octets)?)
     }
 
@@ -143,7 +144,7 @@ impl Saved for KerberosString {
     }
 }
 
-fn take_name(alloc: Global, reader: &mut SavedReader<'_>) -> Result<Name, ResumeFault>
+fn take_name(alloc: Global, reader: &mut Reader<'_>) -> Result<Name, Cut>
     ensures { Reads result reader.new (name reader.old) }
 {
     let name_type = reader.read_i32()?;
@@ -164,7 +165,7 @@ fn put_name(out: &mut Vec<u8>, value: &Name) -> Result<(), AllocError>
 impl<V: Saved> Saved for Entry<V> {
     ghost at = { entry V.at };
 
-    fn take(alloc: Global, reader: &mut SavedReader<'_>) -> Result<Entry<V>, ResumeFault> {
+    fn take(alloc: Global, reader: &mut Reader<'_>) -> Result<Entry<V>, Cut> {
         let name = take_name(alloc, reader)?;
         let value = V::take(alloc, reader)?;
         Ok(Entry { name, value })

@@ -1,15 +1,14 @@
 //! The bytes of a saved acceptor, from which a later process resumes.
 ghost use Rattle.std.specs.Prelude.{◌≡◌, ◌++◌, [], IfOk, IfErr, Some};
-ghost use Rattle.ap_accept.specs.Saved.{check_of, held, held_in, mark, resumed, IsFound, Fails, Puts};
-ghost use Rattle.ap_accept.specs.Saved.{marked, Reads, Saves};
+ghost use Rattle.cred_files.specs.Reading.{Reads};
+ghost use Rattle.ap_accept.specs.Saved.{check_of, held, held_in, mark, marked, resumed, Fails, IsFound, Puts, Saves};
 
 use crate::clients::Clients;
 use crate::fault::ResumeFault;
 use crate::options::AcceptorOptions;
 use crate::saved::{append, put_list, put_second, put_word, take_list};
-use crate::saved_reader::SavedReader;
 use crate::state::State;
-use cred_files::Keytab;
+use cred_files::{Cut, Keytab, Reader};
 use principal_rows::NameMap;
 use sha2::{Digest, Sha256};
 use std::alloc::{AllocError, Global};
@@ -90,7 +89,7 @@ fn joined(alloc: Global, first: &[u8], second: &[u8]) -> Result<Vec<u8>, AllocEr
 fn held_in(alloc: Global, bytes: &[u8]) -> Result<Held, ResumeFault>
     ensures { IsFound result (held_in bytes.now) }
 {
-    let mut reader = SavedReader::new(bytes);
+    let mut reader = Reader::new(bytes);
     let check = reader.read_part(CHECK)?;
     let text = reader.rest();
     if check != check_of(text).as_slice() {
@@ -102,7 +101,7 @@ fn held_in(alloc: Global, bytes: &[u8]) -> Result<Held, ResumeFault>
 fn marked(alloc: Global, text: &[u8]) -> Result<Held, ResumeFault>
     ensures { IsFound result (marked (held text.now)) }
 {
-    let mut reader = SavedReader::new(text);
+    let mut reader = Reader::new(text);
     let held = take_held(alloc, &mut reader)?;
     if held.mark != MARK || !reader.is_empty() {
         return Err(ResumeFault::NotSaved);
@@ -110,11 +109,11 @@ fn marked(alloc: Global, text: &[u8]) -> Result<Held, ResumeFault>
     Ok(held)
 }
 
-fn take_held(alloc: Global, reader: &mut SavedReader<'_>) -> Result<Held, ResumeFault>
+fn take_held(alloc: Global, reader: &mut Reader<'_>) -> Result<Held, Cut>
     ensures { Reads result reader.new (held reader.old) }
 {
-    let mark = reader.read_word()?;
-    let floor = reader.read_second()?;
+    let mark = reader.read_u64()?;
+    let floor = reader.read_i64()?;
     let services = take_list(alloc, reader)?;
     Ok(Held {
         mark,

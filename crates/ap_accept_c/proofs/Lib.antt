@@ -1,3 +1,4 @@
 pub mod AsBox
 pub mod Faults
 pub mod Moments
+pub mod RawKeys

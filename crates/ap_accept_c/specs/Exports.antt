@@ -1,5 +1,6 @@
 -- What C sees of a call: the number of a status, and what that status means.
 use Rattle.std.specs.Prelude.{◌≡◌, ◌⊎◌, ℕ, ℤ, Bool, true, false, List, Option, Some, None, length}
+use Rattle.enctypes.specs.Sealing.{mac, opened, seal}
 use Rattle.krb_elements.specs.Simple.{IsMicrosecond}
 use Rattle.krb_fields.specs.Moment.{IsSecond}
 use Rattle.krb_fields.specs.declared.moment.Moment.{Moment}
@@ -10,10 +11,13 @@ use Rattle.ap_accept_c.specs.Calls.{IsAccepted, IsChecked, IsClosing, IsFetched,
 use Rattle.ap_accept_c.specs.Calls.{IsSaving, Numbered}
 use Rattle.ap_accept_c.specs.Elements.{IsElement}
 use Rattle.ap_accept_c.specs.Part.{part_numbered}
+use Rattle.ap_accept_c.specs.Protection.{key_in, verified, IsDone, IsMade, IsRefused, IsSharedKey, IsUnsealed}
 use Rattle.ap_accept_c.specs.declared.elements.Place.{Place}
 use Rattle.ap_accept_c.specs.declared.exports.Found.{Found}
 use Rattle.ap_accept_c.specs.declared.numbers.Numbers.{Numbers}
 use Rattle.ap_accept_c.specs.declared.part.Part.{Part}
+use Rattle.ap_accept_c.specs.declared.protection.Sealing.{Sealing}
+use Rattle.ap_accept_c.specs.declared.raw_key.RawKey.{RawKey}
 use Rattle.ap_accept_c.specs.declared.service.Service.{Service}
 use Rattle.ap_accept_c.specs.declared.status.Status.{Status}
 use Rattle.ap_accept_c.specs.declared.status.Status.TheVariants.{BadArgument}
@@ -82,6 +86,31 @@ IsElementCall n service place old new found =
 
 abbrev pub IsCheckCall : ℤ → Option Service → List ℕ → Type 0
 IsCheckCall n service octets = Numbered n (λ status. IsChecked status service octets)
+
+abbrev pub IsKeyCall : ℤ → Option Service → RawKey → RawKey → Type 0
+IsKeyCall n service old new = Numbered n (λ status. IsSharedKey status service old new)
+
+-- ---- a key and a usage
+
+abbrev pub IsSealCall : ℤ → RawKey → Sealing → List ℕ → List ℕ → List ℕ → ℕ → Type 0
+IsSealCall n key sealing text old new len =
+    Numbered n (λ status. IsDone (key_in key.number key.octets) sealing.usage (IsRefused status old new len)
+    (λ k. IsMade status (seal k.etype k.bytes sealing.usage sealing.confounder text) old new len))
+
+abbrev pub IsUnsealCall : ℤ → RawKey → ℕ → List ℕ → List ℕ → List ℕ → ℕ → Type 0
+IsUnsealCall n key usage sealed old new len =
+    Numbered n (λ status. IsDone (key_in key.number key.octets) usage (IsRefused status old new len)
+    (λ k. IsUnsealed status (opened k.etype k.bytes usage sealed) old new len))
+
+abbrev pub IsChecksumCall : ℤ → RawKey → ℕ → List ℕ → List ℕ → List ℕ → ℕ → Type 0
+IsChecksumCall n key usage text old new len =
+    Numbered n (λ status. IsDone (key_in key.number key.octets) usage (IsRefused status old new len)
+    (λ k. IsMade status (mac k.etype k.bytes usage text) old new len))
+
+abbrev pub IsVerifyCall : ℤ → RawKey → ℕ → List ℕ → List ℕ → Type 0
+IsVerifyCall n key usage text octets =
+    Numbered n (λ status. IsDone (key_in key.number key.octets) usage (status ≡ BadArgument)
+    (λ k. status ≡ verified k usage text octets))
 
 abbrev pub IsCloseCall : ℤ → Option Service → Type 0
 IsCloseCall n old = Numbered n (λ status. IsClosing status old)

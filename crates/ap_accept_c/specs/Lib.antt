@@ -8,4 +8,5 @@ pub mod Numbers
 pub mod Elements
 pub mod Buffers
 pub mod Calls
+pub mod Protection
 pub mod Exports

@@ -7,6 +7,7 @@ ghost use Rattle.ap_accept_c.specs.Elements.{IsElement};
 ghost use Rattle.ap_accept_c.specs.Exports.{opening_at, IsAcceptedAt, IsFetchPart, IsOpenAt, IsTextCall};
 ghost use Rattle.ap_accept_c.specs.Holder.{IsHolder};
 ghost use Rattle.ap_accept_c.specs.Part.{part_numbered};
+ghost use Rattle.ap_accept_c.specs.Protection.{IsSharedKey};
 ghost use Rattle.ap_accept_c.specs.Service.{IsOpened, IsOpenFault, IsResumed, IsResumeFault};
 
 use crate::buffers::{Given, give_text};
@@ -14,6 +15,7 @@ use crate::elements::{Element, Place, element_at, give_element};
 use crate::holder::Holder;
 use crate::numbers::Numbers;
 use crate::part::Part;
+use crate::raw_key::RawKey;
 use crate::service::Service;
 use crate::status::Status;
 use crate::texts::text_of;
@@ -294,6 +296,20 @@ pub fn check(holder: &mut Holder, alloc: Global, octets: &[u8]) -> Status
         return Status::Closed;
     };
     let status = service.last.check(octets);
+    holder.put(service);
+    status
+}
+
+/// Copies the key that the service shares with the client that it accepted last.
+pub fn shared_key(holder: &mut Holder, alloc: Global, key: &mut RawKey) -> Status
+    requires { IsHolder holder.old }
+    ensures holder { IsHolder holder.new × (holder.new.held.value ≡ holder.old.held.value) }
+    ensures given { IsSharedKey result holder.old.held.value key.old key.new }
+{
+    let Some(service) = holder.take(alloc) else {
+        return Status::Closed;
+    };
+    let status = service.last.give_key(key);
     holder.put(service);
     status
 }

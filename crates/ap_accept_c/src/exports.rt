@@ -7,13 +7,16 @@ ghost use Rattle.ap_accept_c.specs.Buffers.{texted};
 ghost use Rattle.ap_accept_c.specs.Calls.{word_of_held};
 ghost use Rattle.ap_accept_c.specs.Exports.{IsAcceptCall, IsCheckCall, IsCloseCall, IsElementCall, IsFetchCall};
 ghost use Rattle.ap_accept_c.specs.Exports.{IsNameCall, IsOpenCall, IsReplaceCall, IsResumeCall, IsSaveCall, IsTextCall};
+ghost use Rattle.ap_accept_c.specs.Exports.{IsChecksumCall, IsKeyCall, IsSealCall, IsUnsealCall, IsVerifyCall};
 ghost use Rattle.ap_accept_c.specs.Holder.{IsHolder};
 
-use crate::calls;
 use crate::calls::{Start, Time};
 use crate::elements::Place;
 use crate::holder::Holder;
 use crate::numbers::Numbers;
+use crate::protection::Sealing;
+use crate::raw_key::RawKey;
+use crate::{calls, protection};
 use std::alloc::Global;
 
 /// The AP_VERSION of the header. The names of these functions have it too, so that a program that was compiled with an
@@ -214,4 +217,72 @@ pub extern "C" fn ap_accept_c_v3_check(alloc: Global, holder: &mut Holder, octet
     ensures checked { IsCheckCall result holder.old.held.value octets.now }
 {
     calls::check(holder, alloc, octets).number()
+}
+
+/// Copies the key that the service shares with the client that it accepted last.
+#[unsafe(no_mangle)]
+pub extern "C" fn ap_accept_c_v3_key(alloc: Global, holder: &mut Holder, key: &mut RawKey) -> i32
+    requires { IsHolder holder.old }
+    ensures holder { IsHolder holder.new × (holder.new.held.value ≡ holder.old.held.value) }
+    ensures given { IsKeyCall result holder.old.held.value key.old key.new }
+{
+    calls::shared_key(holder, alloc, key).number()
+}
+
+/// Seals a text, and sets `len` to the number of the sealed bytes.
+#[unsafe(no_mangle)]
+pub extern "C" fn ap_accept_c_v3_seal(
+    alloc: Global,
+    key: &RawKey,
+    sealing: &Sealing,
+    text: &[u8],
+    to: &mut [u8],
+    len: &mut usize,
+) -> i32
+    ensures { IsSealCall result key.now sealing.now text.now to.old to.new len.new }
+{
+    let given = protection::seal(alloc, key, sealing, text, to);
+    *len = given.len;
+    given.status.number()
+}
+
+/// Opens a sealed text, and sets `len` to the number of its bytes.
+#[unsafe(no_mangle)]
+pub extern "C" fn ap_accept_c_v3_unseal(
+    alloc: Global,
+    key: &RawKey,
+    usage: u32,
+    sealed: &[u8],
+    to: &mut [u8],
+    len: &mut usize,
+) -> i32
+    ensures { IsUnsealCall result key.now usage sealed.now to.old to.new len.new }
+{
+    let given = protection::unseal(alloc, key, usage, sealed, to);
+    *len = given.len;
+    given.status.number()
+}
+
+/// Copies the checksum of a text, and sets `len` to the number of its bytes.
+#[unsafe(no_mangle)]
+pub extern "C" fn ap_accept_c_v3_checksum(
+    key: &RawKey,
+    usage: u32,
+    text: &[u8],
+    to: &mut [u8],
+    len: &mut usize,
+) -> i32
+    ensures { IsChecksumCall result key.now usage text.now to.old to.new len.new }
+{
+    let given = protection::checksum(key, usage, text, to);
+    *len = given.len;
+    given.status.number()
+}
+
+/// Checks whether the bytes are the checksum of a text.
+#[unsafe(no_mangle)]
+pub extern "C" fn ap_accept_c_v3_verify(key: &RawKey, usage: u32, text: &[u8], octets: &[u8]) -> i32
+    ensures { IsVerifyCall result key.now usage text.now octets.now }
+{
+    protection::verify(key, usage, text, octets).number()
 }

@@ -1,7 +1,9 @@
 //! What the last AP-REQ came to.
 ghost use Rattle.std.specs.Prelude.{◌≡◌, None, Some, IfOk, option_map};
 ghost use Rattle.ap_accept_c.specs.Last.{check_of, error_in, nothing, word_in};
+ghost use Rattle.ap_accept_c.specs.Protection.{IsSharedKeyOf};
 
+use crate::raw_key::RawKey;
 use crate::status::Status;
 use ap_accept::{Accepted, ApRefusal, TicketLabel};
 use krb_fields::Moment;
@@ -67,5 +69,15 @@ impl Last {
             Some(accepted) => Status::of_checksum_fault(accepted.checksum_fault(octets)),
             None => Status::Absent,
         }
+    }
+    /// Copies the key that the service shares with the client of what was accepted.
+    pub fn give_key(&self, key: &mut RawKey) -> Status
+        ensures { IsSharedKeyOf result self.now.accepted key.old key.new }
+    {
+        let Some(accepted) = &self.accepted else {
+            return Status::Absent;
+        };
+        *key = RawKey::of(accepted.shared_key());
+        Status::Done
     }
 }

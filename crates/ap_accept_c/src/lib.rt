@@ -29,6 +29,8 @@ mod last;
 mod numbers;
 mod part;
 mod parts;
+mod protection;
+mod raw_key;
 mod service;
 mod status;
 mod texts;

@@ -1,8 +1,7 @@
 use Rattle.std.proofs.Common.{◌-◌, ◌+◌, suc, ◌≡◌, arith}
 use Rattle.std.proofs.lemmas.Result.{err_from_is_err_and}
 use Rattle.cred_files.specs.Form.{several}
-use Rattle.cred_files.proofs.Loops.{goes_on, is_done}
-use Rattle.ap_accept.proofs.Taking.{fails}
+use Rattle.cred_files.proofs.Loops.{fails, goes_on, is_done}
 use Rattle.ap_accept.proofs.saved.take_several.Goals as goal
 
 pub returns-in_err-value : goal.returns-in_err-value
