@@ -84,7 +84,7 @@ pub fn parse_status(error: &Error) -> Status {
     }
 }
 
-/// Returns the command with its version and these subcommands, one of which is required.
+/// Returns the command with its version and these subcommands. One of them is required.
 pub fn with_subcommands<'a>(
     alloc: Global,
     command: Command<'a>,
