@@ -6,7 +6,7 @@ ghost use Rattle.kdc_hub.specs.Life.{HasLooked, HasTidied, IsLife, IsPeriod, due
 
 use crate::hub::Hub;
 use crate::laws::one_run;
-use crate::onlooker::{Onlooker, ServerView};
+use crate::observer::{Observer, ServerView};
 use crate::rows::{Look, RowSource};
 use crate::server::{Served, serve};
 use crate::totals::Totals;
@@ -43,13 +43,13 @@ struct Freeing {
 /// authenticators that can't come again, at most once a minute by the moment of the last poll. So a server without
 /// requests drops them too. Their memory is freed in parts, after the rounds that follow. The onlooker looks at the
 /// server after each 16 rounds, and at the end.
-pub fn serve_life<W: Wire, S: RowSource, R: Rng, O: Onlooker<W, S, R>>(
+pub fn serve_life<W: Wire, S: RowSource, R: Rng, O: Observer<W, S, R>>(
     alloc: Global,
     wire: &mut W,
     source: &mut S,
     hub: &mut Hub<R>,
     rounds: u64,
-    onlooker: &mut O,
+    observer: &mut O,
 ) -> Totals
     // The records of the Wire and of the source, and the hub at the end, are those of one history, which is one run of
     // the key distribution centre. No authenticator gets two different tickets in it. What others send changes nothing
@@ -70,7 +70,7 @@ pub fn serve_life<W: Wire, S: RowSource, R: Rng, O: Onlooker<W, S, R>>(
     for _ in 0..rounds / 16 {
         let served = serve_period(alloc, wire, source, hub, &mut tidied, 16);
         totals = totals.with(served);
-        onlooker.see(
+        observer.see(
             alloc,
             &ServerView {
                 wire,
@@ -82,7 +82,7 @@ pub fn serve_life<W: Wire, S: RowSource, R: Rng, O: Onlooker<W, S, R>>(
     }
     let rest = (rounds % 16) as u32;
     let last = serve_period(alloc, wire, source, hub, &mut tidied, rest);
-    onlooker.see(
+    observer.see(
         alloc,
         &ServerView {
             wire,

@@ -3,7 +3,7 @@ ghost use Rattle.std.specs.Prelude.{◌≡◌, option_copied};
 ghost use Rattle.kdc_server.specs.Quiet.{is_skew, is_skewed, quiet_until, quiet_withholds, sends_skew};
 
 use kdc_core::TgsOutcome;
-use kdc_hub::{AuditRecord, Action};
+use kdc_hub::{Action, AuditRecord};
 use kdc_reports::Refused;
 use krb_fields::numbers::KRB_AP_ERR_SKEW;
 use krb_fields::{Moment, SKEW};

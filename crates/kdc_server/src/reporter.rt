@@ -6,7 +6,7 @@ ghost use Rattle.kdc_server.specs.Reporter.{due, refused_until, second_of};
 use crate::host::Host;
 use crate::server_wire::ServerWire;
 use file_store::VERSION;
-use kdc_hub::{Hub, Onlooker, RowSource, RowsState, Served, ServerView};
+use kdc_hub::{Hub, Observer, RowSource, RowsState, Served, ServerView};
 use kdc_reports::{LogNumbers, MetricsWriter, Numbers, Refused, Tally, push_numbers};
 use krb_fields::Moment;
 use rand_chacha::ChaCha20Rng;
@@ -98,7 +98,7 @@ impl<H: Host> Reporter<H> {
     }
 }
 
-impl<H: Host> Onlooker<ServerWire<H>, Option<H::Rows>, ChaCha20Rng> for Reporter<H> {
+impl<H: Host> Observer<ServerWire<H>, Option<H::Rows>, ChaCha20Rng> for Reporter<H> {
     fn see(
         &mut self,
         alloc: Global,

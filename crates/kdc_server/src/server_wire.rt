@@ -15,7 +15,7 @@ ghost use Rattle.kdc_server.specs.Withheld.{EndsOnly, may_send, withheld_after};
 use crate::host::Host;
 use crate::outlets::Outlets;
 use crate::quiet::quiet_withholds;
-use crate::sockets::Sockets;
+use crate::sockets::ServerSockets;
 use crate::withheld::Withheld;
 use kdc_files::keep_for;
 use kdc_hub::{Action, Event, Wire, WireFault};
@@ -228,7 +228,7 @@ impl<H: Host> Wire for ServerWire<H> {
 }
 
 /// Does an action if it may be done. If not, it fails, and its connection ends.
-fn send<S: Sockets>(
+fn send<S: ServerSockets>(
     alloc: Global,
     sockets: &mut S,
     may_send: bool,
@@ -248,7 +248,7 @@ fn send<S: Sockets>(
 }
 
 /// Ends the connection whose reply is withheld, if it is one.
-fn end_withheld<S: Sockets>(sockets: &mut S, conn: Option<u64>)
+fn end_withheld<S: ServerSockets>(sockets: &mut S, conn: Option<u64>)
     ensures { EndsOnly S.HangsUp sockets.old conn sockets.new }
 {
     match conn {

@@ -12,7 +12,7 @@ use kdc_reports::{
     CountedLog, FaultCount, JournalNews, LogFormat, MetricsFile, MetricsPaths, RequestLines,
     Started,
 };
-use kdc_sockets::{BindFault, SharedWriter, SocketWire};
+use kdc_sockets::{BindFault, SharedWriter, Sockets};
 use kdc_server::{Host, ServeOptions, StartNews};
 use krb_fields::Moment;
 use principal_rows::Limits;
@@ -80,7 +80,7 @@ impl<'a> SystemHost<'a> {
 }
 
 impl<'a> Host for SystemHost<'a> {
-    type Sockets = SocketWire<HostRuntime>;
+    type Sockets = Sockets<HostRuntime>;
 
     type SocketFault = BindFault;
 
@@ -131,9 +131,9 @@ impl<'a> Host for SystemHost<'a> {
         alloc: Global,
         udp: &[SocketAddr],
         tcp: &[SocketAddr],
-    ) -> Result<SocketWire<HostRuntime>, BindFault> {
+    ) -> Result<Sockets<HostRuntime>, BindFault> {
         let wait = Duration::from_millis(WAIT);
-        let sockets = SocketWire::bind(alloc, self.rt.clone()?, self.rt, udp, tcp, wait)?;
+        let sockets = Sockets::bind(alloc, self.rt.clone()?, self.rt, udp, tcp, wait)?;
         self.udp = sockets.udp_addresses(alloc)?;
         self.tcp = sockets.tcp_addresses(alloc)?;
         Ok(sockets)

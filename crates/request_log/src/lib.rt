@@ -2,11 +2,11 @@
 //!
 //! ```
 //! let asker = Asker { transport: Transport::Udp, peer: Some(peer) };
-//! let audit record = answer.audit record.as_ref(); // of `Kdc::answer` in `kdc_core`
-//! let line = text_line(alloc, &Entry { at, asker, audit record, is_sent: true })?;
+//! let audit = reply.audit.as_ref(); // of `Kdc::answer` in `kdc_core`
+//! let line = text_line(alloc, &Entry { at, asker, audit, is_sent: true })?;
 //!
 //! let mut counts = Counts::new();
-//! counts.count(Transport::Udp, audit record, true);
+//! counts.count(Transport::Udp, audit, true);
 //! counts.push_text(&mut text)?;
 //! ```
 //!

@@ -1,6 +1,6 @@
 use Rattle.std.proofs.Common.{rules, ◌≡◌, None}
 use Rattle.kdc_sockets.proofs.Looking.{looked_again, reports_ended}
-use Rattle.kdc_sockets.proofs.sockets.Sockets.next.Goals as goal
+use Rattle.kdc_sockets.proofs.socket_turns.SocketTurns.next.Goals as goal
 
 pub returns-then-is_some-clause-first : goal.returns-then-is_some-clause-first
 returns-then-is_some-clause-first g c =

@@ -1,6 +1,6 @@
 use Rattle.std.proofs.Common.{rules, ◌≡◌, None}
 use Rattle.kdc_sockets.proofs.Spent.{none_then}
-use Rattle.kdc_sockets.proofs.sockets.Sockets.next_known.Goals as goal
+use Rattle.kdc_sockets.proofs.socket_turns.SocketTurns.next_known.Goals as goal
 
 pub returns-in-Some-2-clause-first : goal.returns-in-Some-2-clause-first
 returns-in-Some-2-clause-first g c =

@@ -1,5 +1,5 @@
 use Rattle.kdc_sockets.proofs.Looking.{looked}
-use Rattle.kdc_sockets.proofs.sockets.Sockets.next_looked.Goals as goal
+use Rattle.kdc_sockets.proofs.socket_turns.SocketTurns.next_looked.Goals as goal
 
 pub returns-clause-first : goal.returns-clause-first
 returns-clause-first g c =

@@ -1,7 +1,7 @@
 use Rattle.std.proofs.Common.{rules, ◌≡◌, Some, false, []}
 use Rattle.kdc_sockets.specs.Table.{held_at}
 use Rattle.kdc_sockets.proofs.Spent.{may_be_read}
-use Rattle.kdc_sockets.proofs.sockets.Sockets.read.Goals as goal
+use Rattle.kdc_sockets.proofs.socket_turns.SocketTurns.read.Goals as goal
 
 pub returns-in-Ok-from_slice-clause-reads : goal.returns-in-Ok-from_slice-clause-reads
 returns-in-Ok-from_slice-clause-reads g c =

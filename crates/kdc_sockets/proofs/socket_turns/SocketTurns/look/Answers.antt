@@ -1,5 +1,5 @@
 use Rattle.kdc_sockets.proofs.Looking.{flush_opens, flush_spent, opens_both, opens_same, spent_both, spent_same}
-use Rattle.kdc_sockets.proofs.sockets.Sockets.look.Goals as goal
+use Rattle.kdc_sockets.proofs.socket_turns.SocketTurns.look.Goals as goal
 
 pub loop-event-init : goal.loop-event-init
 loop-event-init g c = record { spent = spent_same _; alike = opens_same _ }

@@ -17,12 +17,12 @@ pub struct ServerView<'a, W, S, R> {
 }
 
 /// Watches a server after each period, and can't change it.
-pub trait Onlooker<W, S, R> {
+pub trait Observer<W, S, R> {
     /// Looks at the server after a period.
     fn see(&mut self, alloc: Global, server: &ServerView<'_, W, S, R>);
 }
 
 /// Watches nothing.
-impl<W, S, R> Onlooker<W, S, R> for () {
+impl<W, S, R> Observer<W, S, R> for () {
     fn see(&mut self, _alloc: Global, _server: &ServerView<'_, W, S, R>) {}
 }

@@ -1,5 +1,5 @@
 use Rattle.std.proofs.Common.{◌≡◌, false}
-use Rattle.kdc_sockets.proofs.sockets.Sockets.next_known.Given as goal
+use Rattle.kdc_sockets.proofs.socket_turns.SocketTurns.next_known.Given as goal
 
 abbrev pub invariant-loop : goal.invariant-loop
 invariant-loop g l = record {

@@ -1,5 +1,5 @@
 use Rattle.kdc_sockets.specs.Table.{OpensAlike, SpentAlike, Table}
-use Rattle.kdc_sockets.proofs.sockets.Sockets.look.Given as goal
+use Rattle.kdc_sockets.proofs.socket_turns.SocketTurns.look.Given as goal
 
 -- While the events of the poll are lent, the fields of the sockets stand alone, one in the other: the connections are
 -- the fifth.
