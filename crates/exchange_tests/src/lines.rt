@@ -1,11 +1,12 @@
-//! Tests of the lines of a log (`request_log`, `kdc_reports`): the names in them, their JSON, and who asked. The moment
+//! Tests of the lines of a log (`request_log`): the names in them, their JSON, and who asked. The moment
 //! is the first second of 2024.
 use enctypes::Etype;
-use kdc_core::{AuditRecord, ApRefusal, AsOutcome, AsRefusal, Bears, Granted, TgsOutcome, TgsRefusal};
-use kdc_reports::{LogFormat, LogWriter, RequestLines};
+use kdc_core::{
+    ApRefusal, AsOutcome, AsRefusal, AuditRecord, Bears, Granted, TgsOutcome, TgsRefusal,
+};
 use krb_der::KTime;
 use krb_fields::{Flags, Moment, Name};
-use request_log::{Asker, Entry, Transport};
+use request_log::{Asker, Entry, LogFormat, LogWriter, RequestLines, Transport};
 use std::alloc::Global;
 use std::net::{Ipv6Addr, SocketAddr};
 use std::test::Fail;
@@ -194,11 +195,7 @@ fn a_line_of_json_has_the_same_fields(rt: HostRuntime) -> Result<(), Fail> {
     let service = Name::from_text(alloc, "krbtgt/A.B")?;
     let mut log = RequestLines::new(Vec::new(alloc), LogFormat::Json);
     let issued = Became::Login(0x40C0_0000, 36_000, Some(604_800));
-    write_from_peer(
-        alloc,
-        &mut log,
-        audit(Some(client), Some(service), issued),
-    );
+    write_from_peer(alloc, &mut log, audit(Some(client), Some(service), issued));
     let refused = Became::Refused(TgsRefusal::Ap(ApRefusal::BadMatch));
     write_from_peer(alloc, &mut log, audit(None, None, refused));
     assert!(rt; log.lines().as_slice() == OBJECTS.as_bytes());

@@ -18,7 +18,8 @@ pub record Issuing : Type 0 where
   pub audits : Bool
 
 abbrev pub issuing : {R : Type 0} → (R → Stream) → SeededKdc R → Issuing
-issuing stream seeded_kdc = record { kdc = seeded_kdc.kdc; random = stream seeded_kdc.rng; audits = seeded_kdc.keeps_audits }
+issuing stream seeded_kdc =
+    record { kdc = seeded_kdc.kdc; random = stream seeded_kdc.rng; audits = seeded_kdc.keeps_audits }
 
 -- the reply to a request, with its audit record if audit records are kept, and with the authenticator that it records
 unfoldable pub reply_by : Bool → View → Moment → List ℕ → ℕ → List ℕ → Option Reply

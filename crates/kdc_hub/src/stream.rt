@@ -71,7 +71,8 @@ pub fn answer_stream<R: Rng>(
     ensures kdc { IfErr result
         (λ fault. seeded_kdc.new.kdc ≡ (after_some (length fault.done.items) (issuing R.stream seeded_kdc.old) timed.at
         (handed_out stream.old).messages).kdc) }
-    ensures drawn { IfErr result (λ fault. R.stream seeded_kdc.new.rng ≡ drawn fault.draws (R.stream seeded_kdc.old.rng)) }
+    ensures drawn { IfErr result (λ fault. R.stream seeded_kdc.new.rng
+        ≡ drawn fault.draws (R.stream seeded_kdc.old.rng)) }
     ensures draws { IfErr result AreDraws }
     ensures keeps { seeded_kdc.new.keeps_audits ≡ seeded_kdc.old.keeps_audits }
     ensures audits { IfOk result (λ s.
@@ -143,7 +144,8 @@ fn answer_request<R: Rng>(
     ensures stays { IfOk result
         (λ stays. stays ≡ is_some (reply_of (issuing R.stream seeded_kdc.old) timed.at stream_room request.now)) }
     ensures holds { OnOk result
-        (ReplyHolds (view seeded_kdc.old.kdc request.now) timed.at (fill_bytes 64 (R.stream seeded_kdc.old.rng)).0 request.now
+        (ReplyHolds (view seeded_kdc.old.kdc request.now) timed.at
+        (fill_bytes 64 (R.stream seeded_kdc.old.rng)).0 request.now
         (reply_of (issuing R.stream seeded_kdc.old) timed.at stream_room request.now)) }
     ensures err { OnErr result ((actions.new.items ≡ actions.old.items) × (seeded_kdc.new.kdc ≡ seeded_kdc.old.kdc)) }
     ensures audits { seeded_kdc.new.keeps_audits ≡ seeded_kdc.old.keeps_audits }

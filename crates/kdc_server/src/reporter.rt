@@ -1,16 +1,16 @@
 //! Reporting the numbers of a server every ten seconds.
 ghost use Rattle.std.specs.Prelude.{◌≡◌, IfOk};
-ghost use Rattle.kdc_reports.specs.Numbers.{numbers_text};
+ghost use Rattle.kdc_metrics.specs.Numbers.{numbers_text};
 ghost use Rattle.kdc_server.specs.Reporter.{due, refused_until, second_of};
 
 use crate::host::Host;
 use crate::server_wire::ServerWire;
 use file_store::VERSION;
 use kdc_hub::{Hub, Observer, RowSource, RowsState, Served, ServerView};
-use kdc_reports::{LogNumbers, MetricsWriter, Numbers, Refused, Tally, push_numbers};
+use kdc_metrics::{Counts, LogNumbers, MetricsWriter, Numbers, Tally, push_numbers};
 use krb_fields::Moment;
 use rand_chacha::ChaCha20Rng;
-use request_log::Counts;
+use server_notices::Refused;
 use std::alloc::{AllocError, Global};
 
 /// In seconds.

@@ -3,10 +3,10 @@ ghost use Rattle.std.specs.Prelude.{◌≡◌, ◌∷◌, [], true, false, None}
 ghost use Rattle.std.specs.Result.{is_ok};
 ghost use Rattle.kdc_hub.specs.Wire.{IsCounted, Records, acted, faults_of, polled};
 ghost use Rattle.kdc_hub.specs.Rounds.{action_connection};
-ghost use Rattle.kdc_reports.specs.Clocks.{clock_after};
+ghost use Rattle.server_notices.specs.Clocks.{clock_after};
 ghost use Rattle.kdc_files.specs.Journal.{handed_by, is_kept};
-ghost use Rattle.kdc_reports.specs.Log.{LogsAll, arrival_after, entries_of};
-ghost use Rattle.kdc_reports.specs.Memory.{after_act, memory_after};
+ghost use Rattle.request_log.specs.Log.{LogsAll, arrival_after, entries_of};
+ghost use Rattle.server_notices.specs.Unanswered.{after_act, memory_after};
 ghost use Rattle.kdc_files.specs.Recorded.{IsNew};
 ghost use Rattle.kdc_server.specs.Served.{Serves};
 ghost use Rattle.kdc_server.specs.Quiet.{quiet_withholds};
@@ -19,11 +19,10 @@ use crate::sockets::ServerSockets;
 use crate::withheld::Withheld;
 use kdc_files::keep_for;
 use kdc_hub::{Action, Event, Wire, WireFault};
-use kdc_reports::{
-    Arrival, ClockWatch, MemoryWatch, Tally, Tried, arrival_after, log_action, watch_clock,
-    watch_memory,
-};
+use kdc_metrics::Tally;
 use krb_fields::Moment;
+use request_log::{Arrival, Tried, arrival_after, log_action};
+use server_notices::{ClockWatch, MemoryWatch, watch_clock, watch_memory};
 use std::alloc::Global;
 
 /// The times of a server's start.

@@ -2,7 +2,8 @@
 ghost use Rattle.std.specs.Prelude.{◌≡◌, false, IfNone, IfOk, IfSome, OnErr, OnOk, option_map};
 ghost use Rattle.kdc_hub.specs.Rounds.{action_connection};
 ghost use Rattle.kdc_sockets.specs.Queue.{has};
-ghost use Rattle.kdc_sockets.specs.Table.{EndsSpentFirst, HasEnded, IsDone, IsLost, IsReadFrom, KeepsOthersOf, OpensAlike};
+ghost use Rattle.kdc_sockets.specs.Table.{EndsSpentFirst, HasEnded, IsDone, IsLost, IsReadFrom, KeepsOthersOf};
+ghost use Rattle.kdc_sockets.specs.Table.{OpensAlike};
 ghost use Rattle.kdc_sockets.specs.Table.{ReportsSpentFirst, SpentAlike, held_at};
 
 use crate::bind_fault::BindFault;

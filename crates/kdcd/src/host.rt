@@ -8,15 +8,14 @@ use kdc_files::{
     ServerFileCause, SystemJournal, begin_journal, open_journals, read_up_to, refuse_journal,
     say_rights,
 };
-use kdc_reports::{
-    CountedLog, FaultCount, JournalNews, LogFormat, MetricsFile, MetricsPaths, RequestLines,
-    Started,
-};
-use kdc_sockets::{BindFault, SharedWriter, Sockets};
+use kdc_metrics::{CountedLog, FaultCount, MetricsFile, MetricsPaths};
 use kdc_server::{Host, ServeOptions, StartNews};
+use kdc_sockets::{BindFault, SharedWriter, Sockets};
 use krb_fields::Moment;
 use principal_rows::Limits;
 use principals::Database;
+use request_log::{LogFormat, RequestLines};
+use server_notices::{JournalNews, Started};
 use std::alloc::{AllocError, Global};
 use std::io;
 use std::io::{Error, ErrorKind, Stderr, Write};

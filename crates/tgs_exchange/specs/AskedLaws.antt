@@ -20,7 +20,8 @@ use Rattle.ap_req.specs.Validity.{ticket_terms}
 use Rattle.tgs_exchange.specs.Terms.{admission_of, terms, terms_if, terms_by, times_of}
 use Rattle.tgs_exchange.specs.Rules.{admitted, client_rules, rules_by}
 use Rattle.tgs_exchange.specs.NamedLaws.{admitted_terms, found_by}
-use Rattle.tgs_exchange.specs.Decision.{IfIssued, by_admission, unless_client_refused, unless_repeated, decision, verdict_on}
+use Rattle.tgs_exchange.specs.Decision.{IfIssued, by_admission, unless_client_refused, unless_repeated, decision}
+use Rattle.tgs_exchange.specs.Decision.{verdict_on}
 use Rattle.tgs_exchange.specs.declared.terms.Admission.{Admission}
 use Rattle.tgs_exchange.specs.declared.terms.Terms.{Terms}
 

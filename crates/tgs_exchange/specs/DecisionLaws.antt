@@ -18,7 +18,8 @@ use Rattle.ap_req.specs.Validity.{ticket_terms}
 use Rattle.tgs_exchange.specs.Terms.{terms, times_of}
 use Rattle.tgs_exchange.specs.Rules.{admitted, client_rules, rules_by}
 use Rattle.tgs_exchange.specs.NamedLaws.{IsNamed, admitted_named}
-use Rattle.tgs_exchange.specs.Decision.{IfIssued, by_admission, unless_client_refused, unless_repeated, decision, decision_copied}
+use Rattle.tgs_exchange.specs.Decision.{IfIssued, by_admission, unless_client_refused, unless_repeated, decision}
+use Rattle.tgs_exchange.specs.Decision.{decision_copied}
 use Rattle.tgs_exchange.specs.Decision.{verdict_on}
 use Rattle.tgs_exchange.specs.declared.decision.Decision.{Decision}
 use Rattle.tgs_exchange.specs.declared.decision.Decision.TheVariants.{Refuses, Records, Repeats, Issues}
@@ -65,7 +66,8 @@ module _ (v : TgsView) (now : ℤ) (body : ReqBody) (p : Presented) (known : IsK
   named_by_verdict (Repeat kept) = tt
   named_by_verdict NoPlace = tt
 
-  named_by_client : (r : Option TgsRefusal) → IfIssued (unless_client_refused v now body p r) (λ a. IsNamed p v.service a.terms)
+  named_by_client : (r : Option TgsRefusal) → IfIssued (unless_client_refused v now body p r)
+      (λ a. IsNamed p v.service a.terms)
   named_by_client (Some refusal) = tt
   named_by_client None = named_by_verdict (verdict_on v now p)
 

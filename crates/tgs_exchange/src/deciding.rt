@@ -2,7 +2,8 @@
 ghost use Rattle.std.specs.Prelude.{◌≡◌, IfOk};
 ghost use Rattle.rule_lists.specs.Refusals.{first_holding};
 ghost use Rattle.replay.specs.ReplayCache.{verdict_copied};
-ghost use Rattle.tgs_exchange.specs.Decision.{by_admission, unless_client_refused, unless_repeated, decision, decision_copied};
+ghost use Rattle.tgs_exchange.specs.Decision.{by_admission, unless_client_refused, unless_repeated, decision};
+ghost use Rattle.tgs_exchange.specs.Decision.{decision_copied};
 ghost use Rattle.tgs_exchange.specs.Decision.{verdict_on};
 ghost use Rattle.tgs_exchange.specs.Rules.{admitted, client_rules};
 
@@ -80,7 +81,8 @@ fn unless_repeated<'v>(
     verdict: Verdict<&'v Kept>,
 ) -> Result<Decision<&'v Kept>, AllocError>
     ensures { IfOk result (λ decided.
-        decision_copied decided ≡ unless_repeated view.now at.sec body.now presented.now (verdict_copied verdict.entry)) }
+        decision_copied decided ≡ unless_repeated view.now at.sec body.now presented.now (verdict_copied verdict.entry))
+            }
 {
     match verdict {
         Verdict::Skew => Ok(Decision::Refuses(TgsRefusal::Ap(ApRefusal::Skewed))),

@@ -1,6 +1,6 @@
 use Rattle.std.proofs.Math.Logic.{∥∥₁_map}
 use Rattle.kdc_hub.specs.Rounds.{action_connection}
-use Rattle.kdc_reports.specs.Log.{entries_of}
+use Rattle.request_log.specs.Log.{entries_of}
 use Rattle.kdc_server.proofs.Serving.{by_act, ends_record, logs_all}
 use Rattle.kdc_server.proofs.server_wire.ServerWireWire.act.Goals as goal
 
