@@ -17,15 +17,14 @@
 #![tactic(auto)]
 
 mod connections;
-mod diary;
 mod event;
 mod hub;
 mod laws;
 mod life;
 mod memory;
-mod memory_rows;
 mod observer;
 mod peers;
+mod record;
 mod rows;
 mod seeded_kdc;
 mod server;
@@ -38,10 +37,11 @@ pub use hub::Hub;
 pub use kdc_core::{AuditRecord, CacheSizes, OtherRealm, Reply};
 pub use laws::{any_cutting, one_run};
 pub use life::serve_life;
-pub use memory::MemoryWire;
-pub use memory_rows::MemoryRows;
+pub use memory::rows::MemoryRows;
+pub use memory::wire::MemoryWire;
 pub use observer::{Observer, ServerView};
 pub use peers::Peers;
+pub use record::Record;
 pub use rows::{Look, RowSource, RowsState};
 pub use server::{Served, serve};
 pub use totals::Totals;

@@ -1,6 +1,6 @@
 -- The record of a log in memory.
 use Rattle.request_log.specs.Entry.{LogEntry}
-use Rattle.request_log.specs.declared.memory_log.MemoryEntry.{MemoryEntry}
+use Rattle.request_log.specs.declared.memory.log.MemoryEntry.{MemoryEntry}
 
 -- an entry of a log
 abbrev pub entry_by : MemoryEntry → LogEntry

@@ -11,7 +11,7 @@ use crate::asker::Asker;
 use crate::entries::Entry;
 use crate::logging::LogWriter;
 use kdc_core::AuditRecord;
-use kdc_files::Record;
+use kdc_hub::Record;
 use krb_fields::Moment;
 use std::alloc::{AllocError, Global};
 

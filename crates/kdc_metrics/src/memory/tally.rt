@@ -5,8 +5,7 @@ ghost use Rattle.kdc_hub.specs.Wire.{acted, polled};
 ghost use Rattle.kdc_files.specs.Recorded.{IsNew};
 
 use crate::tally::{FaultCount, Tally};
-use kdc_files::Record;
-use kdc_hub::{Action, Event, WireCall, WireFault};
+use kdc_hub::{Action, Event, Record, WireCall, WireFault};
 use krb_fields::Moment;
 use std::alloc::{AllocError, Global};
 
