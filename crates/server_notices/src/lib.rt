@@ -6,7 +6,10 @@
 //! watch_memory(&mut memory, &mut errors, lost, &polled);
 //! ```
 //!
-//! It says nothing of a single request: `request_log` does.
+//! Each is said at once, and again after a minute while it lasts. A line that can't be written is lost.
+//!
+//! It says nothing of a single request: `request_log` does. It decides nothing: what is refused after a clock that went
+//! back is decided by `replay`, and what a journal is worth by `journal`.
 #![tactic(auto)]
 
 mod clock_watch;
