@@ -41,9 +41,9 @@ struct Freeing {
 /// Serves this many rounds. Before the first, and again after each 16, it checks whether the source has new rows. Rows
 /// of the same realm replace those that are served; the replay caches are unchanged. After the rounds it drops
 /// authenticators that can't come again, at most once a minute by the moment of the last poll. So a server without
-/// requests drops them too. Their memory is freed in parts, after the rounds that follow. The onlooker looks at the
+/// requests drops them too. Their memory is freed in parts, after the rounds that follow. The observer looks at the
 /// server after each 16 rounds, and at the end.
-pub fn serve_life<W: Wire, S: RowSource, R: Rng, O: Observer<W, S, R>>(
+pub fn serve_life<W: Wire, S: RowSource, R: Rng, O: Observer<W, R>>(
     alloc: Global,
     wire: &mut W,
     source: &mut S,
@@ -74,7 +74,7 @@ pub fn serve_life<W: Wire, S: RowSource, R: Rng, O: Observer<W, S, R>>(
             alloc,
             &ServerView {
                 wire,
-                source,
+                rows: source.state(),
                 hub,
                 served,
             },
@@ -86,7 +86,7 @@ pub fn serve_life<W: Wire, S: RowSource, R: Rng, O: Observer<W, S, R>>(
         alloc,
         &ServerView {
             wire,
-            source,
+            rows: source.state(),
             hub,
             served: last,
         },
