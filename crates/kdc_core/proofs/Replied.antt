@@ -22,9 +22,9 @@ use Rattle.kdc_core.specs.declared.audit.AuditRecord.TheVariants.{NoRequest as N
 use Rattle.kdc_core.specs.declared.reply.Reply.{Reply}
 use Rattle.kdc_core.specs.declared.mark.Mark.{Mark}
 
-if_some : {A : Type 0} (o : Option A) (P Q : A → Type 0) → ((a : A) → P a → Q a) → IfSome o P → IfSome o Q
-if_some (Some a) P Q f h = f a h
-if_some None P Q f h = tt
+if_some : {A : Type 0} (o : Option A) (P Q : A → Type 0) → IfSome o P → ((a : A) → P a → Q a) → IfSome o Q
+if_some (Some a) P Q h f = f a h
+if_some None P Q h f = tt
 
 module _ (before : State) (q : Incoming) (held : Contents) (octets : Option (List ℕ)) (mark : Option (Option Mark))
     (audit : AuditRecord) where
@@ -43,7 +43,7 @@ module _ (before : State) (q : Incoming) (held : Contents) (octets : Option (Lis
       let given_whole : Result (Option Reply) Bool = Ok given in
       is_answered before old q wants_audit given_whole after same long bytes
       (made.sent ∙ replies_so before q whole held is (λ _. octets) r.reply)
-      (if_some given _ _ (λ reply e. e ∙ ap (audit_if wants_audit) (audit_answered before q whole held is (λ _. audit) r.audit_is)) made.audit_is)
+      (if_some given _ _ made.audit_is (λ reply e. e ∙ ap (audit_if wants_audit) (audit_answered before q whole held is (λ _. audit) r.audit_is)))
       (made.seen ∙ newly_seen_answered before q whole held is (λ _. seen_left mark) r.seen)
       (subst (λ (o : Option (List ℕ)). IsReply (view before q.octets) q.at q.random (request_of q.octets) o)
       (sym made.sent) (spells_so before q whole held is (λ _. octets) r.spelled))

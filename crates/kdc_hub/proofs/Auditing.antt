@@ -19,17 +19,17 @@ use Rattle.kdc_hub.specs.Hub.{messages_in}
 use Rattle.kdc_hub.specs.Issuing.{Issuing, after, reply_by, reply_of}
 use Rattle.kdc_core.specs.declared.reply.Reply.{Reply}
 
-if_ok : {A E : Type 0} (r : Result A E) (P Q : A → Type 0) → ((a : A) → P a → Q a) → IfOk r P → IfOk r Q
-if_ok (Ok a) P Q f h = f a h
-if_ok (Err e) P Q f h = tt
+if_ok : {A E : Type 0} (r : Result A E) (P Q : A → Type 0) → IfOk r P → ((a : A) → P a → Q a) → IfOk r Q
+if_ok (Ok a) P Q h f = f a h
+if_ok (Err e) P Q h f = tt
 
-pub on_ok : {A E : Type 0} {P : A → Type 0} {Q : Type 0} (r : Result A E) → ((a : A) → P a → Q) → IfOk r P → OnOk r Q
-on_ok (Ok a) f h = f a h
-on_ok (Err e) f h = tt
+on_ok : {A E : Type 0} (r : Result A E) (P : A → Type 0) (Q : Type 0) → IfOk r P → ((a : A) → P a → Q) → OnOk r Q
+on_ok (Ok a) P Q h f = f a h
+on_ok (Err e) P Q h f = tt
 
-pub then_ok : {A E : Type 0} {P Q : Type 0} (r : Result A E) → (P → Q) → OnOk r P → OnOk r Q
-then_ok (Ok a) f h = f h
-then_ok (Err e) f h = tt
+pub then_ok : {A E : Type 0} (r : Result A E) (P Q : Type 0) → OnOk r P → (P → Q) → OnOk r Q
+then_ok (Ok a) P Q h f = f h
+then_ok (Err e) P Q h f = tt
 
 module _ (keeps : Bool) (v : View) (at : Moment) (random : List ℕ) (room : ℕ) (request : List ℕ) where
   -- a reply with these bytes, this audit record and this authenticator
@@ -68,16 +68,16 @@ module _ {E : Type 0} (keeps : Bool) (before after_it : State) (at : Moment) (ra
   v = view before request
 
   pub all_made : IfOk r (λ given. given ≡ reply_by keeps v at random room request)
-  all_made = if_ok r _ _ (λ given a. made keeps v at random room request given a.reply a.audit a.newly_seen) answers
+  all_made = if_ok r _ _ answers (λ given a. made keeps v at random room request given a.reply a.audit a.newly_seen)
 
   pub all_hold : IfOk r (λ given. ReplyHolds v at random request given)
   all_hold =
-      if_ok r _ _ (λ given a. subst (λ reply. ReplyHolds v at random request reply)
+      if_ok r _ _ answers (λ given a. subst (λ reply. ReplyHolds v at random request reply)
       (sym (made keeps v at random room request given a.reply a.audit a.newly_seen))
-      (holds keeps v at random room request (sent_bytes given) a.reply a.holds)) answers
+      (holds keeps v at random room request (sent_bytes given) a.reply a.holds))
 
   pub all_after : OnOk r (after_it ≡ after_request before at random room request)
-  all_after = on_ok r (λ given a. a.state) answers
+  all_after = on_ok r _ _ answers (λ given a. a.state)
 
 pub if_any : (r : Option Reply) (P : Type 0) → P → if_answered r P
 if_any (Some reply) P p = p

@@ -34,11 +34,11 @@ returns-clause-after g c =
     let random : c.fill_bytes.new.dst ≡ (fill_bytes 64 (g.R.Rng.stream c.args.self.now.rng)).0 = search rules in
     let rest : g.R.Rng.stream c.fill_bytes.new.self ≡ (fill_bytes 64 (g.R.Rng.stream c.args.self.now.rng)).1 = search rules in
     let octets = c.args.request.now.octets.now in
-    then_ok c.answer.result
+    then_ok c.answer.result _ _
+    (all_after c.args.self.now.keeps_audits c.args.self.now.kdc c.answer.new.self c.args.request.now.at c.fill_bytes.new.dst c.args.room octets
+    c.answer.result c.answer.ensures.answered)
     (λ state. λ i. record {
       kdc = (state ∙ ap (λ (w : List ℕ). after_request c.args.self.now.kdc c.args.request.now.at w c.args.room octets) random) i;
       random = rest i;
       audits = c.args.self.now.keeps_audits;
     })
-    (all_after c.args.self.now.keeps_audits c.args.self.now.kdc c.answer.new.self c.args.request.now.at c.fill_bytes.new.dst c.args.room octets
-    c.answer.result c.answer.ensures.answered)
