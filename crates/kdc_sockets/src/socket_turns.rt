@@ -2,7 +2,7 @@
 ghost use Rattle.std.specs.Prelude.{◌≡◌, false, IfNone, IfOk, IfSome, OnErr, OnOk, option_map};
 ghost use Rattle.kdc_hub.specs.Rounds.{action_connection};
 ghost use Rattle.kdc_sockets.specs.Queue.{has};
-ghost use Rattle.kdc_sockets.specs.Table.{EndsSpentFirst, HasEnded, IsDone, IsLost, IsReadFrom, KeepsOthersOf};
+ghost use Rattle.kdc_sockets.specs.Table.{EndsSpentFirst, HasEnded, IsDone, IsLost, IsReadFrom, KeepsOtherConnections};
 ghost use Rattle.kdc_sockets.specs.Table.{OpensAlike};
 ghost use Rattle.kdc_sockets.specs.Table.{ReportsSpentFirst, SpentAlike, held_at};
 
@@ -405,7 +405,7 @@ impl<C: Clock + Drop> SocketTurns<C> {
 
     /// Performs an action. The reply to a datagram is sent from the socket that received the datagram.
     pub fn act(&mut self, action: &Action) -> io::Result<()>
-        ensures others { KeepsOthersOf (action_connection action.now) self.old.connections.held.entries
+        ensures others { KeepsOtherConnections (action_connection action.now) self.old.connections.held.entries
             self.new.connections.held.entries }
         ensures done { OnOk result (IsDone action.now self.old.at self.old.connections.held.entries
             self.new.connections.held.entries) }
