@@ -8,8 +8,8 @@ from harness.tests import test
 
 RULES, DASHBOARD = TOP / "docs/kdcd.rules.yml", TOP / "docs/kdcd.dashboard.json"
 # The code that writes the numbers, and what others have of the same names.
-SOURCES = ("crates/kdc_reports/src/numbers.rt", "crates/request_log/src/count_text.rt")
-DEFINITIONS = ("crates/request_log/specs/CountText.antt", "crates/kdc_reports/specs/NumbersText.antt")
+SOURCES = ("crates/kdc_metrics/src/numbers.rt", "crates/kdc_metrics/src/count_text.rt")
+DEFINITIONS = ("crates/kdc_metrics/specs/CountText.antt", "crates/kdc_metrics/specs/Numbers.antt")
 OTHERS = {"instance", "file"}
 
 

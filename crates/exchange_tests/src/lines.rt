@@ -1,13 +1,12 @@
-//! Tests of the lines of a log (`request_log`, `kdc_reports`): the names in them, their JSON, and who asked. The moment
+//! Tests of the lines of a log (`request_log`): the names in them, their JSON, and who asked. The moment
 //! is the first second of 2024.
 use enctypes::Etype;
 use kdc_core::{
     ApRefusal, AsOutcome, AsRefusal, AuditRecord, Bears, Granted, TgsOutcome, TgsRefusal,
 };
-use kdc_reports::{LogFormat, LogWriter, RequestLines};
 use krb_der::KTime;
 use krb_fields::{Flags, Moment, Name};
-use request_log::{Asker, Entry, Transport};
+use request_log::{Asker, Entry, LogFormat, LogWriter, RequestLines, Transport};
 use std::alloc::Global;
 use std::net::{Ipv6Addr, SocketAddr};
 use std::test::Fail;

@@ -1,9 +1,9 @@
-//! Tests that each rule and each outcome has its line in a log (`request_log`, `kdc_reports`). Rules have the names of
+//! Tests that each rule and each outcome has its line in a log (`request_log`). Rules have the names of
 //! `docs/PROTOCOL.md`, and the codes of RFC 4120, section 7.5.9. The moment is the first second of 2024.
 use crate::lines::{Became, Log, audit, write_from_peer};
 use kdc_core::{ApRefusal, AsRefusal, Bears, TgsRefusal};
-use kdc_reports::{LogFormat, RequestLines};
 use krb_fields::Name;
+use request_log::{LogFormat, RequestLines};
 use std::alloc::Global;
 use std::test::Fail;
 

@@ -27,7 +27,7 @@ use Rattle.replay.specs.declared.cache.ReplayCache.{ReplayCache}
 use Rattle.replay.specs.declared.verdict.Verdict.{Verdict}
 use Rattle.replay.specs.declared.verdict.Verdict.TheVariants.{Fresh, Skew, Repeat, Full as NoPlace}
 use Rattle.tgs_exchange.specs.Answer.{answer_by, tgs_answer}
-use Rattle.tgs_exchange.specs.Decision.{by_client, by_verdict, decision, stamp_of}
+use Rattle.tgs_exchange.specs.Decision.{unless_client_refused, unless_repeated, decision, stamp_of}
 use Rattle.tgs_exchange.specs.Rules.{client_rules}
 use Rattle.tgs_exchange.specs.View.{TgsView}
 use Rattle.tgs_exchange.specs.declared.decision.Decision.{Decision}
@@ -72,17 +72,17 @@ module _ (v : TgsView) (m : ReplayCache Kept) (incoming : Incoming) (body : ReqB
   abbrev other : TgsView
   other = record v { cache = m }
 
-  by_verdict_alike : (d : Verdict Kept) → by_verdict other incoming.at.sec body p d ≡ by_verdict v incoming.at.sec body p d
+  by_verdict_alike : (d : Verdict Kept) → unless_repeated other incoming.at.sec body p d ≡ unless_repeated v incoming.at.sec body p d
   by_verdict_alike Fresh = refl
   by_verdict_alike Skew = refl
   by_verdict_alike (Repeat kept) = refl
   by_verdict_alike NoPlace = refl
 
   by_client_alike : verdict m incoming.at.sec (stamp_of p) v.limits.remembered ≡ verdict v.cache incoming.at.sec (stamp_of p) v.limits.remembered → (o : Option TgsRefusal)
-      → by_client other incoming.at.sec body p o ≡ by_client v incoming.at.sec body p o
+      → unless_client_refused other incoming.at.sec body p o ≡ unless_client_refused v incoming.at.sec body p o
   by_client_alike same (Some refusal) = refl
   by_client_alike same None =
-      by_verdict_alike (verdict m incoming.at.sec (stamp_of p) v.limits.remembered) ∙ ap (by_verdict v incoming.at.sec body p) same
+      by_verdict_alike (verdict m incoming.at.sec (stamp_of p) v.limits.remembered) ∙ ap (unless_repeated v incoming.at.sec body p) same
 
   answer_alike : (d : Decision Kept) → answer_by other incoming body p d ≡ answer_by v incoming body p d
   answer_alike (Refuses refusal) = refl

@@ -1,5 +1,5 @@
 -- What is promised of every answer of a key distribution centre.
-use Rattle.std.specs.Prelude.{◌≡◌, ◌≢◌, ◌≤◌, ◌↔◌, ℕ, Bool, List, length, Some, IfSome}
+use Rattle.std.specs.Prelude.{◌≡◌, ◌≢◌, ◌≤◌, ◌↔◌, ℕ, Bool, List, length, Option, Some, IfSome}
 use Rattle.kdc_replies.specs.GoodStanding.{AreInGoodStanding}
 use Rattle.kdc_replies.specs.Incoming.{Incoming}
 use Rattle.krb_fields.specs.Name.{Components}
@@ -10,51 +10,52 @@ use Rattle.kdc_core.specs.Audit.{AuditHolds, audit_if, audit_names, incoming_aud
 use Rattle.kdc_core.specs.Answer.{IsReply, OneTicketTwoKeys, after_incoming, incoming_answer}
 use Rattle.kdc_core.specs.Issued.{IsTicketReply, issued}
 use Rattle.kdc_core.specs.NewlySeen.{incoming_seen}
+use Rattle.kdc_core.specs.ReplyIn.{sent_bytes, reported_seen}
 use Rattle.kdc_core.specs.Request.{Request, SpellsRequest, request_of}
 use Rattle.kdc_core.specs.Ruling.{IsRuled}
 use Rattle.kdc_core.specs.Shown.{IsSeenAlike, ShowsTicket}
 use Rattle.kdc_core.specs.View.{Agrees, named, view}
-use Rattle.kdc_core.specs.declared.audit.Answer.{Answer}
+use Rattle.kdc_core.specs.declared.reply.Reply.{Reply}
 
 -- the request with these bytes, its moment, the random bytes for its answer and the room for a reply with a ticket
 abbrev pub asked : Moment → List ℕ → ℕ → List ℕ → Incoming
 asked at random room octets = record { at = at; random = random; room = room; octets = octets }
 
--- The state before, the request, whether an audit record is wanted, the answer, and the state after it.
-pub record IsAnswered (before : State) (q : Incoming) (wants_audit : Bool) (given : Answer) (after : State)
+-- The state before, the request, whether an audit record is wanted, the reply, if any, and the state after it.
+pub record IsAnswered (before : State) (q : Incoming) (wants_audit : Bool) (given : Option Reply) (after : State)
     : Type 0 where
   -- the request is the one that the bytes encode, if they encode one and are no more than 2147483647
   pub request : (r : Request)
       → (request_of q.octets ≡ Some r) ↔ (SpellsRequest r q.octets × (length q.octets ≤ 2147483647))
   -- the reply is the one that the rules prescribe
-  pub reply : given.reply ≡ (incoming_answer (view before q.octets) q).reply
+  pub reply : sent_bytes given ≡ (incoming_answer (view before q.octets) q).reply
   -- a TGS-REQ gets what the first rule of their one list says, or a ticket if none holds
   pub ruled : IsRuled (view before q.octets) q (incoming_answer (view before q.octets) q)
       (incoming_audit (view before q.octets) q) (issued (view before q.octets) q.at q.random (request_of q.octets))
       (request_of q.octets)
   -- its bytes encode the message that the rules prescribe, or are a stored reply
-  pub spelled : IsReply (view before q.octets) q.at q.random (request_of q.octets) given.reply
+  pub spelled : IsReply (view before q.octets) q.at q.random (request_of q.octets) (sent_bytes given)
   -- If a ticket is issued, the bytes encode its reply, or an error in its place. The reply key decrypts the reply to
   -- the session key, flags and times that the service's key finds in the ticket.
-  pub keys : OneTicketTwoKeys (view before q.octets) q.at q.random (request_of q.octets) given.reply
+  pub keys : OneTicketTwoKeys (view before q.octets) q.at q.random (request_of q.octets) (sent_bytes given)
   -- a ticket is issued only if its client and its service are in good standing
   pub standing : IfSome (issued (view before q.octets) q.at q.random (request_of q.octets))
       (λ issue. AreInGoodStanding before.database.realm (named before q.octets).service
       (view before q.octets).client (view before q.octets).service q.at.sec)
   -- the same for the issued ticket: what the client and the service decrypt is what was granted
   pub issued : IfSome (issued (view before q.octets) q.at q.random (request_of q.octets))
-      (λ issue. IsTicketReply issue given.reply)
-  -- the audit record is the one that the same rules give, if it is wanted
-  pub audit : given.audit ≡ audit_if wants_audit (incoming_audit (view before q.octets) q)
+      (λ issue. IsTicketReply issue (sent_bytes given))
+  -- the audit record in the reply is the one that the same rules give, if it is wanted
+  pub audit : IfSome given (λ reply. reply.audit ≡ audit_if wants_audit (incoming_audit (view before q.octets) q))
   -- it names the client and the service that the request names
   pub names : audit_names (incoming_audit (view before q.octets) q) ≡ named before q.octets
   -- it is true of the reply
   pub holds : AuditHolds (view before q.octets) q.at q.random (request_of q.octets)
-      (incoming_audit (view before q.octets) q) given.reply
+      (incoming_audit (view before q.octets) q) (sent_bytes given)
   -- the authenticator that is reported as recorded is the one that the same rules record
-  pub newly_seen : given.newly_seen ≡ incoming_seen (view before q.octets) q
+  pub newly_seen : reported_seen given ≡ incoming_seen (view before q.octets) q
   -- it is of a client whose ticket the request shows
-  pub shown : IfSome given.newly_seen (λ seen. ShowsTicket before q.octets seen.client.components)
+  pub shown : IfSome (reported_seen given) (λ seen. ShowsTicket before q.octets seen.client.components)
   -- the state afterwards is the one that the rules prescribe
   pub state : after ≡ after_incoming before q
   -- no row, no limit, and no replay cache but the named client's changes

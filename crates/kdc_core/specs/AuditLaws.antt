@@ -191,13 +191,14 @@ module _ (state : State) (incoming : Incoming) where
 
 -- ---- only what is no request gets no reply
 
-unanswered_of : (v : View) (incoming : Incoming) (held : Contents) → (contents_answer v incoming held).reply ≡ None
+contents_unanswered : (v : View) (incoming : Incoming) (held : Contents) → (contents_answer v incoming held).reply
+    ≡ None
     → contents_audit v incoming held ≡ NothingAsked
-unanswered_of v incoming NoRequest none = refl
-unanswered_of v incoming (AsReq message) none = absurd cc
-unanswered_of v incoming (RefusedTgsReq message rejected) none = absurd cc
-unanswered_of v incoming (TgsReq message p) none = absurd cc
+contents_unanswered v incoming NoRequest none = refl
+contents_unanswered v incoming (AsReq message) none = absurd cc
+contents_unanswered v incoming (RefusedTgsReq message rejected) none = absurd cc
+contents_unanswered v incoming (TgsReq message p) none = absurd cc
 
 pub unanswered : (v : View) (incoming : Incoming) → (incoming_answer v incoming).reply ≡ None
     → incoming_audit v incoming ≡ NothingAsked
-unanswered v incoming = unanswered_of v incoming (contents v (request_of incoming.octets))
+unanswered v incoming = contents_unanswered v incoming (contents v (request_of incoming.octets))

@@ -37,13 +37,13 @@ module _ {A E : Type 0} (state : State) (incoming : Incoming) (r : Result A E) (
 
 -- ---- a request without a reply records nothing
 
-none_newly_seen_of : (v : View) (incoming : Incoming) (held : Contents) → (contents_answer v incoming held).reply ≡ None
+none_contents_seen : (v : View) (incoming : Incoming) (held : Contents) → (contents_answer v incoming held).reply ≡ None
     → contents_seen v incoming held ≡ None
-none_newly_seen_of v incoming NoRequest none = refl
-none_newly_seen_of v incoming (AsReq message) none = refl
-none_newly_seen_of v incoming (RefusedTgsReq message rejected) none = refl
-none_newly_seen_of v incoming (TgsReq message p) none = absurd cc
+none_contents_seen v incoming NoRequest none = refl
+none_contents_seen v incoming (AsReq message) none = refl
+none_contents_seen v incoming (RefusedTgsReq message rejected) none = refl
+none_contents_seen v incoming (TgsReq message p) none = absurd cc
 
 pub none_newly_seen : (v : View) (incoming : Incoming) → (incoming_answer v incoming).reply ≡ None
     → incoming_seen v incoming ≡ None
-none_newly_seen v incoming = none_newly_seen_of v incoming (contents v (request_of incoming.octets))
+none_newly_seen v incoming = none_contents_seen v incoming (contents v (request_of incoming.octets))

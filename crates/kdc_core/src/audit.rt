@@ -1,12 +1,9 @@
-//! The answer to a request: the reply, and an audit record of how the request was handled.
-ghost use Rattle.std.specs.Prelude.{◌≡◌, IfOk, option_copied, option_map};
+//! How a request was handled.
+ghost use Rattle.std.specs.Prelude.{◌≡◌, IfOk, option_copied};
 ghost use Rattle.kdc_core.specs.Audit.{audit_if};
-ghost use Rattle.kdc_core.specs.ReplyIn.{IsReplyIn};
 
 use as_exchange::AsOutcome;
-use krb_elements::Octets;
 use krb_fields::{Name, NameRef};
-use replay::Seen;
 use std::alloc::{AllocError, Global};
 use tgs_exchange::TgsOutcome;
 
@@ -35,36 +32,6 @@ pub enum AuditRecord<N = Name> {
         /// The issued ticket, or why there is none; if a stored reply was sent again, what that bears.
         outcome: TgsOutcome,
     },
-}
-
-/// The answer to a request, and the authenticator that the request records, if any.
-#[derive(Drop)]
-pub struct Answer {
-    /// The bytes of the reply; `None` if the bytes that came in encode no request.
-    pub reply: Option<Octets>,
-    /// How the request was handled; `None` if the audit record was not wanted.
-    pub audit: Option<AuditRecord>,
-    /// A refused request may record one too: if its authenticator was new.
-    pub newly_seen: Option<Seen>,
-}
-
-/// Returns the bytes of the reply alone.
-pub fn reply_alone(answered: Result<Answer, AllocError>) -> Result<Option<Vec<u8>>, AllocError>
-    ensures { IsReplyIn (λ octets. octets.items) answered result }
-{
-    match answered {
-        Ok(answer) => Ok(bytes_of(answer.reply)),
-        Err(error) => Err(error),
-    }
-}
-
-fn bytes_of(reply: Option<Octets>) -> Option<Vec<u8>>
-    ensures { option_map (λ octets. octets.items) result ≡ reply }
-{
-    match reply {
-        Some(octets) => Some(octets.into_vec()),
-        None => None,
-    }
 }
 
 impl AuditRecord<NameRef<'_>> {

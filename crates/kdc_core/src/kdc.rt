@@ -28,9 +28,10 @@ ghost use Rattle.kdc_state.specs.declared.state.State as states;
 ghost use Rattle.principals.specs.Change.{refusal, changed};
 
 use crate::answering::reply_to;
-use crate::audit::{Answer, AuditRecord, audit_if, reply_alone};
+use crate::audit::audit_if;
 use crate::contents::read_request;
 use crate::mark::keep_mark;
+use crate::reply::{Reply, bytes_alone};
 use crate::timed_request::TimedRequest;
 use encrypted_data::ReadyKeys;
 use kdc_replies::{Incoming, error_reply};
@@ -197,10 +198,10 @@ impl Kdc {
             at,
             octets: request,
         };
-        reply_alone(self.answer(alloc, random, room, &timed, false))
+        bytes_alone(self.answer(alloc, random, room, &timed, false))
     }
 
-    /// Answers as [`Kdc::handle`] does, with an audit record of the request, if that is wanted, and with the
+    /// Answers as [`Kdc::handle`] does. The reply has an audit record of the request, if that is wanted, and the
     /// authenticator that is recorded for it. The names of an audit record are copied before anything changes. A call
     /// that runs out of memory changes nothing.
     pub fn answer<'q>(
@@ -210,18 +211,14 @@ impl Kdc {
         room: u32,
         request: &TimedRequest<'q>,
         wants_audit: bool,
-    ) -> Result<Answer, AllocError>
+    ) -> Result<Option<Reply>, AllocError>
         ensures answered { IfOk result (λ given. IsAnswered self.old
             (asked request.now.at random.now room request.now.octets.now) wants_audit given self.new) }
         ensures err { OnErr result (self.new ≡ self.old) }
     {
         let TimedRequest { at, octets } = *request;
         let Some((exchange, message)) = read_request(octets) else {
-            return Ok(Answer {
-                reply: None,
-                audit: wants_audit.then_some(AuditRecord::NoRequest),
-                newly_seen: None,
-            });
+            return Ok(None);
         };
         let incoming = Incoming {
             at,
@@ -232,11 +229,11 @@ impl Kdc {
         };
         let answered = reply_to(&self.state, alloc, &incoming, exchange, &message)?;
         let audit = audit_if(alloc, wants_audit, &answered.audit)?;
-        Ok(Answer {
-            reply: Some(Octets::new(answered.octets)),
+        Ok(Some(Reply {
+            message: Octets::new(answered.octets),
             audit,
             newly_seen: keep_mark(&mut self.state, alloc, answered.mark)?,
-        })
+        }))
     }
 
     /// Changes the database. A refused change leaves everything unchanged.

@@ -1,4 +1,4 @@
-//! The key distribution centre: answers the bytes of a request with a reply and an audit record of the request.
+//! The key distribution centre: answers the bytes of a request with a reply, which has an audit record of the request.
 //!
 //! ```
 //! let mut kdc = Kdc::open(alloc, database, limits, Opening::Restart(start))?;
@@ -28,18 +28,20 @@ mod contents;
 mod kdc;
 mod laws;
 mod mark;
+mod reply;
 mod run;
 mod tgs_replies;
 mod timed_request;
 
 pub use ap_req::ApRefusal;
 pub use as_exchange::{AsOutcome, AsRefusal};
-pub use audit::{Answer, AuditRecord};
+pub use audit::AuditRecord;
 pub use kdc::{Kdc, OtherRealm};
 pub use kdc_replies::Granted;
 pub use kdc_state::{CacheSizes, Opening};
 pub use laws::any_run;
 pub use replay::{Bears, Resumption, Seen};
+pub use reply::Reply;
 pub use run::{Event, RunFault};
 pub use tgs_exchange::TgsOutcome;
 pub use tgs_opening::TgsRefusal;

@@ -26,7 +26,6 @@ mod journals;
 mod keeping;
 mod key_files;
 mod memory_journal;
-mod record;
 mod rows_file;
 mod sealing;
 
@@ -39,6 +38,6 @@ pub use crate::journals::{JournalBeginning, Journals};
 pub use crate::keeping::{JournalWriter, keep_for};
 pub use crate::key_files::{KeyFile, say_rights};
 pub use crate::memory_journal::{HandedOver, MemoryJournal};
-pub use crate::record::Record;
 pub use crate::rows_file::RowsFile;
 pub use crate::sealing::{Leftover, doubt_word, refuse_journal, seal_at_path};
+pub use kdc_hub::Record;

@@ -8,9 +8,9 @@ ghost use Rattle.kdc_files.specs.Journal.{Handed};
 ghost use Rattle.kdc_files.specs.Recorded.{IsNew};
 
 use crate::keeping::JournalWriter;
-use crate::record::Record;
 use journal::NotKept;
 use kdc_core::Seen;
+use kdc_hub::Record;
 use krb_fields::Moment;
 use std::alloc::{AllocError, Global};
 

@@ -11,7 +11,7 @@ use Rattle.framing.specs.Pieces.{IsSameInTwo}
 use Rattle.krb_fields.specs.declared.moment.Moment.{Moment}
 use Rattle.kdc_hub.specs.declared.event.Action.{Action}
 use Rattle.kdc_hub.specs.declared.event.Event.TheVariants.{Bytes}
-use Rattle.kdc_hub.specs.declared.reply.Reply.{Reply}
+use Rattle.kdc_core.specs.declared.reply.Reply.{Reply}
 use Rattle.kdc_hub.specs.Issuing.{Issuing, after, reply_of}
 use Rattle.kdc_hub.specs.StreamStep.{StreamStep, reply_then, messages_step, stream_step, stream_room}
 use Rattle.kdc_hub.specs.Hub.{HubState, Step, brings, brought, with_stream, hub_step}

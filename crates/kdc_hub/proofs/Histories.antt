@@ -33,7 +33,7 @@ use Rattle.kdc_hub.specs.declared.event.CloseReason.TheVariants.{BadLength, Full
 use Rattle.kdc_hub.specs.declared.event.Event.{Event}
 use Rattle.kdc_hub.specs.declared.event.Event.TheVariants.{Datagram, Opened, Bytes, Closed}
 use Rattle.kdc_hub.specs.declared.event.Peer.{Peer}
-use Rattle.kdc_hub.specs.declared.reply.Reply.{Reply}
+use Rattle.kdc_core.specs.declared.reply.Reply.{Reply}
 use Rattle.kdc_hub.specs.Issuing.{Issuing, after, reply_by, reply_of, too_long}
 use Rattle.kdc_hub.specs.StreamStep.{StreamStep, action_for, after_reply, after_some, messages_step, reply_then, stream_room, stream_step}
 use Rattle.kdc_hub.specs.Hub.{HubState, Step, brings, datagram_room, greatest_request, hub_step, with_stream, most_connections, nothing, opened, messages_in, sent, stopped}

@@ -21,7 +21,7 @@ use Rattle.kdc_hub.specs.declared.event.Event.TheVariants.{Datagram, Opened, Byt
 use Rattle.kdc_hub.specs.declared.event.Peer.{Peer}
 use Rattle.kdc_hub.specs.declared.event.Action.TheVariants.{Close}
 use Rattle.kdc_hub.specs.declared.event.CloseReason.TheVariants.{Full}
-use Rattle.kdc_hub.specs.declared.reply.Reply.{Reply}
+use Rattle.kdc_core.specs.declared.reply.Reply.{Reply}
 use Rattle.kdc_hub.specs.Issuing.{Issuing, after, reply_of}
 use Rattle.kdc_hub.specs.StreamStep.{StreamStep, messages_step, reply_then, stream_room, stream_step}
 use Rattle.kdc_hub.specs.Hub.{HubState, Step, brings, greatest_request, hub_step, with_stream, most_connections, nothing}

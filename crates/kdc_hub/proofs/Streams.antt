@@ -10,7 +10,7 @@ use Rattle.krb_fields.specs.declared.moment.Moment.{Moment}
 use Rattle.kdc_hub.specs.declared.event.Action.{Action}
 use Rattle.kdc_hub.specs.declared.event.Action.TheVariants.{Write, Close}
 use Rattle.kdc_hub.specs.declared.event.CloseReason.TheVariants.{BadLength}
-use Rattle.kdc_hub.specs.declared.reply.Reply.{Reply}
+use Rattle.kdc_core.specs.declared.reply.Reply.{Reply}
 use Rattle.kdc_core.specs.View.{view}
 use Rattle.kdc_hub.specs.Audits.{FirstHold, ReplyHolds, if_answered}
 use Rattle.kdc_hub.specs.Issuing.{Issuing, after, reply_of, too_long}

@@ -34,7 +34,7 @@ use Rattle.kdc_hub.specs.declared.event.Action.{Action}
 use Rattle.kdc_hub.specs.declared.event.Action.TheVariants.{SendTo, Pass, Write, Close}
 use Rattle.kdc_hub.specs.declared.event.Event.{Event}
 use Rattle.kdc_hub.specs.declared.event.Event.TheVariants.{Datagram, Opened, Bytes, Closed}
-use Rattle.kdc_hub.specs.declared.reply.Reply.{Reply}
+use Rattle.kdc_core.specs.declared.reply.Reply.{Reply}
 use Rattle.kdc_hub.specs.Issuing.{Issuing, after, reply_of}
 use Rattle.kdc_hub.specs.StreamStep.{action_for, stream_room}
 use Rattle.kdc_hub.specs.Hub.{HubState, datagram_room, sent}

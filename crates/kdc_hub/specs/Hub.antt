@@ -15,7 +15,7 @@ use Rattle.kdc_hub.specs.declared.event.Event.TheVariants.{Datagram, Opened, Byt
 use Rattle.kdc_hub.specs.declared.event.HubFault.{HubFault}
 use Rattle.kdc_hub.specs.declared.event.Peer.{Peer}
 use Rattle.kdc_hub.specs.declared.hub.Hub.{Hub}
-use Rattle.kdc_hub.specs.declared.reply.Reply.{Reply}
+use Rattle.kdc_core.specs.declared.reply.Reply.{Reply}
 use Rattle.kdc_hub.specs.Issuing.{Issuing, after, issuing, reply_of}
 use Rattle.kdc_hub.specs.StreamStep.{StreamStep, after_some, drawn, stream_step}
 
@@ -25,7 +25,7 @@ pub record HubState : Type 0 where
   pub connections : map.FinMap nat_cmp Splitting
 
 abbrev pub hub_state : {R : Type 0} → (R → Stream) → Hub R → HubState
-hub_state stream hub = record { issuing = issuing stream hub.issuer; connections = hub.connections }
+hub_state stream hub = record { issuing = issuing stream hub.seeded_kdc; connections = hub.connections }
 
 -- the actions of one event, and the hub afterwards
 pub record Step : Type 0 where

@@ -3,14 +3,13 @@ use Rattle.std.specs.Prelude.{ℕ, Bool, List, Option, None, option_map}
 use Rattle.rand_core.specs.Stream.{Stream, fill_bytes}
 use Rattle.krb_fields.specs.declared.moment.Moment.{Moment}
 use Rattle.krb_fields.specs.declared.code.Code.TheVariants.{KrbErrFieldToolong}
-use Rattle.replay.specs.declared.seen.Seen.{Seen}
 use Rattle.kdc_state.specs.declared.state.State.{State}
-use Rattle.kdc_core.specs.Audit.{AuditRecord, audit, audit_if}
+use Rattle.kdc_core.specs.Audit.{audit, audit_if}
 use Rattle.kdc_core.specs.Answer.{answer, error_octets, after_request}
 use Rattle.kdc_core.specs.NewlySeen.{newly_seen}
 use Rattle.kdc_core.specs.View.{View, view}
-use Rattle.kdc_hub.specs.declared.issuer.Issuer.{Issuer}
-use Rattle.kdc_hub.specs.declared.reply.Reply.{Reply}
+use Rattle.kdc_hub.specs.declared.seeded_kdc.SeededKdc.{SeededKdc}
+use Rattle.kdc_core.specs.declared.reply.Reply.{Reply}
 
 -- the state, everything that the generator will give, and whether replies have audit records
 pub record Issuing : Type 0 where
@@ -18,13 +17,9 @@ pub record Issuing : Type 0 where
   pub random : Stream
   pub audits : Bool
 
-abbrev pub issuing : {R : Type 0} → (R → Stream) → Issuer R → Issuing
-issuing stream issuer = record { kdc = issuer.kdc; random = stream issuer.rng; audits = issuer.keeps_audits }
-
--- the reply in an answer, if there is one
-abbrev pub reply_with : Option (List ℕ) → Option AuditRecord → Option Seen → Option Reply
-reply_with octets audit seen =
-    option_map (λ message. record { message = message; audit = audit; newly_seen = seen }) octets
+abbrev pub issuing : {R : Type 0} → (R → Stream) → SeededKdc R → Issuing
+issuing stream seeded_kdc =
+    record { kdc = seeded_kdc.kdc; random = stream seeded_kdc.rng; audits = seeded_kdc.keeps_audits }
 
 -- the reply to a request, with its audit record if audit records are kept, and with the authenticator that it records
 unfoldable pub reply_by : Bool → View → Moment → List ℕ → ℕ → List ℕ → Option Reply

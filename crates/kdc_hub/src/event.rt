@@ -2,7 +2,7 @@
 ghost use Rattle.std.specs.Prelude.{◌≡◌, IfOk, option_copied};
 ghost use Rattle.kdc_hub.specs.Rounds.{action_connection};
 
-use crate::reply::Reply;
+use kdc_core::Reply;
 use krb_elements::Octets;
 use std::alloc::{AllocError, Global};
 use std::net::SocketAddr;

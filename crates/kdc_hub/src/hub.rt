@@ -20,7 +20,7 @@ ghost use Rattle.kdc_hub.specs.declared.event.Event.TheVariants.{Datagram, Opene
 
 use crate::connections::Connections;
 use crate::event::{Action, CloseReason, Event, HubFault, Peer};
-use crate::issuer::Issuer;
+use crate::seeded_kdc::SeededKdc;
 use crate::stream::{TimedConnection, answer_stream};
 use framing::Splitter;
 use kdc_core::{CacheSizes, Kdc, OtherRealm, TimedRequest};
@@ -41,7 +41,7 @@ const MOST_CONNECTIONS: usize = 256;
 /// A key distribution centre with the generator of its random octets, and the connections that are open.
 #[derive(Drop)]
 pub struct Hub<R> {
-    issuer: Issuer<R>,
+    seeded_kdc: SeededKdc<R>,
     connections: Connections,
 }
 
@@ -65,7 +65,7 @@ impl<R: Rng> Hub<R> {
             ≡ after_turn before (Resumed database limits r (R.stream rng) keeps_audits) }
     {
         Hub {
-            issuer: Issuer {
+            seeded_kdc: SeededKdc {
                 kdc,
                 rng,
                 keeps_audits,
@@ -81,7 +81,7 @@ impl<R: Rng> Hub<R> {
         ensures turn { hub_state R.stream self.new ≡ after_turn (hub_state R.stream self.old) (Replaced database) }
         ensures err { OnErr result (hub_state R.stream self.new ≡ hub_state R.stream self.old) }
     {
-        self.issuer.kdc.replace(database)
+        self.seeded_kdc.kdc.replace(database)
     }
 
     /// Drops each client's authenticators that are too old to come again at this moment. Connections and generator
@@ -89,7 +89,7 @@ impl<R: Rng> Hub<R> {
     pub fn tidy(&mut self, at: Moment)
         ensures turn { hub_state R.stream self.new ≡ after_turn (hub_state R.stream self.old) (Tidied at) }
     {
-        self.issuer.kdc.tidy(at);
+        self.seeded_kdc.kdc.tidy(at);
     }
 
     /// Frees the memory of dropped authenticators, for this many clients from a place on. Returns the next place, if
@@ -97,14 +97,14 @@ impl<R: Rng> Hub<R> {
     pub fn free_dropped(&mut self, from: usize, clients: usize) -> Option<usize>
         ensures { hub_state R.stream self.new ≡ hub_state R.stream self.old }
     {
-        self.issuer.kdc.free_dropped(from, clients)
+        self.seeded_kdc.kdc.free_dropped(from, clients)
     }
 
     /// Returns how many principals there are.
     pub fn row_count(&self) -> usize
         ensures { result ≡ map.len (hub_state R.stream self.now).issuing.kdc.database.rows }
     {
-        self.issuer.kdc.row_count()
+        self.seeded_kdc.kdc.row_count()
     }
 
     /// Returns how much the replay caches hold. It goes through all of them, and allocates nothing.
@@ -115,7 +115,7 @@ impl<R: Rng> Hub<R> {
         ensures kept_bytes { result.kept_bytes
             ≡ limited (bytes_of (map.entries (hub_state R.stream self.now).issuing.kdc.caches)) }
     {
-        self.issuer.kdc.cache_sizes()
+        self.seeded_kdc.kdc.cache_sizes()
     }
 
     /// Returns the actions for an event, in order. It answers a connection until a request gets no reply, or a length
@@ -164,7 +164,7 @@ impl<R: Rng> Hub<R> {
         let Ok(mut actions) = Vec::with_capacity(alloc, 1) else {
             return Err(nothing_done(alloc, None, 0));
         };
-        match self.issuer.answer(alloc, DATAGRAM_ROOM, request) {
+        match self.seeded_kdc.answer(alloc, DATAGRAM_ROOM, request) {
             Ok(Some(reply)) => {
                 actions.push_reserved(Action::SendTo { peer, reply });
                 Ok(actions)
@@ -216,7 +216,7 @@ impl<R: Rng> Hub<R> {
             self.connections.remove(conn);
             return Err(nothing_done(alloc, Some(conn), 0));
         };
-        match answer_stream(alloc, &mut self.issuer, timed, &mut stream) {
+        match answer_stream(alloc, &mut self.seeded_kdc, timed, &mut stream) {
             Ok(served) => {
                 if served.stays {
                     let _ = self.connections.replace(conn, stream);

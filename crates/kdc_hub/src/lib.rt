@@ -17,18 +17,16 @@
 #![tactic(auto)]
 
 mod connections;
-mod diary;
 mod event;
 mod hub;
-mod issuer;
 mod laws;
 mod life;
 mod memory;
-mod memory_rows;
-mod onlooker;
+mod observer;
 mod peers;
-mod reply;
+mod record;
 mod rows;
+mod seeded_kdc;
 mod server;
 mod stream;
 mod totals;
@@ -36,14 +34,14 @@ mod wires;
 
 pub use event::{Action, CloseReason, Event, HubFault, Peer};
 pub use hub::Hub;
-pub use kdc_core::{AuditRecord, CacheSizes, OtherRealm};
+pub use kdc_core::{AuditRecord, CacheSizes, OtherRealm, Reply};
 pub use laws::{any_cutting, one_run};
 pub use life::serve_life;
-pub use memory::MemoryWire;
-pub use memory_rows::MemoryRows;
-pub use onlooker::{Onlooker, ServerView};
+pub use memory::rows::MemoryRows;
+pub use memory::wire::MemoryWire;
+pub use observer::{Observer, ServerView};
 pub use peers::Peers;
-pub use reply::Reply;
+pub use record::Record;
 pub use rows::{Look, RowSource, RowsState};
 pub use server::{Served, serve};
 pub use totals::Totals;

@@ -6,7 +6,7 @@ ghost use Rattle.kdc_hub.specs.Life.{HasLooked, HasTidied, IsLife, IsPeriod, due
 
 use crate::hub::Hub;
 use crate::laws::one_run;
-use crate::onlooker::{Onlooker, ServerView};
+use crate::observer::{Observer, ServerView};
 use crate::rows::{Look, RowSource};
 use crate::server::{Served, serve};
 use crate::totals::Totals;
@@ -41,15 +41,15 @@ struct Freeing {
 /// Serves this many rounds. Before the first, and again after each 16, it checks whether the source has new rows. Rows
 /// of the same realm replace those that are served; the replay caches are unchanged. After the rounds it drops
 /// authenticators that can't come again, at most once a minute by the moment of the last poll. So a server without
-/// requests drops them too. Their memory is freed in parts, after the rounds that follow. The onlooker looks at the
+/// requests drops them too. Their memory is freed in parts, after the rounds that follow. The observer looks at the
 /// server after each 16 rounds, and at the end.
-pub fn serve_life<W: Wire, S: RowSource, R: Rng, O: Onlooker<W, S, R>>(
+pub fn serve_life<W: Wire, S: RowSource, R: Rng, O: Observer<W, R>>(
     alloc: Global,
     wire: &mut W,
     source: &mut S,
     hub: &mut Hub<R>,
     rounds: u64,
-    onlooker: &mut O,
+    observer: &mut O,
 ) -> Totals
     // The records of the Wire and of the source, and the hub at the end, are those of one history, which is one run of
     // the key distribution centre. No authenticator gets two different tickets in it. What others send changes nothing
@@ -70,11 +70,11 @@ pub fn serve_life<W: Wire, S: RowSource, R: Rng, O: Onlooker<W, S, R>>(
     for _ in 0..rounds / 16 {
         let served = serve_period(alloc, wire, source, hub, &mut tidied, 16);
         totals = totals.with(served);
-        onlooker.see(
+        observer.see(
             alloc,
             &ServerView {
                 wire,
-                source,
+                rows: source.state(),
                 hub,
                 served,
             },
@@ -82,11 +82,11 @@ pub fn serve_life<W: Wire, S: RowSource, R: Rng, O: Onlooker<W, S, R>>(
     }
     let rest = (rounds % 16) as u32;
     let last = serve_period(alloc, wire, source, hub, &mut tidied, rest);
-    onlooker.see(
+    observer.see(
         alloc,
         &ServerView {
             wire,
-            source,
+            rows: source.state(),
             hub,
             served: last,
         },

@@ -2,7 +2,7 @@
 ghost use Rattle.std.specs.Prelude.{◌≡◌, ℕ, Option, None};
 ghost use Rattle.std.specs.declared.net.socket_addr.SocketAddr.{SocketAddr};
 
-use crate::memory::MemoryWire;
+use crate::memory::wire::MemoryWire;
 use std::net::SocketAddr;
 
 /// A Wire that knows the peers of its connections.

@@ -12,7 +12,7 @@ ghost use Rattle.kdc_hub.specs.declared.event.Action.TheVariants.{Write, Close};
 ghost use Rattle.kdc_hub.specs.declared.event.CloseReason.TheVariants.{BadLength};
 
 use crate::event::{Action, CloseReason, HubFault};
-use crate::issuer::Issuer;
+use crate::seeded_kdc::SeededKdc;
 use framing::{FrameFault, Splitter};
 use kdc_core::TimedRequest;
 use krb_fields::Moment;
@@ -50,42 +50,43 @@ struct RanOut {
 /// Answers the complete messages of a stream.
 pub fn answer_stream<R: Rng>(
     alloc: Global,
-    issuer: &mut Issuer<R>,
+    seeded_kdc: &mut SeededKdc<R>,
     timed: TimedConnection,
     stream: &mut Splitter,
 ) -> Result<StreamStep, HubFault>
     ensures actions { IfOk result
         (λ s. s.actions.items
-        ≡ (stream_step (issuing R.stream issuer.old) timed.at timed.conn stream.old).actions) }
+        ≡ (stream_step (issuing R.stream seeded_kdc.old) timed.at timed.conn stream.old).actions) }
     ensures issuing { OnOk result
-        (issuing R.stream issuer.new
-        ≡ (stream_step (issuing R.stream issuer.old) timed.at timed.conn stream.old).issuing) }
+        (issuing R.stream seeded_kdc.new
+        ≡ (stream_step (issuing R.stream seeded_kdc.old) timed.at timed.conn stream.old).issuing) }
     ensures stays { IfOk result
-        (λ s. s.stays ≡ (stream_step (issuing R.stream issuer.old) timed.at timed.conn stream.old).stays) }
+        (λ s. s.stays ≡ (stream_step (issuing R.stream seeded_kdc.old) timed.at timed.conn stream.old).stays) }
     ensures left { IfOk result (λ s. s.stays ≡ true → stream.new ≡ left stream.old) }
     ensures conn { IfErr result (λ fault. fault.conn ≡ Some timed.conn) }
     ensures done { IfErr result
         (λ fault. fault.done.items
         ≡ take (length fault.done.items)
-        (stream_step (issuing R.stream issuer.old) timed.at timed.conn stream.old).actions) }
+        (stream_step (issuing R.stream seeded_kdc.old) timed.at timed.conn stream.old).actions) }
     ensures kdc { IfErr result
-        (λ fault. issuer.new.kdc ≡ (after_some (length fault.done.items) (issuing R.stream issuer.old) timed.at
+        (λ fault. seeded_kdc.new.kdc ≡ (after_some (length fault.done.items) (issuing R.stream seeded_kdc.old) timed.at
         (handed_out stream.old).messages).kdc) }
-    ensures drawn { IfErr result (λ fault. R.stream issuer.new.rng ≡ drawn fault.draws (R.stream issuer.old.rng)) }
+    ensures drawn { IfErr result (λ fault. R.stream seeded_kdc.new.rng
+        ≡ drawn fault.draws (R.stream seeded_kdc.old.rng)) }
     ensures draws { IfErr result AreDraws }
-    ensures keeps { issuer.new.keeps_audits ≡ issuer.old.keeps_audits }
+    ensures keeps { seeded_kdc.new.keeps_audits ≡ seeded_kdc.old.keeps_audits }
     ensures audits { IfOk result (λ s.
-        FirstHold (length s.actions.items) (issuing R.stream issuer.old) timed.at stream_room
+        FirstHold (length s.actions.items) (issuing R.stream seeded_kdc.old) timed.at stream_room
         (handed_out stream.old).messages) }
     ensures audits_done { IfErr result (λ fault.
-        FirstHold (length fault.done.items) (issuing R.stream issuer.old) timed.at stream_room
+        FirstHold (length fault.done.items) (issuing R.stream seeded_kdc.old) timed.at stream_room
         (handed_out stream.old).messages) }
 {
     let mut actions = Vec::new(alloc);
     loop {
         match stream.next(alloc) {
             Ok(Some(request)) => {
-                match answer_request(alloc, issuer, timed, &request, &mut actions) {
+                match answer_request(alloc, seeded_kdc, timed, &request, &mut actions) {
                     Ok(true) => {}
                     Ok(false) => {
                         return Ok(StreamStep {
@@ -105,7 +106,7 @@ pub fn answer_stream<R: Rng>(
             Err(fault) => {
                 return match fault {
                     FrameFault::Memory => Err(out_of_memory(actions, timed.conn, false)),
-                    _ => refuse_length(alloc, issuer, timed, actions),
+                    _ => refuse_length(alloc, seeded_kdc, timed, actions),
                 };
             }
         }
@@ -130,25 +131,26 @@ fn out_of_memory(done: Vec<Action>, conn: u64, drawn: bool) -> HubFault
 #[tactic(auto, unfolding(crate::specs::StreamStep::drawn))]
 fn answer_request<R: Rng>(
     alloc: Global,
-    issuer: &mut Issuer<R>,
+    seeded_kdc: &mut SeededKdc<R>,
     timed: TimedConnection,
     request: &[u8],
     actions: &mut Vec<Action>,
 ) -> Result<bool, RanOut>
     ensures action { OnOk result
         (actions.new.items ≡ actions.old.items
-        ++ action_for timed.conn (reply_of (issuing R.stream issuer.old) timed.at stream_room request.now) ∷ []) }
+        ++ action_for timed.conn (reply_of (issuing R.stream seeded_kdc.old) timed.at stream_room request.now) ∷ []) }
     ensures after { OnOk result
-        (issuing R.stream issuer.new ≡ after (issuing R.stream issuer.old) timed.at stream_room request.now) }
+        (issuing R.stream seeded_kdc.new ≡ after (issuing R.stream seeded_kdc.old) timed.at stream_room request.now) }
     ensures stays { IfOk result
-        (λ stays. stays ≡ is_some (reply_of (issuing R.stream issuer.old) timed.at stream_room request.now)) }
+        (λ stays. stays ≡ is_some (reply_of (issuing R.stream seeded_kdc.old) timed.at stream_room request.now)) }
     ensures holds { OnOk result
-        (ReplyHolds (view issuer.old.kdc request.now) timed.at (fill_bytes 64 (R.stream issuer.old.rng)).0 request.now
-        (reply_of (issuing R.stream issuer.old) timed.at stream_room request.now)) }
-    ensures err { OnErr result ((actions.new.items ≡ actions.old.items) × (issuer.new.kdc ≡ issuer.old.kdc)) }
-    ensures audits { issuer.new.keeps_audits ≡ issuer.old.keeps_audits }
+        (ReplyHolds (view seeded_kdc.old.kdc request.now) timed.at
+        (fill_bytes 64 (R.stream seeded_kdc.old.rng)).0 request.now
+        (reply_of (issuing R.stream seeded_kdc.old) timed.at stream_room request.now)) }
+    ensures err { OnErr result ((actions.new.items ≡ actions.old.items) × (seeded_kdc.new.kdc ≡ seeded_kdc.old.kdc)) }
+    ensures audits { seeded_kdc.new.keeps_audits ≡ seeded_kdc.old.keeps_audits }
     ensures drawn { IfErr result
-        (λ fault. R.stream issuer.new.rng ≡ drawn (if fault.drawn then 1 else 0) (R.stream issuer.old.rng)) }
+        (λ fault. R.stream seeded_kdc.new.rng ≡ drawn (if fault.drawn then 1 else 0) (R.stream seeded_kdc.old.rng)) }
 {
     if actions.reserve(1).is_err() {
         return Err(RanOut { drawn: false });
@@ -158,7 +160,7 @@ fn answer_request<R: Rng>(
         at,
         octets: request,
     };
-    match issuer.answer(alloc, ROOM, &request) {
+    match seeded_kdc.answer(alloc, ROOM, &request) {
         Ok(Some(reply)) => {
             actions.push_reserved(Action::Write { conn, reply });
             Ok(true)
@@ -177,19 +179,19 @@ fn answer_request<R: Rng>(
 /// Answers a length that is too large, and ends the connection.
 fn refuse_length<R: Rng>(
     alloc: Global,
-    issuer: &Issuer<R>,
+    seeded_kdc: &SeededKdc<R>,
     timed: TimedConnection,
     mut actions: Vec<Action>,
 ) -> Result<StreamStep, HubFault>
     ensures actions { IfOk result
         (λ s. s.actions.items ≡ actions.items
-        ++ Write timed.conn (too_long issuer.now.kdc timed.at) ∷ Close timed.conn BadLength ∷ []) }
+        ++ Write timed.conn (too_long seeded_kdc.now.kdc timed.at) ∷ Close timed.conn BadLength ∷ []) }
     ensures stays { IfOk result (λ s. s.stays ≡ false) }
     ensures conn { IfErr result (λ fault. fault.conn ≡ Some timed.conn) }
     ensures done { IfErr result (λ fault. fault.done.items ≡ actions.items) }
     ensures draws { IfErr result (λ fault. fault.draws ≡ length actions.items + 0) }
 {
-    match push_refusal(alloc, issuer, timed, &mut actions) {
+    match push_refusal(alloc, seeded_kdc, timed, &mut actions) {
         Ok(()) => Ok(StreamStep {
             actions,
             stays: false,
@@ -200,18 +202,18 @@ fn refuse_length<R: Rng>(
 
 fn push_refusal<R: Rng>(
     alloc: Global,
-    issuer: &Issuer<R>,
+    seeded_kdc: &SeededKdc<R>,
     timed: TimedConnection,
     actions: &mut Vec<Action>,
 ) -> Result<(), AllocError>
     ensures ok { OnOk result
         (actions.new.items ≡ actions.old.items
-        ++ Write timed.conn (too_long issuer.now.kdc timed.at) ∷ Close timed.conn BadLength ∷ []) }
+        ++ Write timed.conn (too_long seeded_kdc.now.kdc timed.at) ∷ Close timed.conn BadLength ∷ []) }
     ensures err { OnErr result (actions.new.items ≡ actions.old.items) }
 {
     let TimedConnection { conn, at } = timed;
     actions.reserve(2)?;
-    let reply = issuer.too_long(alloc, at)?;
+    let reply = seeded_kdc.too_long(alloc, at)?;
     actions.push_reserved(Action::Write { conn, reply });
     actions.push_reserved(Action::Close {
         conn,

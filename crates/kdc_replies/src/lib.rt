@@ -9,8 +9,8 @@
 //! }
 //! ```
 //!
-//! `grant` is the [`Grant`] of the ticket, and `reply_key` the `PartKey` (of `encrypted_data`) that encrypts the reply's
-//! part. Random bytes come with the request, in an [`Incoming`].
+//! `grant` is the [`Grant`] of the ticket, and `reply_key` the `PartKey` (of `encrypted_data`) that encrypts the
+//! reply's part. Random bytes come with the request, in an [`Incoming`].
 //!
 //! It does not decide which reply a request gets: `as_exchange` and `tgs_exchange` do.
 #![tactic(auto)]

@@ -17,7 +17,7 @@ use Rattle.kdc_hub.specs.declared.event.CloseReason.TheVariants.{BadLength, NoRe
 use Rattle.kdc_hub.specs.declared.event.Event.{Event}
 use Rattle.kdc_hub.specs.declared.event.Event.TheVariants.{Datagram, Opened, Bytes, Closed}
 use Rattle.kdc_hub.specs.declared.event.Peer.{Peer}
-use Rattle.kdc_hub.specs.declared.reply.Reply.{Reply}
+use Rattle.kdc_core.specs.declared.reply.Reply.{Reply}
 use Rattle.kdc_hub.specs.declared.wires.WireCall.{WireCall}
 use Rattle.kdc_hub.specs.declared.wires.WireCall.TheVariants.{Polled, Waited, Missed, Acted, Failed}
 use Rattle.kdc_hub.specs.History.{Stepped, Turn, after_turn, after_turns, all_seen_by, asked, others_after, piece_requests, newly_seen_in, replies_by, reply_of_action, requests_by, seen_by, stream_requests, turn_sees}

@@ -16,11 +16,11 @@ use Rattle.kdc_hub.specs.Wire.{Records, acted, is_fault, polled}
 use Rattle.kdc_hub.proofs.Rounds.{records_nothing, records_on}
 use Rattle.kdc_files.specs.Journal.{Handed, handed_by}
 use Rattle.request_log.specs.Entry.{LogEntry}
-use Rattle.kdc_reports.specs.Log.{LogsAll, arrival_after, asker_of, entries_of, moment_after, reported}
+use Rattle.request_log.specs.Log.{LogsAll, arrival_after, asker_of, entries_of, moment_after, reported}
 use Rattle.kdc_files.specs.Recorded.{IsNew}
 use Rattle.kdc_server.specs.Served.{HasServed, Serves, handed_in, handed_of, in_order, last_came, said, said_of, says, succeeded}
 use Rattle.kdc_server.specs.Withheld.{EndsOnly}
-use Rattle.kdc_reports.specs.declared.logging.Arrival.{Arrival}
+use Rattle.request_log.specs.declared.logging.Arrival.{Arrival}
 
 succeeded_on : (xs ys : List WireCall) → succeeded (xs ++ ys) ≡ succeeded xs ++ succeeded ys
 succeeded_on xs ys = filter-append (λ d. not (is_fault d)) xs ys

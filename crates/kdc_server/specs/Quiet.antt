@@ -13,8 +13,8 @@ use Rattle.kdc_hub.specs.declared.event.Action.TheVariants.{SendTo, Pass, Write,
 use Rattle.tgs_exchange.specs.declared.outcome.TgsOutcome.{TgsOutcome}
 use Rattle.tgs_exchange.specs.declared.outcome.TgsOutcome.TheVariants.{Refused, Issued, Resent, TooBig}
 use Rattle.tgs_opening.specs.Refusal.{code_of}
-use Rattle.kdc_reports.specs.declared.clock_watch.Refused.{Refused as StartRefused}
-use Rattle.kdc_reports.specs.declared.clock_watch.Refused.TheVariants.{All, ServedLater}
+use Rattle.server_notices.specs.declared.clock_watch.Refused.{Refused as StartRefused}
+use Rattle.server_notices.specs.declared.clock_watch.Refused.TheVariants.{All, ServedLater}
 
 -- a refusal with KRB_AP_ERR_SKEW
 abbrev pub is_skew : TgsOutcome → Bool

@@ -1,8 +1,8 @@
 -- When a server's numbers are reported, and what two of them are.
 use Rattle.std.specs.Prelude.{ℕ, ℤ, pos, ◌+ℤ◌, int_lt, not, ◌&&◌, unsigned_abs, if◌then◌else◌, Option, Some, None}
 use Rattle.krb_fields.specs.declared.moment.Moment.{Moment}
-use Rattle.kdc_reports.specs.declared.clock_watch.Refused.{Refused}
-use Rattle.kdc_reports.specs.declared.clock_watch.Refused.TheVariants.{All, ServedLater}
+use Rattle.server_notices.specs.declared.clock_watch.Refused.{Refused}
+use Rattle.server_notices.specs.declared.clock_watch.Refused.TheVariants.{All, ServedLater}
 
 -- When to report, given the moments of the last report and of the last successful poll: at the poll's moment, unless it
 -- is within the ten seconds that began with the report. So a clock that went back doesn't stop reports.

@@ -24,8 +24,8 @@ use Rattle.kdc_server.specs.Starting.{seeded, seeding}
 use Rattle.kdc_server.specs.declared.options.ServeOptions.{ServeOptions}
 use Rattle.kdc_files.specs.declared.journals.JournalBeginning.{JournalBeginning}
 use Rattle.kdc_files.specs.declared.journals.Journals.{Journals}
-use Rattle.kdc_reports.specs.Started.{found_by}
-use Rattle.kdc_reports.specs.declared.started.JournalFound.{JournalFound}
+use Rattle.server_notices.specs.Started.{found_by}
+use Rattle.server_notices.specs.declared.started.JournalFound.{JournalFound}
 
 abbrev pub is_there : Found → Bool
 is_there Nothing = false

@@ -8,7 +8,7 @@ use Rattle.kdc_hub.specs.declared.wires.WireCall.TheVariants.{Polled, Waited, Mi
 use Rattle.kdc_hub.specs.Wire.{is_fault}
 use Rattle.kdc_files.specs.Journal.{Handed, handed_by}
 use Rattle.request_log.specs.Entry.{LogEntry}
-use Rattle.kdc_reports.specs.Log.{moment_after, reported}
+use Rattle.request_log.specs.Log.{moment_after, reported}
 
 -- what comes of all that was polled and tried, one after the other, each with the moment of the last event before it
 abbrev pub in_order : {X : Type 0} → (Moment → WireCall → List X) → Moment → List WireCall → List X

@@ -8,7 +8,7 @@ use Rattle.kdc_hub.specs.Wire.{Records}
 use Rattle.kdc_hub.specs.declared.rows.Look.{Look}
 use Rattle.kdc_hub.specs.declared.totals.Totals.{Totals}
 use Rattle.kdc_hub.specs.Life.{IsLife, periods_of}
-use Rattle.kdc_reports.specs.Clocks.{refused_at_start}
+use Rattle.server_notices.specs.Clocks.{refused_at_start}
 use Rattle.kdc_server.specs.Resuming.{IsReady, began, found_at}
 use Rattle.kdc_files.specs.Recorded.{IsNew}
 use Rattle.kdc_server.specs.Starting.{HostDid, TookRows}

@@ -3,7 +3,7 @@ use Rattle.std.specs.Prelude.{◌≡◌, ℕ, ℤ, Bool, true, false, not, ◌&&
 use Rattle.krb_fields.specs.declared.moment.Moment.{Moment}
 use Rattle.kdc_hub.specs.declared.event.Action.{Action}
 use Rattle.kdc_files.specs.Journal.{is_kept}
-use Rattle.kdc_reports.specs.Memory.{plus}
+use Rattle.server_notices.specs.Unanswered.{plus}
 use Rattle.kdc_server.specs.Quiet.{quiet_withholds}
 use Rattle.kdc_server.specs.declared.withheld.Withheld.{Withheld}
 

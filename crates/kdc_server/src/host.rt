@@ -5,12 +5,14 @@ ghost use Rattle.kdc_files.specs.Recorded.{IsNew};
 ghost use Rattle.kdc_server.specs.Starting.{HostDid, ReadRows, ReadSeed, Drew, Held, HasNoJournal, ReadJournals, Showed};
 ghost use Rattle.kdc_server.specs.Starting.{BeganJournal, TookRows};
 
-use crate::sockets::Sockets;
+use crate::sockets::ServerSockets;
 use kdc_files::{JournalBeginning, JournalWriter, OpenedJournals, ServerFileCause};
 use kdc_hub::RowSource;
-use kdc_reports::{JournalFound, LogNumbers, LogWriter, MetricsWriter, Refused, Tally};
+use kdc_metrics::{LogNumbers, MetricsWriter, Tally};
 use krb_fields::Moment;
 use principals::Database;
+use request_log::LogWriter;
+use server_notices::{JournalFound, Refused};
 use std::alloc::{AllocError, Global};
 use std::io;
 use std::io::Write;
@@ -31,7 +33,7 @@ pub struct StartNews {
 /// keep a record, for contracts alone.
 pub trait Host {
     /// Sockets that are held.
-    type Sockets: Sockets + Drop;
+    type Sockets: ServerSockets + Drop;
 
     /// Why sockets can't be opened.
     type SocketFault: Drop;

@@ -37,6 +37,6 @@ pub use crate::options::ServeOptions;
 pub use crate::reporter::Reporter;
 pub use crate::server::{Ran, Server, run_server};
 pub use crate::server_wire::ServerWire;
-pub use crate::sockets::Sockets;
+pub use crate::sockets::ServerSockets;
 pub use crate::starting::{StartFault, SystemPart};
 pub use crate::withheld::Withheld;

@@ -13,10 +13,11 @@ use kdc_files::{
     JournalBeginning, Journals, MemoryJournal, OpenedJournals, Record, ServerFileCause,
 };
 use kdc_hub::{Event, Look, MemoryRows};
-use kdc_reports::{CountedLog, MemoryLog, MemoryMetrics, MemoryTally};
+use kdc_metrics::{CountedLog, MemoryMetrics, MemoryTally};
 use krb_elements::Octets;
 use krb_fields::Moment;
 use principals::Database;
+use request_log::MemoryLog;
 use std::alloc::{AllocError, Global};
 use std::collections::VecDeque;
 use std::io;

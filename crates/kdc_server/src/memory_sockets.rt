@@ -5,7 +5,7 @@ ghost use Rattle.std.proofs.Common.{ap};
 ghost use Rattle.kdc_hub.specs.Wire.{Records};
 ghost use Rattle.kdc_files.specs.Recorded.{IsNew};
 
-use crate::sockets::Sockets;
+use crate::sockets::ServerSockets;
 use kdc_files::Record;
 use kdc_hub::{Action, Event, MemoryWire, Peers, Wire, WireCall, WireFault};
 use krb_fields::Moment;
@@ -72,7 +72,7 @@ impl Peers for MemorySockets {
     }
 }
 
-impl Sockets for MemorySockets {
+impl ServerSockets for MemorySockets {
     ghost HangsUp = { λ old conn new. (new.wire ≡ old.wire) × Records old.ended (conn ∷ []) new.ended };
 
     ghost lost_count = { λ _. 0 };

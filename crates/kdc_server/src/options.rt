@@ -1,6 +1,6 @@
 //! What a server is asked to do.
-use kdc_reports::LogFormat;
 use principal_rows::Limits;
+use request_log::LogFormat;
 use std::net::SocketAddr;
 
 /// The options of a server.

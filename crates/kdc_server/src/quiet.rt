@@ -4,9 +4,9 @@ ghost use Rattle.kdc_server.specs.Quiet.{is_skew, is_skewed, quiet_until, quiet_
 
 use kdc_core::TgsOutcome;
 use kdc_hub::{Action, AuditRecord};
-use kdc_reports::Refused;
 use krb_fields::numbers::KRB_AP_ERR_SKEW;
 use krb_fields::{Moment, SKEW};
+use server_notices::Refused;
 
 /// Returns the second before which refused requests get no reply, if a start at this moment is quiet. It is at most the
 /// floor that the start's own clock asks for.

@@ -1,16 +1,16 @@
 //! Reporting the numbers of a server every ten seconds.
 ghost use Rattle.std.specs.Prelude.{◌≡◌, IfOk};
-ghost use Rattle.kdc_reports.specs.Numbers.{numbers_text};
+ghost use Rattle.kdc_metrics.specs.Numbers.{numbers_text};
 ghost use Rattle.kdc_server.specs.Reporter.{due, refused_until, second_of};
 
 use crate::host::Host;
 use crate::server_wire::ServerWire;
 use file_store::VERSION;
-use kdc_hub::{Hub, Onlooker, RowSource, RowsState, Served, ServerView};
-use kdc_reports::{LogNumbers, MetricsWriter, Numbers, Refused, Tally, push_numbers};
+use kdc_hub::{Hub, Observer, RowsState, Served, ServerView};
+use kdc_metrics::{Counts, LogNumbers, MetricsWriter, Numbers, Tally, push_numbers};
 use krb_fields::Moment;
 use rand_chacha::ChaCha20Rng;
-use request_log::Counts;
+use server_notices::Refused;
 use std::alloc::{AllocError, Global};
 
 /// In seconds.
@@ -98,12 +98,8 @@ impl<H: Host> Reporter<H> {
     }
 }
 
-impl<H: Host> Onlooker<ServerWire<H>, Option<H::Rows>, ChaCha20Rng> for Reporter<H> {
-    fn see(
-        &mut self,
-        alloc: Global,
-        server: &ServerView<'_, ServerWire<H>, Option<H::Rows>, ChaCha20Rng>,
-    ) {
+impl<H: Host> Observer<ServerWire<H>, ChaCha20Rng> for Reporter<H> {
+    fn see(&mut self, alloc: Global, server: &ServerView<'_, ServerWire<H>, ChaCha20Rng>) {
         if self.writer.is_none() {
             return;
         }
@@ -115,7 +111,7 @@ impl<H: Host> Onlooker<ServerWire<H>, Option<H::Rows>, ChaCha20Rng> for Reporter
         let Some(counts) = server.wire.log().counts() else {
             return;
         };
-        let numbers = self.numbers_of(server.wire, server.source.state(), server.hub);
+        let numbers = self.numbers_of(server.wire, server.rows, server.hub);
         self.write(alloc, &numbers, counts);
     }
 }

@@ -20,9 +20,9 @@ use crate::starting::{ReadyServer, StartFault, ready};
 use journal::Start;
 use kdc_files::{JournalBeginning, ServerFileCause};
 use kdc_hub::{Hub, Totals, serve_life};
-use kdc_reports::{JournalFound, refused_at_start};
 use krb_fields::Moment;
 use rand_chacha::ChaCha20Rng;
+use server_notices::{JournalFound, refused_at_start};
 use std::alloc::Global;
 
 /// As many rounds as no process serves.

@@ -3,10 +3,10 @@ ghost use Rattle.std.specs.Prelude.{◌≡◌, ◌∷◌, [], true, false, None}
 ghost use Rattle.std.specs.Result.{is_ok};
 ghost use Rattle.kdc_hub.specs.Wire.{IsCounted, Records, acted, faults_of, polled};
 ghost use Rattle.kdc_hub.specs.Rounds.{action_connection};
-ghost use Rattle.kdc_reports.specs.Clocks.{clock_after};
+ghost use Rattle.server_notices.specs.Clocks.{clock_after};
 ghost use Rattle.kdc_files.specs.Journal.{handed_by, is_kept};
-ghost use Rattle.kdc_reports.specs.Log.{LogsAll, arrival_after, entries_of};
-ghost use Rattle.kdc_reports.specs.Memory.{after_act, memory_after};
+ghost use Rattle.request_log.specs.Log.{LogsAll, arrival_after, entries_of};
+ghost use Rattle.server_notices.specs.Unanswered.{after_act, memory_after};
 ghost use Rattle.kdc_files.specs.Recorded.{IsNew};
 ghost use Rattle.kdc_server.specs.Served.{Serves};
 ghost use Rattle.kdc_server.specs.Quiet.{quiet_withholds};
@@ -15,15 +15,14 @@ ghost use Rattle.kdc_server.specs.Withheld.{EndsOnly, may_send, withheld_after};
 use crate::host::Host;
 use crate::outlets::Outlets;
 use crate::quiet::quiet_withholds;
-use crate::sockets::Sockets;
+use crate::sockets::ServerSockets;
 use crate::withheld::Withheld;
 use kdc_files::keep_for;
 use kdc_hub::{Action, Event, Wire, WireFault};
-use kdc_reports::{
-    Arrival, ClockWatch, MemoryWatch, Tally, Tried, arrival_after, log_action, watch_clock,
-    watch_memory,
-};
+use kdc_metrics::Tally;
 use krb_fields::Moment;
+use request_log::{Arrival, Tried, arrival_after, log_action};
+use server_notices::{ClockWatch, MemoryWatch, watch_clock, watch_memory};
 use std::alloc::Global;
 
 /// The times of a server's start.
@@ -228,7 +227,7 @@ impl<H: Host> Wire for ServerWire<H> {
 }
 
 /// Does an action if it may be done. If not, it fails, and its connection ends.
-fn send<S: Sockets>(
+fn send<S: ServerSockets>(
     alloc: Global,
     sockets: &mut S,
     may_send: bool,
@@ -248,7 +247,7 @@ fn send<S: Sockets>(
 }
 
 /// Ends the connection whose reply is withheld, if it is one.
-fn end_withheld<S: Sockets>(sockets: &mut S, conn: Option<u64>)
+fn end_withheld<S: ServerSockets>(sockets: &mut S, conn: Option<u64>)
     ensures { EndsOnly S.HangsUp sockets.old conn sockets.new }
 {
     match conn {

@@ -3,11 +3,11 @@ ghost use Rattle.std.specs.Prelude.{◌≡◌, ℕ, ⊤, refl};
 ghost use Rattle.kdc_sockets.specs.Lost.{lost_by};
 
 use kdc_hub::{Peers, Wire};
-use kdc_sockets::SocketWire;
+use kdc_sockets::Sockets;
 use std::rt::Clock;
 
 /// The sockets of a server.
-pub trait Sockets: Wire + Peers {
+pub trait ServerSockets: Wire + Peers {
     // What they become by the end of a connection.
     ghost HangsUp: { Self → ℕ → Self → Type 0 };
 
@@ -27,7 +27,7 @@ pub trait Sockets: Wire + Peers {
         → Self.recorded new ≡ Self.recorded old };
 }
 
-impl<C: Clock + Drop> Sockets for SocketWire<C> {
+impl<C: Clock + Drop> ServerSockets for Sockets<C> {
     ghost HangsUp = { λ old conn new. ⊤ };
 
     ghost lost_count = { lost_by };

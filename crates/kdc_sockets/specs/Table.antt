@@ -252,6 +252,6 @@ IsLost None new = ⊤
 IsLost (Some conn) new = held_at new conn ≡ None
 
 -- an action changes its own connection and no other
-abbrev pub KeepsOthersOf : Option ℕ → Table → Table → Type 0
-KeepsOthersOf None old new = new ≡ old
-KeepsOthersOf (Some conn) old new = KeepsOthers old conn new
+abbrev pub KeepsOtherConnections : Option ℕ → Table → Table → Type 0
+KeepsOtherConnections None old new = new ≡ old
+KeepsOtherConnections (Some conn) old new = KeepsOthers old conn new

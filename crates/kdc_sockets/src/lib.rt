@@ -2,7 +2,7 @@
 //!
 //! ```
 //! let wait = Duration::from_millis(100);
-//! let mut wire = SocketWire::bind(alloc, rt.clone()?, rt, &udp, &tcp, wait)?;
+//! let mut wire = Sockets::bind(alloc, rt.clone()?, rt, &udp, &tcp, wait)?;
 //! let served = serve(alloc, &mut wire, &mut hub, rounds); // of `kdc_hub`
 //!
 //! let errors = ReadyWriter::new(alloc, rt, rt.stderr())?;
@@ -39,10 +39,10 @@ mod readiness;
 mod ready;
 mod ready_writer;
 mod shared_writer;
+mod socket_turns;
 mod sockets;
-mod wire;
 
 pub use bind_fault::{BindFault, Endpoint};
 pub use ready_writer::ReadyWriter;
 pub use shared_writer::SharedWriter;
-pub use wire::SocketWire;
+pub use sockets::Sockets;

@@ -8,15 +8,14 @@ use kdc_files::{
     ServerFileCause, SystemJournal, begin_journal, open_journals, read_up_to, refuse_journal,
     say_rights,
 };
-use kdc_reports::{
-    CountedLog, FaultCount, JournalNews, LogFormat, MetricsFile, MetricsPaths, RequestLines,
-    Started,
-};
+use kdc_metrics::{CountedLog, FaultCount, MetricsFile, MetricsPaths};
 use kdc_server::{Host, ServeOptions, StartNews};
-use kdc_sockets::{BindFault, SharedWriter, SocketWire};
+use kdc_sockets::{BindFault, SharedWriter, Sockets};
 use krb_fields::Moment;
 use principal_rows::Limits;
 use principals::Database;
+use request_log::{LogFormat, RequestLines};
+use server_notices::{JournalNews, Started};
 use std::alloc::{AllocError, Global};
 use std::io;
 use std::io::{Error, ErrorKind, Stderr, Write};
@@ -80,7 +79,7 @@ impl<'a> SystemHost<'a> {
 }
 
 impl<'a> Host for SystemHost<'a> {
-    type Sockets = SocketWire<HostRuntime>;
+    type Sockets = Sockets<HostRuntime>;
 
     type SocketFault = BindFault;
 
@@ -131,9 +130,9 @@ impl<'a> Host for SystemHost<'a> {
         alloc: Global,
         udp: &[SocketAddr],
         tcp: &[SocketAddr],
-    ) -> Result<SocketWire<HostRuntime>, BindFault> {
+    ) -> Result<Sockets<HostRuntime>, BindFault> {
         let wait = Duration::from_millis(WAIT);
-        let sockets = SocketWire::bind(alloc, self.rt.clone()?, self.rt, udp, tcp, wait)?;
+        let sockets = Sockets::bind(alloc, self.rt.clone()?, self.rt, udp, tcp, wait)?;
         self.udp = sockets.udp_addresses(alloc)?;
         self.tcp = sockets.tcp_addresses(alloc)?;
         Ok(sockets)

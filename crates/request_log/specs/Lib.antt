@@ -4,8 +4,6 @@ pub mod Times
 pub mod Entry
 pub mod Lines
 pub mod Named
-pub mod Kinds
-pub mod Places
-pub mod Counts
-pub mod Prometheus
-pub mod CountText
+pub mod Log
+pub mod LogLaws
+pub mod InMemory

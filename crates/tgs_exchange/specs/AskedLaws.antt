@@ -20,7 +20,8 @@ use Rattle.ap_req.specs.Validity.{ticket_terms}
 use Rattle.tgs_exchange.specs.Terms.{admission_of, terms, terms_if, terms_by, times_of}
 use Rattle.tgs_exchange.specs.Rules.{admitted, client_rules, rules_by}
 use Rattle.tgs_exchange.specs.NamedLaws.{admitted_terms, found_by}
-use Rattle.tgs_exchange.specs.Decision.{IfIssued, by_admission, by_client, by_verdict, decision, verdict_on}
+use Rattle.tgs_exchange.specs.Decision.{IfIssued, by_admission, unless_client_refused, unless_repeated, decision}
+use Rattle.tgs_exchange.specs.Decision.{verdict_on}
 use Rattle.tgs_exchange.specs.declared.terms.Admission.{Admission}
 use Rattle.tgs_exchange.specs.declared.terms.Terms.{Terms}
 
@@ -54,7 +55,7 @@ module _ (v : TgsView) (now : ℤ) (body : ReqBody) (p : Presented) where
   asked_by_admission (Ok admission) asked = asked
   asked_by_admission (Err refusal) asked = tt
 
-  asked_by_verdict : (w : Verdict Kept) → IfIssued (by_verdict v now body p w) (IsAsked body)
+  asked_by_verdict : (w : Verdict Kept) → IfIssued (unless_repeated v now body p w) (IsAsked body)
   asked_by_verdict Fresh =
       let times = times_of v.limits now (ticket_terms p.ticket) body (terms v body) in
       asked_by_admission (admitted v now body p)
@@ -63,7 +64,7 @@ module _ (v : TgsView) (now : ℤ) (body : ReqBody) (p : Presented) where
   asked_by_verdict (Repeat kept) = tt
   asked_by_verdict NoPlace = tt
 
-  asked_by_client : (r : Option TgsRefusal) → IfIssued (by_client v now body p r) (IsAsked body)
+  asked_by_client : (r : Option TgsRefusal) → IfIssued (unless_client_refused v now body p r) (IsAsked body)
   asked_by_client (Some refusal) = tt
   asked_by_client None = asked_by_verdict (verdict_on v now p)
 

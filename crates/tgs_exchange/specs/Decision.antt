@@ -42,18 +42,18 @@ by_admission (Err refusal) = Records refusal
 by_admission (Ok admission) = Issues admission
 
 -- outside the clock skew, full (section 3.2.3), or a repeat (section 3.3.2)
-abbrev pub by_verdict : TgsView → ℤ → ReqBody → Presented → Verdict Kept → Decision Kept
-by_verdict v now body p Skew = Refuses (Ap Skewed)
-by_verdict v now body p (Repeat kept) = Repeats kept
-by_verdict v now body p NoPlace = Refuses (Ap Full)
-by_verdict v now body p Fresh = by_admission (admitted v now body p)
+abbrev pub unless_repeated : TgsView → ℤ → ReqBody → Presented → Verdict Kept → Decision Kept
+unless_repeated v now body p Skew = Refuses (Ap Skewed)
+unless_repeated v now body p (Repeat kept) = Repeats kept
+unless_repeated v now body p NoPlace = Refuses (Ap Full)
+unless_repeated v now body p Fresh = by_admission (admitted v now body p)
 
-abbrev pub by_client : TgsView → ℤ → ReqBody → Presented → Option TgsRefusal → Decision Kept
-by_client v now body p (Some refusal) = Refuses refusal
-by_client v now body p None = by_verdict v now body p (verdict_on v now p)
+abbrev pub unless_client_refused : TgsView → ℤ → ReqBody → Presented → Option TgsRefusal → Decision Kept
+unless_client_refused v now body p (Some refusal) = Refuses refusal
+unless_client_refused v now body p None = unless_repeated v now body p (verdict_on v now p)
 
 abbrev pub decision : TgsView → ℤ → ReqBody → Presented → Decision Kept
-decision v now body p = by_client v now body p (first_holding (client_rules v now p.ticket.authtime))
+decision v now body p = unless_client_refused v now body p (first_holding (client_rules v now p.ticket.authtime))
 
 -- a property of the admission if a ticket is issued
 abbrev pub IfIssued : {K : Type 0} → Decision K → (Admission → Type 0) → Type 0

@@ -18,7 +18,8 @@ use Rattle.ap_req.specs.Validity.{ticket_terms}
 use Rattle.tgs_exchange.specs.Terms.{terms, times_of}
 use Rattle.tgs_exchange.specs.Rules.{admitted, client_rules, rules_by}
 use Rattle.tgs_exchange.specs.NamedLaws.{IsNamed, admitted_named}
-use Rattle.tgs_exchange.specs.Decision.{IfIssued, by_admission, by_client, by_verdict, decision, decision_copied}
+use Rattle.tgs_exchange.specs.Decision.{IfIssued, by_admission, unless_client_refused, unless_repeated, decision}
+use Rattle.tgs_exchange.specs.Decision.{decision_copied}
 use Rattle.tgs_exchange.specs.Decision.{verdict_on}
 use Rattle.tgs_exchange.specs.declared.decision.Decision.{Decision}
 use Rattle.tgs_exchange.specs.declared.decision.Decision.TheVariants.{Refuses, Records, Repeats, Issues}
@@ -36,13 +37,13 @@ module _ (v : TgsView) (now : ℤ) (body : ReqBody) (p : Presented) where
   said_by_admission e (Err refusal) = e
   said_by_admission e (Ok admission) = e
 
-  said_by_verdict : (w : Verdict Kept) → verdict_on v now p ≡ w → HasSaid v now p (by_verdict v now body p w)
+  said_by_verdict : (w : Verdict Kept) → verdict_on v now p ≡ w → HasSaid v now p (unless_repeated v now body p w)
   said_by_verdict Fresh e = said_by_admission e (admitted v now body p)
   said_by_verdict Skew e = tt
   said_by_verdict (Repeat kept) e = e
   said_by_verdict NoPlace e = tt
 
-  said_by_client : (r : Option TgsRefusal) → HasSaid v now p (by_client v now body p r)
+  said_by_client : (r : Option TgsRefusal) → HasSaid v now p (unless_client_refused v now body p r)
   said_by_client (Some refusal) = tt
   said_by_client None = said_by_verdict (verdict_on v now p) refl
 
@@ -55,7 +56,7 @@ module _ (v : TgsView) (now : ℤ) (body : ReqBody) (p : Presented) (known : IsK
   named_by_admission (Ok admission) named = named
   named_by_admission (Err refusal) named = tt
 
-  named_by_verdict : (w : Verdict Kept) → IfIssued (by_verdict v now body p w) (λ a. IsNamed p v.service a.terms)
+  named_by_verdict : (w : Verdict Kept) → IfIssued (unless_repeated v now body p w) (λ a. IsNamed p v.service a.terms)
   named_by_verdict Fresh =
       let times = times_of v.limits now (ticket_terms p.ticket) body (terms v body) in
       named_by_admission (admitted v now body p)
@@ -65,7 +66,8 @@ module _ (v : TgsView) (now : ℤ) (body : ReqBody) (p : Presented) (known : IsK
   named_by_verdict (Repeat kept) = tt
   named_by_verdict NoPlace = tt
 
-  named_by_client : (r : Option TgsRefusal) → IfIssued (by_client v now body p r) (λ a. IsNamed p v.service a.terms)
+  named_by_client : (r : Option TgsRefusal) → IfIssued (unless_client_refused v now body p r)
+      (λ a. IsNamed p v.service a.terms)
   named_by_client (Some refusal) = tt
   named_by_client None = named_by_verdict (verdict_on v now p)
 

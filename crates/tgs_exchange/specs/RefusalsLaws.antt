@@ -34,7 +34,7 @@ use Rattle.tgs_opening.specs.declared.refusal.TgsRefusal.TheVariants as tgs
 use Rattle.tgs_opening.specs.declared.rejection.Rejection.{Rejection}
 use Rattle.ticket_times.specs.declared.times.Times.{Times}
 use Rattle.ap_req.specs.Validity.{ticket_terms}
-use Rattle.tgs_exchange.specs.Decision.{by_admission, by_client, by_verdict, decision, verdict_on}
+use Rattle.tgs_exchange.specs.Decision.{by_admission, unless_client_refused, unless_repeated, decision, verdict_on}
 use Rattle.tgs_exchange.specs.Refusals.{Proved, Shown, TgsFacts, facts_by, facts_with_ap_req, facts_shown, key_shown}
 use Rattle.tgs_exchange.specs.Refusals.{part_shown}
 use Rattle.tgs_exchange.specs.Refusals.{proved_by, refusals, ruling, shown_in}
@@ -191,7 +191,7 @@ module _ (v : TgsView) (now : ℤ) (message : Received) where
 
   module _ (ap : ApReq) (held : HeldKey) (part : EncTicketPart) (key : Key) (auth : Authenticator) (subkey : Option Key) where
     verdict_stage : (w : Verdict Kept) → first_holding (from_verdict ap held part key auth (facts_with ap held part key auth w))
-        ≡ refusing (by_verdict v now message.body.value (shown_as ap part key auth subkey) w)
+        ≡ refusing (unless_repeated v now message.body.value (shown_as ap part key auth subkey) w)
     verdict_stage Skew = refl
     verdict_stage (Repeat kept) = refl
     verdict_stage NoPlace = refl
@@ -208,7 +208,7 @@ module _ (v : TgsView) (now : ℤ) (message : Received) where
       where
         by : (reason : Option TgsRefusal)
             → or_then Refuses reason (first_holding (from_verdict ap held part key auth (facts_with ap held part key auth (verdict_on v now (shown_as ap part key auth subkey)))))
-            ≡ refusing (by_client v now message.body.value (shown_as ap part key auth subkey) reason)
+            ≡ refusing (unless_client_refused v now message.body.value (shown_as ap part key auth subkey) reason)
         by (Some r) = refl
         by None = verdict_stage (verdict_on v now (shown_as ap part key auth subkey))
 

@@ -25,7 +25,7 @@ use Rattle.tgs_exchange.specs.View.{TgsView}
 use Rattle.ap_req.specs.Validity.{ticket_terms}
 use Rattle.tgs_exchange.specs.Terms.{admission_of, terms, times_of}
 use Rattle.tgs_exchange.specs.Rules.{admitted, client_rules, rules_by}
-use Rattle.tgs_exchange.specs.Decision.{by_admission, by_client, by_verdict, verdict_on}
+use Rattle.tgs_exchange.specs.Decision.{by_admission, unless_client_refused, unless_repeated, verdict_on}
 use Rattle.tgs_exchange.specs.Issued.{issued, issued_by}
 use Rattle.tgs_exchange.specs.declared.terms.Admission.{Admission}
 use Rattle.tgs_exchange.specs.declared.terms.Terms.{Terms}
@@ -59,7 +59,7 @@ module _ (v : TgsView) (body : ReqBody) (p : Presented) where
     admitted_standing client (Err refusal) is = tt
 
     judged_standing : AreClear (client_rules v at.sec p.ticket.authtime) → (verdict : Verdict Kept)
-        → IfSome (issued_by v at random body p (by_verdict v at.sec body p verdict))
+        → IfSome (issued_by v at random body p (unless_repeated v at.sec body p verdict))
         (λ _. AreInGoodStanding v.realm (service_name body) v.client v.service at.sec)
     judged_standing client Skew = tt
     judged_standing client (Repeat kept) = tt
@@ -68,7 +68,7 @@ module _ (v : TgsView) (body : ReqBody) (p : Presented) where
 
     client_standing : (refused : Option TgsRefusal)
         → first_holding (client_rules v at.sec p.ticket.authtime) ≡ refused
-        → IfSome (issued_by v at random body p (by_client v at.sec body p refused))
+        → IfSome (issued_by v at random body p (unless_client_refused v at.sec body p refused))
         (λ _. AreInGoodStanding v.realm (service_name body) v.client v.service at.sec)
     client_standing (Some refusal) is = tt
     client_standing None is =

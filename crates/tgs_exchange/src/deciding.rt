@@ -2,7 +2,8 @@
 ghost use Rattle.std.specs.Prelude.{◌≡◌, IfOk};
 ghost use Rattle.rule_lists.specs.Refusals.{first_holding};
 ghost use Rattle.replay.specs.ReplayCache.{verdict_copied};
-ghost use Rattle.tgs_exchange.specs.Decision.{by_admission, by_client, by_verdict, decision, decision_copied};
+ghost use Rattle.tgs_exchange.specs.Decision.{by_admission, unless_client_refused, unless_repeated, decision};
+ghost use Rattle.tgs_exchange.specs.Decision.{decision_copied};
 ghost use Rattle.tgs_exchange.specs.Decision.{verdict_on};
 ghost use Rattle.tgs_exchange.specs.Rules.{admitted, client_rules};
 
@@ -29,7 +30,7 @@ pub fn decision<'v>(
     ensures { IfOk result (λ decided. decision_copied decided ≡ decision view.now at.sec body.now presented.now) }
 {
     let refusal = client_refusal(view, at, presented);
-    by_client(alloc, view, at, body, presented, refusal)
+    unless_client_refused(alloc, view, at, body, presented, refusal)
 }
 
 /// Returns the first rule of the client that holds.
@@ -41,7 +42,7 @@ fn client_refusal(view: &TgsView<'_>, at: Moment, presented: &Presented) -> Opti
 }
 
 /// Decides, given the result of the client's rules.
-fn by_client<'v>(
+fn unless_client_refused<'v>(
     alloc: Global,
     view: &TgsView<'v>,
     at: Moment,
@@ -50,13 +51,13 @@ fn by_client<'v>(
     refusal: Option<TgsRefusal>,
 ) -> Result<Decision<&'v Kept>, AllocError>
     ensures { IfOk result (λ decided.
-        decision_copied decided ≡ by_client view.now at.sec body.now presented.now refusal) }
+        decision_copied decided ≡ unless_client_refused view.now at.sec body.now presented.now refusal) }
 {
     match refusal {
         Some(refusal) => Ok(Decision::Refuses(refusal)),
         None => {
             let verdict = verdict_on(view, at, presented);
-            by_verdict(alloc, view, at, body, presented, verdict)
+            unless_repeated(alloc, view, at, body, presented, verdict)
         }
     }
 }
@@ -71,7 +72,7 @@ fn verdict_on<'v>(view: &TgsView<'v>, at: Moment, presented: &Presented) -> Verd
 }
 
 /// Decides, given the replay cache's verdict.
-fn by_verdict<'v>(
+fn unless_repeated<'v>(
     alloc: Global,
     view: &TgsView<'_>,
     at: Moment,
@@ -80,18 +81,19 @@ fn by_verdict<'v>(
     verdict: Verdict<&'v Kept>,
 ) -> Result<Decision<&'v Kept>, AllocError>
     ensures { IfOk result (λ decided.
-        decision_copied decided ≡ by_verdict view.now at.sec body.now presented.now (verdict_copied verdict.entry)) }
+        decision_copied decided ≡ unless_repeated view.now at.sec body.now presented.now (verdict_copied verdict.entry))
+            }
 {
     match verdict {
         Verdict::Skew => Ok(Decision::Refuses(TgsRefusal::Ap(ApRefusal::Skewed))),
         Verdict::Repeat(kept) => Ok(Decision::Repeats(kept)),
         Verdict::Full => Ok(Decision::Refuses(TgsRefusal::Ap(ApRefusal::Full))),
-        Verdict::Fresh => fresh(alloc, view, at, body, presented),
+        Verdict::Fresh => issue_or_record(alloc, view, at, body, presented),
     }
 }
 
 /// Decides on a request whose authenticator is new, by the rules of the ticket and of the request.
-fn fresh<'v>(
+fn issue_or_record<'v>(
     alloc: Global,
     view: &TgsView<'_>,
     at: Moment,

@@ -2,7 +2,7 @@ use Rattle.std.proofs.Common.{rules, ◌≡◌, ◌∙◌, SFits, w64, ap, subst
 use Rattle.std.proofs.lemmas.Int.{to_z-of_z}
 use Rattle.kdc_hub.specs.Hub.{hub_state}
 use Rattle.kdc_hub.specs.Wire.{Records}
-use Rattle.kdc_reports.specs.Clocks.{refused_at_start}
+use Rattle.server_notices.specs.Clocks.{refused_at_start}
 use Rattle.kdc_server.specs.Resuming.{IsReady, began}
 use Rattle.kdc_server.specs.Starting.{chacha20}
 use Rattle.kdc_server.proofs.server.start.Goals as goal

@@ -14,7 +14,7 @@ returns-in_default-clause-answered c =
     let q : Incoming = asked c.args.request.now.at c.args.random.now c.args.room c.args.request.now.octets.now in
     let long : 32 ≤ length c.args.random.now = search rules in
     let none : None ≡ request_of c.args.request.now.octets.now = ap (option_map requested) (sym c.in_default.is) ∙ c.read_request.ensures.value in
-    unread_answered state q state c.args.wants_audit _ refl long c.read_request.ensures.bytes none refl c.then_some.ensures refl
+    unread_answered state q state c.args.wants_audit refl long c.read_request.ensures.bytes none
 
 pub returns-clause-answered : goal.returns-clause-answered
 returns-clause-answered c =

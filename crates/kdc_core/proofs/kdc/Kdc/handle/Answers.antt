@@ -20,7 +20,7 @@ returns-clause-request c r = request_is c.args.request.now r (λ i. omega (arith
 pub returns-clause-reply : goal.returns-clause-reply
 returns-clause-reply c =
     let q = asked c.args.at c.args.random.now c.args.room c.args.request.now in
-    of_reply _ c.answer.result c.reply_alone.result (λ o. o ≡ (incoming_answer (view c.args.self.now q.octets) q).reply) c.reply_alone.ensures
+    of_reply _ c.answer.result c.bytes_alone.result (λ o. o ≡ (incoming_answer (view c.args.self.now q.octets) q).reply) c.bytes_alone.ensures
     (if_answered c.answer.result _ _ c.answer.ensures.answered (λ given a. a.reply))
 
 pub returns-clause-ruled : goal.returns-clause-ruled
@@ -29,19 +29,19 @@ returns-clause-ruled c = is_ruled (view c.args.self.now c.args.request.now) (ask
 pub returns-clause-spelled : goal.returns-clause-spelled
 returns-clause-spelled c =
     let v = view c.args.self.now c.args.request.now in
-    of_reply _ c.answer.result c.reply_alone.result (λ o. IsReply v c.args.at c.args.random.now (request_of c.args.request.now) o) c.reply_alone.ensures
+    of_reply _ c.answer.result c.bytes_alone.result (λ o. IsReply v c.args.at c.args.random.now (request_of c.args.request.now) o) c.bytes_alone.ensures
     (if_answered c.answer.result _ _ c.answer.ensures.answered (λ given a. a.spelled))
 
 pub returns-clause-keys : goal.returns-clause-keys
 returns-clause-keys c =
     let v = view c.args.self.now c.args.request.now in
-    of_reply _ c.answer.result c.reply_alone.result (λ o. OneTicketTwoKeys v c.args.at c.args.random.now (request_of c.args.request.now) o) c.reply_alone.ensures
+    of_reply _ c.answer.result c.bytes_alone.result (λ o. OneTicketTwoKeys v c.args.at c.args.random.now (request_of c.args.request.now) o) c.bytes_alone.ensures
     (if_answered c.answer.result _ _ c.answer.ensures.answered (λ given a. a.keys))
 
 pub returns-clause-issued : goal.returns-clause-issued
 returns-clause-issued c =
     let v = view c.args.self.now c.args.request.now in
-    of_reply _ c.answer.result c.reply_alone.result (λ o. IfSome (issued v c.args.at c.args.random.now (request_of c.args.request.now)) (λ issue. IsTicketReply issue o)) c.reply_alone.ensures
+    of_reply _ c.answer.result c.bytes_alone.result (λ o. IfSome (issued v c.args.at c.args.random.now (request_of c.args.request.now)) (λ issue. IsTicketReply issue o)) c.bytes_alone.ensures
     (if_answered c.answer.result _ _ c.answer.ensures.answered (λ given a. a.issued))
 
 pub returns-clause-standing : goal.returns-clause-standing
@@ -49,7 +49,7 @@ returns-clause-standing c = issued_standing c.args.self.now c.args.at c.args.ran
 
 pub returns-clause-state : goal.returns-clause-state
 returns-clause-state c =
-    on_reply _ c.answer.result c.reply_alone.result _ c.reply_alone.ensures
+    on_reply _ c.answer.result c.bytes_alone.result _ c.bytes_alone.ensures
     (if_answered c.answer.result _ _ c.answer.ensures.answered (λ given a. a.state))
 
 pub returns-clause-agreement : goal.returns-clause-agreement
@@ -84,4 +84,4 @@ returns-clause-holder c name unshown =
     (record { floor = refl; pairs = refl })
 
 pub returns-clause-err : goal.returns-clause-err
-returns-clause-err c = on_error _ c.answer.result c.reply_alone.result _ c.reply_alone.ensures c.answer.ensures.err
+returns-clause-err c = on_error _ c.answer.result c.bytes_alone.result _ c.bytes_alone.ensures c.answer.ensures.err

@@ -12,6 +12,6 @@ returns-then-len-ge-MOST_CONNECTIONS-clause-step g c = table_full (hub_state g.R
 pub returns-in-Err-clause-step : goal.returns-in-Err-clause-step
 returns-in-Err-clause-step g c = (
   c.nothing_done.ensures.done,
-  same_hub_state _ _ _ _ (stopped_before _ _ (issuing g.R.Rng.stream c.args.self.now.issuer) c.args.at _ (ap (λ l. length l) c.nothing_done.ensures.done) c.nothing_done.ensures.draws) c.in-Err.ensures.err,
+  same_hub_state _ _ _ _ (stopped_before _ _ (issuing g.R.Rng.stream c.args.self.now.seeded_kdc) c.args.at _ (ap (λ l. length l) c.nothing_done.ensures.done) c.nothing_done.ensures.draws) c.in-Err.ensures.err,
   c.nothing_done.ensures.conn,
 )

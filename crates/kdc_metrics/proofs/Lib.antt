@@ -1,0 +1,5 @@
+pub mod Found
+pub mod Counting
+pub mod Appended
+pub mod Parts
+mod Counted

@@ -1,0 +1,6 @@
+pub mod Kinds
+pub mod Places
+pub mod Counts
+pub mod Prometheus
+pub mod CountText
+pub mod Numbers

@@ -1,0 +1,4 @@
+//! What stands for the numbers of a server in tests.
+
+pub mod metrics;
+pub mod tally;

@@ -1,7 +1,0 @@
-use Rattle.kdc_reports.proofs.Counted.{none_counted}
-use Rattle.kdc_reports.proofs.counted_log.CountedLog.new.Goals as goal
-
-pub invariant_of-result : goal.invariant_of-result
-invariant_of-result g c = record {
-  counted = ∣ none_counted c.new.result (g.L.LogWriter.logged c.args.log) c.requires c.new.ensures ∣₁;
-}

@@ -1,7 +1,0 @@
-use Rattle.std.proofs.Common.{◌≡◌, false}
-use Rattle.kdc_sockets.proofs.sockets.Sockets.next_known.Given as goal
-
-abbrev pub invariant-loop : goal.invariant-loop
-invariant-loop g l = record {
-  calm : l.self.connections.has_spent ≡ false;
-}

@@ -1,8 +1,0 @@
-use Rattle.request_log.proofs.Found.{found, one_place}
-use Rattle.request_log.proofs.count_laws.places_of_kinds.Goals as goal
-
-pub returns-clause-found : goal.returns-clause-found
-returns-clause-found c = found
-
-pub returns-clause-distinct : goal.returns-clause-distinct
-returns-clause-distinct c = one_place

@@ -1,0 +1,3 @@
+//! What stands for a log in tests.
+
+pub mod log;
