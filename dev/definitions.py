@@ -7,11 +7,10 @@ text: a name counts unless its own equation binds it as a variable."""
 import collections
 import dataclasses
 import functools
-import pathlib
+import itertools
 import re
 
-TOP = pathlib.Path(__file__).resolve().parent.parent
-CRATES = TOP / "crates"
+from promised import BEGINNING, CRATES, TOP, comment_above
 
 # The first line of an item of specs/, at the edge or in a `module _ ..` block.
 ITEM = re.compile(
@@ -306,11 +305,10 @@ def clause(file, function, name):
 
 
 def cut(file, function, name, number):
-    """The clause that begins with this line, up to its closing brace."""
+    """The clause that begins with this line, up to its closing brace, with its comment but for the promises in it."""
     lines, _ = source(file)
-    first = number
-    while lines[first - 1].lstrip().startswith("// "):
-        first -= 1
+    first = comment_above(lines, number)
+    comment = list(itertools.takewhile(lambda line: not line.lstrip().startswith(BEGINNING), lines[first:number]))
     last, depth = number, 0
     while True:
         depth += lines[last].count("{") - lines[last].count("}")
@@ -318,7 +316,8 @@ def cut(file, function, name, number):
             break
         last += 1
     margin = len(lines[number]) - len(lines[number].lstrip())
-    return Clause(function, name, Place(file, number + 1), tuple(line[margin:] for line in lines[first:last + 1]))
+    shown = (*comment, *lines[number:last + 1])
+    return Clause(function, name, Place(file, number + 1), tuple(line[margin:] for line in shown))
 
 
 def closure(clauses):

@@ -7,9 +7,10 @@ crates/CRATE/must-fail/ alone, since each costs it 15 to 60 processor seconds.
     python3 dev/try_edits.py --stale
 
 A file has, for each edit, a line `= NAME` and below it the lines of a file of must-fail/: `file:`, and pairs of `old:`
-and `new:`. They are tried in a copy of the repository, over the libraries that were built here. Only the functions that
-an edit changes are checked. If that refuses nothing, or with --whole, `rt must-fail` checks the whole crate, and prints
-the result. The status is 1 if an edit was not refused. --list prints the names.
+and `new:`, beside comments that begin with `#` (`dev/make_promises.py` makes rows of some). They are tried in a copy of
+the repository, over the libraries that were built here. Only the functions that an edit changes are checked. If that
+refuses nothing, or with --whole, `rt must-fail` checks the whole crate, and prints the result. The status is 1 if an
+edit was not refused. --list prints the names.
 
 --all tries those of all crates: first together those of one crate that each change another function, and alone those
 that this does not refuse. Its last line is `DATE COMMIT: N refused, M not refused`.

@@ -33,8 +33,6 @@ REFUSALS = {
 NEVER = {"kclient.1": {"NoLogin", "NotValid"}, "kadm.8": {"Memory", "TooLate"}}
 # The manual page of each program, and the options that are plain words in its synopsis.
 MANUALS = {"kadm": ("kadm.8", set()), "kclient": ("kclient.1", {"--name"}), "kdcd": ("kdcd.8", set())}
-# Names in the tables of PROMISES.md that no source has.
-NO_NAMES = {"grep", "rn", "NAME", "crates", "antt"}
 # Pages whose names of items and files are those of this repository, and names there of other ones.
 OF_CODE = (
     "CONTRIBUTING.md", "docs/CLIENT_LIBRARY.md", "docs/DECISIONS.md", "docs/FORMATS.md", "docs/MAP.md",
@@ -296,39 +294,6 @@ def items(trial):
         paths = {path for span in plain for path in re.findall(r"[\w.-]+\.(?:antt|rt|py|c|h|edits|session)\b", span)}
         lacking |= paths - there - OF_OTHERS
         trial.note(f"{page}: its names of items and files, {len(named) + len(paths)}", ", ".join(sorted(lacking)))
-
-
-@test()
-def promises(trial):
-    """Each name of the column 'carried by' of PROMISES.md is a word of the crates whose files the row names, or of any
-    if it names none; and each file is there."""
-    known = collections.defaultdict(set)
-    for file in sources():
-        words = set(re.findall(r"\w+", file.read_text()))
-        for crate in (file.relative_to(CRATES).parts[0], ""):
-            known[crate] |= words | {crate}
-    unknown, files = [], []
-    for cells in rows(read("docs/PROMISES.md").partition("\n## Promises\n")[2].partition("\n## Wrong bodies\n")[0]):
-        if len(cells) != 3:
-            continue
-        names = [each for name in re.findall(r"`([^`]+)`", cells[1]) for each in re.findall(r"\w+", name)]
-        crates = {crate for crate in re.findall(r"`(\w+)/", cells[2]) if crate in known} or {""}
-        unknown += [name for name in names if not any(name in known[crate] for crate in crates)]
-        files += lacking_files(cells[2])
-    trial.note("PROMISES.md: the names that carry promises", ", ".join(sorted(set(unknown) - NO_NAMES)))
-    trial.note("PROMISES.md: their files", ", ".join(sorted(set(files))))
-
-
-def lacking_files(cell):
-    """The files that a row names and that are not there. A file without a crate is one of the crate before it."""
-    crate, found = "", []
-    for file in re.findall(r"`([\w/]+\.(?:rt|antt))`", cell):
-        first, is_whole, rest = file.partition("/")
-        crate, file = (first, rest) if is_whole and (CRATES / first).is_dir() else (crate, file)
-        folder = CRATES / crate / ("" if file.startswith("specs/") else "src")
-        if not (folder / file).exists() and not list(CRATES.glob(f"*/src/{file}")):
-            found.append(f"{crate}/{file}")
-    return found
 
 
 @test()

@@ -48,14 +48,14 @@ WIDEST, WIDEST_OF_README = 120, 100
 MOST_LINES = {
     "CHANGELOG.md": 97, "CONTRIBUTING.md": 90, "README.md": 100, "SECURITY.md": 100, "docs/CLIENT.md": 170,
     "docs/CLIENT_LIBRARY.md": 125, "docs/DECISIONS.md": 225, "docs/FORMATS.md": 415, "docs/HOSTS.md": 76,
-    "docs/KEYS.md": 60, "docs/MAP.md": 150, "docs/PERFORMANCE.md": 140, "docs/PROMISES.md": 940,
+    "docs/KEYS.md": 60, "docs/MAP.md": 150, "docs/PERFORMANCE.md": 140,
     "docs/PROTOCOL.md": 325, "docs/PROVING.md": 200, "docs/README.md": 50, "docs/REALM.md": 130,
     "docs/REFERENCE.md": 110, "docs/RUNNING.md": 200, "docs/SERVICES.md": 227, "docs/SETUP.md": 115,
     "docs/TROUBLE.md": 95, "docs/USERS.md": 115,
 }
 IN_ALL = 4150
 # Pages that a script makes. They may be as long as it makes them.
-MADE = ("docs/THEOREMS.md",)
+MADE = ("docs/PROMISES.md", "docs/THEOREMS.md")
 # How many lines a file of Python has at most.
 MOST_LINES_OF_PYTHON = 500
 # A link of a page, and a path of this repository that a page or a comment names.
@@ -133,7 +133,7 @@ def widths(notes):
         notes.note(f"{name}: its length", f"{count} lines, and {most} at most" * (count > most))
     count = sum(len(page.read_text().splitlines()) for page in pages() if str(page.relative_to(TOP)) not in MADE)
     notes.note("the length of all pages written by hand", f"{count} lines, and {IN_ALL} at most" * (count > IN_ALL))
-    for name in MOST_LINES:
+    for name in (*MOST_LINES, "docs/PROMISES.md"):
         lines = enumerate((TOP / name).read_text().splitlines(), 1)
         long = [f"line {number}" for number, line in lines if line.startswith("|") and len(line) > LONGEST_ROW]
         check_count(notes, f"{name}: rows of more than {LONGEST_ROW} characters", long, LONG_ROWS.get(name, 0))
