@@ -89,7 +89,8 @@ class Page:
         lines = [line for each in found for line in each.lines]
         others = ", ".join(str(each.place.line) for each in found[1:])
         others = f" and line{'s' * (len(found) > 2)} {others}" if others else ""
-        self.show(f"`{words.split()[1]}`, {link(found[0].place)}{others}:", lines)
+        head, place = f"`{words.split()[1]}`", f"{link(found[0].place)}{others}"
+        self.show(f"{head},\n{place}:" if len(head) + len(place) > 110 else f"{head}, {place}:", lines)
 
     def definitions(self, words):
         file, *names = words.split()
