@@ -49,6 +49,8 @@ impl Model for DecryptionSchedule {
 impl AesKey {
     /// Returns the key with these bytes: 16 for AES-128, 32 for AES-256, and `None` for any other length.
     pub fn new(octets: &[u8]) -> Option<AesKey>
+        // Promise (some, key): a key is made exactly of 16 or 32 bytes; each word of the tables by which the rounds go
+        // is a column times the S-box's byte.
         ensures some { IsSome result ↔ ((length octets.now ≡ 16) ⊎ (length octets.now ≡ 32)) }
         ensures key { IfSome result (λ key. key ≡ octets.now) }
     {
@@ -75,6 +77,8 @@ impl AesKey {
 
     /// Encrypts a block (FIPS 197, section 5.1).
     pub fn encrypt_block(&self, block: &[u8; 16]) -> [u8; 16]
+        // Promise (value, inverse, permutes): a block is encrypted and decrypted by the definition, and under this key
+        // each undoes the other.
         ensures value { result ≡ aes self.now block.now }
         ensures inverse { aes_inverse self.now result ≡ block.now }
         ensures permutes { PermutesBlocks self.now }
@@ -96,6 +100,7 @@ impl AesKey {
 
     /// Decrypts a block (FIPS 197, section 5.3).
     pub fn decrypt_block(&self, block: &[u8; 16]) -> [u8; 16]
+        // Promise (value, inverse, permutes), as AesKey::encrypt_block: a block is encrypted ..
         ensures value { result ≡ aes_inverse self.now block.now }
         ensures inverse { aes self.now result ≡ block.now }
         ensures permutes { PermutesBlocks self.now }

@@ -20,6 +20,7 @@ use crate::s_box::{inverse_substitute, substitute};
 /// From i = 4 on, it is column i - 4 of the matrix of InvMixColumns, each byte times the one whose substitute is j.
 /// `None` if i is above 7.
 pub fn table_word(i: usize, j: u8) -> Option<u32>
+    // Promise (some, word), as AesKey::new: a key is made ..
     ensures some { IsSome result ↔ (i < 8) }
     ensures word { IfSome result (λ w. to_be_bytes w32 w
         ≡ (if nat_lt i 4 then mix_column i (s_box j) else inverse_mix_column (i - 4) (inverse_s_box j))) }

@@ -48,6 +48,7 @@ impl Acceptor {
         options: AcceptorOptions,
         opening: Opening,
     ) -> Result<Acceptor, AllocError>
+        // Promise, as Acceptor::replace: an acceptor starts with ..
         ensures { IfOk result (λ acceptor. acceptor ≡ opened keytab options opening) }
     {
         Ok(Acceptor {
@@ -57,6 +58,8 @@ impl Acceptor {
 
     /// Returns the bytes from which a later process resumes, as long as this one accepts nothing more.
     pub fn save(&self, alloc: Global) -> Result<Vec<u8>, AllocError>
+        // Promise: from the bytes that an acceptor saves, one with any keys and options resumes as that acceptor with
+        // these.
         ensures { IfOk result (λ bytes. Saves self.now bytes.items) }
     {
         self.state.save(alloc)
@@ -74,6 +77,8 @@ impl Acceptor {
         options: AcceptorOptions,
         bytes: &[u8],
     ) -> Result<Acceptor, ResumeFault>
+        // Promise (resumed, fault): from any bytes an acceptor resumes as they say, or fails because they are none of a
+        // saved acceptor, or memory ran out.
         ensures resumed { IfOk result (λ acceptor. resumed keytab options bytes.now ≡ Some acceptor) }
         ensures fault { IfErr result (λ fault. Fails fault (resumed keytab options bytes.now)) }
     {
@@ -88,6 +93,8 @@ impl Acceptor {
     /// The replay caches stay as they are. So nobody is refused for the change, and nothing that was accepted is
     /// accepted again.
     pub fn replace(&mut self, keytab: Keytab)
+        // Promise: an acceptor starts with its keys, its options and no stored replay cache; replacing the keys changes
+        // nothing else.
         ensures { self.new ≡ with_keytab self.old keytab }
     {
         self.state.keytab = keytab;
@@ -106,13 +113,21 @@ impl Acceptor {
         ap_req: &[u8],
     ) -> Result<Accepted, ApFault>
         // The AP-REQ is the one that the bytes encode, if they encode one.
+        // Promise: the AP-REQ is the one that the bytes spell.
         ensures request { (r : trees.ApReq) → (request_of ap_req.now ≡ Some r) ↔ trees.ap_req.Spells r ap_req.now }
         // The answer and the state afterwards are those that the rules prescribe.
+        // Promise: what is accepted, or which error or refusal it is: the first row that holds of one table (`rows`),
+        // which is stated apart from the rules that the KDC shares.
         ensures answer { IsAnswer result (accepts self.old at confounder.now ap_req.now).answer }
+        // Promise (state, services, keytab, options): the replay caches afterwards; no replay cache changes but those
+        // of the service whose authenticator is recorded, nor the keys or the options; nothing changes when memory runs
+        // out.
         ensures state { IsAfter result self.old self.new (accepts self.old at confounder.now ap_req.now).state }
         // The code of a refusal is the one in the row of the table that refuses.
+        // Promise: the code of a refusal is the one in the row that refuses.
         ensures code { IfErr result (λ fault. IsCoded fault (code_by self.old at.sec ap_req.now)) }
         // The session key decrypts the AP-REP, if there is one, to the authenticator's time.
+        // Promise: the session key decrypts the AP-REP, if there is one, to the authenticator's time.
         ensures reply { IfOk result (λ accepted. IfSome (recorded_by self.old at.sec ap_req.now) (λ p.
             IfSome accepted.ap_rep (λ octets. IsApReply p.session_key confounder.now p.authenticator octets))) }
         // Only the replay cache of the service and the client whose authenticator is recorded changes. Entries of the
@@ -120,12 +135,18 @@ impl Acceptor {
         // hour before this call on.
         ensures services { (service : Components) → (IsService service (recorded_by self.old at.sec ap_req.now) → ⊥)
             → clients_of self.new service ≡ clients_of self.old service }
+        // Promise: another client's replay cache gives the same verdict on every authenticator, at each moment from an
+        // hour before the call on.
         ensures caches { (service client : Components)
             → (IsParty service client (recorded_by self.old at.sec ap_req.now) → ⊥)
             → SaysTheSame (at.sec -ℤ pos hour) (cache_of self.new service client)
             (cache_of self.old service client) }
         // Another client's cache is unchanged or dropped. It is dropped only if the service's floor lay more than an
         // hour too low, and if an empty cache with the raised floor refuses no less.
+        // Promise: that replay cache is unchanged, or it was dropped: then the service's floor lay more than an hour
+        // too low, and the client has the empty replay cache with the raised floor.
+        // Promise: the raised floor is an hour and 300 seconds before the call, and refuses all that the dropped replay
+        // cache held.
         ensures kept { (service client : Components)
             → (IsParty service client (recorded_by self.old at.sec ap_req.now) → ⊥)
             → IsKeptOrDropped at.sec (clients_of self.old service).floor (cache_of self.old service client)
@@ -147,6 +168,8 @@ impl Acceptor {
         confounder: &[u8; 16],
         ap_req: &[u8],
     ) -> Result<Accepted, ApFault>
+        // Promise (answer, state): what is accepted for one service alone, and the state afterwards: as `accept`, or,
+        // if the ticket is for a service of another name, as an acceptor without keys answers.
         ensures answer { IsAnswer result
             (accepts_for service.now.components self.old at confounder.now ap_req.now).answer }
         ensures state { IsAfter result self.old self.new

@@ -23,6 +23,7 @@ pub enum ChecksumFault {
 impl ChecksumFault {
     /// Returns the code that a service answers with (RFC 4120, section 7.5.9).
     pub fn code(self) -> Code
+        // Promise, as Accepted::checksum_fault: what is wrong with ..
         ensures { result ≡ code_of_fault self }
     {
         match self {
@@ -52,6 +53,7 @@ impl Accepted {
     ///
     /// GSS-API puts other things into the checksum, under a type of its own (RFC 4121, section 4.1.1): `OtherType`.
     pub fn checksum_fault(&self, octets: &[u8]) -> Option<ChecksumFault>
+        // Promise: what is wrong with the authenticator's checksum as one of these bytes, and the code for it.
         ensures { result ≡ checksum_fault self.now.session_key self.now.cksum octets.now }
     {
         match &self.cksum {

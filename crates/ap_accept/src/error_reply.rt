@@ -20,6 +20,7 @@ impl TicketLabel {
         at: Moment,
         refusal: ApRefusal,
     ) -> Result<Option<Vec<u8>>, AllocError>
+        // Promise (value, spelled): the KRB-ERROR for a refusal: its bytes, and what they spell.
         ensures value { IfOk result (λ found.
             option_map (λ octets. octets.items) found ≡ error_bytes self.now at refusal) }
         // The bytes are those of that error.

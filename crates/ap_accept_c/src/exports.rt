@@ -43,6 +43,9 @@ pub extern "C" fn ap_accept_c_v3_open(
 ) -> i32
     requires { IsHolder holder.old }
     ensures holder { IsHolder holder.new }
+    // Promise: in C, over what the caller's struct holds: an acceptor that is opened, or resumes, has the keys of the
+    // keytab that the bytes are.
+    // Promise: in C: bytes are refused only if they are no keytab.
     ensures opened { IsOpenCall result holder.old.held.value holder.new.held.value
         keytab.now start.now.remembered start.now.is_first start.now.time.sec start.now.time.usec }
 {
@@ -60,6 +63,8 @@ pub extern "C" fn ap_accept_c_v3_resume(
 ) -> i32
     requires { IsHolder holder.old }
     ensures holder { IsHolder holder.new }
+    // Promise, as ap_accept_c_v3_open: in C, over what ..
+    // Promise, as ap_accept_c_v3_open: in C: bytes are ..
     ensures resumed { IsResumeCall result holder.old.held.value holder.new.held.value keytab.now remembered saved.now }
 {
     calls::resume(holder, alloc, keytab, remembered, saved).number()
@@ -74,6 +79,7 @@ pub extern "C" fn ap_accept_c_v3_save(
     len: &mut usize,
 ) -> i32
     requires { IsHolder holder.old }
+    // Promise (holder, saved): in C: what is saved is copied to the buffer.
     ensures holder { IsHolder holder.new × (holder.new.held.value ≡ holder.old.held.value) }
     ensures saved { IsSaveCall result holder.old.held.value to.old to.new len.new }
 {
@@ -91,6 +97,9 @@ pub extern "C" fn ap_accept_c_v3_replace_keytab(
 ) -> i32
     requires { IsHolder holder.old }
     ensures holder { IsHolder holder.new }
+    // Promise: in C: an acceptor whose keys are replaced has the keys of the keytab that the bytes are, and nothing
+    // else changes.
+    // Promise, as ap_accept_c_v3_open: in C: bytes are ..
     ensures replaced { IsReplaceCall result holder.old.held.value holder.new.held.value keytab.now }
 {
     calls::replace_keytab(holder, alloc, keytab).number()
@@ -101,6 +110,8 @@ pub extern "C" fn ap_accept_c_v3_replace_keytab(
 pub extern "C" fn ap_accept_c_v3_name(alloc: Global, holder: &mut Holder, text: &[u8]) -> i32
     requires { IsHolder holder.old }
     ensures holder { IsHolder holder.new }
+    // Promise: in C: an acceptor that is given a service's name accepts for this service alone, and for each of the
+    // keytab if the text is empty; what is returned.
     ensures named { IsNameCall result holder.old.held.value holder.new.held.value text.now }
 {
     calls::name(holder, alloc, text).number()
@@ -118,6 +129,8 @@ pub extern "C" fn ap_accept_c_v3_accept(
 ) -> i32
     requires { IsHolder holder.old }
     ensures holder { IsHolder holder.new }
+    // Promise: in C: the returned number, the replay caches afterwards and the numbers that are given are those that
+    // the rules say; nothing changes when memory runs out.
     ensures accepted { IsAcceptCall result holder.old.held.value holder.new.held.value
         time.now.sec time.now.usec confounder.now ap_req.now numbers.new }
 {
@@ -136,6 +149,7 @@ pub extern "C" fn ap_accept_c_v3_octets(
     len: &mut usize,
 ) -> i32
     requires { IsHolder holder.old }
+    // Promise (holder, fetched): in C: what a buffer holds afterwards, and how long that is, of a refused AP-REQ too.
     ensures holder { IsHolder holder.new × (holder.new.held.value ≡ holder.old.held.value) }
     ensures fetched { IsFetchCall result holder.old.held.value part to.old to.new len.new }
 {
@@ -148,6 +162,8 @@ pub extern "C" fn ap_accept_c_v3_octets(
 #[unsafe(no_mangle)]
 pub extern "C" fn ap_accept_c_v3_close(alloc: Global, holder: &mut Holder) -> i32
     requires { IsHolder holder.old }
+    // Promise (holder, closed): in C: what closing returns, and that afterwards there is no acceptor; a struct that was
+    // opened, or is zero, stays one that each call may be given.
     ensures holder { IsHolder holder.new × (holder.new.held.value ≡ None) }
     ensures closed { IsCloseCall result holder.old.held.value }
 {
@@ -167,6 +183,7 @@ pub extern "C" fn ap_accept_c_v3_version() -> u32
 pub extern "C" fn ap_accept_c_v3_rule(alloc: Global, holder: &mut Holder, to: &mut [u8]) -> usize
     requires { IsHolder holder.old }
     ensures holder { IsHolder holder.new × (holder.new.held.value ≡ holder.old.held.value) }
+    // Promise (given, len): in C: the name of the rule that refused; a text is cut, and ended by a zero.
     ensures given { to.new ≡ texted (word_of_held holder.old.held.value) to.old }
     ensures len { result ≡ length (word_of_held holder.old.held.value) }
 {
@@ -183,6 +200,7 @@ pub extern "C" fn ap_accept_c_v3_text(
 ) -> usize
     requires { IsHolder holder.old }
     ensures holder { IsHolder holder.new × (holder.new.held.value ≡ holder.old.held.value) }
+    // Promise, as ap_accept_c_v3_rule: in C: the name ..
     ensures text { IsTextCall result to.old to.new }
 {
     calls::text(holder, alloc, number, to)
@@ -198,6 +216,7 @@ pub extern "C" fn ap_accept_c_v3_element(
     found: &mut Found,
 ) -> i32
     requires { IsHolder holder.old }
+    // Promise (holder, fetched), as ap_accept_c_v3_octets: in C: what a ..
     ensures holder { IsHolder holder.new × (holder.new.held.value ≡ holder.old.held.value) }
     ensures fetched { IsElementCall result holder.old.held.value place.now to.old to.new found.new }
 {
@@ -214,6 +233,7 @@ pub extern "C" fn ap_accept_c_v3_element(
 pub extern "C" fn ap_accept_c_v3_check(alloc: Global, holder: &mut Holder, octets: &[u8]) -> i32
     requires { IsHolder holder.old }
     ensures holder { IsHolder holder.new × (holder.new.held.value ≡ holder.old.held.value) }
+    // Promise: in C: whether the authenticator's checksum is that of these bytes.
     ensures checked { IsCheckCall result holder.old.held.value octets.now }
 {
     calls::check(holder, alloc, octets).number()
@@ -223,6 +243,7 @@ pub extern "C" fn ap_accept_c_v3_check(alloc: Global, holder: &mut Holder, octet
 #[unsafe(no_mangle)]
 pub extern "C" fn ap_accept_c_v3_key(alloc: Global, holder: &mut Holder, key: &mut RawKey) -> i32
     requires { IsHolder holder.old }
+    // Promise (holder, given): in C: the key that is shared with the client that was accepted last.
     ensures holder { IsHolder holder.new × (holder.new.held.value ≡ holder.old.held.value) }
     ensures given { IsKeyCall result holder.old.held.value key.old key.new }
 {
@@ -239,6 +260,7 @@ pub extern "C" fn ap_accept_c_v3_seal(
     to: &mut [u8],
     len: &mut usize,
 ) -> i32
+    // Promise: in C: what is sealed, opened and checked with a key for a usage; without one of them nothing is done.
     ensures { IsSealCall result key.now sealing.now text.now to.old to.new len.new }
 {
     let given = protection::seal(alloc, key, sealing, text, to);
@@ -256,6 +278,7 @@ pub extern "C" fn ap_accept_c_v3_unseal(
     to: &mut [u8],
     len: &mut usize,
 ) -> i32
+    // Promise, as ap_accept_c_v3_seal: in C: what is ..
     ensures { IsUnsealCall result key.now usage sealed.now to.old to.new len.new }
 {
     let given = protection::unseal(alloc, key, usage, sealed, to);
@@ -272,6 +295,7 @@ pub extern "C" fn ap_accept_c_v3_checksum(
     to: &mut [u8],
     len: &mut usize,
 ) -> i32
+    // Promise, as ap_accept_c_v3_seal: in C: what is ..
     ensures { IsChecksumCall result key.now usage text.now to.old to.new len.new }
 {
     let given = protection::checksum(key, usage, text, to);
@@ -282,6 +306,7 @@ pub extern "C" fn ap_accept_c_v3_checksum(
 /// Checks whether the bytes are the checksum of a text.
 #[unsafe(no_mangle)]
 pub extern "C" fn ap_accept_c_v3_verify(key: &RawKey, usage: u32, text: &[u8], octets: &[u8]) -> i32
+    // Promise, as ap_accept_c_v3_seal: in C: what is ..
     ensures { IsVerifyCall result key.now usage text.now octets.now }
 {
     protection::verify(key, usage, text, octets).number()

@@ -21,6 +21,7 @@ pub fn authenticator_of(
     key: &Key,
     sealed: &EncryptedDataRef<'_>,
 ) -> Attempt<Authenticator, ApRefusal>
+    // Promise, as session_key_of: an AP-REQ's session key ..
     ensures { IfOk result (λ found. found ≡ authenticator_of usage key.now sealed.now) }
 {
     let found = authenticator_in(alloc, ready, usage, key, sealed)?;
@@ -44,6 +45,7 @@ fn authenticator_in(
 
 /// Checks whether the authenticator names another client than the ticket.
 pub fn is_mismatched(part: &EncTicketPart, authenticator: &Authenticator) -> bool
+    // Promise: whether the authenticator is of the ticket's client, and its subkey.
     ensures { result ≡ is_mismatched part.now authenticator.now }
 {
     authenticator.crealm.as_slice() != part.crealm.as_slice()
@@ -52,6 +54,7 @@ pub fn is_mismatched(part: &EncTicketPart, authenticator: &Authenticator) -> boo
 
 /// Returns the subkey of an authenticator, `Some(None)` if there is none, and `None` if it is not a valid key.
 pub fn subkey_in(subkey: Option<&Typed>) -> Option<Option<Key>>
+    // Promise, as is_mismatched: whether the authenticator is ..
     ensures { result ≡ subkey_in (option_copied subkey.entry) }
 {
     match subkey {

@@ -14,6 +14,7 @@ use krb_types::TicketRef;
 /// Returns what the keytab holds for a ticket with this service.
 pub fn held_in<'k>(keytab: &'k Keytab, ticket: &TicketRef<'_>, service: &Name) -> HeldKey<'k>
     requires { service.now ≡ ticket.now.sname }
+    // Promise: what a keytab holds for a ticket.
     ensures { result ≡ held_in keytab.now ticket.now }
 {
     HeldKey {
@@ -38,6 +39,7 @@ fn has_type(keytab: &Keytab, ticket: &TicketRef<'_>, service: &Name) -> bool
 /// Returns the keytab's key for a ticket with this service: the one with the ticket's encryption type and key version.
 pub fn keytab_key<'k>(keytab: &'k Keytab, ticket: &TicketRef<'_>, service: &Name) -> Option<&'k Key>
     requires { service.now ≡ ticket.now.sname }
+    // Promise, as held_in: what a keytab holds ..
     ensures { option_copied result ≡ ticket_key keytab.now ticket.now }
 {
     let etype = type_numbered(ticket.enc_part.etype)?;

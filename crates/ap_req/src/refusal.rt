@@ -76,6 +76,7 @@ impl ApRefusal {
 
     /// Returns the code that a service answers with.
     pub fn code(self) -> Code
+        // Promise, as AsRefusal::code of as_exchange: the code of each ..
         ensures { result ≡ code_of self }
     {
         self.code_by(Code::KrbApPathNotAccepted)
@@ -83,6 +84,7 @@ impl ApRefusal {
 
     /// Returns the code that a server answers with. Servers differ in the one for a foreign client.
     pub fn code_by(self, foreign_client: Code) -> Code
+        // Promise, as AsRefusal::code of as_exchange: the code of each ..
         ensures { result ≡ code_by foreign_client self }
     {
         match self {
@@ -109,6 +111,7 @@ impl ApRefusal {
 
     /// Returns its name in the log and among the counters.
     pub fn word(self) -> &'static str
+        // Promise, as AsRefusal::word of as_exchange: the name of each ..
         ensures { result.now ≡ word_of self }
     {
         match self {
@@ -135,6 +138,7 @@ impl ApRefusal {
 
     /// Returns its place among those of every AP-REQ.
     pub fn place(self) -> usize
+        // Promise (value, range), as AsRefusal::word of as_exchange: the name of each ..
         ensures value { result ≡ place_of self }
         ensures range { result < refusal_count }
     {

@@ -10,6 +10,8 @@ use rule_lists::decide;
 
 /// Returns the session key, after checking that the client is of this realm and that the ticket is bound to no address.
 pub fn session_key_of(realm: &[u8], part: &EncTicketPart) -> Result<Key, ApRefusal>
+    // Promise: an AP-REQ's session key and its authenticator, or the first rule that refuses it, unless memory runs
+    // out.
     ensures { result ≡ session_key_of realm.now part.now }
 {
     let rules = part_rules(realm, part);

@@ -26,6 +26,8 @@ pub fn shown_ticket(
     held: &HeldKey<'_>,
     ap: &ApReqRef<'_>,
 ) -> Attempt<EncTicketPart, ApRefusal>
+    // Promise (value, within): what an AP-REQ's ticket holds, or the first rule that refuses it, unless memory runs
+    // out; the ticket's part is spelled by no more bytes than its cipher has.
     ensures value { IfOk result (λ found. found ≡ shown_ticket held.now ap.now) }
     ensures within { IfOk result (λ found.
         IfOk found (λ part. IsSpelledWithin enc_ticket_part part ap.now.ticket.enc_part.cipher)) }

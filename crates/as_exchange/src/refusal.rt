@@ -91,6 +91,7 @@ impl AsRefusal {
 
     /// Returns the error code of the KRB-ERROR that answers it (RFC 4120, section 7.5.9).
     pub fn code(self) -> Code
+        // Promise: the code of each refusal, and what else goes with it.
         ensures { result ≡ code_of self }
     {
         match self {
@@ -117,6 +118,7 @@ impl AsRefusal {
 
     /// Returns what it causes beside its error code.
     pub fn effect(self) -> Effect
+        // Promise, as AsRefusal::code: the code of each ..
         ensures { result ≡ sequel_of self }
     {
         match self {
@@ -131,6 +133,7 @@ impl AsRefusal {
 
     /// Returns its name in the log and among the counters.
     pub fn word(self) -> &'static str
+        // Promise: the name of each refusal in the log, and its place among the counters.
         ensures { result.now ≡ word_of self }
     {
         match self {
@@ -158,6 +161,7 @@ impl AsRefusal {
 
     /// Returns its place among those of its exchange.
     pub fn place(self) -> usize
+        // Promise (value, range), as AsRefusal::word: the name of each ..
         ensures value { result ≡ place_of self }
         ensures range { result < refusal_count }
     {

@@ -43,6 +43,7 @@ impl Asked {
     /// Checks whether it can be requested: the realm has 1 to 255 bytes, the names are within the limits of a database,
     /// and there are at most [`MAX_ETYPES`] encryption types.
     pub fn is_askable(&self) -> bool
+        // Promise: whether a request can be made, and whether a credential can be presented.
         ensures { result ≡ is_askable self.now }
     {
         is_component(self.realm.as_slice())

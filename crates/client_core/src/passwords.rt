@@ -28,6 +28,7 @@ pub fn password_key(
     name: &Name,
     info: &EtypeInfo2,
 ) -> Result<Key, ClientFault>
+    // Promise, as read_ap_reply: what the service says ..
     ensures { Gives result (password_key pass.now realm.now name.now info.now) }
 {
     given(key_in(alloc, pass, realm, name, info))

@@ -40,8 +40,13 @@ pub fn read_as_reply(
     at: Moment,
     bytes: &[u8],
 ) -> Result<Credential, ClientFault>
+    // Promise: a reply becomes exactly the credential of its definition, or the first error, unless memory runs out.
     ensures value { Gives result (reads_as asked.now key.now at.sec bytes.now) }
     // So the bytes are the reply to this request.
+    // Promise: a reply is taken only if client, nonce and service are those that were asked for, and the ticket ends by
+    // the time asked for, if any.
+    // Promise: a reply whose ticket says when it starts is taken only if that is within 300 seconds of now, unless
+    // POSTDATED, RENEW or VALIDATE was asked for.
     ensures taken { IfOk result (λ credential.
         IsTaken AS_REP roles.Client asked.now key.now at.sec bytes.now credential) }
 {
@@ -59,8 +64,11 @@ pub fn read_tgs_reply(
     at: Moment,
     bytes: &[u8],
 ) -> Result<Credential, ClientFault>
+    // Promise, as read_as_reply: a reply becomes exactly ..
     ensures value { Gives result (reads_tgs asked.now key.now subkey at.sec bytes.now) }
     // So the bytes are the reply to this request.
+    // Promise, as read_as_reply: a reply is taken ..
+    // Promise, as read_as_reply: a reply whose ticket ..
     ensures taken { IfOk result (λ credential.
         IsTaken TGS_REP (tgs_role subkey) asked.now key.now at.sec bytes.now credential) }
 {

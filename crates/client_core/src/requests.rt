@@ -27,6 +27,7 @@ use std::alloc::{AllocError, Global};
 /// Returns the bytes of an AS-REQ without preauthentication.
 pub fn as_request(alloc: Global, asked: &Asked) -> Result<Vec<u8>, AllocError>
     requires { IsAskable asked.now }
+    // Promise (written, spelled): a request is the one encoding of what is asked, which spells it.
     ensures written { IfOk result (λ v. v.items ≡ written (message As) (asks_as None asked.now)) }
     ensures spelled { IfOk result (λ v. SpellsKdcReq (As, asks_as None asked.now) v.items) }
 {
@@ -43,11 +44,13 @@ pub fn with_timestamp(
     confounder: &[u8; 16],
 ) -> Result<Vec<u8>, AllocError>
     requires { IsAskable asked.now }
+    // Promise (written, spelled), as as_request: a request is the ..
     ensures written { IfOk result (λ v.
         v.items ≡ written (message As) (asks_with_timestamp asked.now key.now at confounder.now)) }
     ensures spelled { IfOk result (λ v.
         SpellsKdcReq (As, asks_with_timestamp asked.now key.now at confounder.now) v.items) }
     // The key decrypts the PA-ENC-TIMESTAMP in it to the moment.
+    // Promise: the client's key decrypts the timestamp of an AS-REQ to the moment.
     ensures opens { IfOk result (λ v.
         decrypted parts.pa_enc_ts_enc key.now (usage_number usages.PaEncTimestamp)
         (sealed_timestamp key.now at confounder.now) ≡ Some (timestamp_part at)) }

@@ -23,6 +23,8 @@ pub fn read_ap_reply(
     sent: Moment,
     bytes: &[u8],
 ) -> Result<EncApRepPart, ClientFault>
+    // Promise: what the service says in an AP-REP is returned, if it repeats the moment that was sent; a password's key
+    // is that of the definition, or the first error.
     ensures value { Gives result (reads_ap key.now sent bytes.now) }
 {
     given(ap_reply(alloc, key, sent, bytes))

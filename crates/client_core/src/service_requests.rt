@@ -31,11 +31,13 @@ pub fn ap_request(
 ) -> Result<Vec<u8>, AllocError>
     requires presentable { definitions.IsPresentable credential.now }
     requires checksum { IsShortChecksum asked.now.checksum }
+    // Promise (written, spelled), as as_request: a request is the ..
     ensures written { IfSome (definitions.session credential.now) (λ session. IfOk result (λ v.
         v.items ≡ written ap_req (asks_ap credential.now.client session at asked.now confounder.now))) }
     ensures spelled { IfSome (definitions.session credential.now) (λ session. IfOk result (λ v.
         ap_req.Spells (asks_ap credential.now.client session at asked.now confounder.now) v.items)) }
     // The session key decrypts its authenticator to the one of this client and moment.
+    // Promise, as tgs_request: the session key decrypts ..
     ensures opens { IfSome (definitions.session credential.now) (λ session. IfOk result (λ v.
         decrypted parts.authenticator session.key (usage_number ApReqAuthenticator)
         (asks_ap credential.now.client session at asked.now confounder.now).authenticator

@@ -26,6 +26,7 @@ pub struct Session {
 
 /// Returns the credential's session key; `None` if its type isn't one of the four, or its length doesn't fit its type.
 pub fn session_key(credential: &Credential) -> Option<Key>
+    // Promise, as Asked::is_askable: whether a request can ..
     ensures { result ≡ session_key credential.now }
 {
     key_of(
@@ -37,6 +38,7 @@ pub fn session_key(credential: &Credential) -> Option<Key>
 /// Checks whether the credential can be presented: its key has one of the four types, its ticket encodes a Ticket and
 /// has at most [`MAX_OCTETS_SENT`] bytes, and the client's realm and name are within the limits of a database.
 pub fn is_presentable(credential: &Credential) -> bool
+    // Promise, as Asked::is_askable: whether a request can ..
     ensures { result ≡ is_presentable credential.now }
 {
     let ticket = credential.ticket.as_slice();

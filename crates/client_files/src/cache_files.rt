@@ -17,6 +17,8 @@ use std::io::{Error, ErrorKind};
 #[tactic(auto, using(crate::proofs::HeldCaches::held))]
 pub fn read_cache<T: ClientStore>(alloc: Global, store: &mut T, path: &str) -> Result<Cache, Fault>
     ensures read { IfOk result (λ cache. HasCache (T.world store.old) path.now cache) }
+    // Promise: reading a cache, a keytab or a `krb5.conf` with what it includes, and finding the cache's path, changes
+    // no file.
     ensures unchanged { T.world store.new ≡ T.world store.old }
 {
     at(alloc, path, check_cache(store.path_kind(path)))?;
@@ -36,6 +38,7 @@ pub fn read_keytab<T: ClientStore>(
     store: &mut T,
     path: &str,
 ) -> Result<Keytab, Fault>
+    // Promise, as read_cache: reading a cache, a ..
     ensures unchanged { T.world store.new ≡ T.world store.old }
 {
     at(alloc, path, check_plain(store.path_kind(path)))?;
@@ -82,6 +85,7 @@ fn no_file() -> Error {
 /// Makes a new cache for the credential's client, with the credential.
 #[tactic(auto, unfolding(cred_files::specs::Cache::cache_head))]
 fn make_cache(alloc: Global, credential: &Credential) -> Result<Cache, Cause>
+    // Promise: the cache that `kinit` makes holds its credential alone.
     ensures { IfOk result (λ cache. cache ≡ new_cache credential.now) }
 {
     if !credential.has_room() {
@@ -99,6 +103,7 @@ pub fn put_credential(
     cache: &mut Cache,
     credential: &Credential,
 ) -> Result<(), Cause>
+    // Promise (ok, err): a credential is put in place of the first one of the same service, else at the end.
     ensures ok { OnOk result (
         cache.new ≡ record cache.old { credentials = put_first credential.now cache.old.credentials }) }
     ensures err { OnErr result (cache.new ≡ cache.old) }
@@ -117,6 +122,7 @@ pub fn write_new_cache<T: ClientStore>(
     path: &str,
     credential: &Credential,
 ) -> Result<(), Fault>
+    // Promise (written, unchanged), as write_cache: **a cache is written ..
     ensures written { OnOk result (T.world store.new
         ≡ option_map (with_file path.now (cache_text (new_cache credential.now))) (T.world store.old)) }
     ensures unchanged { OnErr result (T.world store.new ≡ T.world store.old) }
@@ -133,6 +139,8 @@ pub fn write_cache<T: ClientStore>(
     path: &str,
     cache: &Cache,
 ) -> Result<(), Fault>
+    // Promise (written, unchanged): **a cache is written whole, or nothing changes**: its file then has the bytes of
+    // the cache (of a new cache, of the credential alone), and every other path is as it was.
     ensures written { OnOk result (T.world store.new
         ≡ option_map (with_file path.now (cache_text cache.now)) (T.world store.old)) }
     ensures unchanged { OnErr result (T.world store.new ≡ T.world store.old) }
@@ -146,6 +154,8 @@ pub fn write_cache<T: ClientStore>(
 
 /// Removes the user's own cache. After an `Err` the path is unchanged.
 pub fn remove_cache<T: ClientStore>(alloc: Global, store: &mut T, path: &str) -> Result<(), Fault>
+    // Promise (removed, unchanged): a cache is removed, or nothing changes: then there is no file, and every other path
+    // is as it was.
     ensures removed { OnOk result (
         T.world store.new ≡ option_map (without_file path.now) (T.world store.old)) }
     ensures unchanged { OnErr result (T.world store.new ≡ T.world store.old) }

@@ -30,10 +30,12 @@ pub enum PathKind {
 pub trait ClientStore: Store {
     /// Checks what a path has, without opening it.
     fn path_kind(&mut self, path: &str) -> io::Result<PathKind>
+        // Promise: asking a store what a path is, who the user is, and which names a folder has changes no file.
         ensures unchanged { Self.world self.new ≡ Self.world self.old };
 
     /// Returns the number of the user whose rights the program has.
     fn user(&mut self) -> io::Result<u32>
+        // Promise, as ClientStore::path_kind: asking a store what ..
         ensures unchanged { Self.world self.new ≡ Self.world self.old };
 
     /// Returns the moment that the clock shows.
@@ -43,12 +45,14 @@ pub trait ClientStore: Store {
 
     /// Removes a file.
     fn remove(&mut self, alloc: Global, path: &str) -> io::Result<()>
+        // Promise (removed, unchanged), as remove_cache: a cache is removed, ..
         ensures removed { OnOk result (
             Self.world self.new ≡ option_map (without_file path.now) (Self.world self.old)) }
         ensures unchanged { OnErr result (Self.world self.new ≡ Self.world self.old) };
 
     /// Returns the names of the files in a folder, in rising order.
     fn names_in(&mut self, alloc: Global, path: &str) -> io::Result<Vec<String>>
+        // Promise, as ClientStore::path_kind: asking a store what ..
         ensures unchanged { Self.world self.new ≡ Self.world self.old };
 }
 

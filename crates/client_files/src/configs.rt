@@ -58,6 +58,7 @@ impl Config {
         store: &mut T,
         defaults: &Defaults<'_>,
     ) -> Result<Config, Fault>
+        // Promise, as read_cache: reading a cache, a ..
         ensures unchanged { T.world store.new ≡ T.world store.old }
     {
         let path = defaults.config_path()?;
@@ -84,6 +85,7 @@ impl Config {
         store: &mut T,
         defaults: &Defaults<'_>,
     ) -> Result<Option<Config>, Fault>
+        // Promise, as read_cache: reading a cache, a ..
         ensures unchanged { T.world store.new ≡ T.world store.old }
     {
         let Ok(path) = defaults.config_path() else {
@@ -112,6 +114,7 @@ impl Config {
 
     /// Returns the default realm.
     pub fn default_realm(&self, alloc: Global) -> Result<KerberosString, Fault>
+        // Promise, as Client::over of client_sockets: **a client is the ..
         ensures { IfOk result (λ realm. IsDefaultRealm self.now realm) }
     {
         match default_realm(alloc, &self.text)? {
@@ -123,6 +126,7 @@ impl Config {
 
     /// Returns the principal that a text names: `alice@EXAMPLE.COM`, or `alice` of the default realm.
     pub fn principal(&self, alloc: Global, text: &str) -> Result<Principal, Fault>
+        // Promise, as Client::over of client_sockets: **a client is the ..
         ensures { IfOk result (λ principal. IsNamed self.now text.now principal) }
     {
         match text.split_once('@') {
@@ -136,6 +140,7 @@ impl Config {
 
     /// Returns where the KDCs of a realm are, at least one. It looks up no name.
     pub fn kdcs(&self, alloc: Global, realm: &[u8]) -> Result<Vec<KdcPlace>, Fault>
+        // Promise, as Client::over of client_sockets: the KDCs that a ..
         ensures { IfOk result (λ places. ArePlacesOf self.now realm.now places.items) }
     {
         let places = places_of(alloc, &kdcs(alloc, &self.text, realm)?)?;

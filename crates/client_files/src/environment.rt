@@ -35,6 +35,7 @@ impl<'a> Defaults<'a> {
     /// MIT's and Heimdal's clients use too.
     pub fn cache_path<T: ClientStore>(&self, alloc: Global, store: &mut T) -> Result<String, Fault>
         ensures named { IfOk result (λ path. IsDefaultCache self.now.cache (string_bytes path)) }
+        // Promise, as read_cache: reading a cache, a ..
         ensures unchanged { T.world store.new ≡ T.world store.old }
     {
         match self.cache {

@@ -18,6 +18,7 @@ pub fn granting_ticket(alloc: Global, cache: &Cache) -> Result<&Credential, Caus
 
 /// Returns the cache's credential for a service, if it has not ended and need not be validated first.
 pub fn good_credential<'c>(cache: &'c Cache, service: &Name, at: Moment) -> Option<&'c Credential>
+    // Promise: a cached ticket counts as good only before its end and not INVALID.
     ensures { option_copied result ≡ good_credential at.sec cache.now service.now.components }
 {
     match cache.find(service) {

@@ -44,6 +44,7 @@ pub struct Kdcs<X> {
 impl<X> Kdcs<X> {
     /// Returns KDCs that have not been tried yet.
     pub fn new(network: X, places: Vec<KdcPlace>, transports: Transports) -> Kdcs<X>
+        // Promise: KDCs begin untried, and a restart counts their failures from 0.
         ensures { result ≡ record {
           network = network;
           places = places;
@@ -63,6 +64,7 @@ impl<X> Kdcs<X> {
 
     /// Forgets which KDC replied last, and how many messages got no reply.
     pub fn restart(&mut self)
+        // Promise, as Kdcs::new: KDCs begin untried, and ..
         ensures { self.new ≡ record self.old { answered = None; failures = 0 } }
     {
         self.answered = None;
@@ -71,6 +73,7 @@ impl<X> Kdcs<X> {
 
     /// Returns how many messages got no reply. The count stops at the greatest `u64`.
     pub fn failures(&self) -> u64
+        // Promise, as Kdcs::new: KDCs begin untried, and ..
         ensures { result ≡ self.now.failures }
     {
         self.failures

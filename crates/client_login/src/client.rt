@@ -24,6 +24,7 @@ pub struct KdcClient<X> {
 impl<X> KdcClient<X> {
     /// Returns a client at this moment, which is by the computer's own clock.
     pub fn new(alloc: Global, kdcs: Kdcs<X>, at: Moment) -> KdcClient<X>
+        // Promise, as KdcClient::take_clock: **a KDC's time is ..
         ensures { result ≡ record { alloc = alloc; kdcs = kdcs; at = at; is_by_kdc = false } }
     {
         KdcClient {
@@ -36,6 +37,7 @@ impl<X> KdcClient<X> {
 
     /// Sets the moment by the computer's own clock.
     pub fn set_clock(&mut self, at: Moment)
+        // Promise, as KdcClient::take_clock: **a KDC's time is ..
         ensures { self.new ≡ record self.old { at = at; is_by_kdc = false } }
     {
         self.at = at;
@@ -44,9 +46,11 @@ impl<X> KdcClient<X> {
 
     /// Returns the moment of a request, and moves on.
     pub(crate) fn take_moment(&mut self) -> Moment
+        // Promise (taken, next, kdcs), as KdcClient::log_in: after a call the client's moment is as ..
         ensures taken { result ≡ self.old.at }
         ensures next { IsNext self.old.at self.new.at }
         ensures kdcs { self.new.kdcs ≡ self.old.kdcs }
+        // Promise, as KdcClient::log_in: after a call the client's moment is not ..
         ensures clock { self.new.is_by_kdc ≡ self.old.is_by_kdc }
     {
         let at = self.at;

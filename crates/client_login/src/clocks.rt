@@ -14,10 +14,16 @@ impl<X> KdcClient<X> {
     ///
     /// Anyone on the path can name any time, so a program should say that it took one.
     pub fn take_clock(&mut self, fault: LoginFault) -> Option<i64>
+        // Promise: a KDC's time is taken only if a login's error names this KDC and is its error 37; by `err` of
+        // `log_in` it then answered a request with this error.
+        // Promise: after a KDC's time was taken the moment is in the second that the error has.
         ensures taken { IfSome result (λ ahead. IsByClock fault self.new.at) }
+        // Promise (ahead, beyond): a KDC's time is taken only if its clock differs by more than 300 seconds; what is
+        // returned is the difference.
         ensures ahead { IfSome result (λ ahead. ahead ≡ self.new.at.sec -ℤ self.old.at.sec) }
         // It is off by more than the clock skew.
         ensures beyond { IfSome result (λ ahead. is_within_skew ahead ≡ false) }
+        // Promise (once, kdcs, unchanged): **a KDC's time is taken once**, until the caller sets the moment anew.
         ensures once { IfSome result (λ ahead. (self.old.is_by_kdc ≡ false) × (self.new.is_by_kdc ≡ true)) }
         ensures kdcs { self.new.kdcs ≡ self.old.kdcs }
         ensures unchanged { IfNone result (self.new ≡ self.old) }

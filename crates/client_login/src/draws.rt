@@ -6,6 +6,7 @@ use rand_core::Rng;
 
 /// Returns the number that a reply repeats. It is below 2147483648, because many KDCs drop a request with a larger one.
 pub fn draw_nonce<R: Rng>(rng: &mut R) -> u32
+    // Promise (value, small, drawn): a nonce is the generator's next 4 bytes below 2147483648.
     ensures value { result ≡ drawn_nonce (R.stream rng.old) }
     ensures small { result < 2147483648 }
     ensures drawn { R.stream rng.new ≡ after_nonce (R.stream rng.old) }
@@ -17,6 +18,7 @@ pub fn draw_nonce<R: Rng>(rng: &mut R) -> u32
 
 /// Returns the confounder for what the client encrypts: 16 bytes.
 pub fn draw_confounder<R: Rng>(rng: &mut R) -> [u8; 16]
+    // Promise (value, drawn): a confounder is the generator's next 16 bytes.
     ensures value { result ≡ drawn_confounder (R.stream rng.old) }
     ensures drawn { R.stream rng.new ≡ after_confounder (R.stream rng.old) }
 {

@@ -64,6 +64,21 @@ impl<X: Network> KdcClient<X> {
             (logs_in login.now secret.now self.old.at.sec (drawn_nonce (R.stream rng.old)))
             self.old.at (after_nonce (R.stream rng.old)) }
         // The result is the ticket of a reply to these requests, under a key of the client.
+        // Promise (ok, client): **a first ticket is taken from the reply of a KDC that was asked**: the network carried
+        // a request to it, and it answered that request (`IsExchanged`).
+        // Promise: a first ticket is taken under a key of the client: of a password one that is made as a KDC says, by
+        // no fewer iterations than the least count; of a keytab one of its keys.
+        // Promise, as Network::exchange: **no message is sent ..
+        // Promise: a login sends nothing but one AS-REQ without a timestamp and two with one under a key of the client.
+        // Promise: of two such AS-REQs or TGS-REQs the first has the moment that was handed in, and is encrypted with
+        // the 16 bytes that are drawn after the nonce.
+        // Promise: the second request, after a replay error, has the next microsecond and the next 16 bytes.
+        // Promise (ok, err): nothing is encrypted or decrypted with a key from a password that someone on the path made
+        // cheap to guess.
+        // Promise (ok, err): **a KDC is one of those that were handed in**: who answered, and whom an error names, is
+        // at an address of a place that the client had before the call.
+        // Promise (ok, err): a host that was not looked up before is at the addresses that the network found for its
+        // name, then and there (what it finds is what a network's `finds` says).
         ensures ok { IfOk result (λ credential. IsFirst
             (IsExchanged X.finds self.old.kdcs.places.items X.carries X.answers) secret.now
             (logs_in login.now secret.now self.old.at.sec (drawn_nonce (R.stream rng.old)))
@@ -71,13 +86,25 @@ impl<X: Network> KdcClient<X> {
         ensures client { IfOk result (λ credential. AreSame credential.client.realm credential.client.name
             login.now.client.realm login.now.client.name) }
         // A fault is the one that the bytes of the KDC that it names report, or it names none.
+        // Promise: **an error says which KDC is to blame, and why**: the KDC that it names answered one of the requests
+        // that the network carried, with bytes that say so (`answers`).
+        // Promise: such bytes are a KRB-ERROR of that code and time; or neither a reply nor a KRB-ERROR; or a reply
+        // that the rules refuse for that reason; or they name no key that the client has and takes.
+        // Promise: an error names no KDC only if the request can't be written, the keytab has no key of the client, no
+        // KDC replied, or memory ran out.
         ensures err { IfErr result (λ fault. IsFirstFault
             (IsExchanged X.finds self.old.kdcs.places.items X.carries X.answers) secret.now
             (logs_in login.now secret.now self.old.at.sec (drawn_nonce (R.stream rng.old)))
             self.old.at.sec fault.why fault.kdc) }
+        // Promise: after a call the client's moment is as before, or one or two microseconds later: it is taken for
+        // each timestamp and each authenticator.
         ensures moved { IsMoved self.old.at self.new.at }
+        // Promise: after a call no place has a further address.
         ensures within { AreWithin X.finds self.old.kdcs.places.items self.new.kdcs.places.items }
+        // Promise: after a call the client's moment is not by a KDC's clock, if it was not before.
         ensures clock { self.new.is_by_kdc ≡ self.old.is_by_kdc }
+        // Promise: a call draws from its generator a nonce, and at most two confounders after it, each of its bytes
+        // once.
         ensures drawn { HasDrawn (after_nonce (R.stream rng.old)) (R.stream rng.new) }
     {
         let alloc = self.alloc;

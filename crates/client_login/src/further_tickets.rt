@@ -51,18 +51,33 @@ impl<X: Network> KdcClient<X> {
             (further_asked 0 granting.now.client service.now (drawn_nonce (R.stream rng.old)))
             self.old.at (after_nonce (R.stream rng.old)) }
         // The result is the ticket of a reply to such a request, under the session key of the ticket.
+        // Promise: **a further ticket is taken from the reply of a KDC that was asked**, under the session key of the
+        // ticket that was presented.
+        // Promise, as Network::exchange: **no message is sent ..
+        // Promise: a further ticket is asked for by nothing but two TGS-REQs that present the ticket.
+        // Promise, as KdcClient::log_in: of two such AS-REQs ..
+        // Promise, as KdcClient::log_in: the second request, after ..
+        // Promise (ok, err), as KdcClient::log_in: **a KDC is one ..
+        // Promise (ok, err), as KdcClient::log_in: a host that was ..
         ensures ok { IfOk result (λ credential. IsFurther
             (IsExchanged X.finds self.old.kdcs.places.items X.carries X.answers) granting.now
             (further_asked 0 granting.now.client service.now (drawn_nonce (R.stream rng.old)))
             self.old.at.sec credential) }
         // A fault is the one that the bytes of the KDC that it names report, or it names none.
+        // Promise, as KdcClient::log_in: **an error says which ..
+        // Promise, as KdcClient::log_in: such bytes are a ..
+        // Promise, as KdcClient::log_in: an error names no ..
         ensures err { IfErr result (λ fault. IsFurtherFault
             (IsExchanged X.finds self.old.kdcs.places.items X.carries X.answers) granting.now
             (further_asked 0 granting.now.client service.now (drawn_nonce (R.stream rng.old)))
             self.old.at.sec fault.why fault.kdc) }
+        // Promise, as KdcClient::log_in: after a call the client's moment is as ..
         ensures moved { IsMoved self.old.at self.new.at }
+        // Promise, as KdcClient::log_in: after a call no ..
         ensures within { AreWithin X.finds self.old.kdcs.places.items self.new.kdcs.places.items }
+        // Promise, as KdcClient::log_in: after a call the client's moment is not ..
         ensures clock { self.new.is_by_kdc ≡ self.old.is_by_kdc }
+        // Promise, as KdcClient::log_in: a call draws from ..
         ensures drawn { HasDrawn (after_nonce (R.stream rng.old)) (R.stream rng.new) }
     {
         let alloc = self.alloc;
@@ -94,19 +109,33 @@ impl<X: Network> KdcClient<X> {
             (further_asked (renewal_options renewal granting.now.flags) granting.now.client granting.now.server.name
             (drawn_nonce (R.stream rng.old)))
             self.old.at (after_nonce (R.stream rng.old)) }
+        // Promise, as KdcClient::service_ticket: **a further ticket is ..
+        // Promise, as Network::exchange: **no message is sent ..
+        // Promise, as KdcClient::service_ticket: a further ticket is ..
+        // Promise, as KdcClient::log_in: of two such AS-REQs ..
+        // Promise, as KdcClient::log_in: the second request, after ..
+        // Promise (ok, err), as KdcClient::log_in: **a KDC is one ..
+        // Promise (ok, err), as KdcClient::log_in: a host that was ..
         ensures ok { IfOk result (λ credential. IsFurther
             (IsExchanged X.finds self.old.kdcs.places.items X.carries X.answers) granting.now
             (further_asked (renewal_options renewal granting.now.flags) granting.now.client granting.now.server.name
             (drawn_nonce (R.stream rng.old)))
             self.old.at.sec credential) }
+        // Promise, as KdcClient::log_in: **an error says which ..
+        // Promise, as KdcClient::log_in: such bytes are a ..
+        // Promise, as KdcClient::log_in: an error names no ..
         ensures err { IfErr result (λ fault. IsFurtherFault
             (IsExchanged X.finds self.old.kdcs.places.items X.carries X.answers) granting.now
             (further_asked (renewal_options renewal granting.now.flags) granting.now.client granting.now.server.name
             (drawn_nonce (R.stream rng.old)))
             self.old.at.sec fault.why fault.kdc) }
+        // Promise, as KdcClient::log_in: after a call the client's moment is as ..
         ensures moved { IsMoved self.old.at self.new.at }
+        // Promise, as KdcClient::log_in: after a call no ..
         ensures within { AreWithin X.finds self.old.kdcs.places.items self.new.kdcs.places.items }
+        // Promise, as KdcClient::log_in: after a call the client's moment is not ..
         ensures clock { self.new.is_by_kdc ≡ self.old.is_by_kdc }
+        // Promise, as KdcClient::log_in: a call draws from ..
         ensures drawn { HasDrawn (after_nonce (R.stream rng.old)) (R.stream rng.new) }
     {
         let alloc = self.alloc;

@@ -17,6 +17,8 @@ pub(crate) fn info_in_reply(
     alloc: Global,
     reply: &KdcRepRef<'_, AS_REP>,
 ) -> Result<EtypeInfo2, AllocError>
+    // Promise: a key from a password is made as the KDC says (the first PA-ETYPE-INFO2 of an AS-REP, or a refusal's
+    // e-data), or as the default of the reply's type if it says nothing.
     ensures { IfOk result (λ info. info ≡ info_in_reply reply.now) }
 {
     match first_info(reply.padata.as_ref()) {
@@ -42,6 +44,7 @@ pub(crate) fn info_of_refusal(
     alloc: Global,
     e_data: &Option<Octets>,
 ) -> Result<EtypeInfo2, AllocError>
+    // Promise, as info_in_reply: a key from a ..
     ensures { IfOk result (λ info. info ≡ info_of_refusal e_data.now) }
 {
     match e_data {

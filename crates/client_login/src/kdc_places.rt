@@ -22,6 +22,7 @@ pub struct KdcPlace {
 impl KdcPlace {
     /// Returns the place of a KDC at this address, for which no host is looked up.
     pub fn of_address(alloc: Global, address: SocketAddr) -> Result<KdcPlace, AllocError>
+        // Promise, as KdcClient::log_in: a host that was ..
         ensures { IfOk result (λ place. IsAddress address place) }
     {
         Ok(KdcPlace {
@@ -34,6 +35,7 @@ impl KdcPlace {
 
     /// Returns the place of a KDC at this port of a host, which is not looked up yet.
     pub fn of_host(alloc: Global, host: &str, port: u16) -> Result<KdcPlace, AllocError>
+        // Promise, as KdcClient::log_in: a host that was ..
         ensures { IfOk result (λ place. IsHost host.now port place) }
     {
         Ok(KdcPlace {

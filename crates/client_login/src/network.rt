@@ -44,10 +44,14 @@ pub trait Network {
     /// Sends a message and returns the reply. Fails if no reply comes in the network's waiting time.
     fn exchange(&mut self, alloc: Global, route: Route, message: &[u8]) -> io::Result<Vec<u8>>
         requires { carries message.now }
+        // Promise: **no message is sent but these requests**: whatever a network's `carries` says of messages, a call
+        // needs it of the requests that its conditions name (`CarriesFirst`, `CarriesPresented`).
+        // Promise, as KdcClient::log_in: **an error says which ..
         ensures { IfOk result (λ reply. answers route.to message.now reply.items) };
 
     /// Looks up a host by its name, and returns its addresses, each with this port. The network's waiting time goes on.
     fn look_up(&mut self, alloc: Global, host: &str, port: u16) -> io::Result<Vec<SocketAddr>>
+        // Promise, as KdcClient::log_in: a host that was ..
         ensures { IfOk result (λ found. All (finds host.now port) found.items) };
 }
 

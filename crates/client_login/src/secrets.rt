@@ -47,6 +47,7 @@ pub(crate) fn etypes_for(
     secret: &Secret,
     client: &Principal,
 ) -> Result<Seq<Etype>, AllocError>
+    // Promise, as first_asked: what is asked: options, ..
     ensures { IfOk result (λ etypes. etypes ≡ etypes_for secret.now client.now) }
 {
     match secret {
@@ -128,6 +129,7 @@ pub(crate) fn key_of_next_reply(
 ) -> Result<Key, LoginError>
     requires { IsOwnKey secret.now asked.now.realm asked.now.client key.now }
     // With a keytab it is that of the type that the reply is encrypted with.
+    // Promise: the timestamp's key decrypts the reply to a request with a timestamp.
     ensures next { IfOk result (λ found. Some found
         ≡ next_key secret.now (asked.now.realm ∷ asked.now.client.components) key.now reply.now.enc_part.etype) }
     ensures own { IfOk result (λ found. IsOwnKey secret.now asked.now.realm asked.now.client found) }
@@ -161,6 +163,7 @@ fn key_of_password(
     asked: &Asked,
     info: &EtypeInfo2,
 ) -> Result<Key, LoginError>
+    // Promise, as info_in_reply: a key from a ..
     ensures value { IfOk result (λ key. Ok key
         ≡ passwords.password_key password.now.octets asked.now.realm asked.now.client info.now) }
     ensures own { IfOk result (λ key. IsPasswordKey password.now asked.now.realm asked.now.client key) }
@@ -265,6 +268,8 @@ fn key_named<'k>(
     name: &Name,
     info: &[EtypeInfo2Entry],
 ) -> Option<&'k Key>
+    // Promise: of a keytab the key is that of the first type that the KDC names and the keytab has, or of the reply's
+    // type, of the greatest version.
     ensures { option_copied result ≡ key_named keytab.now (realm.now ∷ name.now.components) info.now }
 {
     for entry in info {
@@ -276,6 +281,7 @@ fn key_named<'k>(
 }
 
 fn key_numbered<'k>(keytab: &'k Keytab, realm: &[u8], name: &Name, number: i32) -> Option<&'k Key>
+    // Promise, as key_named: of a keytab the ..
     ensures { option_copied result ≡ key_numbered keytab.now (realm.now ∷ name.now.components) number }
 {
     key_typed(keytab, realm, name, type_numbered(number))

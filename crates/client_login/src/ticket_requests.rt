@@ -69,6 +69,7 @@ pub(crate) fn first_asked(
     at: Moment,
     nonce: u32,
 ) -> Result<Asked, AllocError>
+    // Promise: what is asked: options, start, end; with a keytab the types of the client's keys in it, else all four.
     ensures { IfOk result (λ asked. asked ≡ first_asked login.now etypes at.sec nonce) }
 {
     let request = &login.request;
@@ -102,6 +103,7 @@ pub(crate) fn further_asked(
     wanted: &FurtherTicket<'_>,
     nonce: u32,
 ) -> Result<Asked, AllocError>
+    // Promise, as first_asked: what is asked: options, ..
     ensures { IfOk result (λ asked.
         asked ≡ further_asked wanted.now.options wanted.now.client.now wanted.now.service.now nonce) }
 {
@@ -152,6 +154,7 @@ fn with_if(options: Flags, wanted: bool, option: KdcOption) -> Flags
 /// Returns the options that renew or validate a ticket with these flags. If the ticket has the flag of an option, the
 /// option is requested again, because some KDCs clear the flag otherwise.
 pub(crate) fn renewal_options(renewal: Renewal, flags: Flags) -> Flags
+    // Promise, as first_asked: what is asked: options, ..
     ensures { result ≡ renewal_options renewal flags }
 {
     let options = with_if(Flags::from_bits(0), true, renewal_option(renewal));

@@ -46,11 +46,22 @@ impl<X: Network> KdcClient<X> {
             (further_asked 0 granting.now.client service.now (drawn_nonce (R.stream rng.old)))
             self.old.at (after_nonce (R.stream rng.old)) }
         // A key of the keytab decrypts the ticket, to the client and the session key of the KDC's reply.
+        // Promise (ok, client): **a verified login is the realm's**: a key of the service's keytab decrypts the ticket,
+        // to the client that logged in and the session key of the KDC's reply.
+        // Promise, as Network::exchange: **no message is sent ..
+        // Promise, as KdcClient::service_ticket: a further ticket is ..
+        // Promise, as KdcClient::log_in: of two such AS-REQs ..
+        // Promise, as KdcClient::log_in: the second request, after ..
+        // Promise (ok, err), as KdcClient::log_in: **a KDC is one ..
+        // Promise (ok, err), as KdcClient::log_in: a host that was ..
         ensures ok { IfOk result (λ credential. IsTicketOf keytab.now credential) }
+        // Promise: a verified login's ticket is valid at the client's moment.
         ensures valid { IfOk result (λ credential. IsValidAt self.old.at.sec keytab.now credential) }
         // That client is the one that logged in.
         ensures client { IfOk result (λ credential.
             AreSame credential.client.realm credential.client.name granting.now.client.realm granting.now.client.name) }
+        // Promise (further, err): a verified login's ticket is what a further request got; if one that came is doubted,
+        // or none came, an error says so.
         ensures further { IfOk result (λ credential. IsFurther
             (IsExchanged X.finds self.old.kdcs.places.items X.carries X.answers) granting.now
             (further_asked 0 granting.now.client service.now (drawn_nonce (R.stream rng.old)))
@@ -60,9 +71,13 @@ impl<X: Network> KdcClient<X> {
             (IsExchanged X.finds self.old.kdcs.places.items X.carries X.answers) keytab.now granting.now
             (further_asked 0 granting.now.client service.now (drawn_nonce (R.stream rng.old)))
             self.old.at.sec fault.why fault.kdc) }
+        // Promise, as KdcClient::log_in: after a call the client's moment is as ..
         ensures moved { IsMoved self.old.at self.new.at }
+        // Promise, as KdcClient::log_in: after a call no ..
         ensures within { AreWithin X.finds self.old.kdcs.places.items self.new.kdcs.places.items }
+        // Promise, as KdcClient::log_in: after a call the client's moment is not ..
         ensures clock { self.new.is_by_kdc ≡ self.old.is_by_kdc }
+        // Promise, as KdcClient::log_in: a call draws from ..
         ensures drawn { HasDrawn (after_nonce (R.stream rng.old)) (R.stream rng.new) }
     {
         let at = self.at;
@@ -82,6 +97,7 @@ pub fn verified_ticket(
     credential: &Credential,
     at: Moment,
 ) -> Attempt<EncTicketPart, Doubt>
+    // Promise, as KdcClient::verify: a verified login's ticket is valid ..
     ensures { IfOk result (λ found. found ≡ verified keytab.now at.sec credential.now) }
 {
     match opened_ticket(alloc, keytab, credential)? {
@@ -99,6 +115,7 @@ pub fn opened_ticket(
     keytab: &Keytab,
     credential: &Credential,
 ) -> Attempt<EncTicketPart, Doubt>
+    // Promise (value, is), as KdcClient::verify: **a verified login is ..
     ensures value { IfOk result (λ found. found ≡ opened keytab.now credential.now) }
     ensures is { IfOk result (λ found. IfOk found (λ part. IsTicketOf keytab.now credential.now)) }
 {

@@ -91,9 +91,14 @@ impl<X: AnyMessage + Drop, T: ClientStore + Drop> Client<X, T> {
         config: &Config,
         principal: &str,
     ) -> Result<Client<X, T>, Fault>
+        // Promise: **a client is the one that the words name**: of the realm behind the `@`, or else of the default
+        // realm of the `krb5.conf`.
         ensures principal { IfOk result (λ client. IsNamed config.entry.now principal.entry.now client.principal) }
+        // Promise: the KDCs that a client asks are those which the file names for that realm, in order, each at its
+        // address or host.
         ensures places { IfOk result (λ client.
             ArePlacesOf config.entry.now client.principal.realm client.places) }
+        // Promise (seeded, tgt): a client's random bytes begin with a seed that was drawn; it has no TGT yet.
         ensures seeded { IfOk result (λ client. IsSeeded (T.world store) client.generator) }
         ensures tgt { IfOk result (λ client. client.tgt ≡ None) }
         ensures world { IfOk result (λ client. T.world client.store ≡ T.world store) }
@@ -120,6 +125,7 @@ impl<X: AnyMessage + Drop, T: ClientStore + Drop> Client<X, T> {
 
     /// Returns the TGT that the last login got.
     pub fn tgt(&self) -> Option<&Credential>
+        // Promise (tgt, client), as Client::log_in: **after a login there ..
         ensures tgt { option_copied result ≡ self.now.tgt }
         ensures client { IfSome result (λ tgt. AreSame tgt.now.client.realm tgt.now.client.name
             self.now.principal.realm self.now.principal.name) }
@@ -153,9 +159,14 @@ impl<X: AnyMessage + Drop, T: ClientStore + Drop> Client<X, T> {
     /// Logs in: gets a TGT with a password or a keytab. Forgets the TGT of an earlier login first, so after an `Err`
     /// there is none.
     pub fn log_in(&mut self, secret: &Secret) -> Result<(), Fault>
+        // Promise: **after a login there is the TGT that it got**: from the reply of one of these KDCs to the request
+        // with this principal and the nonce that this login drew, under a key of this secret, at a moment of the clock.
         ensures ok { OnOk result (IsLoggedIn (IsExchanged X.finds self.old.places X.carries X.answers)
             (T.world self.old.store) secret.now self.old self.new.tgt) }
+        // Promise: after an error of a login there is no TGT, also if an earlier login got one.
         ensures err { OnErr result (self.new.tgt ≡ None) }
+        // Promise (principal, within, world): a login changes neither the principal nor a file, and no KDC gets a
+        // further address.
         ensures principal { self.new.principal ≡ self.old.principal }
         ensures request { self.new.request ≡ self.old.request }
         ensures within { AreWithin X.finds self.old.places self.new.places }
@@ -175,6 +186,8 @@ impl<X: AnyMessage + Drop, T: ClientStore + Drop> Client<X, T> {
 
     /// Gets a ticket for a service of the client's realm, such as `host/www.example.com`, with the TGT.
     pub fn ticket(&mut self, service: &str) -> Result<Credential, Fault>
+        // Promise (ok, tgt): **a client's ticket is for the service that the words name**, from the reply of one of
+        // these KDCs to the request with the TGT of the last login and the nonce that this call drew.
         ensures ok { IfOk result (λ credential. IsGrantedFor
             (IsExchanged X.finds self.old.places X.carries X.answers)
             (T.world self.old.store) self.old service.now credential) }
@@ -205,6 +218,8 @@ impl<X: AnyMessage + Drop, T: ClientStore + Drop> Client<X, T> {
     #[tactic(auto, using(crate::proofs::Same::same_as))]
     pub fn verify(&mut self, keytab: &Keytab) -> Result<Credential, Fault>
         // A key of the keytab decrypts the ticket, to the client and the session key of the KDC's reply.
+        // Promise (ok, granted, client, tgt): **a client's verified ticket is one that the keytab decrypts**, to the
+        // principal that was opened and the session key of the KDC's reply, and was got with the TGT of the last login.
         ensures ok { IfOk result (λ credential. IsTicketOf keytab.now credential) }
         // It was got with the TGT of the last login, for a service of the keytab.
         ensures granted { IfOk result (λ credential. IsGrantedIn

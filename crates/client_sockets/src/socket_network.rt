@@ -127,6 +127,7 @@ fn by_datagrams<R: Net + Clock>(
     to: &Destination<'_, R>,
     message: &[u8],
 ) -> io::Result<Vec<u8>>
+    // Promise: a reply has at most 65,535 bytes by UDP, and 1,048,576 by TCP.
     ensures { IfOk result (λ reply. vec_len reply ≤ 65535) }
 {
     let system = to.system;
@@ -172,6 +173,7 @@ fn by_connection<R: Net + Clock>(
     to: &Destination<'_, R>,
     message: &[u8],
 ) -> io::Result<Vec<u8>>
+    // Promise, as by_datagrams: a reply has at ..
     ensures { IfOk result (λ reply. vec_len reply ≤ 1048576) }
 {
     let system = to.system;

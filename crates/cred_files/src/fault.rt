@@ -30,6 +30,7 @@ pub enum CredFault {
 impl CredFault {
     /// Returns the word that commands print if a file is refused. Out of memory has none: it refuses nothing.
     pub fn refusal(self) -> Option<&'static str>
+        // Promise, as ReadFault::refusal of principals_text: each error has its ..
         ensures { option_map (λ word. word.now) result ≡ cred_refusal self }
     {
         match self {

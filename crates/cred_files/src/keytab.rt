@@ -167,6 +167,7 @@ fn newest<'a>(
 impl Keytab {
     /// Returns a keytab with copies of these entries. Fails with `BadEntry` if one is too long for a file.
     pub fn new(alloc: Global, entries: &[KeytabEntry]) -> Result<Keytab, CredFault>
+        // Promise (ok, room, fault): a keytab is made and written unless an entry has no room or memory runs out.
         ensures ok { IfOk result (λ keytab. keytab ≡ entries.now) }
         ensures room { IfOk result (λ keytab. All HasRoom entries.now) }
         ensures fault { IfErr result (λ fault. IsNotWritten (All HasRoom entries.now) fault) }
@@ -196,6 +197,8 @@ impl Keytab {
     /// Reads a keytab from the bytes of a file.
     pub fn read(alloc: Global, bytes: &[u8]) -> Result<Keytab, CredFault>
         // If it succeeds, the file holds this keytab.
+        // Promise (found, only, exact): the file's bytes are those of the keytab that is read, and a file that is one
+        // is read, unless memory runs out; which error it is.
         ensures found { IfOk result (λ keytab. IsKeytab keytab bytes.now) }
         // If the file holds a keytab, it succeeds, unless memory runs out.
         ensures only { (keytab : List entries.KeytabEntry) → IsKeytab keytab bytes.now
@@ -211,9 +214,11 @@ impl Keytab {
     /// Returns the bytes of the file. Fails with `BadEntry` if an entry is too long for it. One with 2147483644 bytes
     /// or more may be: it was read without the version of four bytes, which is always written.
     pub fn write(&self, alloc: Global) -> Result<Vec<u8>, CredFault>
+        // Promise (text, spelled): what is written is a file of this value, so it is read back equal.
         ensures text { IfOk result (λ bytes. bytes.items ≡ keytab_text self.now) }
         // So reading them gives the same entries.
         ensures spelled { IfOk result (λ bytes. IsKeytab self.now bytes.items) }
+        // Promise, as Keytab::new: a keytab is made ..
         ensures fault { IfErr result (λ fault. IsNotWritten (All HasRoom self.now) fault) }
     {
         let mut out = Vec::from_slice(alloc, &[FIRST, KEYTAB])?;
@@ -230,9 +235,11 @@ impl Keytab {
         etype: Etype,
         version: Option<u32>,
     ) -> Result<&Key, Miss>
+        // Promise: the key of a service and type is found: of a version, or of the greatest; the last of several.
         ensures found { IfOk result (λ key. option_map
             (λ e. e.key) (newest (passes (realm.now ∷ name.now.components) (Some etype) version) self.now)
             ≡ Some key.now) }
+        // Promise (none, miss): if there is no such key, which of service, type and version is missing.
         ensures none { IfErr result (λ miss. newest (passes (realm.now ∷ name.now.components) (Some etype) version)
             self.now ≡ None) }
         ensures miss { IfErr result (λ miss. miss ≡ missing self.now (realm.now ∷ name.now.components) etype) }
@@ -252,6 +259,8 @@ impl Keytab {
         etype: Etype,
         kvno: Option<UInt32>,
     ) -> Option<&Key>
+        // Promise: the key that an encrypted part names by its type and version number, which may be below zero, or
+        // there is none.
         ensures { option_copied result
             ≡ option_map (λ e. e.key) (entry_for self.now (realm.now ∷ name.now.components) (Some etype) kvno) }
     {
@@ -273,6 +282,7 @@ impl Keytab {
 
     /// Checks whether there is a key for the service, of the encryption type if one is given.
     pub fn has(&self, realm: &[u8], name: &Name, etype: Option<Etype>) -> bool
+        // Promise: whether a service has an entry, of a type or of any.
         ensures { result ≡ is_some (newest (passes (realm.now ∷ name.now.components) etype None) self.now) }
     {
         newest(&self.entries, realm, name, etype, None).is_some()

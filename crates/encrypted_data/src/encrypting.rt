@@ -28,10 +28,12 @@ pub fn encrypted<T: Encode>(
     part: &T,
 ) -> Result<EncryptedData, AllocError>
     requires { length (T.codec.text part.now) < 2 ^ 32 }
+    // Promise (value, opens), as seal_part_by: of values in messages: ..
     ensures value { IfOk result (λ sealed. sealed
         ≡ encrypted T.codec key.now.key (usage_number key.now.usage) key.now.kvno confounder.now part.now) }
     ensures opens { IfOk result (λ sealed.
         decrypted T.codec key.now.key (usage_number key.now.usage) sealed ≡ Some part.now) }
+    // Promise, as seal_part_by: the cipher of an ..
     ensures most { IfOk result (λ sealed. length sealed.cipher ≤ 46 + length (T.codec.text part.now)) }
 {
     let ready = ReadyKey::new(&key.key, key.usage);
@@ -47,10 +49,12 @@ pub fn encrypted_by<T: Encode>(
     part: &T,
 ) -> Result<EncryptedData, AllocError>
     requires { length (T.codec.text part.now) < 2 ^ 32 }
+    // Promise (value, opens), as seal_part_by: of values in messages: ..
     ensures value { IfOk result (λ sealed. sealed
         ≡ encrypted T.codec ready.now.key (usage_number ready.now.usage) kvno confounder.now part.now) }
     ensures opens { IfOk result (λ sealed.
         decrypted T.codec ready.now.key (usage_number ready.now.usage) sealed ≡ Some part.now) }
+    // Promise, as seal_part_by: the cipher of an ..
     ensures most { IfOk result (λ sealed. length sealed.cipher ≤ 46 + length (T.codec.text part.now)) }
 {
     let cipher = seal_part_by(alloc, ready, confounder, part)?;

@@ -42,11 +42,13 @@ pub fn seal_part<T: Encode>(
     part: &T,
 ) -> Result<Vec<u8>, AllocError>
     requires { length (T.codec.text part.now) < 2 ^ 32 }
+    // Promise (value, opens), as seal_part_by: of values in messages: ..
     ensures value { IfOk result (λ cipher. cipher.items
         ≡ seal key.now.etype key.now.bytes (usage_number usage) confounder.now (written T.codec part.now)) }
     // The same key decrypts it to the value again.
     ensures opens { IfOk result (λ cipher.
         opened_as T.codec key.now.etype key.now.bytes (usage_number usage) cipher.items ≡ Some part.now) }
+    // Promise, as seal_part_by: the cipher of an ..
     ensures most { IfOk result (λ cipher. length cipher.items ≤ 46 + length (T.codec.text part.now)) }
 {
     seal_part_by(alloc, &ReadyKey::new(key, usage), confounder, part)
@@ -60,12 +62,15 @@ pub fn seal_part_by<T: Encode>(
     part: &T,
 ) -> Result<Vec<u8>, AllocError>
     requires { length (T.codec.text part.now) < 2 ^ 32 }
+    // Promise (value, opens): of values in messages: an encrypted value decrypts to that value, if its contents have
+    // fewer than 2^32 bytes, in an EncryptedData that names the key's type and version.
     ensures value { IfOk result (λ cipher. cipher.items
         ≡ seal ready.now.key.etype ready.now.key.bytes (usage_number ready.now.usage) confounder.now
         (written T.codec part.now)) }
     ensures opens { IfOk result (λ cipher.
         opened_as T.codec ready.now.key.etype ready.now.key.bytes (usage_number ready.now.usage) cipher.items
         ≡ Some part.now) }
+    // Promise: the cipher of an encrypted value is at most 46 bytes longer than its encoding.
     ensures most { IfOk result (λ cipher. length cipher.items ≤ 46 + length (T.codec.text part.now)) }
 {
     let text = write(alloc, part)?;
@@ -79,6 +84,7 @@ pub fn open_part<T: ReadOwned>(
     usage: KeyUsage,
     cipher: &[u8],
 ) -> Result<Option<T>, AllocError>
+    // Promise (value, within), as open_part_by: a value is returned ..
     ensures value { IfOk result (λ found. found
         ≡ opened_as T.codec key.now.etype key.now.bytes (usage_number usage) cipher.now) }
     // Its encoding is no longer than the cipher.
@@ -93,6 +99,8 @@ pub fn open_part_by<T: ReadOwned>(
     ready: &ReadyKey,
     cipher: &[u8],
 ) -> Result<Option<T>, AllocError>
+    // Promise (value, within): a value is returned exactly if the cipher decrypts to the encoding of one, which has no
+    // more bytes than the cipher.
     ensures value { IfOk result (λ found. found
         ≡ opened_as T.codec ready.now.key.etype ready.now.key.bytes (usage_number ready.now.usage) cipher.now) }
     ensures within { IfOk result (λ found. IfSome found (λ part. IsSpelledWithin T.codec part cipher.now)) }

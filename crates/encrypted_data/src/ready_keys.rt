@@ -55,6 +55,7 @@ impl ReadyKeys {
         usage: KeyUsage,
         cipher: &[u8],
     ) -> Result<Option<T>, AllocError>
+        // Promise (value, within), as ReadyKeys::encrypted: the cache of recently ..
         ensures value { IfOk result (λ found. found
             ≡ opened_as T.codec key.now.etype key.now.bytes (usage_number usage) cipher.now) }
         ensures within { IfOk result (λ found. IfSome found (λ part. IsSpelledWithin T.codec part cipher.now)) }
@@ -76,6 +77,8 @@ impl ReadyKeys {
         part: &T,
     ) -> Result<EncryptedData, AllocError>
         requires { length (T.codec.text part.now) < 2 ^ 32 }
+        // Promise (value, opens, most): the cache of recently used keys never changes what is encrypted or decrypted,
+        // or which checksum is right.
         ensures value { IfOk result (λ sealed. sealed
             ≡ encrypted T.codec key.now.key (usage_number key.now.usage) key.now.kvno confounder.now part.now) }
         ensures opens { IfOk result (λ sealed.
@@ -93,6 +96,7 @@ impl ReadyKeys {
     /// Checks a checksum like `verify`, faster if the key is in the cache for checksums of this usage. It is
     /// afterwards.
     pub fn verify(&self, key: &Key, usage: KeyUsage, text: &[u8], octets: &[u8]) -> bool
+        // Promise, as ReadyKeys::encrypted: the cache of recently ..
         ensures { IsTrue result
             ↔ (octets.now ≡ mac key.now.etype key.now.bytes (usage_number usage) text.now) }
     {

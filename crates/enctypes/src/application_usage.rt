@@ -25,6 +25,8 @@ pub struct ApplicationUsage {
 impl ApplicationUsage {
     /// Returns the usage with this number, if it is one of those that are reserved for applications.
     pub fn new(number: u32) -> Option<ApplicationUsage>
+        // Promise (found, value): for a usage of an application, 1024 to 2047 and no other number, a key seals as for
+        // the others.
         ensures found { IsSome result ↔ IsApplicationUsage number }
         ensures value { IfSome result (λ usage. usage.number ≡ number) }
     {
@@ -46,6 +48,7 @@ impl ApplicationUsage {
         confounder: &[u8; 16],
         text: &[u8],
     ) -> Result<Vec<u8>, AllocError>
+        // Promise (value, len, most, opens, opened), as ApplicationUsage::new: for a usage of ..
         ensures value { IfOk result (λ sealed. sealed.items
             ≡ seal key.now.etype key.now.bytes self.number confounder.now text.now) }
         ensures len { IfOk result (λ sealed.
@@ -67,6 +70,8 @@ impl ApplicationUsage {
         key: &Key,
         cipher: &[u8],
     ) -> Result<Option<Vec<u8>>, AllocError>
+        // Promise (value, opened, none, len, short): for a usage of an application a key opens and checks as for the
+        // others.
         ensures value { IfOk result (λ found. option_map (λ text. text.items) found
             ≡ opened key.now.etype key.now.bytes self.number cipher.now) }
         ensures opened { IfOk result (λ found. IfSome found (λ text.
@@ -84,6 +89,7 @@ impl ApplicationUsage {
     /// doesn't allocate.
     #[tactic(auto, unfolding(crate::specs::Sealing::mac))]
     pub fn checksum(self, key: &Key, text: &[u8]) -> Mac
+        // Promise (value, len, most), as ApplicationUsage::open: for a usage of ..
         ensures value { result ≡ mac key.now.etype key.now.bytes self.number text.now }
         ensures len { length result ≡ mac_len key.now.etype }
         ensures most { length result ≤ 24 }
@@ -93,6 +99,7 @@ impl ApplicationUsage {
 
     /// Checks whether the bytes are the checksum of the text by a key for this usage. It always compares all of them.
     pub fn verify(self, key: &Key, text: &[u8], octets: &[u8]) -> bool
+        // Promise, as ApplicationUsage::open: for a usage of ..
         ensures { IsTrue result ↔ (octets.now ≡ mac key.now.etype key.now.bytes self.number text.now) }
     {
         are_same(octets, self.checksum(key, text).bytes())

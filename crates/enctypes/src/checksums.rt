@@ -15,6 +15,7 @@ use crate::{Key, KeyUsage, Mac};
 /// Returns the checksum of a text, of the checksum type for the key's encryption type. It doesn't allocate.
 #[tactic(auto, unfolding(crate::specs::Sealing::mac))]
 pub fn checksum(key: &Key, usage: KeyUsage, text: &[u8]) -> Mac
+    // Promise (value, len, most): a checksum is that of the definition, and is compared as a whole.
     ensures value { result ≡ mac key.now.etype key.now.bytes (usage_number usage) text.now }
     ensures len { length result ≡ mac_len key.now.etype }
     ensures most { length result ≤ 24 }
@@ -24,6 +25,7 @@ pub fn checksum(key: &Key, usage: KeyUsage, text: &[u8]) -> Mac
 
 /// Checks whether the bytes are the checksum of the text. It always compares all of them.
 pub fn verify(key: &Key, usage: KeyUsage, text: &[u8], octets: &[u8]) -> bool
+    // Promise, as checksum: a checksum is that ..
     ensures { IsTrue result
         ↔ (octets.now ≡ mac key.now.etype key.now.bytes (usage_number usage) text.now) }
 {

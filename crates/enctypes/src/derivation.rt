@@ -14,6 +14,7 @@ pub fn derive(etype: Etype, key: &[u8], constant: &[u8], out: &mut [u8])
     requires key { length key.now ≡ key_len etype }
     requires constant { 0 < length constant.now }
     requires out { length out.old ≤ 32 }
+    // Promise (value, len), as derive_both: the key derivation and ..
     ensures value { out.new ≡ derived etype key.now constant.now (length out.old) }
     ensures len { length out.new ≡ length out.old }
 {
@@ -40,6 +41,7 @@ pub fn derive_both(
     requires out { length out.old ≤ 32 }
     requires other_constant { 0 < length other_constant.now }
     requires other_out { length other_out.old ≤ 32 }
+    // Promise (value, other_value): the key derivation and the string-to-key of each type are those of the definitions.
     ensures value { out.new ≡ derived etype key.now constant.now (length out.old) }
     ensures other_value { other_out.new ≡ derived etype key.now other_constant.now (length other_out.old) }
 {
@@ -86,6 +88,7 @@ pub fn stretch(
 ) -> Result<(), AllocError>
     requires count { 1 ≤ count }
     requires out { length out.old ≡ key_len etype }
+    // Promise (value, len), as derive_both: the key derivation and ..
     ensures value { OnOk result (out.new ≡ stretched etype pass.now salt.now count) }
     ensures len { length out.new ≡ length out.old }
 {

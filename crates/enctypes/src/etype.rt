@@ -58,6 +58,7 @@ impl Etype {
 
     /// Returns the encryption type's number in messages.
     pub fn number(self) -> i32
+        // Promise, as Suite: each encryption type has ..
         ensures { result ≡ number self }
     {
         self.constants().number
@@ -65,6 +66,7 @@ impl Etype {
 
     /// Returns the encryption type with this number, if it is one of the four.
     pub fn from_number(etype: i32) -> Option<Etype>
+        // Promise (named, none): no other number names an encryption type.
         ensures named { IfSome result (λ e. number e ≡ etype) }
         ensures none { IfNone result ((e : Etype) → number e ≢ etype) }
     {
@@ -79,6 +81,7 @@ impl Etype {
 
     /// Returns the length of a protocol key, and of Ke, in bytes: 16 or 32.
     pub fn key_len(self) -> usize
+        // Promise, as Suite: each encryption type has ..
         ensures { result ≡ key_len self }
     {
         self.constants().key_len
@@ -93,6 +96,7 @@ impl Etype {
 
     /// Returns the length of a checksum, and of the HMAC at the end of a sealed text, in bytes.
     pub fn mac_len(self) -> usize
+        // Promise (value, most), as Suite: each encryption type has ..
         ensures value { result ≡ mac_len self }
         ensures most { result ≤ 24 }
     {
@@ -108,6 +112,7 @@ impl Etype {
 
     /// Returns the number of the checksum type for the encryption type (RFC 3962, section 7; RFC 8009, section 6).
     pub fn checksum_type(self) -> i32
+        // Promise, as Suite: each encryption type has ..
         ensures { result ≡ checksum_type self }
     {
         self.constants().checksum_type
@@ -115,6 +120,7 @@ impl Etype {
 
     /// Returns the default iteration count of string-to-key (RFC 3962, section 4; RFC 8009, section 4).
     pub fn default_count(self) -> u32
+        // Promise (value, some), as Suite: each encryption type has ..
         ensures value { result ≡ default_count self }
         ensures some { 1 ≤ result }
     {

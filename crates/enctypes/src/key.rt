@@ -38,6 +38,8 @@ impl Model for Key {
 impl Key {
     /// Returns the key with these bytes, or `None` if the length is wrong for the encryption type.
     pub fn new(etype: Etype, octets: &[u8]) -> Option<Key>
+        // Promise (some, key): a key is made exactly if its length is its type's, so every key has as many bytes as its
+        // type says, and returns them.
         ensures some { IsSome result ↔ (length octets.now ≡ key_len etype) }
         ensures key { IfSome result (λ key. key ≡ record { etype = etype; bytes = octets.now }) }
     {
@@ -50,6 +52,7 @@ impl Key {
     /// Returns the key for random bytes: the first of them, as many as the key has. Random bits are a key as they are
     /// (RFC 3962, section 6; RFC 8009, section 5).
     pub fn from_random(etype: Etype, octets: &[u8; 32]) -> Key
+        // Promise, as string_to_key: the key from a ..
         ensures { result ≡ record { etype = etype; bytes = take (key_len etype) octets.now } }
     {
         Key::with_octets(etype, &octets[..etype.key_len()])
@@ -68,6 +71,7 @@ impl Key {
 
     /// Returns the encryption type.
     pub fn etype(&self) -> Etype
+        // Promise (etype, valid), as Key::new: a key is made ..
         ensures etype { result ≡ self.now.etype }
         ensures valid { IsKey self.now }
     {
@@ -76,6 +80,7 @@ impl Key {
 
     /// Returns the bytes, 16 or 32 by the encryption type.
     pub fn bytes(&self) -> &[u8]
+        // Promise (bytes, len, octets), as Key::new: a key is made ..
         ensures bytes { result.now ≡ self.now.bytes }
         ensures len { length result.now ≡ key_len self.now.etype }
         ensures octets { All (λ b. b < 256) self.now.bytes }

@@ -35,6 +35,7 @@ pub enum KeyUsage {
 impl KeyUsage {
     /// Returns the usage number, from which keys are derived.
     pub fn number(self) -> u32
+        // Promise: a key usage has its number.
         ensures { result ≡ usage_number self }
     {
         match self {

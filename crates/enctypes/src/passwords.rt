@@ -20,6 +20,8 @@ pub fn string_to_key(
     count: u32,
 ) -> Result<Key, AllocError>
     requires { 1 ≤ count }
+    // Promise: the key from a password is that of the definition, for a count of at least 1; random bytes are a key as
+    // they are.
     ensures { IfOk result (λ key. key
         ≡ record { etype = etype; bytes = string_key etype pass.now salt.now count }) }
 {

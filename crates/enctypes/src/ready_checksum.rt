@@ -37,6 +37,7 @@ impl Model for ReadyChecksum {
 impl ReadyChecksum {
     /// Prepares a key for a usage.
     pub fn new(key: &Key, usage: KeyUsage) -> ReadyChecksum
+        // Promise: a ready key checks as the key does under that usage.
         ensures { result ≡ record { key = key.now; usage = usage } }
     {
         ReadyChecksum {
@@ -48,6 +49,7 @@ impl ReadyChecksum {
 
     /// Checks whether it is this key, prepared for this usage. It always compares all bytes.
     pub fn is_for(&self, key: &Key, usage: KeyUsage) -> bool
+        // Promise, as ReadyKey::is_for: a ready key is ..
         ensures { IsTrue result ↔ (self.now ≡ record { key = key.now; usage = usage }) }
     {
         self.usage == usage
@@ -57,6 +59,7 @@ impl ReadyChecksum {
 
     /// Checks whether the bytes are the checksum of the text, like `verify` with this key and usage.
     pub fn verify(&self, text: &[u8], octets: &[u8]) -> bool
+        // Promise, as ReadyChecksum::new: a ready key checks ..
         ensures { IsTrue result
             ↔ (octets.now ≡ mac self.now.key.etype self.now.key.bytes (usage_number self.now.usage) text.now) }
     {

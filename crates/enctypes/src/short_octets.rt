@@ -48,6 +48,7 @@ impl<const N: usize> ShortOctets<N> {
 
     /// Returns the bytes.
     pub fn bytes(&self) -> &[u8]
+        // Promise (bytes, octets), as checksum: a checksum is that ..
         ensures bytes { result.now ≡ self.now }
         ensures octets { All (λ b. b < 256) self.now }
     {

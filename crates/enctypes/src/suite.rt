@@ -68,6 +68,7 @@ pub trait Suite {
         requires key { length key.now ≡ KEY_SIZE }
         requires constant { 0 < length constant.now }
         requires out { length out.old ≤ 32 }
+        // Promise (value, len), as derive_both: the key derivation and ..
         ensures value { out.new ≡ derived ETYPE key.now constant.now (length out.old) }
         ensures len { length out.new ≡ length out.old }
     {
@@ -89,6 +90,7 @@ pub trait Suite {
         requires out { length out.old ≤ 32 }
         requires other_constant { 0 < length other_constant.now }
         requires other_out { length other_out.old ≤ 32 }
+        // Promise (value, other_value), as derive_both: the key derivation and ..
         ensures value { out.new ≡ derived ETYPE key.now constant.now (length out.old) }
         ensures other_value { other_out.new ≡ derived ETYPE key.now other_constant.now (length other_out.old) }
     {
@@ -106,6 +108,7 @@ pub trait Suite {
     ) -> Result<(), AllocError>
         requires count { 1 ≤ count }
         requires out { length out.old ≡ KEY_SIZE }
+        // Promise (value, len), as derive_both: the key derivation and ..
         ensures value { OnOk result (out.new ≡ stretched ETYPE pass.now salt.now count) }
         ensures len { length out.new ≡ length out.old }
     {
@@ -114,13 +117,17 @@ pub trait Suite {
 
     /// Hashes a key for HMACs, with the hash function of the encryption type.
     fn mac_key(key: &[u8]) -> MacKey
+        // Promise, as derive_both: the key derivation and ..
         ensures { IsMacKey ETYPE key.now result };
 
     // The constants are those of the standards.
+    // Promise: each encryption type has the sizes and numbers of the tables (which take IANA's numbers from the code,
+    // `numbers.rt`: that these are the standard's is tested, against literals).
     ghost constants: { AreConstants ETYPE HASH NUMBER KEY_SIZE MAC_KEY_SIZE MAC_SIZE MACS_CIPHER CHECKSUM_TYPE
         DEFAULT_COUNT };
 
     // A sealed text is longer than the text by 16 bytes and the size of the HMAC.
+    // Promise (longer, opens): with each type a cipher opens to what was sealed to it and to nothing else.
     ghost longer: { (key : List ℕ) (usage : ℕ) (confounder text : List ℕ) → length confounder ≡ 16
         → length (seal ETYPE key usage confounder text) ≡ 16 + mac_len ETYPE + length text } = { length-seal ETYPE };
 

@@ -42,6 +42,7 @@ impl<'p> FileFault<'p> {
 impl FileCause {
     /// Returns the word for it, if the file was read and is refused.
     pub fn refusal(self) -> Option<&'static str>
+        // Promise, as ReadFault::refusal of principals_text: each error has its ..
         ensures { option_map (λ word. word.now) result ≡ cause_refusal self }
     {
         match self {

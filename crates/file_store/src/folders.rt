@@ -10,6 +10,7 @@ use std::rt::Files;
 
 /// Returns the path of the folder that holds a file: `.` if the file's path is a name alone.
 pub fn folder_of(path: &str) -> &str
+    // Promise: the folder that is synced is the path's.
     ensures { result.now ≡ folder_of path.now }
 {
     match Path::new(path).parent() {

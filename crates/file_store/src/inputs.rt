@@ -31,9 +31,13 @@ pub const STANDARD_INPUT: &str = "standard input";
 
 /// Checks whether there is a file.
 pub fn has_file<'p, S: Store>(store: &mut S, path: &'p str) -> Result<bool, FileFault<'p>>
+    // Promise: what is built on these calls says the same: whether there is a file, what it holds, and what a write
+    // leaves.
     ensures there { IfOk result (λ found. IsThere (S.world store.old) path.now found) }
     ensures unchanged { S.world store.new ≡ S.world store.old }
     ensures kept { S.input store.new ≡ S.input store.old }
+    // Promise (named, shown): a failed call shows in the result, with the file's path; if a file is refused, no call
+    // had failed.
     ensures named { IfErr result (λ fault. fault.path.now ≡ path.now) }
     ensures shown { IsShown (S.fault_count store.old) result (S.fault_count store.new) }
 {
@@ -49,10 +53,13 @@ pub fn read_file<'p, S: Store>(
     store: &mut S,
     path: &'p str,
 ) -> Result<Vec<u8>, FileFault<'p>>
+    // Promise: no more is read of a file, or of a line, than the limit.
     ensures within { IfOk result (λ octets. vec_len octets ≤ 16777216) }
+    // Promise, as has_file: what is built on ..
     ensures read { IfOk result (λ octets. IsRead (S.world store.old) path.now octets.items) }
     ensures unchanged { S.world store.new ≡ S.world store.old }
     ensures kept { S.input store.new ≡ S.input store.old }
+    // Promise (named, shown), as has_file: a failed call shows ..
     ensures named { IfErr result (λ fault. fault.path.now ≡ path.now) }
     ensures shown { IsShown (S.fault_count store.old) result (S.fault_count store.new) }
 {
@@ -147,10 +154,13 @@ pub fn write_file<'p, S: Store>(
     path: &'p str,
     octets: &[u8],
 ) -> Result<Written, FileFault<'p>>
+    // Promise, as has_file: what is built on ..
     ensures written { OnOk result (S.world store.new ≡ option_map (with_file path.now octets.now) (S.world store.old)) }
     ensures unchanged { OnErr result (S.world store.new ≡ S.world store.old) }
     ensures kept { S.input store.new ≡ S.input store.old }
+    // Promise (named, shown), as has_file: a failed call shows ..
     ensures named { IfErr result (λ fault. fault.path.now ≡ path.now) }
+    // Promise: if a folder could not be synced, the result of a write says so.
     ensures shown { IsWriteShown (S.fault_count store.old) result (S.fault_count store.new) }
 {
     match store.write(alloc, path, octets) {
@@ -168,10 +178,13 @@ pub fn update_file<'p, S: Store>(
     octets: &[u8],
     mode: NewMode,
 ) -> Result<Written, FileFault<'p>>
+    // Promise, as has_file: what is built on ..
     ensures written { OnOk result (S.world store.new ≡ option_map (with_file path.now octets.now) (S.world store.old)) }
     ensures unchanged { OnErr result (S.world store.new ≡ S.world store.old) }
     ensures kept { S.input store.new ≡ S.input store.old }
+    // Promise (named, shown), as has_file: a failed call shows ..
     ensures named { IfErr result (λ fault. fault.path.now ≡ path.now) }
+    // Promise, as write_file: if a folder could ..
     ensures shown { IsWriteShown (S.fault_count store.old) result (S.fault_count store.new) }
 {
     match store.update(alloc, path, octets, mode) {
@@ -188,9 +201,11 @@ pub fn write_unsynced<'p, S: Store>(
     path: &'p str,
     octets: &[u8],
 ) -> Result<(), FileFault<'p>>
+    // Promise, as has_file: what is built on ..
     ensures written { OnOk result (S.world store.new ≡ option_map (with_file path.now octets.now) (S.world store.old)) }
     ensures unchanged { OnErr result (S.world store.new ≡ S.world store.old) }
     ensures kept { S.input store.new ≡ S.input store.old }
+    // Promise (named, shown), as has_file: a failed call shows ..
     ensures named { IfErr result (λ fault. fault.path.now ≡ path.now) }
     ensures shown { IsShown (S.fault_count store.old) result (S.fault_count store.new) }
 {
@@ -206,8 +221,10 @@ pub fn lock_file<'p, S: Store>(
     store: &mut S,
     path: &'p str,
 ) -> Result<bool, FileFault<'p>>
+    // Promise, as draw_seed: a seed is read ..
     ensures unchanged { S.world store.new ≡ S.world store.old }
     ensures kept { S.input store.new ≡ S.input store.old }
+    // Promise (named, shown), as has_file: a failed call shows ..
     ensures named { IfErr result (λ fault. fault.path.now ≡ path.now) }
     ensures shown { IsShown (S.fault_count store.old) result (S.fault_count store.new) }
 {
@@ -236,9 +253,12 @@ pub fn read_seed<'p, S: Store>(
     store: &mut S,
     path: &'p str,
 ) -> Result<[u8; 32], FileFault<'p>>
+    // Promise, as has_file: what is built on ..
     ensures read { IfOk result (λ seed. HasSeed (S.world store.old) (Some path.now) seed) }
     ensures unchanged { S.world store.new ≡ S.world store.old }
     ensures kept { S.input store.new ≡ S.input store.old }
+    // Promise (named, shown): a failed read of a seed or a password, or a failed question, shows in the result, with
+    // the file's path if one is read; if a file is refused, no call had failed.
     ensures named { IfErr result (λ fault. fault.path.now ≡ path.now) }
     ensures shown { IsShown (S.fault_count store.old) result (S.fault_count store.new) }
 {
@@ -258,9 +278,11 @@ pub fn read_or_draw_seed<'p, S: Store>(
     store: &mut S,
     path: Option<&'p str>,
 ) -> Result<[u8; 32], FileFault<'p>>
+    // Promise, as draw_seed: a seed is read ..
     ensures seed { IfOk result (λ seed. HasSeed (S.world store.old) (option_map (λ named. named.now) path.entry) seed) }
     ensures unchanged { S.world store.new ≡ S.world store.old }
     ensures kept { S.input store.new ≡ S.input store.old }
+    // Promise, as read_seed: a failed read of ..
     ensures shown { IsShown (S.fault_count store.old) result (S.fault_count store.new) }
 {
     match path {
@@ -271,9 +293,11 @@ pub fn read_or_draw_seed<'p, S: Store>(
 
 /// Draws a seed from the system's random bytes.
 pub fn draw_seed<S: Store>(store: &mut S) -> Result<[u8; 32], FileFault<'static>>
+    // Promise: a seed is read or drawn; a lock and a question change no file.
     ensures drawn { IfOk result (λ seed. IsDrawn (S.world store.old) seed) }
     ensures unchanged { S.world store.new ≡ S.world store.old }
     ensures kept { S.input store.new ≡ S.input store.old }
+    // Promise, as read_seed: a failed read of ..
     ensures shown { IsShown (S.fault_count store.old) result (S.fault_count store.new) }
 {
     match store.random() {
@@ -284,6 +308,8 @@ pub fn draw_seed<S: Store>(store: &mut S) -> Result<[u8; 32], FileFault<'static>
 
 /// Returns the first 32 bytes.
 pub fn seed_of(octets: &[u8]) -> Option<[u8; 32]>
+    // Promise (some, none): a seed is the first 32 bytes of its file, a password its first line of at most 1,024; each
+    // is refused only if it is short, or long.
     ensures some { IfSome result (λ seed. (32 ≤ length octets.now) × (seed ≡ take 32 octets.now)) }
     ensures none { IfNone result (length octets.now < 32) }
 {
@@ -300,10 +326,12 @@ pub fn read_password<'p, S: Store>(
     path: &'p str,
 ) -> Result<Option<Vec<u8>>, FileFault<'p>>
     ensures within { IfOk result (λ found. IfSome found (λ pass. vec_len pass ≤ 1024)) }
+    // Promise (line, long): a password is its file's first line; it is too long only if that line is.
     ensures line { IfOk result (λ found. IfSome found (λ pass. HasFirstLine (S.world store.old) path.now pass.items)) }
     ensures long { IfOk result (λ found. IfNone found (HasLongFirstLine (S.world store.old) path.now 1024)) }
     ensures unchanged { S.world store.new ≡ S.world store.old }
     ensures kept { S.input store.new ≡ S.input store.old }
+    // Promise (named, shown), as read_seed: a failed read of ..
     ensures named { IfErr result (λ fault. fault.path.now ≡ path.now) }
     ensures shown { IsShown (S.fault_count store.old) result (S.fault_count store.new) }
 {
@@ -324,11 +352,14 @@ pub fn ask_password<S: Store>(
     name: &str,
     realm: &str,
 ) -> Result<Option<Vec<u8>>, FileFault<'static>>
+    // Promise, as read_file: no more is read ..
     ensures within { IfOk result (λ found. IfSome found (λ pass. vec_len pass ≤ 1024)) }
     ensures line { IfOk result (λ found. IfSome found (λ pass.
         TakesLine (S.input store.old) pass.items (S.input store.new))) }
     ensures long { IfOk result (λ found. IfNone found (HasLongLine (S.input store.old) 1024)) }
+    // Promise, as draw_seed: a seed is read ..
     ensures unchanged { S.world store.new ≡ S.world store.old }
+    // Promise (named, shown), as read_seed: a failed read of ..
     ensures named { IfErr result (λ fault. fault.path.now ≡ codes "standard input") }
     ensures shown { IsShown (S.fault_count store.old) result (S.fault_count store.new) }
 {
@@ -357,6 +388,7 @@ fn ask_line<S: Store>(
 
 /// Returns the first line without its line feed, if it has at most 1,024 bytes.
 pub fn password_of(octets: &[u8]) -> Option<&[u8]>
+    // Promise (some, none), as seed_of: a seed is the ..
     ensures some { IfSome result (λ pass. (pass.now ≡ first_line octets.now) × (length pass.now ≤ 1024)) }
     ensures none { IfNone result (1024 < length (first_line octets.now)) }
 {

@@ -62,10 +62,14 @@ pub trait Store {
 
     /// Reads a whole file. `None` if it has more than `most` bytes. A folder, a FIFO or a device is an `Err`.
     fn read(&mut self, alloc: Global, path: &str, most: usize) -> io::Result<Option<Vec<u8>>>
+        // Promise, as read_file: no more is read ..
         ensures within { IfOk result (λ found. IfSome found (λ octets. vec_len octets ≤ most)) }
+        // Promise (read, unchanged): what is read is what the file holds; a write leaves its file with these bytes and
+        // every other path as it was; a failed write, and every other call, leaves all as it was.
         ensures read { IfOk result (λ found. IfSome found (λ octets. IsRead (world self.old) path.now octets.items)) }
         ensures unchanged { world self.new ≡ world self.old }
         ensures kept { input self.new ≡ input self.old }
+        // Promise: a call of a store that fails is counted, and no other.
         ensures counted { IsCounted (fault_count self.old) result (fault_count self.new) };
 
     /// Reads what `read` reads, and also a FIFO or a device to its end: a shell passes a command's output as a FIFO. A
@@ -88,9 +92,11 @@ pub trait Store {
     /// Writes a new file, which replaces the one there, and syncs its folder. Only its owner may read and write it.
     /// After an `Err` the path is unchanged.
     fn write(&mut self, alloc: Global, path: &str, octets: &[u8]) -> io::Result<Written>
+        // Promise (written, unchanged), as Store::read: what is read is ..
         ensures written { OnOk result (world self.new ≡ option_map (with_file path.now octets.now) (world self.old)) }
         ensures unchanged { OnErr result (world self.new ≡ world self.old) }
         ensures kept { input self.new ≡ input self.old }
+        // Promise, as Store::read: a call of a ..
         ensures counted { IsWriteCounted (fault_count self.old) result (fault_count self.new) };
 
     /// Writes a file with the owner and the group of the one there, and with this mode, and syncs its folder. Fails if
@@ -111,9 +117,11 @@ pub trait Store {
     /// Writes what `write` writes, and syncs no folder: after a power failure the old file may be back. It is for files
     /// that are easily made anew.
     fn write_unsynced(&mut self, alloc: Global, path: &str, octets: &[u8]) -> io::Result<()>
+        // Promise (written, unchanged), as Store::read: what is read is ..
         ensures written { OnOk result (world self.new ≡ option_map (with_file path.now octets.now) (world self.old)) }
         ensures unchanged { OnErr result (world self.new ≡ world self.old) }
         ensures kept { input self.new ≡ input self.old }
+        // Promise, as Store::read: a call of a ..
         ensures counted { IsCounted (fault_count self.old) result (fault_count self.new) };
 
     /// Returns who may read and write a file, or a folder.
@@ -127,8 +135,10 @@ pub trait Store {
     /// of another file. Returns `false` if another program has it. Something else than a file in the lock's place is an
     /// `Err`.
     fn lock(&mut self, alloc: Global, path: &str) -> io::Result<bool>
+        // Promise, as draw_seed: a seed is read ..
         ensures unchanged { world self.new ≡ world self.old }
         ensures kept { input self.new ≡ input self.old }
+        // Promise, as Store::read: a call of a ..
         ensures counted { IsCounted (fault_count self.old) result (fault_count self.new) };
 
     /// Waits for a tenth of a second.
@@ -159,12 +169,17 @@ pub trait Store {
     /// left of the input is then not known. At a terminal it first writes the question to standard error. An input that
     /// has ended is an `Err` of the kind `UnexpectedEof`.
     fn ask(&mut self, alloc: Global, question: &str, most: usize) -> io::Result<Option<Vec<u8>>>
+        // Promise, as read_file: no more is read ..
         ensures within { IfOk result (λ found. IfSome found (λ octets. vec_len octets ≤ most)) }
+        // Promise (line, long, ended): a call gets the next line of the input, or learns that it is too long or that
+        // there is none, only if so.
         ensures line { IfOk result (λ found. IfSome found (λ octets.
             TakesLine (input self.old) octets.items (input self.new))) }
         ensures long { IfOk result (λ found. IfNone found (HasLongLine (input self.old) most)) }
         ensures ended { IfErr result (λ error. error_kind error ≡ UnexpectedEof → HasEnded (input self.old)) }
+        // Promise, as draw_seed: a seed is read ..
         ensures unchanged { world self.new ≡ world self.old }
+        // Promise, as Store::read: a call of a ..
         ensures counted { IsCounted (fault_count self.old) result (fault_count self.new) };
 
     /// Returns how often a call has failed. The count stops at the greatest `u64`.

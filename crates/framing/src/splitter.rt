@@ -47,6 +47,7 @@ impl Splitter {
 
     /// Adds the next piece of the stream. After an error it adds nothing. An `Err` changes nothing.
     pub fn feed(&mut self, piece: &[u8]) -> Result<(), AllocError>
+        // Promise (ok, err): what is fed is appended, or nothing once there is an error.
         ensures ok { OnOk result (self.new ≡ fed self.old piece.now) }
         ensures err { OnErr result (self.new ≡ self.old) }
     {
@@ -81,6 +82,8 @@ impl Splitter {
     /// out of memory changes nothing.
     pub fn next(&mut self, alloc: Global) -> Result<Option<Vec<u8>>, FrameFault>
         // A message is the first of those that are there.
+        // Promise (message, rest, none, left, settled): the first message of the stream is returned, or nothing if
+        // there is only a rest.
         ensures message { IfOk result (λ found. IfSome found
             (λ message. handed_out self.old ≡ message_then message.items (handed_out self.new))) }
         // Without one, the bytes are less than a message, and stay.
@@ -90,10 +93,14 @@ impl Splitter {
         ensures left { IfOk result (λ _. left self.new ≡ left self.old) }
         ensures settled { result ≡ Ok None → self.new ≡ left self.old }
 
+        // Promise (fault, again): a bad length is returned as an error once no message is before it; from then on every
+        // call returns the same error.
         ensures fault { IfErr result (λ fault. fault ≢ Memory
             → handed_out self.old ≡ only_rest self.old.bytes (Some fault)) }
         ensures again { IfErr result (λ fault. fault ≢ Memory → self.new ≡ record self.old { fault = Some fault }) }
         // Memory can run out only if there is a message.
+        // Promise (memory, wanted): running out of memory changes nothing, and happens in `next` only if a whole
+        // message is there.
         ensures memory { result ≡ Err Memory → self.new ≡ self.old }
         ensures wanted { result ≡ Err Memory → (handed_out self.old).messages ≢ [] }
     {

@@ -105,6 +105,13 @@ pub enum Start {
 
 /// Decides how a server starts.
 pub fn start_of(alloc: Global, place: &Place<'_>, found: &FoundFiles) -> Result<Start, AllocError>
+    // Promise: **a start resumes exactly if** the journal is whole, of this realm, of this boot or sealed, and what it
+    // links to is there, likewise whole and of this realm, and below its floor.
+    // Promise: a start that doesn't resume gives the first reason why not.
+    // Promise: a start that resumes has the floor and the entries of both files.
+    // Promise: if the clock of a start that resumes is behind both files, its floor is above all that they hold, and
+    // not below that of a start that can't resume.
+    // Promise, as every_journal_life: **a start that refuses ..
     ensures { IfOk result (λ start.
         start ≡ start_of place.now found.now.older found.now.newer found.now.beside) }
 {
@@ -165,6 +172,7 @@ fn is_nothing(found: &Found) -> bool
 /// Returns the floor that the files of a journal ask for, if they show anything: no time below it may be accepted
 /// by a start that does not resume with them.
 pub fn found_floor(found: &FoundFiles) -> Option<i64>
+    // Promise, as every_journal_life: **a start that refuses ..
     ensures { result ≡ found_floor found.now.older found.now.newer found.now.beside }
 {
     greater(

@@ -21,6 +21,8 @@ pub fn read_files<F: JournalFiles>(
     files: &mut F,
 ) -> Result<FoundFiles, FilesFault<F::Fault>>
     // This is found in them as they are then.
+    // Promise (found, shown, finished): **a turn that was cut is finished**: where the newer file is missing, and the
+    // one beside goes on behind the older one, a reading makes it the newer one; it does nothing else to the files.
     ensures found { IfOk result (λ found. IfSome (F.world files.new) (AreFound found)) }
     ensures shown { IfOk result (λ found. IfSome (F.world files.new) (AreReadOut found)) }
     // And nothing else was done to them.
@@ -77,6 +79,8 @@ pub fn read_part<F: JournalFiles>(
     part: Part,
 ) -> Result<Found, FilesFault<F::Fault>>
     ensures world { F.world files.new ≡ F.world files.old }
+    // Promise (found, shown): a file counts as absent only if it is, and as broken only if it spells no journal or may
+    // not be read.
     ensures found { IfOk result (λ found. IfSome (F.world files.old) (λ w. IsFound (file_in part w) found)) }
     // A file that others may write, or that is too long, is not read.
     ensures shown { IfOk result (λ found. IfSome (F.world files.old)
@@ -94,6 +98,7 @@ pub fn read_part<F: JournalFiles>(
 
 /// Reads what was read of a file as a journal.
 pub fn found_of(alloc: Global, text: &FileText) -> Result<Found, AllocError>
+    // Promise, as read_part: a file counts as ..
     ensures { IfOk result (FoundBy text.now) }
 {
     match text {

@@ -16,6 +16,8 @@ pub const HEAD: usize = 24;
 /// Checks whether a text may be a journal, or the front of one, by its first tags. A journal that was cut or changed
 /// behind them may be one. Files of another kind hardly ever are.
 pub fn may_be_journal(text: &[u8]) -> bool
+    // Promise: **no journal is taken for another file**: a journal that was cut anywhere still has the first tags by
+    // which a start sees that it may touch a file.
     ensures { result ≡ may_be_journal text.now }
 {
     head_of(text).is_some()

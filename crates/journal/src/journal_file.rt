@@ -115,11 +115,17 @@ impl<F: JournalFiles> JournalFile<F> {
         len: u64,
     ) -> Result<(), FilesFault<F::Fault>>
         // The files hold all that the start knows.
+        // Promise (kept, safe): **what files hold after each call is known**: over files whose calls may fail, a
+        // journal that was begun holds all that its start knows.
+        // Promise (kept, safe): so it is though a failed append may leave a part of its text, and a file that could not
+        // be begun a part beside the others, the files between two steps, or itself, not surely on the disk.
         ensures kept { IfOk result (λ _. (floor : ℤ) → self.old.floor ≡ Some floor
             → IfSome (F.world self.old.files) (IsStart at floor newer.now start.now)
             → HasKept F.world (at.sec -ℤ pos skew) (known_by floor start.now) (known_by floor start.now)
             self.new.files self.new.tail self.new.floor) }
         // What they had they still have, if a floor with which it does not resume is above that.
+        // Promise (there, stays), as every_journal: **what was kept stays ..
+        // Promise, as every_journal: an authenticator that was ..
         ensures there { IfOk result (λ _. (floor : ℤ) (before : SeenBefore) → self.old.floor ≡ Some floor
             → IfSome (F.world self.old.files) (IsStart at floor newer.now start.now)
             → Counts start.now floor before → StillThere before (F.world self.old.files) (F.world self.new.files)) }
@@ -129,6 +135,7 @@ impl<F: JournalFiles> JournalFile<F> {
         ensures stays { (before : SeenBefore) → is_ok result ≡ false
             → StillThere before (F.world self.old.files) (F.world self.new.files) }
         // No seal is left, so a start in another boot refuses.
+        // Promise: a start breaks the seal, or fails; no call of a running server makes one.
         ensures broken { IfOk result (λ _. IfSome (F.world self.new.files) (λ w. w.seal ≡ [])) }
     {
         if let Err(fault) = self.files.unseal() {
@@ -167,16 +174,24 @@ impl<F: JournalFiles> JournalFile<F> {
 
     /// Keeps an authenticator, whose request came at this moment, and whatever could not be kept before.
     pub fn keep(&mut self, alloc: Global, at: Moment, seen: &Seen) -> Result<(), NotKept>
+        // Promise, as JournalFile::start: so it is though ..
+        // Promise: after `keep` and `mend` that succeeded the journal holds every authenticator that was handed over
+        // since, and one may resume with it.
+        // Promise (kept, whole): where a `keep` or a `mend` failed, the journal says so, and what was kept before stays
+        // kept.
         ensures kept { (low : ℤ) (kept all : Resumption)
             → HasKept F.world low kept all self.old.files self.old.tail self.old.floor
             → HasKept F.world low (kept_by result kept (with_one all seen.now)) (with_one all seen.now)
             self.new.files self.new.tail self.new.floor }
         // What the files had they still have.
+        // Promise, as every_journal: **what was kept stays ..
+        // Promise, as every_journal: an authenticator that was ..
         ensures there { (low : ℤ) (kept all : Resumption)
             → HasKept F.world low kept all self.old.files self.old.tail self.old.floor
             → (before : SeenBefore) → StillThere before (F.world self.old.files) (F.world self.new.files) }
         ensures whole { is_whole self.new ≡ is_ok result }
         // It never seals the journal.
+        // Promise, as JournalFile::start: a start breaks the ..
         ensures seal { Leaves SameSeal (F.world self.old.files) (F.world self.new.files) }
     {
         let place = Place {
@@ -201,15 +216,21 @@ impl<F: JournalFiles> JournalFile<F> {
 
     /// Keeps whatever could not be kept before.
     pub fn mend(&mut self, alloc: Global, at: Moment) -> Result<(), NotKept>
+        // Promise, as JournalFile::start: so it is though ..
+        // Promise, as JournalFile::keep: after `keep` and `mend` ..
+        // Promise (kept, whole), as JournalFile::keep: where a `keep` or ..
         ensures kept { (low : ℤ) (kept all : Resumption)
             → HasKept F.world low kept all self.old.files self.old.tail self.old.floor
             → HasKept F.world low (kept_by result kept all) all self.new.files self.new.tail self.new.floor }
+        // Promise, as every_journal: **what was kept stays ..
+        // Promise, as every_journal: an authenticator that was ..
         ensures there { (low : ℤ) (kept all : Resumption)
             → HasKept F.world low kept all self.old.files self.old.tail self.old.floor
             → (before : SeenBefore) → StillThere before (F.world self.old.files) (F.world self.new.files) }
         ensures whole { is_whole self.new ≡ is_ok result }
         // If there is nothing to make good, it does nothing.
         ensures still { is_whole self.old ≡ true → is_ok result ≡ true }
+        // Promise, as JournalFile::start: a start breaks the ..
         ensures seal { Leaves SameSeal (F.world self.old.files) (F.world self.new.files) }
     {
         if self.tail.is_some() {

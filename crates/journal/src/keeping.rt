@@ -27,6 +27,8 @@ pub fn write_seen(
     at: Moment,
     seen: &Seen,
 ) -> Result<Option<Written>, AllocError>
+    // Promise: an entry has the authenticator's client, time and microseconds, and the second in which its request
+    // came, and stands behind the last check.
     ensures { IfOk result (λ written. IfSome written (λ w. KeepsEntry check.now at seen.now w.text.items w.check)) }
 {
     let Some(entry) = entry_of(alloc, at, seen)? else {
@@ -76,6 +78,7 @@ pub fn write_beginning(
     floor: i64,
     link: &[u8],
 ) -> Result<Option<Written>, AllocError>
+    // Promise: a journal begins with its realm, boot, moment, floor and link.
     ensures { IfOk result (λ written. IfSome written
         (λ w. BeginsJournal (begun place.now floor link.now) w.text.items w.check)) }
 {

@@ -37,6 +37,7 @@ pub struct MemoryFiles {
 impl MemoryFiles {
     /// Returns the files before there is any.
     pub fn new() -> MemoryFiles
+        // Promise: files in memory, by which these clauses are tried, keep the trait's promises.
         ensures { memory_world result ≡ record { newer = None; older = None; beside = None; seal = [] } }
     {
         MemoryFiles {
@@ -55,6 +56,7 @@ impl MemoryFiles {
 
     /// Makes later calls fail.
     pub fn fail(&mut self, failures: WriteFailures)
+        // Promise, as MemoryFiles::new: files in memory, by ..
         ensures { memory_world self.new ≡ memory_world self.old }
     {
         self.failures = failures;
@@ -155,6 +157,7 @@ impl MemoryFiles {
 impl JournalFiles for MemoryFiles {
     type Fault = MemoryFault;
 
+    // Promise, as MemoryFiles::new: files in memory, by ..
     ghost world = { λ m. Some (memory_world m) };
 
     fn append(&mut self, text: &[u8]) -> Result<(), MemoryFault> {
@@ -224,6 +227,7 @@ impl JournalFiles for MemoryFiles {
     }
 
     fn say(&mut self, news: News<MemoryFault>)
+        // Promise, as MemoryFiles::new: files in memory, by ..
         ensures { memory_world self.new ≡ memory_world self.old }
     {
         let _ = news;

@@ -144,6 +144,7 @@ fn run_process<F: JournalFiles>(
     most: u64,
     asked: &[Asked],
 ) -> F
+    // Promise: what one process makes of its start and its calls (no server calls it).
     ensures { (old new : World) → F.world files ≡ Some old → F.world result ≡ Some new
         → (read : World) × MayFinish (Some old) (Some read) × ((new ≡ read) ⊎ ((p : Process) × (p.at ≡ place.now.at)
         × (p.has_begun ≡ true → seen_in p.calls ≡ seen_asked asked.now) × IsProcess p read new)) }

@@ -42,8 +42,13 @@ pub struct Journal {
 /// Reads a journal.
 pub fn read_journal(alloc: Global, text: &[u8]) -> Result<Journal, JournalFault>
     // What is read spells the text.
+    // Promise: **what is read of a journal is what was written**: a text that is read is that of the header and the
+    // entries.
+    // Promise: **what may not matter is left out**: of the entries, whose places in the chain are all checked, those
+    // are kept whose times are not more than the skew before the journal's latest second.
     ensures spells { IfOk result (λ j. (all : Journals) × Spells text.now all × (j ≡ cut all)) }
     // A text that was written is read as what it was written from.
+    // Promise: a text that was written is read, with all its entries in order, unless memory runs out.
     ensures only { (h : Headers) (es : List Listed) → HasHeader h → HaveElements es → text.now ≡ journal_text h es
         → UnlessMemory result (λ j. (j.header ≡ h) × (j.entries ≡ recent (latest_of h.at es) es)) }
 {

@@ -21,6 +21,9 @@ pub fn seal_journal<F: JournalFiles>(
     older: &Found,
     newer: &Found,
 ) -> Result<SealOutcome, F::Fault>
+    // Promise: **a start in another boot resumes only with a journal that was sealed**, with this last check; with a
+    // seal that is another journal's no start resumes.
+    // Promise: only what a start at the same place would resume with is sealed.
     ensures { HasSealed place.now older.now newer.now (F.world files.old) result (F.world files.new) }
 {
     match seal_of(place, older, newer) {

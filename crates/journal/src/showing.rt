@@ -43,6 +43,9 @@ struct Walk {
 /// authenticator that the text still shows: one whose check follows from the 16 octets before its entry. What has
 /// another check counts for nothing. `None` if the text shows none.
 pub fn shown_in(text: &[u8]) -> Option<i64>
+    // Promise: files show each authenticator of a journal, and in a text that is none, each whose check follows from
+    // the 16 octets before its entry.
+    // Promise: not so for a file that others may write, which is not read, nor for the last second of the year 9999.
     ensures { (shown : Shown) × Shows text.now shown × (result ≡ shown_floor shown) }
 {
     match head_of(text) {

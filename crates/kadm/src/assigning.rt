@@ -35,6 +35,7 @@ pub(crate) fn settings_of<'a>(
     alloc: Global,
     words: &[&'a str],
 ) -> Result<Vec<AskedSetting<'a>>, AllocError>
+    // Promise, as read_command: the command is read ..
     ensures { IfOk result (λ settings. all_asked settings.items ≡ settings_of (texts words.now)) }
 {
     let mut settings = Vec::new(alloc);
@@ -66,6 +67,7 @@ pub(crate) fn setting_at<'a>(
     word: &'a str,
     others: &[&'a str],
 ) -> Option<AskedSetting<'a>>
+    // Promise, as read_command: the command is read ..
     ensures { option_map asked_of result ≡ setting_at (texts words.now) word.now (texts others.now) }
 {
     if let Some(text) = value_at("--set", word, others) {

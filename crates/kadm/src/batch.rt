@@ -87,7 +87,11 @@ pub(crate) fn run_batch<'p, T: Store, W: Write, E: Write>(
     target: &Target<'p>,
     keep_going: bool,
 ) -> Result<Outcome, Stop<'p>>
+    // Promise (done, unchanged): `batch`: the same, with the changes of all lines one after another, each the change
+    // that its words spell for the database of the batch. If one is not done, the file is as it was.
+    // Promise: with `--keep-going` each line of a batch is done, or leaves the database as it was.
     ensures done { IfOk result (λ end. IsBatchDone (T.world store.old) target.now.whole_realm target.now.db.now keep_going end.whole (T.world store.new)) }
+    // Promise, as make_update of kadm_changes: a command that ends ..
     ensures unchanged { OnErr result (T.world store.new ≡ T.world store.old) }
 {
     let alloc = context.alloc;
@@ -260,6 +264,7 @@ fn run_all<T: Store, W: Write, E: Write>(
     draft: &mut Draft,
 ) -> Result<(), Stop<'static>>
     requires read { All (IsLineRead (T.world store.old)) batch.now.lines.now }
+    // Promise (done, unchanged), as run_batch: `batch`: the same, with ..
     ensures done { OnOk result (AreDone (T.world store.old) batch.now.whole_realm batch.now.db.now (line_texts batch.now.lines.now)
         draft.old.database draft.new.database) }
     ensures unchanged { T.world store.new ≡ T.world store.old }
@@ -297,6 +302,7 @@ fn run_each<T: Store, W: Write, E: Write>(
     draft: &mut Draft,
 ) -> Result<bool, Stop<'static>>
     requires read { All (IsLineRead (T.world store.old)) batch.now.lines.now }
+    // Promise (run, unchanged), as run_batch: with `--keep-going` each line ..
     ensures run { IfOk result (λ whole. IsRun (T.world store.old) batch.now.whole_realm batch.now.db.now true (line_texts batch.now.lines.now)
         draft.old.database draft.new.database whole) }
     ensures unchanged { T.world store.new ≡ T.world store.old }

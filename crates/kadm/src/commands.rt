@@ -78,6 +78,8 @@ pub(crate) fn read_command<'a>(
     alloc: Global,
     words: &'a [&'a str],
 ) -> Result<Command<'a>, CommandFault<'a>>
+    // Promise: the command is read from the words, once: all names, with or without `--name`, the paths, all fields and
+    // their values.
     ensures { IfOk result (λ command. Spells (texts words.now) command) }
 {
     let Some(command) = command_of(words) else {

@@ -109,6 +109,8 @@ pub(crate) fn run_print<'a, T: Store, W: Write, E: Write>(
     db: &'a str,
     print: PrintCommand<'a>,
 ) -> Result<Status, Stop<'a>>
+    // Promise (printed, unchanged): `list`, `lint` and `show` leave all as it was; of these only `lint --check` ends
+    // with `Refused`.
     ensures printed { IfOk result (λ status. IsPrinted status print.entry) }
     ensures unchanged { T.world store.new ≡ T.world store.old }
 {

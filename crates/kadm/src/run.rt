@@ -43,7 +43,17 @@ pub(crate) fn kadm_run<T: Store, W: Write + Drop, E: Write + Drop>(
     writer: W,
     errors: E,
 ) -> Status
+    // Promise: `Done` means that what the words ask for was done, on the path that `--db` names, or without it the
+    // environment, or that they ask for the help or the version and no path has changed.
+    // Promise: with `Refused`, `Usage` and `Failed` all paths have what they had, but for two cases.
+    // Promise: with `Refused` some lines of a batch may be done, if the words ask for a batch that keeps going.
+    // Promise: with `Failed` all may be done, or what such a batch does, if only the printing or the sync of a folder
+    // failed.
     ensures ended { IsEnd (with_db (path_of line.entry.db) (with_names (map string_bytes line.entry.args.now))) (T.world store.old) result (T.world store.new) }
+    // Promise: without `--whole-realm` no command keeps out who could log in, whatever its status, a batch and an
+    // import too.
+    // Promise: without it, `krbtgt/R` is disabled, no service, expired at the clock's second or limited to tickets of
+    // less than 300 seconds only if it was before; a new database has none of these.
     ensures open { KeepsOpen (with_db (path_of line.entry.db) (with_names (map string_bytes line.entry.args.now))) (T.world store.old) (T.world store.new) }
 {
     let Ok(words) = words_with_db(alloc, line) else {

@@ -26,6 +26,7 @@ pub(crate) fn accepted_by(field: &str) -> Option<&'static str> {
 
 /// Checks whether the words ask for a setting, and have neither `--field` nor `--value` alone.
 pub(crate) fn sets_some(words: &[&str]) -> bool
+    // Promise, as has_flag: whether keys are added, ..
     ensures { result ≡ sets_some (texts words.now) }
 {
     if is_given(words, "--field") {

@@ -17,6 +17,7 @@ pub(crate) const NAME: &str = "--name";
 /// Returns the value of an option such as `--db`: the word after it, or what follows it and an equals sign; of several
 /// the first.
 pub(crate) fn value_of<'a>(words: &[&'a str], option: &str) -> Option<&'a str>
+    // Promise, as read_command: the command is read ..
     ensures { option_map (λ value. value.now) result ≡ value_of (texts words.now) option.now }
 {
     let mut rest = words;
@@ -31,6 +32,8 @@ pub(crate) fn value_of<'a>(words: &[&'a str], option: &str) -> Option<&'a str>
 
 /// Checks whether an option without a value is there.
 pub(crate) fn has_flag(words: &[&str], flag: &str) -> bool
+    // Promise: whether keys are added, renewed or replaced, and each other flag, is read from the words; the changes
+    // know no words.
     ensures { result ≡ has_flag (texts words.now) flag.now }
 {
     let mut rest = words;
@@ -62,6 +65,7 @@ pub(crate) fn values_of<'a>(
     words: &[&'a str],
     option: &str,
 ) -> Result<Vec<&'a str>, AllocError>
+    // Promise, as read_command: the command is read ..
     ensures { IfOk result (λ values. texts values.items ≡ values_of (texts words.now) option.now) }
 {
     let mut values = Vec::new(alloc);

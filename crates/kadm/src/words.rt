@@ -23,6 +23,7 @@ pub(crate) fn words_of(alloc: Global, args: &[String]) -> Result<Vec<&str>, Allo
 
 /// Returns the words of a command line, in which a word alone is a name: `kadm show alice` is `kadm show --name alice`.
 pub(crate) fn with_names<'a>(alloc: Global, words: &[&'a str]) -> Result<Vec<&'a str>, AllocError>
+    // Promise, as read_command: the command is read ..
     ensures { IfOk result (λ all. texts all.items ≡ with_names (texts words.now)) }
 {
     let mut all = Vec::new(alloc);

@@ -172,6 +172,7 @@ pub(crate) fn write_files<'a, T: Store, W: Write, E: Write>(
     write: WriteCommand<'a>,
 ) -> Result<Outcome, Stop<'a>>
     ensures done { IfOk result (λ end. IsWriteDone (T.world store.old) target.now write.entry end.whole (T.world store.new)) }
+    // Promise, as make_update of kadm_changes: a command that ends ..
     ensures unchanged { OnErr result (T.world store.new ≡ T.world store.old) }
 {
     match write {

@@ -55,8 +55,10 @@ pub fn make_realm<'p, T: Store, W: Write, E: Write>(
     target: &Target<'p>,
     new: InitArgs<'p>,
 ) -> Result<Written, Stop<'p>>
+    // Promise: `init`: there was no file, and now there is the first database of the realm, with keys of the seed.
     ensures done { OnOk result (MadeRealm (T.world store.old) target.now.db.now target.now.etypes.items new.entry.realm.now
         (path_of new.entry.seed) (T.world store.new)) }
+    // Promise, as make_update: a command that ends ..
     ensures unchanged { OnErr result (T.world store.new ≡ T.world store.old) }
 {
     match component_from_text(context.alloc, new.realm) {
@@ -109,8 +111,11 @@ pub(crate) fn change_all<'p, T: Store>(
     target: &Target<'p>,
     how: ChangeArgs,
 ) -> Result<(), Stop<'p>>
+    // Promise: `drop`, `policy`, `remove`: of each principal that the command names, in their order, what `principals`
+    // makes of the database that was read.
     ensures changed { OnOk result (AreChanged (T.world store.old) (all_asked target.now.settings.items) how
         (texts target.now.names.items) draft.old.database draft.new.database) }
+    // Promise, as lock_database: what a command reads, ..
     ensures unchanged { T.world store.new ≡ T.world store.old }
 {
     let mut rest = target.names.as_slice();
@@ -182,8 +187,14 @@ pub(crate) fn set_all<'p, T: Store>(
     who: &Name,
     target: &Target<'p>,
 ) -> Result<(), Stop<'p>>
+    // Promise: all settings that a command has are made, in their order, after `add` too; a policy's field has the
+    // value that its text spells.
+    // Promise: a time span such as `7d` of a time counts from the second that the clock showed.
+    // Promise: where a time must not be past (by `--set` and `--expires` without `--past`), nothing expires before the
+    // second that the clock showed.
     ensures set { OnOk result (AreSet (T.world store.old) (all_asked target.now.settings.items) who.now.components
         draft.old.database draft.new.database) }
+    // Promise, as lock_database: what a command reads, ..
     ensures unchanged { T.world store.new ≡ T.world store.old }
 {
     let mut rest = target.settings.as_slice();
@@ -303,6 +314,8 @@ pub(crate) fn migrate_rows(
     draft: &mut Draft,
     users_are_no_services: bool,
 ) -> Result<(), ChangeFault>
+    // Promise: `migrate`: the same database in the newest version, and with `--users-are-no-services` tickets are
+    // denied for each name of one component.
     ensures { OnOk result (draft.new.database ≡ migrated_rows users_are_no_services draft.old.database) }
 {
     if users_are_no_services {

@@ -45,7 +45,10 @@ pub fn lock_database<'p, T: Store, W: Write, E: Write>(
     store: &mut T,
     target: &Target<'p>,
 ) -> Result<Locked<'p>, Stop<'p>>
+    // Promise: a database is written only by who has locked it: `write_database` takes a `Locked`, and only
+    // `lock_database` makes one, after the store has given the lock of that path.
     ensures locked { IfOk result (λ locked. locked ≡ target.now.db.now) }
+    // Promise: what a command reads, asks and makes before it writes changes no path.
     ensures unchanged { T.world store.new ≡ T.world store.old }
 {
     let locked = Locked {
@@ -81,6 +84,7 @@ pub fn read_database<'p, T: Store, W: Write, E: Write>(
     db: &'p str,
 ) -> Result<Database, Stop<'p>>
     ensures read { IfOk result (λ database. HoldsDatabase (T.world store.old) db.now database) }
+    // Promise, as lock_database: what a command reads, ..
     ensures unchanged { T.world store.new ≡ T.world store.old }
 {
     let octets = read_at_most(context.alloc, store, db, LONGEST_TEXT)?;
@@ -119,6 +123,8 @@ pub fn write_database<'p, T: Store>(
 /// Changes a principal's row. A refused change leaves the database unchanged.
 #[tactic(auto, using(crate::proofs::Doing::made_by))]
 pub(crate) fn apply(draft: &mut Draft, who: &Name, what: RowChange) -> Result<(), ChangeFault>
+    // Promise: a principal is changed only if no rule of `principals` refuses the change: an absent one gets no keys
+    // and no policy, and is not removed; an existing one is not added; `krbtgt/R` stays.
     ensures changed { OnOk result (Makes draft.old.database who.now.components what draft.new.database) }
     ensures unchanged { OnErr result (draft.new.database ≡ draft.old.database) }
 {

@@ -44,6 +44,7 @@ pub(crate) fn is_user(name: &Name) -> bool
 
 /// Denies tickets for a principal.
 pub(crate) fn deny_service(draft: &mut Draft, who: &Name) -> Result<(), ChangeFault>
+    // Promise, as add_user: with a password and ..
     ensures { OnOk result (draft.new.database ≡ denied who.now.components draft.old.database) }
 {
     let Some(row) = draft.database.get(who) else {

@@ -51,7 +51,14 @@ pub fn import_dump<'p, T: Store, W: Write, E: Write>(
     target: &Target<'p>,
     from: DumpArgs<'p>,
 ) -> Result<Written, Stop<'p>>
+    // Promise (done, unchanged): `import --dump` makes a database at a path without a file: that of the realm of the
+    // dump's `krbtgt/REALM@REALM`.
+    // Promise: an imported database has a row for each principal that has a place in it, with all versions of its keys,
+    // decrypted with the master key in the stash file, and the policy that its numbers say.
+    // Promise: without `--skip` nothing of a principal is lost, but for `K/M`, `kadmin/..` and `kiprop/..` (that each
+    // dump is read, and which fault a refused one gets, is tested).
     ensures done { OnOk result (MadeFromDump (T.world store.old) target.now.whole_realm target.now.db.now from.entry (T.world store.new)) }
+    // Promise, as make_update: a command that ends ..
     ensures unchanged { OnErr result (T.world store.new ≡ T.world store.old) }
 {
     let locked = lock_database(context, store, target)?;

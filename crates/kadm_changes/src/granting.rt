@@ -87,8 +87,11 @@ pub(crate) fn give_password<'p, T: Store>(
     to: &Recipient<'_>,
     grant: Grant,
 ) -> Result<(), Stop<'p>>
+    // Promise: `passwd` and `add`: keys of the password and the default salt, given as the words say.
+    // Promise: besides, a `password_expires` that is past by the clock is cleared, and any other stays.
     ensures given { OnOk result (GivesPassword (T.world store.old) to.now.etypes.now to.now.pass.now grant to.now.who.now.components
         draft.old.database draft.new.database) }
+    // Promise, as lock_database: what a command reads, ..
     ensures unchanged { T.world store.new ≡ T.world store.old }
 {
     let keys = keys_of(draft, to)?;
@@ -103,8 +106,11 @@ pub(crate) fn give_random<'p, T: Store>(
     to: &Recipient<'_>,
     random: RandomGrant<'p>,
 ) -> Result<(), Stop<'p>>
+    // Promise: `random` and `add --random`: the same with keys drawn from the seed's 32 bytes, which are the file's
+    // first or the store's own.
     ensures given { OnOk result (GivesRandom (T.world store.old) to.now.etypes.now (path_of random.entry.seed) random.entry.grant
         to.now.who.now.components draft.old.database draft.new.database) }
+    // Promise, as lock_database: what a command reads, ..
     ensures unchanged { T.world store.new ≡ T.world store.old }
 {
     let seed = read_or_draw_seed(draft.alloc, store, random.seed)?;
@@ -123,6 +129,10 @@ fn keys_of(draft: &Draft, to: &Recipient<'_>) -> Result<KeyList, AllocError>
 
 /// Gives keys to the principal, as `grant` says.
 fn give(draft: &mut Draft, who: &Name, keys: KeyList, grant: Grant) -> Result<(), ChangeFault>
+    // Promise: `--replace` gives new keys, and the principal then has their version alone; without it the older ones
+    // stay.
+    // Promise: `add` makes a principal, and no other word does but `import`, and `random` with neither `--existing` nor
+    // `--replace`.
     ensures { OnOk result (IsGranted grant who.now.components keys draft.old.database draft.new.database) }
 {
     let how = grant.key_change(is_there(&draft.database, who));
@@ -152,6 +162,8 @@ fn is_there(database: &Database, who: &Name) -> bool
 
 /// Adds a principal, and denies tickets for it.
 fn add_user(draft: &mut Draft, who: &Name, keys: KeyList) -> Result<(), ChangeFault>
+    // Promise, as give: `add` makes a principal, ..
+    // Promise: with a password and without `--service` there are no tickets for a new principal.
     ensures { OnOk result (IsUserAdded who.now.components keys draft.old.database draft.new.database) }
 {
     apply(draft, who, RowChange::Add(keys))?;
@@ -168,6 +180,7 @@ fn replace(draft: &mut Draft, who: &Name, keys: KeyList) -> Result<(), ChangeFau
 
 /// Drops all versions of a principal's keys but the current one. After an `Err` some may have been dropped.
 pub(crate) fn drop_older(draft: &mut Draft, who: &Name) -> Result<(), ChangeFault>
+    // Promise, as give: `--replace` gives new keys, ..
     ensures { OnOk result (IsOlderDropped who.now.components draft.old.database draft.new.database) }
 {
     let Some(row) = draft.database.get(who) else {

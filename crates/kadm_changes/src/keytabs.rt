@@ -51,7 +51,15 @@ pub fn write_keytab<'p, T: Store, W: Write, E: Write>(
     target: &Target<'p>,
     to: KeytabArgs<'p>,
 ) -> Result<Written, Stop<'p>>
+    // Promise: `keytab` reads a database that has the principal, and writes one file: its current keys as entries of a
+    // keytab.
+    // Promise: a keytab's entries stand after the first two bytes of a keytab, or with `--append` after the start of
+    // the one that is there.
+    // Promise: what the path of a keytab had is no database, the path is no lock's, and no lock stands beside it.
+    // Promise: a keytab that is extended is the user's own, or root works in a folder where nobody but root and the
+    // keytab's owner may write.
     ensures done { OnOk result (WroteKeytab (T.world store.old) target.now.db.now to.entry (T.world store.new)) }
+    // Promise, as make_update: a command that ends ..
     ensures unchanged { OnErr result (T.world store.new ≡ T.world store.old) }
 {
     let alloc = context.alloc;

@@ -130,7 +130,9 @@ pub(crate) fn new_password<'p, T: Store, W: Write, E: Write>(
     target: &Target<'p>,
     row: &RowArgs<'p>,
 ) -> Result<Vec<u8>, Stop<'p>>
+    // Promise: the password is the first line of its file, if one is named.
     ensures given { IfOk result (λ pass. IsSecretOf (T.world store.old) row.now.how pass.items) }
+    // Promise, as lock_database: what a command reads, ..
     ensures unchanged { T.world store.new ≡ T.world store.old }
 {
     match &row.how {
@@ -187,7 +189,9 @@ pub(crate) fn batch_password<'p, T: Store>(
     found: Option<&FoundPassword>,
 ) -> Result<Vec<u8>, Stop<'p>>
     requires found { IsFoundIn (T.world store.old) found }
+    // Promise, as new_password: the password is the ..
     ensures given { IfOk result (λ pass. IsSecretOf (T.world store.old) how.now pass.items) }
+    // Promise, as lock_database: what a command reads, ..
     ensures unchanged { T.world store.new ≡ T.world store.old }
 {
     match how {

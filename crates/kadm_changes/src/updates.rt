@@ -62,8 +62,14 @@ pub fn make_update<'p, T: Store, W: Write, E: Write>(
     target: &Target<'p>,
     update: Update<'p>,
 ) -> Result<Written, Stop<'p>>
+    // Promise: who changes a database reads it once and writes it once: the path then has the text of what the change
+    // made of the database that was read.
+    // Promise, as kadm_run of kadm: without `--whole-realm` no command ..
+    // Promise, as kadm_run of kadm: without it, `krbtgt/R` is ..
+    // Promise: without `--whole-realm` `krbtgt/R` gets no keys of a password.
     ensures done { OnOk result
         (Updated (T.world store.old) target.now update.entry (T.world store.new)) }
+    // Promise: a command that ends early leaves every path as it was.
     ensures unchanged { OnErr result (T.world store.new ≡ T.world store.old) }
 {
     match update {
@@ -84,6 +90,7 @@ fn update_row<'p, T: Store, W: Write, E: Write>(
 ) -> Result<Written, Stop<'p>>
     ensures done { OnOk result (Rewritten (T.world store.old) target.now.db.now
         (IsRowUpdated (T.world store.old) target.now.whole_realm target.now to.now) (T.world store.new)) }
+    // Promise, as make_update: a command that ends ..
     ensures unchanged { OnErr result (T.world store.new ≡ T.world store.old) }
 {
     let alloc = context.alloc;
@@ -132,6 +139,7 @@ fn update_rows<'p, T: Store, W: Write, E: Write>(
 ) -> Result<Written, Stop<'p>>
     ensures done { OnOk result (Rewritten (T.world store.old) target.now.db.now
         (AreKept (T.world store.old) target.now.whole_realm target.now how) (T.world store.new)) }
+    // Promise, as make_update: a command that ends ..
     ensures unchanged { OnErr result (T.world store.new ≡ T.world store.old) }
 {
     let alloc = context.alloc;
@@ -156,6 +164,7 @@ fn migrate<'p, T: Store, W: Write, E: Write>(
 ) -> Result<Written, Stop<'p>>
     ensures done { OnOk result (Rewritten (T.world store.old) target.now.db.now
         (IsMigrated (T.world store.old) target.now.whole_realm users_are_no_services) (T.world store.new)) }
+    // Promise, as make_update: a command that ends ..
     ensures unchanged { OnErr result (T.world store.new ≡ T.world store.old) }
 {
     let alloc = context.alloc;
@@ -178,7 +187,11 @@ pub fn update_in_batch<'p, T: Store>(
     found: Option<&FoundPassword>,
 ) -> Result<Option<Note>, Stop<'p>>
     requires found { IsFoundIn (T.world store.old) found }
+    // Promise, as kadm_run of kadm: without `--whole-realm` no command ..
+    // Promise, as kadm_run of kadm: without it, `krbtgt/R` is ..
+    // Promise, as make_update: without `--whole-realm` `krbtgt/R` gets ..
     ensures done { OnOk result (IsUpdated (T.world store.old) whole target.now update.entry draft.old.database draft.new.database) }
+    // Promise, as lock_database: what a command reads, ..
     ensures unchanged { T.world store.new ≡ T.world store.old }
 {
     match update {

@@ -42,6 +42,8 @@ pub(crate) fn get_first<T: ClientStore, X: AnyMessage>(
     options: &ArgMatches<'_>,
     defaults: &Defaults<'_>,
 ) -> Result<Printed, Fault>
+    // Promise (made, unchanged): `kinit` that succeeds makes a cache of the first ticket that came, under a key of the
+    // client; a refused one changes no file.
     ensures made { OnOk result (
         Made (CameFirst X.finds X.carries X.answers) (T.world context.old.store) (T.world context.new.store)) }
     ensures unchanged { OnErr result (T.world context.new.store ≡ T.world context.old.store) }

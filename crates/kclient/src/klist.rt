@@ -25,6 +25,7 @@ pub(crate) fn list<T: ClientStore, X>(
     options: &ArgMatches<'_>,
     defaults: &Defaults<'_>,
 ) -> Result<Printed, Fault>
+    // Promise, as destroy: `kdestroy` that succeeds removes ..
     ensures unchanged { T.world context.new.store ≡ T.world context.old.store }
 {
     match keytab_path(options)? {
@@ -105,6 +106,8 @@ pub(crate) fn destroy<T: ClientStore, X>(
     options: &ArgMatches<'_>,
     defaults: &Defaults<'_>,
 ) -> Result<Printed, Fault>
+    // Promise (removed, unchanged): `kdestroy` that succeeds removes the file, and a refused one changes none; `klist`
+    // changes none.
     ensures removed { OnOk result (Removed (T.world context.old.store) (T.world context.new.store)) }
     ensures unchanged { OnErr result (T.world context.new.store ≡ T.world context.old.store) }
 {

@@ -54,6 +54,7 @@ pub(crate) fn get_tickets<T: ClientStore, X: AnyMessage>(
     options: &ArgMatches<'_>,
     defaults: &Defaults<'_>,
 ) -> Result<Printed, Fault>
+    // Promise: `kvno`, refused or not, writes nothing, or the user's own cache with the tickets that came.
     ensures world { (T.world context.new.store ≡ T.world context.old.store)
         ⊎ Filled (CameFurther X.finds X.carries X.answers) (T.world context.old.store) (T.world context.new.store) }
 {
@@ -379,6 +380,8 @@ fn checked_version(
     checks: &Option<Checks>,
     credential: &Credential,
 ) -> Result<i64, Fault>
+    // Promise: a ticket that is reported as valid is decrypted by the keytab's key of its type and version, to the
+    // credential's client and session key.
     ensures { IfOk result (λ version. IfSome checks.now (λ c. IsTicketOf c.keytab credential.now)) }
 {
     if let Some(Checks { path, keytab }) = checks {

@@ -21,6 +21,8 @@ pub(crate) fn renew_ticket<T: ClientStore, X: AnyMessage>(
     defaults: &Defaults<'_>,
     renewal: Renewal,
 ) -> Result<Printed, Fault>
+    // Promise (made, unchanged): `kinit --renew` and `--validate` make a cache of the ticket that came under the
+    // session key of the cache's; a refused one changes no file.
     ensures made { OnOk result (
         Made (CameFurther X.finds X.carries X.answers) (T.world context.old.store) (T.world context.new.store)) }
     ensures unchanged { OnErr result (T.world context.new.store ≡ T.world context.old.store) }

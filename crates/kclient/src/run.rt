@@ -59,6 +59,10 @@ pub fn kclient_run<S: AsStr, T: ClientStore, X: AnyMessage, W: Write + Drop, E: 
     errors: E,
 ) -> Status
     // The files are as before, or one path has what the command is for.
+    // Promise: **a command leaves the files as before, or one path has exactly what came**; every other path is
+    // unchanged.
+    // Promise: what came is a new cache of the one ticket; or the cache that the path had, with the tickets that came,
+    // each in place of the first one of its service, else at the end; or no file.
     ensures world { CommandLeaves (CameFirst X.finds X.carries X.answers) (CameFurther X.finds X.carries X.answers)
         (T.world context.old.store) (T.world context.new.store) }
 {

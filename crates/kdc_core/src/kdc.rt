@@ -85,6 +85,8 @@ impl Kdc {
         limits: Limits,
         opening: Opening,
     ) -> Result<Kdc, AllocError>
+        // Promise (opened, reopened): a KDC starts with its database, its limits, the floor of that start, and no
+        // stored replay cache: after a restart as a `Reopen` event would leave it, whatever came before.
         ensures opened { IfOk result (λ kdc. kdc ≡ opened_state database limits opening) }
         // After a restart it equals the state after a `Reopen` event, whatever came before.
         ensures reopened { (state : states.State) (at : moments.Moment) → opening ≡ Restart at
@@ -106,6 +108,8 @@ impl Kdc {
         limits: Limits,
         resumption: &Resumption,
     ) -> Result<Kdc, AllocError>
+        // Promise (resumed, goes_on, caches): a KDC that resumes has each client's authenticators that were seen, and
+        // no others, and refuses times below the floor; one that was seen gets 34 if it comes again.
         ensures resumed { IfOk result (λ kdc. kdc ≡ resumed_state database limits resumption.now) }
         // It equals the state after a `Resume` event, whatever came before.
         ensures goes_on { (state : states.State)
@@ -141,6 +145,9 @@ impl Kdc {
         request: &[u8],
     ) -> Result<Option<Vec<u8>>, AllocError>
         // The request is the one that the bytes encode, if they encode one and are no more than 2147483647.
+        // Promise (request, reply): **exact reply**: the bytes of the reply, or none, are those that `answer` makes
+        // from the view of the state. The request is the one that the bytes spell, if they spell one and are at most
+        // 2147483647.
         ensures request { (r : Request)
             → (request_of request.now ≡ Some r) ↔ (SpellsRequest r request.now × (length request.now ≤ 2147483647)) }
         // The reply is the one that the rules prescribe.
@@ -148,36 +155,62 @@ impl Kdc {
             option_map (λ octets. octets.items) reply
             ≡ (answer (view self.old request.now) at random.now room request.now).reply) }
         // A TGS-REQ gets what the first rule of their one list says, or a ticket if none holds.
+        // Promise: **one list of rules**: a TGS-REQ gets what the first rule of `refusals` says that holds: its error,
+        // stored with the authenticator or not, by where the rule stands.
+        // Promise: if that rule is the one of a repeated authenticator, a TGS-REQ gets what was stored for it; if none
+        // holds, a ticket. The audit record names the rule.
+        // Promise: the list is in the order of [PROTOCOL](PROTOCOL.md)'s table, each condition over what is known of
+        // the request; the stages in which the code decides find the same (`ruled` of `RefusalsLaws`).
         ensures ruled { IsRuled (view self.old request.now) (asked at random.now room request.now)
             (answer (view self.old request.now) at random.now room request.now)
             (audit (view self.old request.now) at random.now room request.now)
             (issued (view self.old request.now) at random.now (request_of request.now)) (request_of request.now) }
         // The bytes of a reply encode the message that the rules prescribe, or are a stored reply.
+        // Promise: the bytes of the reply spell the message that answers the request: an AS-REP, a TGS-REP, or a
+        // KRB-ERROR (by itself this allows error 52 in any room); or they are those of the reply that is stored for it.
         ensures spelled { IfOk result (λ reply.
             IsReply (view self.old request.now) at random.now (request_of request.now)
             (option_map (λ octets. octets.items) reply)) }
         // If a ticket is issued, the bytes sent encode its reply, or an error in its place. The reply key decrypts the
         // reply to the session key, flags and times that the service's key finds in the ticket. The clause `reply` says
         // which of the two is sent: an error if the room is too small.
+        // Promise: **one ticket, two keys**: if a ticket is issued, the bytes that are sent spell its reply, and the
+        // reply key decrypts that to the session key, flags and times that the service's key finds in the ticket.
+        // Promise: the bytes may spell an error in the ticket's place; the service's key is the one of its row that the
+        // ticket names by type and version.
+        // Promise: the reply key is, in the AS exchange, the one of the client's row that the reply names so, and in
+        // the TGS exchange the subkey, or else the presented ticket's session key.
         ensures keys { IfOk result (λ reply.
             OneTicketTwoKeys (view self.old request.now) at random.now (request_of request.now)
             (option_map (λ octets. octets.items) reply)) }
         // The same for the issued ticket: what the client and the service decrypt is what was granted.
+        // Promise: the same of what was granted: the bytes that are sent are the reply; the reply key decrypts its part
+        // and the service's key the ticket, both to what was granted, with a session key of its type's length.
+        // Promise: the bytes may be an error in place of what was granted; `reply` says which (an error if the room is
+        // too small).
         ensures issued { IfOk result (λ reply.
             IfSome (issued (view self.old request.now) at random.now (request_of request.now))
             (λ issue. IsTicketReply issue (option_map (λ octets. octets.items) reply))) }
         // A ticket is issued only if its client and its service are in good standing: both have rows, neither is
         // disabled or expired, and tickets may be issued for the service.
+        // Promise: a ticket is issued only if its client and its service are in good standing at that second
+        // (`AreInGoodStanding`): both have rows, neither is disabled or expired, and tickets may be for the service.
         ensures standing { IfSome (issued (view self.old request.now) at random.now (request_of request.now)) (λ issue.
             AreInGoodStanding self.old.database.realm (named self.old request.now).service
             (view self.old request.now).client (view self.old request.now).service at.sec) }
         // The state afterwards is the one that the rules prescribe.
+        // Promise (state, database, limits, caches): the state afterwards is `after_request`. **Frame**: no request
+        // changes a row, the realm or the limits, nor the replay cache of any client but the named one.
         ensures state { OnOk result (self.new ≡ after_request self.old at random.now room request.now) }
         // A second state that agrees at what the request names gives the same answer.
+        // Promise: **agreement**: for every second state that agrees with this one at what the request names, `answer`
+        // gives the same, and so does `audit`.
         ensures agreement { (other : states.State) → Agrees self.old other request.now
             → answer (view other request.now) at random.now room request.now
             ≡ answer (view self.old request.now) at random.now room request.now }
         // The request names the same client and service in both, and they agree there afterwards.
+        // Promise (same_names, afterwards): the request names the same client and service in both, and they agree there
+        // afterwards.
         ensures same_names { (other : states.State) → Agrees self.old other request.now
             → named other request.now ≡ named self.old request.now }
         ensures afterwards { (other : states.State) → Agrees self.old other request.now
@@ -190,8 +223,15 @@ impl Kdc {
             → cache_of self.new name ≡ cache_of self.old name }
         // Without a ticket of a client nothing changes what that client's replay cache has seen. A ticket counts only
         // if a key of a service decrypts it.
+        // Promise: **only a ticket's holder**: what a client's replay cache has seen stays, unless the request shows a
+        // ticket of that client; so it is of what is reported as recorded.
+        // Promise: a request shows a client's ticket if a key in the row of a service decrypts the ticket, its session
+        // key the authenticator, and that has the checksum of the request's body.
+        // Promise: the service is `krbtgt/REALM`, or the one asked for, if its row says that it is a service.
         ensures holder { (name : Components) → (ShowsTicket self.old request.now name → ⊥)
             → IsSeenAlike (cache_of self.old name) (cache_of self.new name) }
+        // Promise: when memory runs out, nothing changes. In a run fewer events are then done than there are, and the
+        // replies and the state are those of the events that are done.
         ensures err { OnErr result (self.new ≡ self.old) }
     {
         let timed = TimedRequest {
@@ -212,8 +252,24 @@ impl Kdc {
         request: &TimedRequest<'q>,
         wants_audit: bool,
     ) -> Result<Option<Reply>, AllocError>
+        // Promise (answered.audit, answered.names): **the audit record** of a request is `audit`: the exchange, the
+        // client and service that the request names (of a refused TGS-REQ too, if its ticket was decrypted), and what
+        // became of it, by the decision behind the reply.
+        // Promise (answered.holds): **the audit record is true**: if it names a rule, the bytes that are sent spell an
+        // error with that rule's code; if it says error 52, they spell it.
+        // Promise (answered.holds): if it says that a ticket was issued, the bytes spell its reply, which both keys
+        // decrypt, with this client, service, types of keys, flags and times.
+        // Promise (answered.holds): if it says that a reply was sent again, that reply was stored for the
+        // authenticator; if there was no request, there is no reply.
+        // Promise (answered.same_audit), as Kdc::handle: **agreement**: for every second ..
+        // Promise (answered.shown), as Kdc::handle: **only a ticket's holder**: ..
+        // Promise: **the answer that a hub sends is the same**: all of the above holds of its reply, its audit record,
+        // and the authenticator that it records. `Kdc::handle` is this call, with the reply alone.
+        // Promise (answered.newly_seen): an answer names an authenticator as remembered only if it is, and exactly if
+        // the rules store it, also for a refused request.
         ensures answered { IfOk result (λ given. IsAnswered self.old
             (asked request.now.at random.now room request.now.octets.now) wants_audit given self.new) }
+        // Promise, as Kdc::handle: when memory runs out, ..
         ensures err { OnErr result (self.new ≡ self.old) }
     {
         let TimedRequest { at, octets } = *request;
@@ -238,6 +294,8 @@ impl Kdc {
 
     /// Changes the database. A refused change leaves everything unchanged.
     pub fn apply(&mut self, alloc: Global, change: &Change) -> Result<(), ChangeFault>
+        // Promise (changed, refused, otherwise, err): a change is the database's, and one that is refused changes
+        // nothing.
         ensures changed { OnOk result (self.new ≡ record self.old { database = changed self.old.database change.now }) }
         ensures refused { IfSome (refusal self.old.database change.now) (λ fault. result ≡ Err fault) }
         ensures otherwise { IfNone (refusal self.old.database change.now) (IsOkUnless result ChangeFault.Memory) }
@@ -249,6 +307,8 @@ impl Kdc {
     /// Replaces the database by another of the same realm; all else is unchanged. One of another realm changes nothing.
     /// It allocates nothing.
     pub fn replace(&mut self, database: Database) -> Result<(), OtherRealm>
+        // Promise (realm, ok, err, state): another database of the same realm replaces this one, and one of another
+        // realm is refused; nothing else changes, and it allocates nothing.
         ensures realm { IsOk result ↔ (database.realm ≡ self.old.database.realm) }
         ensures ok { OnOk result (self.new ≡ record self.old { database = database }) }
         ensures err { OnErr result (self.new ≡ self.old) }
@@ -264,6 +324,9 @@ impl Kdc {
     /// Drops each client's authenticators that are too old to be accepted again, and every replay cache that
     /// then equals that of a client never seen. It allocates nothing.
     pub fn tidy(&mut self, at: Moment)
+        // Promise (state, caches, database, limits): a tidying leaves each name the replay cache without what can't
+        // come again, and none stored that says no more than an unstored one; nothing else changes, and it allocates
+        // nothing.
         ensures state { self.new ≡ tidied_state self.old at }
         // Each client's cache is tidied; rows, realm and limits are unchanged.
         ensures caches { (name : Components) → cache_of self.new name ≡ tidied (cache_of self.old name) at.sec }
@@ -276,6 +339,7 @@ impl Kdc {
     /// Frees the memory of dropped authenticators, for this many clients from a place on. Returns the next place, if
     /// there is one.
     pub fn free_dropped(&mut self, from: usize, clients: usize) -> Option<usize>
+        // Promise, as Pairs::free_dropped of replay: tidying allocates nothing, and ..
         ensures { self.new ≡ self.old }
     {
         self.state.free_dropped(from, clients)
@@ -300,6 +364,8 @@ impl Kdc {
     /// Drops all replay caches, as when a process ends and starts again: no authenticator that was accepted at a
     /// moment no later than `at` is accepted again. It allocates nothing.
     pub fn restart(&mut self, at: Moment)
+        // Promise (state, caches, database, limits): a restart leaves each name the replay cache of a restart at that
+        // moment; nothing else changes, and it allocates nothing.
         ensures state { self.new ≡ restarted self.old at }
         // Each client has the cache of a restart; rows, realm and limits are unchanged.
         ensures caches { (name : Components) → cache_of self.new name ≡ caches.restarted_cache at.sec }
@@ -311,6 +377,7 @@ impl Kdc {
 
     /// Returns the row of a principal. Names are compared by their components alone.
     pub fn get(&self, name: &Name) -> Option<&Row>
+        // Promise: a row is looked up by the name's components; the realm.
         ensures { option_copied result ≡ map.get self.now.database.rows name.now.components }
     {
         self.state.database.get(name)
@@ -319,6 +386,7 @@ impl Kdc {
     /// Returns the bytes of a KRB-ERROR for a request that was not read, such as one for a length that is too large
     /// (RFC 4120, section 7.2.2).
     pub fn error(&self, alloc: Global, at: Moment, code: Code) -> Result<Vec<u8>, AllocError>
+        // Promise: the bytes of an error that answers no request, such as one for a faulty length.
         ensures { IfOk result (λ octets. octets.items ≡ error_octets self.now at code) }
     {
         error_reply(alloc, self.state.database.realm(), at, code, None, None)
@@ -326,6 +394,7 @@ impl Kdc {
 
     /// Returns the realm's bytes, 1 to 255.
     pub fn realm(&self) -> &[u8]
+        // Promise, as Kdc::get: a row is looked ..
         ensures { result.now ≡ self.now.database.realm }
     {
         self.state.database.realm()

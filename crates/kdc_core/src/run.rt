@@ -89,20 +89,28 @@ impl Kdc {
     /// A run ends early only if memory runs out. It can continue with the first event that was not completed.
     pub fn run(&mut self, alloc: Global, events: &[Event]) -> Result<Vec<Option<Vec<u8>>>, RunFault>
         // The replies are those that the rules prescribe, each from the state that the events before it left.
+        // Promise (replies, state): each event of a run, a request, a change, a replacement, a tidying or a restart, is
+        // answered, in order, from the state that the events before it left; the state in the end.
         ensures replies { IfOk result (λ r.
             map (option_map (λ octets. octets.items)) r.items ≡ replies self.old events.now) }
         // The state afterwards is the one that the rules prescribe.
         ensures state { OnOk result (self.new ≡ run self.old events.now) }
         // If memory runs out, both are as after the completed events.
+        // Promise (done, done_replies, done_state), as Kdc::handle: when memory runs out, ..
         ensures done { IfErr result (λ fault. fault.done < length events.now) }
         ensures done_replies { IfErr result (λ fault.
             map (option_map (λ octets. octets.items)) fault.replies.items
             ≡ replies self.old (take fault.done events.now)) }
         ensures done_state { IfErr result (λ fault. self.new ≡ run self.old (take fault.done events.now)) }
         // What others request, and changes of others, never change what a client gets.
+        // Promise (isolation, done_isolation), as any_run: **isolation**: for a client, ..
+        // Promise (isolation, done_isolation), as any_run: the set of names ..
+        // Promise (isolation, done_isolation), as any_run: the two runs agree ..
         ensures isolation { Isolation self.old events.now }
         // No authenticator gets two different tickets, even across replacements and restarts, and across resumptions
         // that take over all that was recorded.
+        // Promise (one_ticket, done_one_ticket), as any_run: **one ticket per authenticator**: ..
+        // Promise, as any_run: one ticket per authenticator ..
         ensures one_ticket { OneTicket self.old events.now }
         // Both hold of the completed events too.
         ensures done_isolation { IfErr result (λ fault. Isolation self.old (take fault.done events.now)) }

@@ -33,6 +33,7 @@ pub enum ServerFileCause {
 impl ServerFileCause {
     /// Returns the word for the refusal, unless the file could not be read.
     pub fn refusal(&self) -> Option<&'static str>
+        // Promise, as ReadFault::refusal of principals_text: each error has its ..
         ensures { option_map (λ word. word.now) result ≡ refusal self.now }
     {
         match self {
@@ -143,6 +144,7 @@ impl From<FilesFault<io::Error>> for ServerFileCause {
 
 /// Reads a whole file that is no longer than a database's text may be.
 pub fn read_whole<R: Read + Drop>(alloc: Global, file: R) -> Result<Vec<u8>, ServerFileCause>
+    // Promise, as seed_in: a seed is the ..
     ensures { IfOk result (λ octets. vec_len octets ≤ 1073741824) }
 {
     read_up_to(alloc, file, LONGEST_TEXT)
@@ -154,6 +156,7 @@ pub fn read_up_to<R: Read + Drop>(
     file: R,
     most: usize,
 ) -> Result<Vec<u8>, ServerFileCause>
+    // Promise, as seed_in: a seed is the ..
     ensures { IfOk result (λ octets. vec_len octets ≤ most) }
 {
     match read_within(alloc, file, most)? {
@@ -164,6 +167,8 @@ pub fn read_up_to<R: Read + Drop>(
 
 /// Returns the seed that a file holds: its first 32 octets.
 pub fn seed_in(octets: &[u8]) -> Result<[u8; 32], ServerFileCause>
+    // Promise (seed, short): a seed is the first 32 bytes of its file, and is refused only if there are fewer; what is
+    // read of a file has no more than 1,073,741,824 bytes, or than the given number.
     ensures seed { IfOk result (λ seed. (32 ≤ length octets.now) × (seed ≡ take 32 octets.now)) }
     ensures short { IfErr result (λ fault. (length octets.now < 32) × (fault ≡ File ShortSeed)) }
 {

@@ -45,6 +45,7 @@ pub fn begun<F: JournalFiles + Drop>(
     most: u64,
 ) -> Result<JournalFile<F>, FilesFault<F::Fault>>
     // If the start made this of what is in the files, they hold all that it knows.
+    // Promise, as start of kdc_server: a server's journal begins ..
     ensures kept { IfOk result (λ journal.
         IfSome (F.world files) (IsStart beginning.at beginning.floor beginning.journals.found.newer beginning.start)
         → HasKept F.world (beginning.at.sec -ℤ pos skew) (known_by beginning.floor beginning.start)

@@ -37,6 +37,7 @@ pub struct MemoryJournal {
 impl MemoryJournal {
     /// Returns a journal that was handed nothing. After `calls_before_fault` calls one fails, if any is to.
     pub fn new(alloc: Global, calls_before_fault: Option<u64>) -> MemoryJournal
+        // Promise (new, there), as MemoryHost::new of kdc_server: host, sockets, tally, journal ..
         ensures new { IsNew (⟦<MemoryJournal as JournalWriter>⟧.handed result) }
         ensures there { result.is_there ≡ true }
     {
@@ -63,6 +64,7 @@ impl MemoryJournal {
 
     /// Returns what it was handed, in order, unless memory ran out for it.
     pub fn handed(&self) -> Option<&[HandedOver]>
+        // Promise, as MemoryWire::did of kdc_hub: what is in memory ..
         ensures { seen_as handed_by (option_copied result) ≡ ⟦<MemoryJournal as JournalWriter>⟧.handed self.now }
     {
         self.handed.entries()

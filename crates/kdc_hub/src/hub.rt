@@ -49,6 +49,9 @@ impl<R: Rng> Hub<R> {
     /// Returns a hub without connections. If it keeps audit records, its replies have the audit records of their
     /// requests. It allocates nothing yet.
     pub fn new(alloc: Global, kdc: Kdc, rng: R, keeps_audits: bool) -> Hub<R>
+        // Promise (kdc, random, audits, connections, reopened): a hub begins with its KDC, its generator and no
+        // connections, and keeps audit records or not; over a KDC that starts after a restart it is that of a process
+        // that begins anew.
         ensures kdc { (hub_state R.stream result).issuing.kdc ≡ kdc }
         ensures random { (hub_state R.stream result).issuing.random ≡ R.stream rng }
         ensures audits { (hub_state R.stream result).issuing.audits ≡ keeps_audits }
@@ -77,6 +80,8 @@ impl<R: Rng> Hub<R> {
     /// Replaces the database by another of the same realm; all else is unchanged. One of another realm changes nothing.
     /// It allocates nothing.
     pub fn replace(&mut self, database: Database) -> Result<(), OtherRealm>
+        // Promise (realm, turn, err): another database replaces the one that is served, as in a history; connections,
+        // generator and replay caches stay.
         ensures realm { IsOk result ↔ (database.realm ≡ (hub_state R.stream self.old).issuing.kdc.database.realm) }
         ensures turn { hub_state R.stream self.new ≡ after_turn (hub_state R.stream self.old) (Replaced database) }
         ensures err { OnErr result (hub_state R.stream self.new ≡ hub_state R.stream self.old) }
@@ -87,6 +92,8 @@ impl<R: Rng> Hub<R> {
     /// Drops each client's authenticators that are too old to come again at this moment. Connections and generator
     /// are unchanged. It allocates nothing.
     pub fn tidy(&mut self, at: Moment)
+        // Promise: authenticators that are too old to come again are dropped for every client, as in a history;
+        // connections and generator stay. Tidying allocates nothing.
         ensures turn { hub_state R.stream self.new ≡ after_turn (hub_state R.stream self.old) (Tidied at) }
     {
         self.seeded_kdc.kdc.tidy(at);
@@ -95,6 +102,7 @@ impl<R: Rng> Hub<R> {
     /// Frees the memory of dropped authenticators, for this many clients from a place on. Returns the next place, if
     /// there is one.
     pub fn free_dropped(&mut self, from: usize, clients: usize) -> Option<usize>
+        // Promise, as Pairs::free_dropped of replay: tidying allocates nothing, and ..
         ensures { hub_state R.stream self.new ≡ hub_state R.stream self.old }
     {
         self.seeded_kdc.kdc.free_dropped(from, clients)
@@ -102,6 +110,7 @@ impl<R: Rng> Hub<R> {
 
     /// Returns how many principals there are.
     pub fn row_count(&self) -> usize
+        // Promise: rows, clients, authenticators and bytes kept are those of the KDC's state.
         ensures { result ≡ map.len (hub_state R.stream self.now).issuing.kdc.database.rows }
     {
         self.seeded_kdc.kdc.row_count()
@@ -109,6 +118,7 @@ impl<R: Rng> Hub<R> {
 
     /// Returns how much the replay caches hold. It goes through all of them, and allocates nothing.
     pub fn cache_sizes(&self) -> CacheSizes
+        // Promise (clients, authenticators, kept_bytes), as Hub::row_count: rows, clients, authenticators and ..
         ensures clients { result.clients ≡ map.len (hub_state R.stream self.now).issuing.kdc.caches }
         ensures authenticators { result.authenticators
             ≡ limited (pairs_of (map.entries (hub_state R.stream self.now).issuing.kdc.caches)) }
@@ -123,14 +133,21 @@ impl<R: Rng> Hub<R> {
     /// after the completed actions, and the event's connection is removed.
     pub fn step(&mut self, alloc: Global, at: Moment, event: Event) -> Result<Vec<Action>, HubFault>
         // What the step returns is the next entry of the log, and the hub afterwards is that of the log.
+        // Promise (log, step): for every list of events that leads to this hub, a step returns the actions that the
+        // definition gives for the next event, and the hub is then as the definition leaves it.
         ensures log { (start : HubState) (entries : List Entry)
             → (logged start entries).hub ≡ hub_state R.stream self.old
             → LogsNext start entries at event result (hub_state R.stream self.new) }
+        // Promise (step, audits): **each request has one audit record, which is true** at the state before the request,
+        // in the action that answers it, if audit records are kept.
         ensures step { Steps (hub_state R.stream self.old) at event result (hub_state R.stream self.new) }
+        // Promise: each request that is answered draws 64 random bytes; when memory runs out, at most one more was
+        // drawn.
         ensures draws { IfErr result AreDraws }
         // The audit record of each request that it answers is true of the reply, at the state before that request.
         ensures audits { AuditsHold (hub_state R.stream self.old) at event result }
         // The end of a connection allocates nothing.
+        // Promise: the end of a connection never runs out of memory.
         ensures closed { (conn : ℕ) → event ≡ Closed conn → IsOk result }
     {
         match event {

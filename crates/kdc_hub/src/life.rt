@@ -54,6 +54,23 @@ pub fn serve_life<W: Wire, S: RowSource, R: Rng, O: Observer<W, R>>(
     // The records of the Wire and of the source, and the hub at the end, are those of one history, which is one run of
     // the key distribution centre. No authenticator gets two different tickets in it. What others send changes nothing
     // for a client. What is dropped changes nothing either, if no request is before an earlier tidying.
+    // Promise: what `one_run` promises of histories holds of a server's life.
+    // Promise, as one_run: **others can move the ..
+    // Promise: a look at new rows comes after 16 polls, each a tenth of a second if nothing comes, so what others send
+    // moves it by up to about 1.6 seconds.
+    // Promise: **the life of a server is one history**: before its first round, and again after each 16, it looks at
+    // the source of rows once.
+    // Promise: what a look returns replaces the rows before the next round begins, and never within one; a source that
+    // is fixed, or none, returns nothing.
+    // Promise: after a period's rounds the hub is tidied at the moment of its last poll that did not fail, with an
+    // event or without one, if a minute or more has passed since the last tidying.
+    // Promise: the hub is also tidied if that moment is before the last tidying's, or there was none, and at no other
+    // time.
+    // Promise: the wire records the polls and acts of these rounds and no others, and the source these looks and no
+    // others; the hub is then as that history leaves it.
+    // Promise (life, counted): what is counted are the events, the calls that failed (up to the greatest `u64`) and the
+    // refusals of that record.
+    // Promise, as take_rows of kdc_server: **changes are served**: unless ..
     ensures life { IsLife (W.recorded wire.old) (S.is_fixed source.old) (S.recorded source.old) (hub_state R.stream hub.old)
         (periods_of rounds) result (W.recorded wire.new) (S.recorded source.new) (hub_state R.stream hub.new) }
     ensures counted { IsCounted (W.fault_count wire.old) result.faults (W.fault_count wire.new) }

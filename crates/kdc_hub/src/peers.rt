@@ -12,6 +12,7 @@ pub trait Peers {
 
     /// Returns the peer's address of a connection, if it is known.
     fn peer(&self, conn: u64) -> Option<SocketAddr>
+        // Promise, as ServerWire::act of kdc_server: the address of a ..
         ensures { result ≡ peer_of self.now conn };
 }
 

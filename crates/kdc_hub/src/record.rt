@@ -35,6 +35,7 @@ impl<T: Drop> Record<T> {
 
     /// Returns the entries, unless one is missing.
     pub fn entries(&self) -> Option<&[T]>
+        // Promise, as MemoryWire::did: what is in memory ..
         ensures { option_copied result ≡ self.now }
     {
         if self.is_whole {

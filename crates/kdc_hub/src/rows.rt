@@ -62,12 +62,15 @@ pub trait RowSource {
 
     /// Checks whether there are other rows than those that the source gave last.
     fn look(&mut self, alloc: Global) -> Look
+        // Promise: a source of rows records what each look found, if it records anything.
         ensures records { Records (recorded self.old) (result ∷ []) (recorded self.new) }
+        // Promise (fixed, stays), as take_rows of kdc_server: with `--fixed` the host ..
         ensures fixed { is_fixed self.old ≡ true → result ≡ Unchanged }
         ensures stays { is_fixed self.new ≡ is_fixed self.old };
 
     /// Learns whether the rows of the last look are served from now on.
     fn report(&mut self, taken: Result<(), OtherRealm>)
+        // Promise, as RowSource::look: a source of rows ..
         ensures records { recorded self.new ≡ recorded self.old }
         ensures stays { is_fixed self.new ≡ is_fixed self.old };
 

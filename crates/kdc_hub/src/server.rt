@@ -58,10 +58,18 @@ fn nothing_served(faults: u64, last: Option<Moment>) -> Served
 /// Serves this many rounds, with one poll in each. A failed poll ends its round. It tries every action of an event,
 /// even after one that failed. A connection on which an action failed ends.
 pub fn serve<W: Wire, R: Rng>(alloc: Global, wire: &mut W, hub: &mut Hub<R>, rounds: u32) -> Served
+    // Promise, as Hub::step: each request that is ..
+    // Promise, as one_run: **each gets its own in ..
+    // Promise: serving polls once a round, steps the polled event, tries each action of that step once and in order,
+    // even after one that failed, and does nothing else; a connection on which one failed ends.
+    // Promise (run, counted): serving returns when its last poll came back that did not fail; it counts the calls that
+    // failed.
     ensures run { IsRun (W.recorded wire.old) (hub_state R.stream hub.old) rounds result (W.recorded wire.new)
         (hub_state R.stream hub.new) }
     ensures counted { IsCounted (W.fault_count wire.old) result.faults (W.fault_count wire.new) }
     // A round takes one event at most.
+    // Promise (few_events, few_refused): serving takes no more events than it has rounds, and refuses no more because
+    // memory ran out.
     ensures few_events { result.events ≤ rounds }
     ensures few_refused { result.refused ≤ rounds }
 {

@@ -46,15 +46,19 @@ pub trait Wire {
 
     /// Returns the next event and its moment, or the moment alone if no event has come after a while.
     fn poll(&mut self, alloc: Global) -> Result<(Moment, Option<Event>), WireFault>
+        // Promise (records, counted): a wire records what was polled and acted on, if it records anything, and counts
+        // its failed calls.
         ensures records { Records (recorded self.old) (polled result ∷ []) (recorded self.new) }
         ensures counted { IsCounted (fault_count self.old) (faults_of result) (fault_count self.new) };
 
     /// Does an action. A `Write` puts the message's length before it (RFC 4120, section 7.2.2).
     fn act(&mut self, alloc: Global, action: &Action) -> Result<(), WireFault>
+        // Promise (records, counted), as Wire::poll: a wire records what ..
         ensures records { Records (recorded self.old) (acted action.now result ∷ []) (recorded self.new) }
         ensures counted { IsCounted (fault_count self.old) (faults_of result) (fault_count self.new) };
 
     /// Returns how often a poll or an act has failed. The count stops at the greatest `u64`.
     fn faults(&self) -> u64
+        // Promise, as Wire::poll: a wire records what ..
         ensures { result ≡ fault_count self.now };
 }

@@ -26,6 +26,7 @@ impl Counts {
     /// Appends the counts in Prometheus' text format: a sample for each kind of request, and for the replies of each
     /// transport that were sent, and not sent.
     pub fn push_text(&self, text: &mut Vec<u8>) -> Result<(), AllocError>
+        // Promise: the text has one sample for each kind, with the log's words.
         ensures { OnOk result (text.new.items ≡ text.old.items ++ counts_text self.now) }
     {
         push_head(text, REQUESTS, NumberType::Counter, REQUESTS_HELP)?;

@@ -23,6 +23,7 @@ pub struct CountedLog<L: LogWriter> {
     log: L,
     counts: Counts,
     // If the log keeps a record, the counts are those of its entries.
+    // Promise, as Counts::count: **the counts are those ..
     ghost counted: { ∥ IfSome (L.logged log) (λ entries. AreCountsOf counts (map asked_by entries)) ∥₁ },
 }
 

@@ -33,12 +33,17 @@ impl Counts {
     /// audit record if memory ran out.
     pub fn count(&mut self, transport: Transport, audit: Option<&AuditRecord>, is_sent: bool)
         // Each count grows by one if it is that of the request, and stays as it is if not.
+        // Promise: **the counts are those of the log's entries**: with each entry the count of its kind (exchange,
+        // outcome and rule) grows by one, and no other changes.
+        // Promise: with an entry that has a reply the count of its transport, and of whether it was sent, grows by one
+        // too.
         ensures one { CountsOne self.old (record {
           transport = transport;
           audit = option_copied audit.entry;
           is_sent = is_sent;
         }) self.new }
         // So the counts are those of all requests that were counted.
+        // Promise: each count is the number of such entries, up to the greatest `u64`.
         ensures all { (asked : List Asked) → AreCountsOf self.old asked → AreCountsOf self.new (asked ++ record {
           transport = transport;
           audit = option_copied audit.entry;

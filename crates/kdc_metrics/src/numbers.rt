@@ -54,6 +54,7 @@ pub fn push_numbers(
     numbers: &Numbers,
     counts: &Counts,
 ) -> Result<(), AllocError>
+    // Promise: the other numbers have one text.
     ensures { OnOk result (text.new.items ≡ text.old.items ++ numbers_text version.now numbers.now counts.now) }
 {
     push_version(text, version)?;

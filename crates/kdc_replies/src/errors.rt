@@ -28,6 +28,7 @@ pub fn error_reply(
     requires realm { length realm.now ≤ 255 }
     requires sname { IfSome (option_copied sname) (λ n. length (name.text n) < 2147483648) }
     requires e_data { IfSome e_data (λ d. length d ≤ 65535) }
+    // Promise (written, spelled): the bytes of an error, and what they spell.
     ensures written { IfOk result (λ octets.
         octets.items ≡ written krb_error (error_reply realm.now at code (option_copied sname.entry) e_data)) }
     ensures spelled { IfOk result (λ octets.
@@ -51,6 +52,7 @@ pub fn too_big(
 ) -> Result<Vec<u8>, AllocError>
     requires realm { length realm.now ≤ 255 }
     requires sname { IfSome body.now.sname (λ n. length (name.text n) < 2147483648) }
+    // Promise (written, spelled), as error_reply: the bytes of an ..
     ensures written { IfOk result (λ octets. octets.items ≡ written krb_error (too_big realm.now at body.now)) }
     ensures spelled { IfOk result (λ octets. krb_error.Spells (too_big realm.now at body.now) octets.items) }
 {

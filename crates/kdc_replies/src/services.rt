@@ -31,6 +31,7 @@ pub fn service_terms(
     name: &NameRef<'_>,
     row: &Row,
 ) -> Result<Option<ServiceTerms>, AllocError>
+    // Promise, as session_key: a session key is ..
     ensures { IfOk result (λ found. found ≡ service_terms types.now name.now row.now) }
 {
     let version = row.versions.current();

@@ -9,6 +9,7 @@ use principals::names_tgs;
 
 /// Checks whether it is disabled.
 pub fn is_disabled(row: Option<&Row>) -> bool
+    // Promise: what a row says of its principal's standing.
     ensures { result ≡ is_disabled (option_copied row.entry) }
 {
     match row {
@@ -19,6 +20,7 @@ pub fn is_disabled(row: Option<&Row>) -> bool
 
 /// Checks whether it has expired. It expires at the second of its expiry time.
 pub fn is_expired(row: Option<&Row>, at: Moment) -> bool
+    // Promise, as is_disabled: what a row says ..
     ensures { result ≡ is_expired (option_copied row.entry) at.sec }
 {
     match row {
@@ -30,6 +32,7 @@ pub fn is_expired(row: Option<&Row>, at: Moment) -> bool
 /// Checks whether no tickets may be issued for the principal with this name and row. The ticket-granting service of
 /// the realm is always a service, whatever its row says.
 pub fn denies_tickets(realm: &[u8], name: Option<&NameRef<'_>>, row: Option<&Row>) -> bool
+    // Promise, as is_disabled: what a row says ..
     ensures { result
         ≡ denies_tickets realm.now (option_map (λ name. name.components) (option_copied name.entry))
         (option_copied row.entry) }
@@ -57,6 +60,7 @@ fn is_tgs(realm: &[u8], name: Option<&NameRef<'_>>) -> bool
 
 /// Checks whether a time has come, if there is one.
 pub fn has_come(time: Option<Second>, at: Moment) -> bool
+    // Promise, as is_disabled: what a row says ..
     ensures { result ≡ has_come time at.sec }
 {
     match time {

@@ -10,6 +10,10 @@ use kdc_hub::one_run;
 /// Over every life of a server, what a journal is handed, act by act, is what the requests made the KDC remember: all
 /// of it, in order, and nothing else. A `ServerWire` hands its journal this, and nothing else (`served`).
 pub fn every_life()
+    // Promise (rounds, life): **over the life of a server a journal is handed every authenticator that the KDC
+    // remembers**, in order, and nothing else.
+    // Promise (rounds, life): of the acts that a life tries, with those that fail, each names what its request made the
+    // KDC remember.
     ensures rounds { HandsAllInRounds }
     ensures life { HandsAllInLife }
 {}
@@ -17,6 +21,13 @@ pub fn every_life()
 /// Over all processes of a server with a journal, no authenticator gets two different tickets. Each start that resumes
 /// finds files that hold what the process before it knew; `every_journal` says that files are kept so.
 pub fn every_restart()
+    // Promise: **one ticket per authenticator, whichever process sends it**: over processes of a server, one after the
+    // other and each as the next rows say, no authenticator gets two different tickets.
+    // Promise: the first process began with any opening, and each lives as `serve_life` says.
+    // Promise: a start may refuse what came before, or resume with what it reads of the files that the last call of the
+    // process before it left.
+    // Promise: no start that refuses is before the second of an earlier request; one that resumes has a floor that is
+    // at most the skew before each event of the process before it.
     ensures one_ticket { OneTicketThroughRestarts }
 {
     any_run();
@@ -30,6 +41,13 @@ pub fn every_restart()
 /// refuses nothing is asked of its floor but that it reads the files and has the floor that they ask for, and that this
 /// is not below the one that the process before it began with.
 pub fn every_journaled_restart()
+    // Promise: the same, by what each process does with its journal: nothing is asked of what the files hold.
+    // Promise: each process kept all that it was handed, and the next one finds what that left, or refuses; other
+    // starts may come between the two.
+    // Promise: of a start that refuses nothing is asked of the times that it refuses, as long as the files were never
+    // lost.
+    // Promise: a start that refuses read the files, has the floor that they ask for, and that is not below the one with
+    // which the process before it began.
     ensures one_ticket { OneTicketThroughJournals }
 {
     every_journal_life();

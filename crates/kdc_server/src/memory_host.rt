@@ -101,6 +101,7 @@ const BOOT: &[u8] = b"boot";
 impl MemoryHost {
     /// Returns a host with what it is given. It has recorded no call.
     pub fn new(alloc: Global, given: Given) -> MemoryHost
+        // Promise: host, sockets, tally, journal and log in memory begin with an empty record too.
         ensures { ⟦<MemoryHost as Host>⟧.recorded result ≡ Some [] }
     {
         let seed = given.seed;
@@ -120,6 +121,7 @@ impl MemoryHost {
 
     /// Returns its calls that succeeded, in order, unless memory ran out for one.
     pub fn calls(&self) -> Option<&[HostCall]>
+        // Promise, as MemoryWire::did of kdc_hub: what is in memory ..
         ensures { seen_as did_by (option_copied result) ≡ ⟦<MemoryHost as Host>⟧.recorded self.now }
     {
         self.calls.entries()

@@ -23,6 +23,7 @@ pub struct MemorySockets {
 impl MemorySockets {
     /// Returns sockets at which these events come.
     pub fn new(alloc: Global, coming: VecDeque<(Moment, Event)>) -> MemorySockets
+        // Promise, as MemoryHost::new: host, sockets, tally, journal ..
         ensures { IsNew (⟦<MemorySockets as Wire>⟧.recorded result) }
     {
         MemorySockets {
@@ -33,6 +34,7 @@ impl MemorySockets {
 
     /// Returns what was polled and done, in order, unless memory ran out for it.
     pub fn did(&self) -> Option<&[WireCall]>
+        // Promise, as MemoryWire::did of kdc_hub: what is in memory ..
         ensures { option_copied result ≡ ⟦<MemorySockets as Wire>⟧.recorded self.now }
     {
         self.wire.did()

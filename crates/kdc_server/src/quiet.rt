@@ -11,6 +11,7 @@ use server_notices::Refused;
 /// Returns the second before which refused requests get no reply, if a start at this moment is quiet. It is at most the
 /// floor that the start's own clock asks for.
 pub(crate) fn quiet_until(refused: Option<Refused>, at: Moment, is_quiet: bool) -> Option<i64>
+    // Promise, as ServerWire::act: **a quiet start withholds ..
     ensures { result ≡ quiet_until refused at is_quiet }
 {
     match refused {

@@ -60,10 +60,20 @@ pub fn run_server<'a, H: Host>(
 ) -> Result<Ran<H>, StartFault<'a, H::SocketFault>>
     // It starts as the host's record says, and then lives over the hub and the wire of that start. Unless its rows are
     // fixed, they come from the source that the host handed over.
+    // Promise: **what `kdcd serve` runs is a start and a life over it**: the hub and the wire that `serve_life` begins
+    // with are those of the start that the options ask for, with a journal or without one.
+    // Promise: the rounds of `kdcd serve` are those of the options.
+    // Promise (run, served): what the wire, its sockets, its journal and its log have recorded is what was polled and
+    // tried in that life.
     ensures run { IfOk result (λ ran. HasRun options.now (H.recorded host.old) (H.recorded host.new) ran.server.news
         (H.Tally.recorded ran.server.wire.tally) (recorded_by_any H.Rows.recorded ran.rows) ran.totals
         (hub_state chacha20 ran.server.hub)) }
     // The sockets, the journal and the log have recorded what was polled and tried in this life.
+    // Promise, as every_life: **over the life of ..
+    // Promise: whatever was polled and tried since the start, in any order: what the journal has recorded is what these
+    // acts hand over.
+    // Promise: the log has an entry for each request that these acts answer, with whether it was done.
+    // Promise: the sockets have recorded the same polls and acts, but for what failed.
     ensures served { IfOk result (λ ran. ∥ Serves (H.Tally.recorded ran.server.wire.tally)
         (H.Sockets.recorded ran.server.wire.sockets) (H.Journal.handed ran.server.wire.journal)
         (H.Log.logged ran.server.wire.log) ran.server.wire.came.at ∥₁) }
@@ -96,11 +106,27 @@ pub fn start<'a, H: Host>(
     host: &mut H,
     options: &ServeOptions<'a>,
 ) -> Result<Server<H>, StartFault<'a, H::SocketFault>>
+    // Promise: **a server starts as its options say**: it reads its rows, its seed and the journals, and binds its
+    // sockets to the given addresses; then it reads the clock.
+    // Promise: a server's seed is the first 32 bytes of the file that `--seed` names, or what the system draws; its
+    // random bytes are those of ChaCha20 under that seed.
+    // Promise: a server reads the journals after it bound its sockets, if it is to have one, and else makes sure that
+    // there is none.
+    // Promise: a server's KDC starts with these rows and the given limits; it keeps audit records exactly with a log, a
+    // quiet start or counts.
+    // Promise: **a server resumes exactly if its journals say so**: it starts from what `start_of` makes of them for
+    // its realm, this boot and the moment that the clock showed.
+    // Promise: else, and without a journal, a server opens for the first time or again at that moment, with the floor
+    // that the files ask for if that is higher, those that `--no-journal` removed too.
+    // Promise: with `--first` there is no journal.
+    // Promise: a server's journal begins with the realm of the rows, that moment, and the floor of what the start
+    // knows.
     ensures start { IfOk result (λ server. IsStarted options.now (H.recorded host.old) (H.recorded host.new)
         (hub_state chacha20 server.hub) server.wire.came.at server.wire.clock.floor
         server.news) }
     ensures quiet { IfOk result (λ server.
         server.wire.quiet_until ≡ quiet_until server.news.refused server.wire.came.at options.now.is_quiet) }
+    // Promise: a server has a journal exactly if the options name one.
     ensures journal { IfOk result (λ server.
         H.Journal.is_there server.wire.journal ≡ is_some (option_copied options.now.journal)) }
     ensures log { IfOk result (λ server. IsNew (H.Log.logged server.wire.log)) }
@@ -173,6 +199,9 @@ fn take_rows<'a, H: Host>(
     host: &mut H,
     options: &ServeOptions<'a>,
 ) -> Result<Option<H::Rows>, StartFault<'a, H::SocketFault>>
+    // Promise (took, there): **changes are served**: unless the rows are fixed, a server looks at the source that its
+    // host handed over, once, and each database that a look finds replaces the rows.
+    // Promise (took, there): with `--fixed` the host is not asked, no look finds anything, and no row changes.
     ensures took { IfOk result (λ rows.
         Records (H.recorded host.old) (taking options.now.is_fixed) (H.recorded host.new)) }
     ensures there { IfOk result (λ rows. is_some rows ≡ not options.now.is_fixed) }

@@ -154,15 +154,25 @@ impl<H: Host> Wire for ServerWire<H> {
             (H.Tally.recorded self.new.tally) }
         ensures counted { IsCounted (H.Tally.fault_count self.old.tally) (faults_of result)
             (H.Tally.fault_count self.new.tally) }
+        // Promise: **no answer depends on the log**: a server's wire forwards each poll, and each act that it doesn't
+        // withhold, to its sockets, whatever its log is.
         ensures polls { Records (H.Sockets.recorded self.old.sockets) (polled result ∷ [])
             (H.Sockets.recorded self.new.sockets) }
         // The log's entries name the peer of the event's connection, as the sockets know it.
+        // Promise, as ServerWire::act: **the log has one ..
+        // Promise, as ServerWire::act: the address of a ..
+        // Promise (came, journal), as ServerWire::act: **an authenticator is kept ..
         ensures came { self.new.came
             ≡ arrival_after (H.Sockets.peer_of self.new.sockets) self.old.came (polled result) }
         ensures clock { self.new.clock ≡ clock_after self.old.clock (polled result) }
         // How many requests were lost before they were read is what the sockets counted.
+        // Promise: **unanswered requests are counted**: a datagram that had no action until the next poll, and a
+        // connection that ends because memory ran out, and nothing else that was read.
+        // Promise: the wire says at most once a minute how many there are, with those that its sockets counted as lost
+        // before they were read.
         ensures memory { self.new.memory
             ≡ memory_after (H.Sockets.lost_count self.new.sockets) self.old.memory (polled result) }
+        // Promise, as ServerWire::act: a withheld reply is ..
         ensures withheld { self.new.withheld ≡ self.old.withheld }
         ensures journal { self.new.journal ≡ self.old.journal }
         ensures log { self.new.log ≡ self.old.log }
@@ -184,22 +194,38 @@ impl<H: Host> Wire for ServerWire<H> {
         ensures counted { IsCounted (H.Tally.fault_count self.old.tally) (faults_of result)
             (H.Tally.fault_count self.new.tally) }
         // The authenticator that the reply makes the KDC remember is handed to the journal, and no other.
+        // Promise: **an authenticator is kept before its reply is sent**: the authenticator that an action's request
+        // made the KDC remember is handed to the journal, with the moment of the last event, and no other.
         ensures handed { Records (H.Journal.handed self.old.journal) (handed_by self.old.came.at action.now)
             (H.Journal.handed self.new.journal) }
         // If the journal has kept all, and the start is not quiet about it, the action is done.
+        // Promise (sent, withheld), as ServerWire::poll: **no answer depends on ..
+        // Promise (sent, withheld): when memory runs out, a request may get no reply because its audit record could not
+        // be made.
+        // Promise: an action with a reply is passed to the sockets only if the journal has kept all that it was handed.
+        // Promise (sent, withheld): **a quiet start withholds nothing else**: what isn't sent is a refusal with 37,
+        // before the second up to which all are refused; its connection ends.
         ensures sent { may_send H.Journal.is_whole self.new.journal self.old.quiet_until self.old.came.at action.now ≡ true
             → Records (H.Sockets.recorded self.old.sockets) (acted action.now result ∷ [])
             (H.Sockets.recorded self.new.sockets) }
         // Otherwise nothing is sent, and a connection ends: so an authenticator is kept before the reply to its request
         // is sent, and a client on a connection can ask another server at once.
+        // Promise: where the journal has not kept all, or a quiet start withholds it, nothing is sent, the connection
+        // that the action was for ends, and the act fails.
         ensures withheld { may_send H.Journal.is_whole self.new.journal self.old.quiet_until self.old.came.at action.now
             ≡ false → EndsOnly H.Sockets.HangsUp self.old.sockets (action_connection action.now) self.new.sockets
             × (is_ok result ≡ false) }
         // The log has an entry for the request that the action answers, if it answers one, and no other.
+        // Promise: **the log has one entry for each action that answers a request**: its audit record, the moment at
+        // which the request came, who sent it, and whether the action was done; no other entry is written.
+        // Promise: the address of a datagram in the log is that of its action; that of a connection is the peer that
+        // the sockets had for the connection of the event.
         ensures logged { LogsAll H.Log.Logs self.old.log (entries_of self.old.came action.now (is_ok result)) self.new.log }
         ensures came { self.new.came ≡ self.old.came }
         ensures clock { self.new.clock ≡ self.old.clock }
+        // Promise, as ServerWire::poll: **unanswered requests are counted**: ..
         ensures memory { self.new.memory ≡ after_act self.old.memory action.now }
+        // Promise: a withheld reply is counted by why, and nothing else is.
         ensures withheld_count { self.new.withheld ≡ withheld_after self.old.withheld
             (is_kept H.Journal.is_whole self.new.journal action.now)
             (quiet_withholds self.old.quiet_until self.old.came.at action.now) }

@@ -20,6 +20,7 @@ pub trait ServerSockets: Wire + Peers {
 
     /// Returns how many requests were lost so far because memory ran out before they were read.
     fn lost(&self) -> u64
+        // Promise, as ServerWire::poll: the wire says at ..
         ensures { result ≡ lost_count self.now };
 
     // The end of a connection is neither a poll nor an act.

@@ -38,6 +38,7 @@ pub struct Connections {
     // No connection has a number from there on.
     ghost unused: { AreUnused held.entries next },
     // The hub has a place for each that is open.
+    // Promise (bounded, few): at most 256 connections are open, with those that are closing at most 512.
     ghost bounded: { FitsHub held.entries },
     // With those that are closing there are at most twice as many.
     ghost few: { AreFew held.entries },
@@ -94,11 +95,14 @@ impl Connections {
         peer: SocketAddr,
         at: Instant,
     ) -> io::Result<Accepted>
+        // Promise: **of the table of connections**, whatever the sockets do: a new connection's number is not in use.
         ensures new { IfOk result (λ accepted. held_at self.old.held.entries accepted.conn ≡ None) }
         ensures opened { IfOk result (λ accepted. is_open self.new.held.entries accepted.conn ≡ true) }
         ensures idle { IfOk result (λ accepted. IsIdleSince self.new.held.entries accepted.conn at) }
         ensures given { IfOk result (λ accepted. IsGivenNothing self.new.held.entries accepted.conn) }
         ensures calm { self.new.has_spent ≡ self.old.has_spent }
+        // Promise: for one more than 256 the open one that has been idle longest ends, at a tie the first accepted, and
+        // no other.
         ensures taken { IfOk result (λ accepted.
             TakesIn self.old.held.entries accepted.conn accepted.closed self.new.held.entries) }
         ensures failed { OnErr result (OpensAlike self.old.held.entries self.new.held.entries) }
@@ -235,7 +239,9 @@ impl Connections {
     /// Closes one of the open connections that have been idle for too long. Drops the closing ones that have, since
     /// their peers take nothing any more.
     pub fn close_idle(&mut self, at: Instant) -> Option<Event>
+        // Promise, as Connections::end: the end of a ..
         ensures ended { IfSome result (λ event. EndsOne self.old.held.entries event self.new.held.entries) }
+        // Promise (waited, none, all): of idle connections all end that waited too long, and no others.
         ensures waited { IfSome result (EndsWaiting at self.old.held.entries) }
         ensures none { IfNone result (OpensAlike self.old.held.entries self.new.held.entries) }
         ensures all { IfNone result (NoneWaits false at self.new.held.entries) }
@@ -284,6 +290,8 @@ impl Connections {
 
     /// Closes one of the spent connections, and reports its end. What it was given is still written.
     pub fn close_spent(&mut self, at: Instant) -> Option<Event>
+        // Promise (ended, all): **no connection is answered without end**: once one was given 256 replies or 262,144
+        // bytes of them, the next poll ends such a one before anything is accepted or read.
         ensures ended { IfSome result (λ event. EndsSpent self.old.held.entries event self.new.held.entries) }
         ensures none { IfNone result (self.new.held ≡ self.old.held) }
         ensures all { IfNone result (NoneSpent self.new.held.entries) }
@@ -314,6 +322,7 @@ impl Connections {
 
     /// Marks that the peer sends nothing more. The unsent bytes are still written.
     pub fn end(&mut self, conn: u64, at: Instant) -> Option<Event>
+        // Promise (event, ended): the end of a connection is reported once, of one that was open and is no longer.
         ensures event { result ≡ closed_if (is_open self.old.held.entries conn) conn }
         ensures ended { HasEnded self.old.held.entries conn self.new.held.entries }
         ensures calm { self.new.has_spent ≡ self.old.has_spent }
@@ -331,6 +340,7 @@ impl Connections {
 
     /// Drops a connection.
     pub fn lose(&mut self, conn: u64) -> Option<Event>
+        // Promise (event, lost, ended), as Connections::end: the end of a ..
         ensures event { result ≡ closed_if (is_open self.old.held.entries conn) conn }
         ensures lost { held_at self.new.held.entries conn ≡ None }
         ensures ended { HasEnded self.old.held.entries conn self.new.held.entries }

@@ -12,6 +12,7 @@ use std::collections::VecDeque;
 #[derive(Drop)]
 pub struct Queue {
     numbers: VecDeque<u64>,
+    // Promise: no socket stands twice among those that wait to be read.
     ghost once: { HasEachOnce numbers.items } by { IsDistinct-prop nat_eq numbers.items },
 }
 

@@ -130,6 +130,7 @@ impl<C: Clock + Drop> SocketTurns<C> {
 
     /// Returns the address of a connection's peer.
     pub fn peer(&self, conn: u64) -> Option<SocketAddr>
+        // Promise, as ServerWire::act of kdc_server: the address of a ..
         ensures { result ≡ option_map (λ connection. connection.peer) (held_at self.now.connections.held.entries conn) }
     {
         self.connections.peer(conn)
@@ -139,8 +140,11 @@ impl<C: Clock + Drop> SocketTurns<C> {
     /// no event if none comes. While some sockets are known to be ready, it polls the others only in every sixteenth
     /// call.
     pub fn next(&mut self, alloc: Global) -> io::Result<(Moment, Option<Event>)>
+        // Promise, as Connections::close_spent: **no connection is answered ..
         ensures first { IfOk result (λ next. ReportsSpentFirst self.old.connections.held.entries next.1
             self.new.connections.held.entries) }
+        // Promise: a connection that is read was given less when it was last read, and its socket had taken all of
+        // that.
         ensures reads { IfOk result (λ next. IsReadFrom self.new.connections.held.entries next.1) }
     {
         if self.ready.is_empty() || self.unlooked >= MOST_UNLOOKED {
@@ -405,6 +409,8 @@ impl<C: Clock + Drop> SocketTurns<C> {
 
     /// Performs an action. The reply to a datagram is sent from the socket that received the datagram.
     pub fn act(&mut self, action: &Action) -> io::Result<()>
+        // Promise (others, done, failed): an action changes its own connection and no other, and what it writes follows
+        // that connection's unsent bytes, whole and in order, and is counted.
         ensures others { KeepsOtherConnections (action_connection action.now) self.old.connections.held.entries
             self.new.connections.held.entries }
         ensures done { OnOk result (IsDone action.now self.old.at self.old.connections.held.entries

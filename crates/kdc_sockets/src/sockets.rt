@@ -53,6 +53,7 @@ impl<C: Clock + Drop> Sockets<C> {
 
     /// Returns how many datagrams and pieces of streams were lost so far because memory ran out before they were read.
     pub fn lost_requests(&self) -> u64
+        // Promise, as ServerWire::poll of kdc_server: the wire says at ..
         ensures { result ≡ lost_by self.now }
     {
         self.sockets.lost_requests()

@@ -13,6 +13,7 @@ impl State {
     /// Drops each client's authenticators that are too old to come again at this moment, and each cache that
     /// then equals that of a client without a stored one. It allocates nothing.
     pub fn tidy(&mut self, at: Moment)
+        // Promise (state, caches), as Kdc::tidy of kdc_core: a tidying leaves each ..
         ensures state { self.new ≡ tidied_state self.old at }
         ensures caches { (name : Components) → cache_of self.new name ≡ tidied (cache_of self.old name) at.sec }
     {
@@ -24,6 +25,7 @@ impl State {
     /// Frees the memory of dropped authenticators, for this many clients from a place on. Returns the next place, if
     /// there is one. So a tidying of many clients doesn't free all of it at once.
     pub fn free_dropped(&mut self, from: usize, clients: usize) -> Option<usize>
+        // Promise, as Pairs::free_dropped of replay: tidying allocates nothing, and ..
         ensures { self.new ≡ self.old }
     {
         self.caches.keep_up(from, clients, &Freeing)

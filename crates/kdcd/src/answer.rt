@@ -20,6 +20,7 @@ pub(crate) enum Answer {
 impl Answer {
     /// Writes the result as a line.
     pub(crate) fn print<W: Write>(&self, alloc: Global, writer: &mut W) -> io::Result<()>
+        // Promise, as print_fault: an answer prints its ..
         ensures { OnOk result (Appends (W.contents writer.old) (W.contents writer.new) (answer_text self.now)) }
     {
         match self {

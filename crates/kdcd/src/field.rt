@@ -27,6 +27,7 @@ const LONGEST_KEY: usize = 32;
 
 /// Reads a moment: whole seconds since the start of 1970, and microseconds.
 pub(crate) fn moment(sec: &str, usec: &str) -> Option<Moment>
+    // Promise (read, none), as number of text_fields: a field of a ..
     ensures read { IfSome result (λ at. IsMomentText at sec.now usec.now) }
     ensures none { IfNone result ((at : moments.Moment) → ¬ IsMomentText at sec.now usec.now) }
 {
@@ -36,6 +37,7 @@ pub(crate) fn moment(sec: &str, usec: &str) -> Option<Moment>
 
 /// Reads the limits of a KDC from five numbers.
 pub(crate) fn limits(texts: [&str; 5]) -> Option<Limits>
+    // Promise (read, none), as number of text_fields: a field of a ..
     ensures read { IfSome result (λ limits. AreLimitsTexts limits (map (λ text. text.now) texts.entry)) }
     ensures none { IfNone result
         ((limits : ranges.Limits) → ¬ AreLimitsTexts limits (map (λ text. text.now) texts.entry)) }
@@ -52,6 +54,7 @@ pub(crate) fn limits(texts: [&str; 5]) -> Option<Limits>
 
 /// Reads the KDC's 64 random bytes for a request, from 128 hexadecimal digits.
 pub(crate) fn random(text: &str) -> Option<[u8; 64]>
+    // Promise, as number of text_fields: a field of a ..
     ensures { result ≡ result_ok (decode_sized text.now 64) }
 {
     let mut random = [0; 64];
@@ -61,6 +64,7 @@ pub(crate) fn random(text: &str) -> Option<[u8; 64]>
 
 /// Reads bytes in hexadecimal; `-` means none.
 pub(crate) fn octets(alloc: Global, text: &str) -> Result<Vec<u8>, LineFault>
+    // Promise (ok, form), as number of text_fields: a field of a ..
     ensures ok { IfOk result (λ octets. IsOctetsText octets.items text.now) }
     ensures form { result ≡ Err LineFault.Form → (octets : List ℕ) → ¬ IsOctetsText octets text.now }
 {
@@ -78,6 +82,7 @@ pub(crate) fn octets(alloc: Global, text: &str) -> Result<Vec<u8>, LineFault>
 
 /// Reads a realm, in the syntax of a name with one component.
 pub(crate) fn realm(alloc: Global, text: &str) -> Result<KerberosString, LineFault>
+    // Promise (ok, form), as number of text_fields: a field of a ..
     ensures ok { IfOk result (λ octets. IsComponentText octets text.now) }
     ensures form { result ≡ Err LineFault.Form → (octets : List ℕ) → ¬ IsComponentText octets text.now }
 {
@@ -89,6 +94,7 @@ pub(crate) fn realm(alloc: Global, text: &str) -> Result<KerberosString, LineFau
 
 /// Reads the name of a principal. Returns `None` if the text is not a name.
 pub(crate) fn name(alloc: Global, text: &str) -> Result<Option<Name>, LineFault>
+    // Promise (name, none, memory), as number of text_fields: a field of a ..
     ensures name { IfOk result (λ name. IfSome name (λ n.
         IsNameText n.components text.now × (n.name_type ≡ NT_PRINCIPAL))) }
     ensures none { IfOk result (λ name. IfNone name ((n : Components) → ¬ IsNameText n text.now)) }
@@ -103,6 +109,7 @@ pub(crate) fn name(alloc: Global, text: &str) -> Result<Option<Name>, LineFault>
 
 /// Reads keys in order of preference, separated by commas.
 pub(crate) fn keys(alloc: Global, text: &str) -> Result<KeyList, LineFault>
+    // Promise (ok, form), as number of text_fields: a field of a ..
     ensures ok { IfOk result (λ keys. IsKeysText keys text.now) }
     ensures form { result ≡ Err LineFault.Form → (list : List typed.Key) → ¬ IsKeysText list text.now }
 {
@@ -130,6 +137,7 @@ fn key_list(alloc: Global, keys: &[Key]) -> Result<KeyList, LineFault>
 
 /// Reads a key: the number of its encryption type, a colon, and its bytes in hexadecimal.
 fn key(text: &str) -> Option<Key>
+    // Promise (read, none), as number of text_fields: a field of a ..
     ensures read { IfSome result (λ key. IsKeyText key text.now) }
     ensures none { IfNone result ((key : typed.Key) → ¬ IsKeyText key text.now) }
 {

@@ -58,6 +58,8 @@ impl<R: Read + Drop> Input<R> {
     /// an input.
     pub(crate) fn next_line(&mut self, line: &mut Vec<u8>) -> Result<bool, Stop>
         requires { self.old.taken ≤ 16777216 }
+        // Promise (line, end, fault): the lines that are read are those of the input, each without its line feed; one
+        // that is not read is beyond the limits.
         ensures line { IfOk result (λ more.
             IsTrue more
             → TakesLine (octets_of R.remaining self.old.octets)

@@ -98,6 +98,8 @@ impl<T: Drop> From<AllocFailed<T>> for LineFault {
 impl Line {
     /// Reads a line without its line feed: fields of ASCII text, separated by single spaces.
     pub(crate) fn parse(alloc: Global, octets: &[u8]) -> Result<Line, LineFault>
+        // Promise (ok, form): a line is read exactly where its text spells it, unless memory runs out: ASCII text, cut
+        // at its spaces.
         ensures ok { IfOk result (λ line. IsLineText line octets.now) }
         ensures form { result ≡ Err Form → (line : lines.Line) → ¬ IsLineText line octets.now }
     {

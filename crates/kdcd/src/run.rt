@@ -74,11 +74,16 @@ impl From<LineFault> for Stop {
 /// Unless it is `Failed`, the whole output was written, and the status is the script's. Nothing is promised about a
 /// failed run.
 pub fn run_script<R: Read + Drop, W: Write>(alloc: Global, reader: R, writer: &mut W) -> Status
+    // Promise: a run ends with status 0, 1 or 3, if the calls of its reader and writer return.
     ensures status { IsRunStatus result }
+    // Promise: if the status is not 3, the writer took what the script prints, no more and no less, and the status is
+    // the script's.
     ensures run { result ≢ statuses.Failed
         → IfSome (R.remaining reader) (λ octets.
         PrintsScript octets (W.contents writer.old) (W.contents writer.new) (status_code result)) }
     // The bytes after the limit change nothing. The first of them shows that the input is too long.
+    // Promise: no byte after the first 16,777,217 of an input changes that; the last of these shows that the input is
+    // too long.
     ensures bounded { result ≢ statuses.Failed
         → IfSome (R.remaining reader) (λ octets.
         PrintsScript (read_part octets) (W.contents writer.old) (W.contents writer.new) (status_code result)) }
@@ -107,6 +112,7 @@ fn run_input<R: Read + Drop, W: Write>(alloc: Global, reader: R, writer: &mut W)
 }
 
 fn print_fault<W: Write>(writer: &mut W, number: usize) -> io::Result<()>
+    // Promise: an answer prints its text; an error the number of its line.
     ensures { OnOk result (Appends (W.contents writer.old) (W.contents writer.new) (fault_text number)) }
 {
     writeln!(writer, "fault {number}")?;
@@ -178,7 +184,10 @@ fn run_text<W: Write>(
 
 /// Runs one line on the KDC, if a line has opened one.
 fn run_line(alloc: Global, kdc: &mut Option<Kdc>, line: Line) -> Result<Answer, Stop>
+    // Promise: a line does and prints what the definitions of the KDC say: a new KDC with its first database, a change
+    // or its refusal, a restart, a reply or none.
     ensures ok { IfOk result (λ answer. Runs kdc.old line kdc.new answer) }
+    // Promise: a line that was read is an error only if no KDC is open, or its realm is invalid.
     ensures fault { result ≡ Err Fault → CannotRun kdc.old line }
 {
     match line {

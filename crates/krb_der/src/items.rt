@@ -39,6 +39,8 @@ impl<'a> Model for Items<'a> {
 impl<'a> Items<'a> {
     /// Returns the elements of a list with these contents.
     pub fn new(contents: &'a [u8]) -> Items<'a>
+        // Promise: the items of bytes are the values that stand in them, one after the other; an iterator returns them
+        // one by one, and ends.
         ensures { result ≡ elements contents.now }
     {
         Items { rest: contents }
@@ -46,6 +48,7 @@ impl<'a> Items<'a> {
 
     /// Returns an independent iterator over the same elements.
     pub fn iter(&self) -> Items<'a>
+        // Promise, as Items::new: the items of bytes ..
         ensures { result ≡ self.now }
     {
         Items { rest: self.rest }
@@ -55,6 +58,7 @@ impl<'a> Items<'a> {
 impl<'a> Iterator for Items<'a> {
     type Item = &'a [u8];
 
+    // Promise (next_gives, remaining), as Items::new: the items of bytes ..
     ghost next_gives = { YieldsFirstRef (λ s. s) };
 
     ghost remaining = { item_count (λ s. s) };

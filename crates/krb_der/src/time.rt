@@ -33,6 +33,7 @@ impl Model for KTime {
 impl KTime {
     /// Returns the time this many seconds after 1970-01-01T00:00:00Z, if it is in the years 0000 to 9999.
     pub fn new(seconds: i64) -> Option<KTime>
+        // Promise: a time is made exactly from the seconds of the years 0000 to 9999.
         ensures { SomeIff result (IsCivilSecond seconds) seconds }
     {
         if seconds < FIRST_SECOND || seconds > LAST_SECOND {
@@ -44,6 +45,7 @@ impl KTime {
     /// Returns the time this many seconds after 1970-01-01T00:00:00Z, which must be in range.
     pub fn of(seconds: i64) -> KTime
         requires { IsCivilSecond seconds }
+        // Promise, as KTime::new: a time is made ..
         ensures { result ≡ seconds }
     {
         KTime { seconds }
@@ -51,6 +53,7 @@ impl KTime {
 
     /// Returns its seconds since 1970-01-01T00:00:00Z.
     pub fn seconds(self) -> i64
+        // Promise (value, range), as KTime::new: a time is made ..
         ensures value { result ≡ self }
         ensures range { IsCivilSecond result }
     {
@@ -61,6 +64,8 @@ impl KTime {
     /// time of day up to 23:59:59: no fraction, no leap second and no other time zone.
     #[tactic(auto, unfolding(crate::specs::Time::is_time, crate::specs::Time::time_value))]
     pub fn from_octets(octets: &[u8]) -> Option<KTime>
+        // Promise (value, one_spelling): a time is read exactly where the bytes are a civil date with a time of day;
+        // each time has one encoding.
         ensures value { result ≡ (if is_time octets.now then Some (time_value octets.now) else None) }
         ensures one_spelling { IfSome result (λ t. octets.now ≡ time_octets t) }
     {
@@ -74,6 +79,7 @@ impl KTime {
     /// Returns its fifteen bytes, YYYYMMDDHHMMSSZ.
     #[tactic(auto, using(crate::proofs::TimeLaws::time_again), unfolding(crate::specs::Time::time_octets))]
     pub fn to_octets(self) -> [u8; 15]
+        // Promise (octets, is_time, value): what is written of a time is read again.
         ensures octets { result ≡ time_octets self }
         // Reading the result gives this time again.
         ensures is_time { IsTrue (is_time result) }

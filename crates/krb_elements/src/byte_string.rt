@@ -42,6 +42,7 @@ impl<const TAG: u8> Model for ByteString<TAG> {
 impl<const TAG: u8> ByteString<TAG> {
     /// Returns these bytes as a string, without a copy.
     pub fn new(bytes: Vec<u8>) -> ByteString<TAG>
+        // Promise: a byte string has the bytes that it was made of; a copy has the same.
         ensures { result ≡ bytes.items }
     {
         ByteString { bytes }
@@ -49,6 +50,7 @@ impl<const TAG: u8> ByteString<TAG> {
 
     /// Returns a copy of these bytes as a string.
     pub fn from_slice(alloc: Global, bytes: &[u8]) -> Result<ByteString<TAG>, AllocError>
+        // Promise, as ByteString::new: a byte string has ..
         ensures { IfOk result (λ string. string ≡ bytes.now) }
     {
         let bytes = Vec::from_slice(alloc, bytes)?;
@@ -57,6 +59,7 @@ impl<const TAG: u8> ByteString<TAG> {
 
     /// Returns the bytes.
     pub fn as_slice(&self) -> &[u8]
+        // Promise, as ByteString::new: a byte string has ..
         ensures { result.now ≡ self.now }
     {
         self.bytes.as_slice()
@@ -64,6 +67,7 @@ impl<const TAG: u8> ByteString<TAG> {
 
     /// Returns a copy.
     pub fn copy(&self, alloc: Global) -> Result<ByteString<TAG>, AllocError>
+        // Promise, as ByteString::new: a byte string has ..
         ensures { IfOk result (λ string. string ≡ self.now) }
     {
         ByteString::from_slice(alloc, self.as_slice())
@@ -71,6 +75,7 @@ impl<const TAG: u8> ByteString<TAG> {
 
     /// Returns the bytes, without a copy.
     pub fn into_vec(self) -> Vec<u8>
+        // Promise, as ByteString::new: a byte string has ..
         ensures { result.items ≡ self.entry }
     {
         let ByteString { bytes } = self;
@@ -106,6 +111,7 @@ impl<'a, const TAG: u8> Model for ByteStringRef<'a, TAG> {
 impl<'a, const TAG: u8> ByteStringRef<'a, TAG> {
     /// Returns these bytes as a string.
     pub fn new(bytes: &'a [u8]) -> ByteStringRef<'a, TAG>
+        // Promise, as ByteString::new: a byte string has ..
         ensures { result ≡ bytes.now }
     {
         ByteStringRef { bytes }
@@ -113,6 +119,7 @@ impl<'a, const TAG: u8> ByteStringRef<'a, TAG> {
 
     /// Returns the bytes, for as long as they are borrowed.
     pub fn as_slice(&self) -> &'a [u8]
+        // Promise, as ByteString::new: a byte string has ..
         ensures { result.now ≡ self.now }
     {
         let ByteStringRef { bytes } = self;

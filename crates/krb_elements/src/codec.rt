@@ -10,6 +10,7 @@ use std::alloc::{AllocError, Global};
 /// A type whose values have their own tag.
 pub trait Coded: Sized + Drop {
     /// Which bytes encode a value, what reading returns, and what is written.
+    // Promise: a type's codec, with all laws of codecs.
     ghost codec: { Codec Self };
 }
 
@@ -21,6 +22,7 @@ pub trait Fielded: Coded {
     /// Its fields.
     ghost form: { Record Self };
 
+    // Promise: a struct's codec is that of the list of its fields.
     ghost made: { AreSame Self.codec (in_tag Self.In.TAG (sequence form)) };
 }
 
@@ -52,6 +54,7 @@ impl<const N: u8> Round for Application<N> {
 /// Returns the identifier octet of `[APPLICATION n]`.
 pub fn application_tag(n: u8) -> u8
     requires { n < 31 }
+    // Promise: the identifier byte of [APPLICATION n] is 96 + n.
     ensures { result ≡ 96 + n }
 {
     0x60 + n
@@ -66,6 +69,7 @@ pub trait MakeOwned: Sized {
 
     /// Returns a copy that owns its parts.
     fn copy(&self, alloc: Global) -> Result<Self::Owned, AllocError>
+        // Promise: a copy that owns its parts has the same value; it is also read so, unless memory runs out.
         ensures { IfOk result (λ copy. copy ≡ Self.same self.now) };
 }
 

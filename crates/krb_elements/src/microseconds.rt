@@ -27,6 +27,7 @@ impl Model for Microseconds {
 impl Microseconds {
     /// Returns this many microseconds, if they are less than a second.
     pub fn new(value: u32) -> Option<Microseconds>
+        // Promise, as UInt32::new: a UInt32 and microseconds ..
         ensures { SomeIff result (IsMicrosecond value) value }
     {
         if value > 999_999 {
@@ -38,6 +39,7 @@ impl Microseconds {
     /// Returns this many microseconds, which must be less than a second.
     pub fn of(value: u32) -> Microseconds
         requires { IsMicrosecond value }
+        // Promise, as UInt32::new: a UInt32 and microseconds ..
         ensures { result ≡ value }
     {
         Microseconds { value }
@@ -45,6 +47,7 @@ impl Microseconds {
 
     /// Returns the number, from 0 to 999999.
     pub fn get(self) -> u32
+        // Promise (value, range), as UInt32::new: a UInt32 and microseconds ..
         ensures value { result ≡ self }
         ensures range { IsMicrosecond result }
     {

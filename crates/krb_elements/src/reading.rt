@@ -15,6 +15,7 @@ use std::marker::Model;
 pub trait Decode<'a>: Coded {
     /// Reads the value at the front.
     fn look(reader: &mut Reader<'a>) -> Result<Self, DerFault>
+        // Promise, as look_either: a value at the ..
         ensures { Looks result reader.new (Self.codec.at reader.old) };
 }
 
@@ -22,6 +23,7 @@ pub trait Decode<'a>: Coded {
 pub trait DecodeFields<'a>: Fielded {
     /// Reads the fields at the front, in order.
     fn look_fields(fields: &mut Reader<'a>) -> Result<Self, DerFault>
+        // Promise, as look_either: a value at the ..
         ensures { Looks result fields.new (fields_at Self.form fields.old) };
 }
 
@@ -35,12 +37,15 @@ impl<'a, T: DecodeFields<'a>> Decode<'a> for T {
 pub trait ReadOwned: Coded {
     /// Reads the value that all of the bytes encode, and copies its parts.
     fn read_parts(alloc: Global, bytes: &[u8]) -> Result<Self, Fault>
+        // Promise, as MakeOwned::copy: a copy that owns ..
         ensures { Decodes result (whole Self.codec.at bytes.now) };
 }
 
 /// Reads the value that the bytes encode.
 pub fn read<'a, T: Decode<'a>>(bytes: &'a [u8]) -> Result<T, DerFault>
     // If it succeeds, the bytes encode this value.
+    // Promise (found, only, exact): a value is read exactly from bytes that spell it, or with the error of its
+    // definition; if it owns its parts, unless memory runs out.
     ensures found { IfOk result (λ x. T.codec.Spells x bytes.now) }
     // If the bytes encode a value, it succeeds.
     ensures only { (x : T) → T.codec.Spells x bytes.now → IsOkAnd result (λ y. y ≡ x) }
@@ -53,6 +58,7 @@ pub fn read<'a, T: Decode<'a>>(bytes: &'a [u8]) -> Result<T, DerFault>
 /// Reads the value that the bytes encode, into one that owns its parts.
 pub fn read_owned<T: ReadOwned>(alloc: Global, bytes: &[u8]) -> Result<T, Fault>
     // If it succeeds, the bytes encode this value.
+    // Promise (found, only, exact), as read: a value is read ..
     ensures found { IfOk result (λ x. T.codec.Spells x bytes.now) }
     // If the bytes encode a value, it succeeds, unless memory runs out.
     ensures only { (x : T) → T.codec.Spells x bytes.now → IsReadUnlessMemory result x }
@@ -74,6 +80,7 @@ pub(crate) fn look_all<'a, T: Decode<'a>>(bytes: &'a [u8]) -> Result<T, DerFault
 
 /// Checks that nothing is left.
 pub fn end_of(fields: &Reader<'_>) -> Result<(), DerFault>
+    // Promise, as take_field: a field, an optional ..
     ensures { Sees result (end fields.now) }
 {
     if !fields.is_empty() {
@@ -92,6 +99,8 @@ fn look_inside<'a, T: Decode<'a>>(reader: &mut Reader<'a>, tag: u8) -> Result<T,
 /// Reads the field with this tag.
 pub fn take_field<'a, T: Decode<'a>>(fields: &mut Reader<'a>, n: u8) -> Result<T, DerFault>
     requires { n < 31 }
+    // Promise: a field, an optional field, a fixed number, and a field with its bytes as they were sent are each read
+    // as the definition says; so is the end of the fields.
     ensures { Looks result fields.new (inside (160 + n) (whole T.codec.at) fields.old) }
 {
     look_inside(fields, 0xa0 + n)
@@ -103,6 +112,7 @@ pub fn take_optional<'a, T: Decode<'a>>(
     n: u8,
 ) -> Result<Option<T>, DerFault>
     requires { n < 31 }
+    // Promise, as take_field: a field, an optional ..
     ensures { Looks result fields.new (maybe (160 + n) T.codec.at fields.old) }
 {
     match fields.peek_tag() {
@@ -114,6 +124,7 @@ pub fn take_optional<'a, T: Decode<'a>>(
 /// Reads the field with this tag, which must be this number, such as a message's version.
 pub fn take_fixed(fields: &mut Reader<'_>, n: u8, number: i32) -> Result<(), DerFault>
     requires { n < 31 }
+    // Promise, as take_field: a field, an optional ..
     ensures { Looks result fields.new (inside (160 + n) (whole (fixed_at number)) fields.old) }
 {
     let mut contents = Reader::new(fields.read_tlv(0xa0 + n)?);
@@ -153,6 +164,7 @@ impl<'a, T> Model for Sent<'a, T> {
 /// Reads the field with this tag, and keeps its bytes as they were sent.
 pub fn take_sent<'a, T: Decode<'a>>(fields: &mut Reader<'a>, n: u8) -> Result<Sent<'a, T>, DerFault>
     requires { n < 31 }
+    // Promise, as take_field: a field, an optional ..
     ensures { Looks result fields.new (inside (160 + n) (sent (whole T.codec.at)) fields.old) }
 {
     let octets = fields.read_tlv(0xa0 + n)?;
@@ -166,6 +178,7 @@ pub fn look_either<'a, K: Copy, T: Decode<'a>>(
     first: (u8, K),
     second: (u8, K),
 ) -> Result<(K, T), DerFault>
+    // Promise: a value at the front of a list or of fields is read, or the error returned, as the definition says.
     ensures { Looks result reader.new (either_inside first second T.codec.at reader.old) }
 {
     match reader.peek_tag() {

@@ -21,6 +21,7 @@ impl<T> Model for Seq<T> {
 impl<T> Seq<T> {
     /// Returns an empty list. It allocates nothing.
     pub fn new(alloc: Global) -> Seq<T>
+        // Promise: a list has the elements that it was made of, in their order.
         ensures { result ≡ [] }
     {
         Seq {
@@ -30,6 +31,7 @@ impl<T> Seq<T> {
 
     /// Returns the list of these values, without a copy.
     pub fn from_vec(items: Vec<T>) -> Seq<T>
+        // Promise, as Seq::new: a list has the ..
         ensures { result ≡ items.items }
     {
         Seq { items }
@@ -37,6 +39,7 @@ impl<T> Seq<T> {
 
     /// Returns the values, in order.
     pub fn as_slice(&self) -> &[T]
+        // Promise, as Seq::new: a list has the ..
         ensures { result.now ≡ self.now }
     {
         self.items.as_slice()
@@ -44,6 +47,7 @@ impl<T> Seq<T> {
 
     /// Returns the number of values.
     pub fn len(&self) -> usize
+        // Promise, as Seq::new: a list has the ..
         ensures { result ≡ length self.now }
     {
         self.items.len()
@@ -51,6 +55,7 @@ impl<T> Seq<T> {
 
     /// Checks whether there is no value.
     pub fn is_empty(&self) -> bool
+        // Promise, as Seq::new: a list has the ..
         ensures { IsTrue result ↔ (self.now ≡ []) }
     {
         self.items.is_empty()
@@ -58,6 +63,8 @@ impl<T> Seq<T> {
 
     /// Appends a value.
     pub fn push(&mut self, item: T) -> Result<(), AllocFailed<T>>
+        // Promise (ok, err, item_returned): an element is put at a list's end; if memory runs out, the list is
+        // unchanged and the element is returned.
         ensures ok { OnOk result (self.new ≡ self.old ++ item ∷ []) }
         ensures err { OnErr result (self.new ≡ self.old) }
         ensures item_returned { IfErr result (λ failed. failed.value ≡ item) }

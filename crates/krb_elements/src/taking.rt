@@ -15,6 +15,7 @@ use std::alloc::Global;
 pub trait TakeOwned: Coded {
     /// Reads the value at the front.
     fn take_parts(alloc: Global, reader: &mut Reader<'_>) -> Result<Self, Fault>
+        // Promise, as take_whole: an element of a ..
         ensures { Takes result reader.new (Self.codec.at reader.old) };
 }
 
@@ -22,6 +23,7 @@ pub trait TakeOwned: Coded {
 pub trait TakeFields: Fielded {
     /// Reads the fields at the front, in order.
     fn take_fields(alloc: Global, fields: &mut Reader<'_>) -> Result<Self, Fault>
+        // Promise, as take_whole: an element of a ..
         ensures { Takes result fields.new (fields_at Self.form fields.old) };
 }
 
@@ -34,6 +36,8 @@ impl<const TAG: u8> TakeOwned for ByteString<TAG> {
 
 /// Reads a value that takes up all of the bytes.
 pub fn take_whole<T: TakeOwned>(alloc: Global, bytes: &[u8]) -> Result<T, Fault>
+    // Promise: an element of a list, a field, an optional field: each is taken as the definition says, and owns its
+    // parts.
     ensures { Decodes result (whole T.codec.at bytes.now) }
 {
     let mut reader = Reader::new(bytes);
@@ -45,6 +49,7 @@ pub fn take_whole<T: TakeOwned>(alloc: Global, bytes: &[u8]) -> Result<T, Fault>
 /// Reads the field with this tag, into a value that owns its parts.
 pub fn take_owned<T: TakeOwned>(alloc: Global, fields: &mut Reader<'_>, n: u8) -> Result<T, Fault>
     requires { n < 31 }
+    // Promise, as take_whole: an element of a ..
     ensures { Takes result fields.new (inside (160 + n) (whole T.codec.at) fields.old) }
 {
     take_whole(alloc, fields.read_tlv(0xa0 + n)?)
@@ -57,6 +62,7 @@ pub fn take_owned_optional<T: TakeOwned>(
     n: u8,
 ) -> Result<Option<T>, Fault>
     requires { n < 31 }
+    // Promise, as take_whole: an element of a ..
     ensures { Takes result fields.new (maybe (160 + n) T.codec.at fields.old) }
 {
     match fields.peek_tag() {
@@ -67,6 +73,7 @@ pub fn take_owned_optional<T: TakeOwned>(
 
 /// Reads the SEQUENCE of a type's fields.
 pub fn take_sequence<T: TakeFields>(alloc: Global, reader: &mut Reader<'_>) -> Result<T, Fault>
+    // Promise, as take_whole: an element of a ..
     ensures { Takes result reader.new ((sequence T.form).at reader.old) }
 {
     fields_in(alloc, reader.read_tlv(0x30)?)

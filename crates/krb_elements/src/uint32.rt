@@ -30,6 +30,7 @@ impl Model for UInt32 {
 impl UInt32 {
     /// Returns the number, if it is in range.
     pub fn new(value: i64) -> Option<UInt32>
+        // Promise: a UInt32 and microseconds are made exactly of the numbers of their ranges.
         ensures { SomeIff result (IsUInt32 value) value }
     {
         if value < -2147483648 || 4294967295 < value {
@@ -40,6 +41,7 @@ impl UInt32 {
 
     /// Returns the number as it was sent, from -2147483648 to 4294967295.
     pub fn get(self) -> i64
+        // Promise (value, range), as UInt32::new: a UInt32 and microseconds ..
         ensures value { result ≡ self }
         ensures range { IsUInt32 result }
     {

@@ -18,6 +18,7 @@ pub trait Encode: Coded {
     /// Appends the value. After an `Err` a part of it may follow what was written before.
     fn put(&self, out: &mut Writer) -> Result<(), AllocError>
         requires { length (Self.codec.text self.now) < 2 ^ 32 }
+        // Promise (ok, fits, kept), as write_field: a value, a field, ..
         ensures ok { OnOk result (out.new ≡ out.old ++ tlv Self.codec.tag (Self.codec.text self.now)) }
         // Its numbers are in range.
         ensures fits { OnOk result (Self.codec.Fits self.now) }
@@ -30,6 +31,7 @@ pub trait EncodeFields: Fielded {
     /// Appends the fields in order. After an `Err` a part of them may follow what was written before.
     fn put_fields(&self, out: &mut Writer) -> Result<(), AllocError>
         requires { length (fields_text Self.form self.now) < 2 ^ 32 }
+        // Promise (ok, fits, kept), as write_field: a value, a field, ..
         ensures ok { OnOk result (out.new ≡ fields_onto Self.form out.old self.now) }
         ensures fits { OnOk result (FitFields Self.form self.now) }
         ensures kept { Continues out.old out.new };
@@ -44,6 +46,8 @@ impl<T: EncodeFields> Encode for T {
 /// Returns the encoding of the value.
 pub fn write<T: Encode>(alloc: Global, value: &T) -> Result<Vec<u8>, AllocError>
     requires { length (T.codec.text value.now) < 2 ^ 32 }
+    // Promise (written, spelled): a value is written as its codec says, in bytes that spell it, if its contents have
+    // fewer than 2^32 bytes.
     ensures written { IfOk result (λ v. v.items ≡ written T.codec value.now) }
     ensures spelled { IfOk result (λ v. T.codec.Spells value.now v.items) }
 {
@@ -56,6 +60,7 @@ pub fn write<T: Encode>(alloc: Global, value: &T) -> Result<Vec<u8>, AllocError>
 #[tactic(auto, using(crate::specs::WrittenLaws::tlv_longer))]
 pub fn write_inside<T: Encode>(alloc: Global, tag: u8, value: &T) -> Result<Vec<u8>, AllocError>
     requires { length (tlv T.codec.tag (T.codec.text value.now)) < 2 ^ 32 }
+    // Promise (written, spelled), as write: a value is written ..
     ensures written { IfOk result (λ v. v.items ≡ tlv tag (tlv T.codec.tag (T.codec.text value.now))) }
     ensures spelled { IfOk result (λ v. Inside tag T.codec.Spells value.now v.items) }
 {
@@ -70,6 +75,8 @@ pub fn write_inside<T: Encode>(alloc: Global, tag: u8, value: &T) -> Result<Vec<
 pub fn write_field<T: Encode>(out: &mut Writer, n: u8, value: &T) -> Result<(), AllocError>
     requires tag { n < 31 }
     requires short { length (field_text (160 + n) T.codec.tag (T.codec.text value.now)) < 2 ^ 32 }
+    // Promise (ok, fits, kept): a value, a field, an optional field: each is appended as its codec says, and its
+    // numbers are in their ranges; what was written before stands, also if memory runs out.
     ensures ok { OnOk result (out.new ≡ out.old ++ field_text (160 + n) T.codec.tag (T.codec.text value.now)) }
     ensures fits { OnOk result (T.codec.Fits value.now) }
     ensures kept { Continues out.old out.new }
@@ -89,6 +96,7 @@ pub fn write_optional<T: Encode>(
 ) -> Result<(), AllocError>
     requires tag { n < 31 }
     requires short { length (maybe_text (160 + n) T.codec.tag T.codec.text value.now) < 2 ^ 32 }
+    // Promise (ok, fits, kept), as write_field: a value, a field, ..
     ensures ok { OnOk result (out.new ≡ out.old ++ maybe_text (160 + n) T.codec.tag T.codec.text value.now) }
     ensures fits { OnOk result (IfSome value.now T.codec.Fits) }
     ensures kept { Continues out.old out.new }

@@ -27,6 +27,7 @@ pub trait NamedBit: Copy {
 
     /// Returns the number of the bit, 0 to 31, counted from the most significant.
     fn number(self) -> u32
+        // Promise (value, within), as Code::number: each code, flag and ..
         ensures value { result ≡ bit_number self }
         ensures within { result < 32 };
 }
@@ -34,6 +35,8 @@ pub trait NamedBit: Copy {
 impl Flags {
     /// Returns the flags with these bits: bit 0 is the most significant.
     pub fn from_bits(bits: u32) -> Flags
+        // Promise: flags are the 32 bits that they were made of; bits are set and cleared one by one, and all others
+        // stay.
         ensures { result ≡ bits }
     {
         Flags { bits }
@@ -41,6 +44,7 @@ impl Flags {
 
     /// Returns the bits: bit 0 is the most significant.
     pub fn bits(self) -> u32
+        // Promise, as Flags::from_bits: flags are the 32 ..
         ensures { result ≡ self }
     {
         self.bits
@@ -48,6 +52,7 @@ impl Flags {
 
     /// Checks whether the bit is set.
     pub fn has<B: NamedBit>(self, bit: B) -> bool
+        // Promise, as Flags::from_bits: flags are the 32 ..
         ensures { result ≡ has_bit self (B.bit_number bit) }
     {
         (self.bits >> (31 - bit.number())) & 1 == 1
@@ -55,6 +60,7 @@ impl Flags {
 
     /// Returns these flags with the bit set.
     pub fn with<B: NamedBit>(self, bit: B) -> Flags
+        // Promise (value, bits), as Flags::from_bits: flags are the 32 ..
         ensures value { result ≡ with_bit self (B.bit_number bit) }
         ensures bits { (n : ℕ) → n < 32
             → has_bit result n ≡ (n == B.bit_number bit || has_bit self n) }
@@ -66,6 +72,7 @@ impl Flags {
 
     /// Returns these flags with the bit cleared.
     pub fn without<B: NamedBit>(self, bit: B) -> Flags
+        // Promise (value, bits), as Flags::from_bits: flags are the 32 ..
         ensures value { result ≡ without_bit self (B.bit_number bit) }
         ensures bits { (n : ℕ) → n < 32
             → has_bit result n ≡ (not (n == B.bit_number bit) && has_bit self n) }

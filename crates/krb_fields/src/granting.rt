@@ -9,6 +9,7 @@ use std::alloc::{AllocError, Global};
 /// Returns the name of a realm's ticket-granting service, `krbtgt/REALM`, with name-type NT-SRV-INST (RFC 4120 section
 /// 7.3).
 pub fn tgs_name(alloc: Global, realm: &[u8]) -> Result<Name, AllocError>
+    // Promise: the default salt; a realm's ticket-granting service is `krbtgt/REALM`.
     ensures { IfOk result (λ name. name ≡ tgs_name realm.now) }
 {
     Name::new(alloc, NT_SRV_INST, &[b"krbtgt", realm])

@@ -26,6 +26,8 @@ impl Moment {
 
     /// Returns the moment, if both numbers are in range.
     pub fn new(sec: i64, usec: u32) -> Option<Moment>
+        // Promise (found, value): a moment is made exactly where both numbers are in range, and gives both as a message
+        // has them.
         ensures found { IsSome result ↔ (IsSecond sec × IsMicrosecond usec) }
         ensures value { IfSome result (λ at. (at.sec ≡ sec) × (at.usec ≡ usec)) }
     {
@@ -38,6 +40,7 @@ impl Moment {
 
     /// Returns its whole seconds, as a message has them.
     pub fn time(self) -> KTime
+        // Promise, as Moment::new: a moment is made ..
         ensures { result ≡ self.sec }
     {
         KTime::of(self.sec)
@@ -45,6 +48,7 @@ impl Moment {
 
     /// Returns its microseconds, as a message has them.
     pub fn microseconds(self) -> Microseconds
+        // Promise, as Moment::new: a moment is made ..
         ensures { result ≡ self.usec }
     {
         Microseconds::of(self.usec)

@@ -16,6 +16,7 @@ pub const MAX_OCTETS: usize = 255;
 
 /// Checks whether these are the bytes of a component or a realm: 1 to 255 of them.
 pub fn is_component(octets: &[u8]) -> bool
+    // Promise: the limits of names and components.
     ensures { result ≡ is_component octets.now }
 {
     !octets.is_empty() && octets.len() <= MAX_OCTETS
@@ -24,6 +25,7 @@ pub fn is_component(octets: &[u8]) -> bool
 impl Name {
     /// Checks whether the name has 1 to 16 components of 1 to 255 bytes.
     pub fn is_within_limits(&self) -> bool
+        // Promise, as is_component: the limits of names ..
         ensures { result ≡ is_within_limits self.now.components }
     {
         let components = self.components.as_slice();

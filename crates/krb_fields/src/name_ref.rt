@@ -10,6 +10,7 @@ use std::cmp::Ordering;
 impl<'a> NameRef<'a> {
     /// Returns a copy that owns its components.
     pub fn to_name(&self, alloc: Global) -> Result<Name, AllocError>
+        // Promise, as Name::new: a name is made ..
         ensures { IfOk result (λ name. name ≡ self.now) }
     {
         self.copy(alloc)
@@ -17,6 +18,7 @@ impl<'a> NameRef<'a> {
 
     /// Compares names by their components, like [`Name::order`].
     pub fn order(&self, other: &Name) -> Ordering
+        // Promise, as Name::order: names are ordered, and ..
         ensures { result ≡ name_cmp self.now.components other.now.components }
     {
         let mut theirs = other.components.as_slice();

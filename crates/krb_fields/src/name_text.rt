@@ -66,6 +66,8 @@ impl Name {
     ///
     /// Fails with `BadName` if the text is not that of such a name.
     pub fn from_text(alloc: Global, text: &str) -> Result<Name, NameFault>
+        // Promise (ok, name_type, read): a text is read exactly if it is the text of a name within the limits, with
+        // name-type 1.
         ensures ok { IfOk result (λ name. IsNameText name.components text.now) }
         ensures name_type { IfOk result (λ name. name.name_type ≡ NT_PRINCIPAL) }
         ensures read { (n : Components) → IsNameText n text.now
@@ -80,6 +82,7 @@ impl Name {
 
     /// Returns the text of the name's components.
     pub fn to_text(&self, alloc: Global) -> Result<String, AllocError>
+        // Promise (text, own): a name is written as its text, and no other name within the limits has that text.
         ensures text { IfOk result (λ text. string_bytes text ≡ text_of self.now.components) }
 
         // No other name within the limits has this text.
@@ -93,6 +96,7 @@ impl Name {
 
     /// Appends the text of the name's components.
     pub fn push_text(&self, text: &mut Vec<u8>) -> Result<(), AllocError>
+        // Promise, as Name::to_text: a name is written ..
         ensures text { OnOk result (text.new.items ≡ text.old.items ++ text_of self.now.components) }
         ensures ascii { OnOk result (IsAscii (text_of self.now.components)) }
     {
@@ -108,6 +112,7 @@ impl Name {
 
 /// Reads a component within the limits, or a realm, whose text is like that of one component.
 pub fn component_from_text(alloc: Global, text: &str) -> Result<KerberosString, NameFault>
+    // Promise (ok, read): a text is read, and written, exactly so for one component, or a realm.
     ensures ok { IfOk result (λ octets. IsComponentText octets text.now) }
     ensures read { (c : List ℕ) → IsComponentText c text.now
         → MatchResult result (λ octets. octets ≡ c) (λ fault. fault ≡ Memory) }
@@ -132,6 +137,7 @@ pub fn component_from_text(alloc: Global, text: &str) -> Result<KerberosString, 
 
 /// Returns the text of a component or a realm.
 pub fn component_to_text(alloc: Global, octets: &[u8]) -> Result<String, AllocError>
+    // Promise, as component_from_text: a text is read, ..
     ensures { IfOk result (λ text. string_bytes text ≡ component_text octets.now) }
 {
     let mut text = Vec::new(alloc);

@@ -28,6 +28,7 @@ impl Model for Second {
 impl Second {
     /// Returns the second, if the number is in range.
     pub fn new(value: i64) -> Option<Second>
+        // Promise: a second is made exactly from 0 to 253402300799.
         ensures { SomeIff result (IsSecond value) value }
     {
         if (0..=Moment::LAST_SECOND).contains(&value) {
@@ -39,6 +40,7 @@ impl Second {
 
     /// Returns the number: whole seconds since the start of 1970.
     pub fn get(self) -> i64
+        // Promise (value, range), as Second::new: a second is made ..
         ensures value { result ≡ self }
         ensures range { IsSecond result }
     {

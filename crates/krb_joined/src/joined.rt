@@ -40,6 +40,8 @@ pub fn end_to_end(
     client: &Client,
 ) -> Result<Accepted, JoinedFault>
     requires { IsShortChecksum client.now.wanted.checksum }
+    // Promise (value, repeated): all in one: from any request, through all five calls, what was issued, now or with a
+    // stored reply, and taken is accepted by such a service, if its conditions hold, unless memory runs out.
     ensures value { IfSome (issue_for kdc.old answering.now.issuing request.now) (λ issue.
         IsReader client.now.reader issue
         → MayBeAccepted issue acceptor.old answering.now.accepting.at.sec client.now.presenting.at
@@ -52,6 +54,8 @@ pub fn end_to_end(
         → IsJoined issue client.now.wanted client.now.presenting.at result }
     // For every reply that the client accepts, either its ticket can't be presented, or the client also reads the
     // AP-REP before anything counts as accepted.
+    // Promise (presented, ended): if the path ends before that, the KDC gave no reply (then it issued nothing), or the
+    // client's rules refuse the reply, or what it took can't be presented.
     ensures presented { IfSome (reply_to kdc.old answering.now.issuing request.now) (λ octets.
         IfOk (reads_reply client.now.reader client.now.asked octets) (λ credential.
         IsPresented credential client.now.presenting.at result)) }
@@ -61,6 +65,8 @@ pub fn end_to_end(
         client.now.asked client.now.reader) }
     // Whatever the KDC issued, the service's answer and new state are those that its rules prescribe for the AP-REQ
     // that the client makes from the reply.
+    // Promise (ruled, served): whatever was issued, what is accepted or refused, and the service's state, are what its
+    // rules say of the credential that the client takes.
     ensures ruled { IsRuled
         (key_of (taken_of (reply_to kdc.old answering.now.issuing request.now) client.now.asked client.now.reader))
         client.now.presenting.at
@@ -70,6 +76,7 @@ pub fn end_to_end(
         (ruled acceptor.old client.now.wanted client.now.presenting answering.now.accepting
         (taken_of (reply_to kdc.old answering.now.issuing request.now) client.now.asked client.now.reader)) result }
     // The KDC's state is the one after this request, or the old one if the KDC ran out of memory.
+    // Promise, as obtain: the KDC afterwards is ..
     ensures kept { IsNextStateOn kdc.old kdc.new (state_after kdc.old answering.now.issuing request.now) result }
 {
     match obtain(alloc, kdc, &answering.issuing, request, client) {

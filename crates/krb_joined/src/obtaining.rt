@@ -38,6 +38,8 @@ pub fn obtain(
     client: &Client,
 ) -> Result<Credential, JoinedFault>
     // If the KDC issues a ticket and the client reads the reply with its key, it gets the credential of that ticket.
+    // Promise (obtained, repeated): if the KDC issues a ticket, and the client takes the reply with the reply key, it
+    // takes the credential of that ticket; if a stored reply is sent again, that of the ticket that was issued then.
     ensures obtained { IfOk result (λ credential.
         IfSome (issue_for kdc.old issuing.now request.now) (λ issue.
         IsReader client.now.reader issue → IsCredentialOf issue credential)) }
@@ -45,6 +47,7 @@ pub fn obtain(
     ensures repeated { (issue : Issue) (octets : List ℕ)
         → reply_to kdc.old issuing.now request.now ≡ Some octets
         → IsIssued issue octets → IsReader client.now.reader issue → IfOk result (IsCredentialOf issue) }
+    // Promise (read, before, ended): what the client doesn't take, its rules refuse; and no service is asked before.
     ensures read { IfOk result
         (IsRead (reply_to kdc.old issuing.now request.now) client.now.asked client.now.reader) }
     // Otherwise it fails before a service is asked: there is no reply, or the client rejects it.
@@ -52,6 +55,8 @@ pub fn obtain(
     ensures ended { IfErr result
         (IsEnded (reply_to kdc.old issuing.now request.now) client.now.asked client.now.reader) }
     // The KDC's state is the one after this request, or the old one if the KDC ran out of memory.
+    // Promise: the KDC afterwards is the one that this request leaves, by its own rules; if it ran out of memory, it is
+    // as it was (of `end_to_end` that ends with `Memory`: one of the two).
     ensures kept { IsNextState kdc.old kdc.new (state_after kdc.old issuing.now request.now) result }
 {
     let reply = replied(alloc, kdc, issuing, request)?;

@@ -36,16 +36,29 @@ pub fn present(
 ) -> Result<Accepted, JoinedFault>
     requires { IsShortChecksum client.now.wanted.checksum }
     // A service accepts the credential of an issued ticket.
+    // Promise: the credential of a ticket that was issued is accepted, if it is valid then, by a service whose keytab
+    // holds, in the entry that the acceptor picks, the key that encrypted the ticket.
+    // Promise: it is valid then if the INVALID flag is clear, the start is at most 300 seconds after that moment and
+    // the end at most 300 seconds before it, and the authenticator's time is fresh.
+    // Promise: the service learns the client, the session key, the flags and the times that were granted, and the
+    // subkey, the sequence number and the checksum that were sent.
+    // Promise: the service answers with an AP-REP exactly if it was asked to, and the client takes that.
     ensures value { (issue : Issue) → IsCredentialOf issue credential.now
         → MayBeAccepted issue acceptor.old accepting.now.at.sec client.now.presenting.at
         → IsJoined issue client.now.wanted client.now.presenting.at result }
+    // Promise (presented, ruled): for any credential from any issuer: what is accepted, or which rule refuses it, is
+    // what the service's rules say of the AP-REQ that the client makes from it, with this moment and this confounder.
     ensures presented { IsPresented credential.now client.now.presenting.at result }
     // For any credential, the service's answer and new state are those that its rules prescribe for the client's
     // AP-REQ.
+    // Promise (ruled, served): the AP-REP, with the service's own confounder, and the service's state afterwards are
+    // what these rules say, too.
     ensures ruled { IsRuled (definitions.session_key credential.now) client.now.presenting.at
         (ruled acceptor.old client.now.wanted client.now.presenting accepting.now (Some credential.now)) result }
     ensures served { IsServed acceptor.old acceptor.new
         (ruled acceptor.old client.now.wanted client.now.presenting accepting.now (Some credential.now)) result }
+    // Promise: the client takes the AP-REP before anything counts as accepted, and if it doesn't, that is an error of
+    // this AP-REP; no error of the KDC is returned.
     ensures later { IfErr result IsLater }
 {
     look(client.wanted.subkey);

@@ -87,10 +87,12 @@ impl ReadOwned for ApRep {
 
 /// Reads the AP-REP that the bytes encode.
 pub fn decode_ap_rep(alloc: Global, bytes: &[u8]) -> Result<ApRep, Fault>
+    // Promise (found, only, exact), as decode_krb_error: KRB-ERROR, AP-REQ and AP-REP ..
     ensures found { IfOk result (λ reply. ap_rep.Spells reply bytes.now) }
     ensures only { (reply : trees.ApRep) → ap_rep.Spells reply bytes.now → IsReadUnlessMemory result reply }
     ensures exact { Decodes result (whole ap_rep.at bytes.now) }
     // An AP-REP has only one encoding.
+    // Promise, as decode_krb_error: a KRB-ERROR and an ..
     ensures one { IfOk result (λ reply. bytes.now ≡ written ap_rep reply) }
 {
     read_owned(alloc, bytes)
@@ -99,6 +101,7 @@ pub fn decode_ap_rep(alloc: Global, bytes: &[u8]) -> Result<ApRep, Fault>
 /// Returns the encoding of the AP-REP.
 pub fn encode_ap_rep(alloc: Global, reply: &ApRep) -> Result<Vec<u8>, AllocError>
     requires { length (ap_rep.text reply.now) < 2 ^ 32 }
+    // Promise (written, spelled), as encode_kdc_req: what is written of ..
     ensures written { IfOk result (λ v. v.items ≡ written ap_rep reply.now) }
     ensures spelled { IfOk result (λ v. ap_rep.Spells reply.now v.items) }
 {

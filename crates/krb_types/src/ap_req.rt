@@ -108,6 +108,8 @@ impl ReadOwned for ApReq {
 /// Reads an AP-REQ in place, without allocating.
 pub fn read_ap_req(bytes: &[u8]) -> Result<ApReqRef<'_>, DerFault>
     // If it succeeds, the bytes encode this AP-REQ.
+    // Promise (found, only, exact): an AP-REQ is read exactly from the bytes that spell it; which error it is. Reading
+    // it borrowed allocates nothing.
     ensures found { IfOk result (λ request. ap_req.Spells request bytes.now) }
     // If the bytes encode an AP-REQ, it succeeds.
     ensures only { (request : trees.ApReq) → ap_req.Spells request bytes.now
@@ -115,6 +117,7 @@ pub fn read_ap_req(bytes: &[u8]) -> Result<ApReqRef<'_>, DerFault>
     // The result, including the error, is that of the definition.
     ensures exact { Sees result (whole ap_req.at bytes.now) }
     // The parts are shorter than the bytes.
+    // Promise: an AP-REQ's ticket, its authenticator and both ciphers have shorter contents than it.
     ensures short { IfOk result (λ request. HasShorterParts bytes.now request) }
 {
     read(bytes)
@@ -122,10 +125,12 @@ pub fn read_ap_req(bytes: &[u8]) -> Result<ApReqRef<'_>, DerFault>
 
 /// Reads the AP-REQ that the bytes encode.
 pub fn decode_ap_req(alloc: Global, bytes: &[u8]) -> Result<ApReq, Fault>
+    // Promise (found, only, exact), as decode_krb_error: KRB-ERROR, AP-REQ and AP-REP ..
     ensures found { IfOk result (λ request. ap_req.Spells request bytes.now) }
     ensures only { (request : trees.ApReq) → ap_req.Spells request bytes.now → IsReadUnlessMemory result request }
     ensures exact { Decodes result (whole ap_req.at bytes.now) }
     // The AP-REQ is short enough to be written again.
+    // Promise: an AP-REQ written again has contents of less than three times its bytes.
     ensures short { IfOk result (λ request. length (ap_req.text request) < 3 * length bytes.now) }
 {
     read_owned(alloc, bytes)
@@ -134,6 +139,7 @@ pub fn decode_ap_req(alloc: Global, bytes: &[u8]) -> Result<ApReq, Fault>
 /// Returns the encoding of the AP-REQ.
 pub fn encode_ap_req(alloc: Global, request: &ApReq) -> Result<Vec<u8>, AllocError>
     requires { length (ap_req.text request.now) < 2 ^ 32 }
+    // Promise (written, spelled), as encode_kdc_req: what is written of ..
     ensures written { IfOk result (λ v. v.items ≡ written ap_req request.now) }
     ensures spelled { IfOk result (λ v. ap_req.Spells request.now v.items) }
 {

@@ -152,6 +152,8 @@ impl ReadOwned for EncTicketPart {
 
 /// Reads the EncTicketPart that the bytes encode.
 pub fn decode_enc_ticket_part(alloc: Global, bytes: &[u8]) -> Result<EncTicketPart, Fault>
+    // Promise (found, only, exact): the parts of tickets, authenticators, services' answers and timestamps are read
+    // exactly where they are spelled, unless memory runs out; which error it is.
     ensures found { IfOk result (λ x. enc_ticket_part.Spells x bytes.now) }
     ensures only { (x : trees.EncTicketPart) → enc_ticket_part.Spells x bytes.now → IsReadUnlessMemory result x }
     ensures exact { Decodes result (whole enc_ticket_part.at bytes.now) }
@@ -162,6 +164,7 @@ pub fn decode_enc_ticket_part(alloc: Global, bytes: &[u8]) -> Result<EncTicketPa
 /// Returns the encoding of the EncTicketPart.
 pub fn encode_enc_ticket_part(alloc: Global, part: &EncTicketPart) -> Result<Vec<u8>, AllocError>
     requires { length (enc_ticket_part.text part.now) < 2 ^ 32 }
+    // Promise (written, spelled): what is written of these parts spells the value.
     ensures written { IfOk result (λ v. v.items ≡ written enc_ticket_part part.now) }
     ensures spelled { IfOk result (λ v. enc_ticket_part.Spells part.now v.items) }
 {

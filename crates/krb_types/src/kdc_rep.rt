@@ -170,6 +170,8 @@ impl<const TYPE: u8> ReadOwned for KdcRep<TYPE> {
 /// Reads an AS-REP or a TGS-REP, by its type, in place and without allocating.
 pub fn read_kdc_rep<const TYPE: u8>(bytes: &[u8]) -> Result<KdcRepRef<'_, TYPE>, DerFault>
     // If it succeeds, the bytes encode this reply.
+    // Promise (found, only, exact): an AS-REP or a TGS-REP is read exactly from the bytes that spell it; which error it
+    // is. It allocates nothing.
     ensures found { IfOk result (λ reply. (kdc_rep TYPE).Spells reply bytes.now) }
     // If the bytes encode a reply, it succeeds.
     ensures only { (reply : trees.KdcRep TYPE) → (kdc_rep TYPE).Spells reply bytes.now
@@ -177,6 +179,7 @@ pub fn read_kdc_rep<const TYPE: u8>(bytes: &[u8]) -> Result<KdcRepRef<'_, TYPE>,
     // The result, including the error, is that of the definition.
     ensures exact { Sees result (whole (kdc_rep TYPE).at bytes.now) }
     // The ticket is short enough to be written.
+    // Promise: the ticket of a reply that was read can be written.
     ensures short { IfOk result (λ reply. length (ticket.text reply.ticket) < 2 ^ 32) }
 {
     read(bytes)

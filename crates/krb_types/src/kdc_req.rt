@@ -30,6 +30,7 @@ pub enum Exchange {
 impl Exchange {
     /// Returns the message type of its requests.
     pub fn request_type(self) -> u8
+        // Promise: the message type, which is also the tag's number.
         ensures { result ≡ request_type self }
     {
         match self {
@@ -126,14 +127,19 @@ fn look_message(bytes: &[u8]) -> Result<(Exchange, KdcReqRef<'_>), DerFault>
 /// Reads an AS-REQ or a TGS-REQ in place, without allocating.
 pub fn read_kdc_req(bytes: &[u8]) -> Result<(Exchange, KdcReqRef<'_>), DerFault>
     // If it succeeds, the bytes encode this request.
+    // Promise (found, only, exact): a request is read exactly from the bytes that spell it, with the bytes of its body
+    // as they were sent; which error it is. It allocates nothing.
     ensures found { IfOk result (λ x. SpellsReceived x bytes.now) }
     // If the bytes encode a request, it succeeds.
     ensures only { (x : exchanges.Exchange × Received) → SpellsReceived x bytes.now → IsOkAnd result (λ y. y ≡ x) }
     // The result, including the error, is that of the definition.
     ensures exact { Sees result (whole received_at bytes.now) }
     // Without the bytes of its body, it is the request that the bytes encode.
+    // Promise: a list of bytes spells at most one request.
     ensures request { IfOk result (λ x. SpellsKdcReq (x.0, without_octets x.1) bytes.now) }
     // The text of the service's name is shorter than the request, so an answer that repeats the name can be encoded.
+    // Promise: the service's name has shorter contents than the request, so that a reply which repeats it has an
+    // encoding.
     ensures short { IfOk result (λ x. IsShorter bytes.now x.1.body.value.sname) }
 {
     look_message(bytes)
@@ -146,6 +152,7 @@ pub fn encode_kdc_req(
     request: &KdcReq,
 ) -> Result<Vec<u8>, AllocError>
     requires { length ((message exchange).text request.now) < 2 ^ 32 }
+    // Promise (written, spelled): what is written of a request, a KRB-ERROR, an AP-REQ and an AP-REP spells the value.
     ensures written { IfOk result (λ v. v.items ≡ written (message exchange) request.now) }
     ensures spelled { IfOk result (λ v. SpellsKdcReq (exchange, request.now) v.items) }
 {

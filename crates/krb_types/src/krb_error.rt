@@ -149,10 +149,13 @@ impl ReadOwned for KrbError {
 
 /// Reads the KRB-ERROR that the bytes encode.
 pub fn decode_krb_error(alloc: Global, bytes: &[u8]) -> Result<KrbError, Fault>
+    // Promise (found, only, exact): KRB-ERROR, AP-REQ and AP-REP are read exactly where they are spelled, unless memory
+    // runs out; which error it is.
     ensures found { IfOk result (λ error. krb_error.Spells error bytes.now) }
     ensures only { (error : trees.KrbError) → krb_error.Spells error bytes.now → IsReadUnlessMemory result error }
     ensures exact { Decodes result (whole krb_error.at bytes.now) }
     // A KRB-ERROR has only one encoding.
+    // Promise: a KRB-ERROR and an AP-REP have one encoding.
     ensures one { IfOk result (λ error. bytes.now ≡ written krb_error error) }
 {
     read_owned(alloc, bytes)
@@ -161,6 +164,7 @@ pub fn decode_krb_error(alloc: Global, bytes: &[u8]) -> Result<KrbError, Fault>
 /// Returns the encoding of the KRB-ERROR.
 pub fn encode_krb_error(alloc: Global, error: &KrbError) -> Result<Vec<u8>, AllocError>
     requires { length (krb_error.text error.now) < 2 ^ 32 }
+    // Promise (written, spelled), as encode_kdc_req: what is written of ..
     ensures written { IfOk result (λ v. v.items ≡ written krb_error error.now) }
     ensures spelled { IfOk result (λ v. krb_error.Spells error.now v.items) }
 {

@@ -12,6 +12,7 @@ use std::alloc::Global;
 /// Reads the principals of a dump, in the order of their lines. Versions 5 to 8 of the format are read; policies are
 /// passed over.
 pub fn read_dump(alloc: Global, text: &[u8]) -> Result<Vec<DumpedPrincipal>, DumpFault>
+    // Promise, as import_dump of kadm_changes: `import --dump` makes a ..
     ensures { IfOk result (λ found. IsDump text.now found.items) }
 {
     let lines = match split_lines(alloc, text) {

@@ -62,6 +62,7 @@ impl DumpedPrincipal {
     /// Returns the keys that have a place in a row as entries of a keytab, the last key first, decrypted with a master
     /// key of MIT's stash file.
     pub fn entries(&self, alloc: Global, stash: &Keytab) -> Result<Vec<KeytabEntry>, KeyFault>
+        // Promise, as import_dump of kadm_changes: an imported database has ..
         ensures { IfOk result (λ entries. AreEntries stash.now self.now entries.items) }
     {
         let Some(master) = master_key(alloc, self, stash)? else {

@@ -105,6 +105,7 @@ const NORMAL_SALT: u32 = 0;
 impl DumpedPrincipal {
     /// Returns what has no place in a database of this realm.
     pub fn losses(&self, alloc: Global, realm: &[u8]) -> Result<Vec<Loss>, AllocError>
+        // Promise, as import_dump of kadm_changes: without `--skip` nothing of ..
         ensures { IfOk result (λ found. found.items ≡ losses realm.now self.now) }
     {
         let mut losses = Vec::new(alloc);

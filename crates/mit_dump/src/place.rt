@@ -10,8 +10,11 @@ use krb_fields::is_component;
 
 /// Returns the realm of a dump: that of the first principal `krbtgt/REALM@REALM`, if it has 1 to 255 bytes.
 pub fn dump_realm(found: &[DumpedPrincipal]) -> Option<&[u8]>
+    // Promise (realm, fits), as import_dump of kadm_changes: `import --dump` makes a ..
     ensures realm { IfSome result (λ realm. IsRealmOf found.now realm.now) }
     ensures fits { IfSome result (λ realm. IsComponent realm.now) }
+    // Promise: a dump has no realm only if it has no `krbtgt/REALM@REALM`, or the realm of the first is not of 1 to 255
+    // bytes.
     ensures none { IfNone result ((realm : List ℕ) → IsRealmOf found.now realm → ¬ IsComponent realm) }
 {
     let realm = granter(found)?.realm.as_slice();
@@ -47,6 +50,7 @@ impl DumpedPrincipal {
     /// Checks whether it has a row in a database of this realm: it is not MIT's own, and has a name within the limits
     /// and a key.
     pub fn has_place(&self, realm: &[u8]) -> bool
+        // Promise, as import_dump of kadm_changes: an imported database has ..
         ensures { result ≡ has_place realm.now self.now }
     {
         !self.is_own()

@@ -9,6 +9,8 @@ use std::alloc::{AllocError, Global};
 
 /// Returns the key whose encryption type has this number, if there is one.
 pub fn key_numbered(keys: &KeyList, number: i32) -> Option<&Key>
+    // Promise: the key of a type with a number, of the first of some types, and of the version that is named, else the
+    // current one.
     ensures { option_copied result ≡ key_numbered keys.now number }
 {
     keys.keys()
@@ -18,6 +20,7 @@ pub fn key_numbered(keys: &KeyList, number: i32) -> Option<&Key>
 
 /// Returns the key of this encryption type in the version with this number; without a number, in the current version.
 pub fn key_by(versions: &Versions, etype: i32, kvno: Option<UInt32>) -> Option<&Key>
+    // Promise, as key_numbered: the key of a ..
     ensures { option_copied result ≡ key_by versions.now etype kvno }
 {
     match kvno {
@@ -39,6 +42,7 @@ fn numbered(versions: &Versions, kvno: UInt32) -> Option<&KeyVersion>
 
 /// Returns the key of the first of these encryption types for which there is one.
 pub fn first_key<'k>(keys: &'k KeyList, types: &SeqRef<'_, i32>) -> Option<&'k Key>
+    // Promise, as key_numbered: the key of a ..
     ensures { option_copied result ≡ first_key keys.now types.now }
 {
     for number in types.iter() {
@@ -55,6 +59,8 @@ pub fn types_of(
     keys: &KeyList,
     types: &SeqRef<'_, i32>,
 ) -> Result<Vec<i32>, AllocError>
+    // Promise (value, few): the types in a reply to a client are those asked for that it has keys of, each once, and at
+    // most four.
     ensures value { IfOk result (λ found. found.items ≡ types_of keys.now types.now) }
     ensures few { IfOk result (λ found. length found.items ≤ 4) }
 {

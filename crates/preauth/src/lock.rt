@@ -9,6 +9,7 @@ use replay::Failures;
 
 /// Returns the failures that count for this key version of the client: none of those for another version.
 pub fn counted_for(failures: Failures, version: u32) -> Failures
+    // Promise (value, unlocked): failures for another key version don't count, so a new one ends a lock.
     ensures value { result ≡ counted_for failures version }
     // So a new version ends a lock.
     ensures unlocked { failures.version ≢ version → (l : limits.Limits) (now : ℤ) → is_locked result l now ≡ false }
@@ -27,6 +28,7 @@ pub fn counted_for(failures: Failures, version: u32) -> Failures
 
 /// Checks whether a client with these failures is locked at this moment.
 pub fn is_locked(failures: Failures, limits: &Limits, at: Moment) -> bool
+    // Promise: a client is locked exactly if it failed often enough, the last time not `lock_seconds` ago.
     ensures { result ≡ is_locked failures limits.now at.sec }
 {
     limits.lock_after != 0
@@ -36,6 +38,8 @@ pub fn is_locked(failures: Failures, limits: &Limits, at: Moment) -> bool
 
 /// Returns the failures after one more for the same key version, at this moment.
 pub fn after_failure(failures: Failures, at: Moment) -> Failures
+    // Promise: a failure counts one more for its key version, up to 4294967295; a success leaves none, and when the
+    // last was.
     ensures { result ≡ after_failure failures at }
 {
     Failures {
@@ -47,6 +51,7 @@ pub fn after_failure(failures: Failures, at: Moment) -> Failures
 
 /// Returns the failures after the client has shown its key: none is counted, so they are of no key version.
 pub fn after_success(failures: Failures) -> Failures
+    // Promise, as after_failure: a failure counts one ..
     ensures { result ≡ after_success failures }
 {
     Failures {

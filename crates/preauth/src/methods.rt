@@ -12,6 +12,7 @@ use std::alloc::{AllocError, Global};
 pub fn etype_info2(alloc: Global, salt: &[u8], types: &[i32]) -> Result<PaData, AllocError>
     requires short { length salt.now ≤ 8192 }
     requires few { length types.now ≤ 4 }
+    // Promise (value, short), as method_data: METHOD-DATA and PA-ETYPE-INFO2 are ..
     ensures value { IfOk result (λ made. made ≡ etype_info2 salt.now types.now) }
     ensures short { IfOk result (λ made. length made.padata_value ≤ 32926) }
 {
@@ -45,6 +46,8 @@ fn info_entries(
 pub fn method_data(alloc: Global, salt: &[u8], types: &[i32]) -> Result<Octets, AllocError>
     requires short { length salt.now ≤ 8192 }
     requires few { length types.now ≤ 4 }
+    // Promise (value, short): METHOD-DATA and PA-ETYPE-INFO2 are those of the definitions, and short enough for a
+    // message.
     ensures value { IfOk result (λ octets. octets ≡ method_data salt.now types.now) }
     ensures short { IfOk result (λ octets. length octets ≤ 65535) }
 {

@@ -34,6 +34,8 @@ pub fn check_timestamp<'p>(
     at: Moment,
     padata: Option<&SeqRef<'p, PaDataRef<'p>>>,
 ) -> Result<Outcome, AllocError>
+    // Promise: what a request proves about the client's key (`outcome`): the first PA-ENC-TIMESTAMP, under the client's
+    // current keys; the value of the first padata of a type.
     ensures { IfOk result (λ o. o ≡ outcome client.now at.sec (option_copied padata.entry)) }
 {
     let Some(value) = first_of(PA_ENC_TIMESTAMP, padata) else {
@@ -52,6 +54,7 @@ pub fn first_of<'p>(
     number: i32,
     padata: Option<&SeqRef<'p, PaDataRef<'p>>>,
 ) -> Option<OctetsRef<'p>>
+    // Promise, as check_timestamp: what a request proves ..
     ensures { result ≡ first_of number (option_copied padata.entry) }
 {
     for entry in padata?.iter() {

@@ -24,6 +24,7 @@ const BLOCK_LEN: usize = 16;
 pub fn n_fold(input: &[u8], out: &mut [u8])
     requires input { 0 < length input.now }
     requires out { 0 < length out.old }
+    // Promise, as hmac_sha1: HMAC, PBKDF2, n-fold and ..
     ensures { out.new ≡ n_fold input.now (length out.old) }
 {
     if input.len() == CONSTANT_LEN && out.len() == BLOCK_LEN {

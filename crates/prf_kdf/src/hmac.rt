@@ -40,6 +40,7 @@ pub type HmacSha384 = HmacKey<Sha384>;
 impl<H: Hasher> HmacKey<H> {
     /// Hashes the key.
     pub fn new(key: &[u8]) -> Self
+        // Promise: MACs under one key, which is hashed once for all of them, are those of HMAC.
         ensures { HoldsKeyBlock H.Holds result.inner result.outer (key_block H.hash H.BLOCK_LEN key.now) }
     {
         let block = key_block::<H>(key);
@@ -53,6 +54,7 @@ impl<H: Hasher> HmacKey<H> {
     /// Writes the MAC of the concatenated parts.
     pub fn write_mac(&self, parts: &[&[u8]], out: &mut [u8])
         requires { length out.old ≡ H.SIZE }
+        // Promise (len, mac), as HmacKey::new: MACs under one key, ..
         ensures len { length out.new ≡ H.SIZE }
         ensures mac { (block : List ℕ) → HoldsKeyBlock H.Holds self.now.inner self.now.outer block
             → out.new ≡ hmac_of_block H.hash block (flat_map (λ part. part.now) parts.now) }
@@ -68,6 +70,7 @@ impl<H: Hasher> HmacKey<H> {
 
 /// Returns the HMAC-SHA-1 of the concatenated parts with the key (RFC 2104): 20 bytes. Empty parts are allowed.
 pub fn hmac_sha1(key: &[u8], parts: &[&[u8]]) -> [u8; 20]
+    // Promise: HMAC, PBKDF2, n-fold and the derivation of RFC 8009 are their equations.
     ensures { result ≡ hmac_sha1 key.now (flat_map (λ part. part.now) parts.now) }
 {
     let mut mac = [0; 20];
@@ -78,6 +81,7 @@ pub fn hmac_sha1(key: &[u8], parts: &[&[u8]]) -> [u8; 20]
 /// Returns the HMAC-SHA-256 of the concatenated parts with the key (RFC 2104, RFC 4231): 32 bytes. Empty parts are
 /// allowed.
 pub fn hmac_sha256(key: &[u8], parts: &[&[u8]]) -> [u8; 32]
+    // Promise, as hmac_sha1: HMAC, PBKDF2, n-fold and ..
     ensures { result ≡ hmac_sha256 key.now (flat_map (λ part. part.now) parts.now) }
 {
     let mut mac = [0; 32];
@@ -88,6 +92,7 @@ pub fn hmac_sha256(key: &[u8], parts: &[&[u8]]) -> [u8; 32]
 /// Returns the HMAC-SHA-384 of the concatenated parts with the key (RFC 2104, RFC 4231): 48 bytes. Empty parts are
 /// allowed.
 pub fn hmac_sha384(key: &[u8], parts: &[&[u8]]) -> [u8; 48]
+    // Promise, as hmac_sha1: HMAC, PBKDF2, n-fold and ..
     ensures { result ≡ hmac_sha384 key.now (flat_map (λ part. part.now) parts.now) }
 {
     let mut mac = [0; 48];

@@ -16,6 +16,7 @@ const BLOCK_NUMBER: [u8; 4] = [0, 0, 0, 1];
 /// 8009, section 3). At most 32 bytes can be derived.
 pub fn kdf_sha256(key: &[u8], label: &[u8], out: &mut [u8])
     requires { length out.old ≤ 32 }
+    // Promise, as hmac_sha1: HMAC, PBKDF2, n-fold and ..
     ensures { out.new ≡ kdf_sha256 key.now label.now (length out.old) }
 {
     let bits = 8 * out.len() as u32;
@@ -27,6 +28,7 @@ pub fn kdf_sha256(key: &[u8], label: &[u8], out: &mut [u8])
 /// 8009, section 3). At most 48 bytes can be derived.
 pub fn kdf_sha384(key: &[u8], label: &[u8], out: &mut [u8])
     requires { length out.old ≤ 48 }
+    // Promise, as hmac_sha1: HMAC, PBKDF2, n-fold and ..
     ensures { out.new ≡ kdf_sha384 key.now label.now (length out.old) }
 {
     let bits = 8 * out.len() as u32;
@@ -45,6 +47,7 @@ pub fn kdf_sha256_both(
 )
     requires out { length out.old ≤ 32 }
     requires other_out { length other_out.old ≤ 32 }
+    // Promise (out, other_out): two keys of one key, which is hashed once for both, are those of two calls.
     ensures out { out.new ≡ kdf_sha256 key.now label.now (length out.old) }
     ensures other_out { other_out.new ≡ kdf_sha256 key.now other_label.now (length other_out.old) }
 {
@@ -64,6 +67,7 @@ pub fn kdf_sha384_both(
 )
     requires out { length out.old ≤ 48 }
     requires other_out { length other_out.old ≤ 48 }
+    // Promise (out, other_out), as kdf_sha256_both: two keys of one ..
     ensures out { out.new ≡ kdf_sha384 key.now label.now (length out.old) }
     ensures other_out { other_out.new ≡ kdf_sha384 key.now other_label.now (length other_out.old) }
 {

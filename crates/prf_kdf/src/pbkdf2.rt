@@ -15,6 +15,7 @@ use sha2::{Sha256, Sha384};
 pub fn pbkdf2_sha1(password: &[u8], salt: &[u8], count: u32, out: &mut [u8])
     requires count { 1 ≤ count }
     requires blocks { length out.old ≤ 4294967295 * 20 }
+    // Promise, as hmac_sha1: HMAC, PBKDF2, n-fold and ..
     ensures { out.new ≡ pbkdf2_sha1 password.now salt.now count (length out.old) }
 {
     derive::<Sha1>(password, salt, count, out);
@@ -25,6 +26,7 @@ pub fn pbkdf2_sha1(password: &[u8], salt: &[u8], count: u32, out: &mut [u8])
 pub fn pbkdf2_sha256(password: &[u8], salt: &[u8], count: u32, out: &mut [u8])
     requires count { 1 ≤ count }
     requires blocks { length out.old ≤ 4294967295 * 32 }
+    // Promise, as hmac_sha1: HMAC, PBKDF2, n-fold and ..
     ensures { out.new ≡ pbkdf2_sha256 password.now salt.now count (length out.old) }
 {
     derive::<Sha256>(password, salt, count, out);
@@ -35,6 +37,7 @@ pub fn pbkdf2_sha256(password: &[u8], salt: &[u8], count: u32, out: &mut [u8])
 pub fn pbkdf2_sha384(password: &[u8], salt: &[u8], count: u32, out: &mut [u8])
     requires count { 1 ≤ count }
     requires blocks { length out.old ≤ 4294967295 * 48 }
+    // Promise, as hmac_sha1: HMAC, PBKDF2, n-fold and ..
     ensures { out.new ≡ pbkdf2_sha384 password.now salt.now count (length out.old) }
 {
     derive::<Sha384>(password, salt, count, out);

@@ -41,11 +41,16 @@ pub fn keytab_versions(
     of: &KeytabKeys<'_>,
     etypes: &[Etype],
 ) -> Result<Versions, KeyListFault>
+    // Promise, as import of kadm_changes: `import` adds a principal ..
+    // Promise, as import of kadm_changes: an imported principal has ..
     ensures versions { IfOk result (λ versions. AreVersionsOf of.now.keytab.now
         (of.now.realm.now ∷ of.now.who.now.components) etypes.now versions) }
+    // Promise: a keytab's versions are refused as empty only if no version of the principal has a key of these types,
+    // or version 0 has one.
     ensures empty { result ≡ Err KeyListFault.Empty
         → HasNoKeys of.now.keytab.now (of.now.realm.now ∷ of.now.who.now.components) etypes.now
         ⊎ HasKeyOfZero of.now.keytab.now (of.now.realm.now ∷ of.now.who.now.components) etypes.now }
+    // Promise: a keytab's versions are refused as doubled only if a version has two keys of a type.
     ensures doubled { result ≡ Err KeyListFault.Doubled
         → IsDoubled of.now.keytab.now (of.now.realm.now ∷ of.now.who.now.components) etypes.now }
 {

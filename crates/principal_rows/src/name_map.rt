@@ -22,6 +22,7 @@ pub trait NameKey {
 
     /// Compares `name` with this key in the order of the maps, which is that of `Name::order`.
     fn compare(&self, name: &Name) -> Ordering
+        // Promise, as NameMap::new: a map from names ..
         ensures { result ≡ name_cmp name.now.components (components self.now) };
 }
 
@@ -99,6 +100,8 @@ impl<V> Model for NameMap<V> {
 impl<V: Drop> NameMap<V> {
     /// Returns an empty map.
     pub fn new(alloc: Global) -> NameMap<V>
+        // Promise: a map from names is a finite map by components, owned or borrowed: looked up and emptied as such;
+        // its places rise in the order of names.
         ensures { result ≡ map.empty }
     {
         NameMap {
@@ -108,6 +111,7 @@ impl<V: Drop> NameMap<V> {
 
     /// Returns the map of these entries, which may be in any order. For a repeated name the first value counts.
     pub fn from_entries(entries: Vec<Entry<V>>) -> Result<NameMap<V>, AllocError>
+        // Promise, as NameMap::new: a map from names ..
         ensures { IfOk result (λ made. made ≡ map.from_entries (pairs entries.items)) }
     {
         let mut entries = entries;
@@ -118,6 +122,7 @@ impl<V: Drop> NameMap<V> {
 
     /// Returns the number of names.
     pub fn len(&self) -> usize
+        // Promise, as NameMap::new: a map from names ..
         ensures { result ≡ map.len self.now }
     {
         self.entries.len()
@@ -125,6 +130,7 @@ impl<V: Drop> NameMap<V> {
 
     /// Returns the names with their values, in ascending order.
     pub fn entries(&self) -> &[Entry<V>]
+        // Promise, as NameMap::new: a map from names ..
         ensures { pairs result.now ≡ map.entries self.now }
     {
         self.entries.as_slice()
@@ -132,6 +138,7 @@ impl<V: Drop> NameMap<V> {
 
     /// Returns the name and value at a place below `len`. The order is ascending.
     pub fn at(&self, place: usize) -> Option<(&Name, &V)>
+        // Promise, as NameMap::new: a map from names ..
         ensures { option_map (λ e. (e.0.now.components, e.1.now)) result ≡ slice_get (map.entries self.now) place }
     {
         if place < self.entries.len() {
@@ -144,6 +151,7 @@ impl<V: Drop> NameMap<V> {
 
     /// Returns the value of a name, if it has one.
     pub fn get<K: NameKey>(&self, key: &K) -> Option<&V>
+        // Promise, as NameMap::new: a map from names ..
         ensures { option_copied result ≡ map.get self.now (K.components key.now) }
     {
         match place(&self.entries, key) {
@@ -154,6 +162,7 @@ impl<V: Drop> NameMap<V> {
 
     /// Sets the value of a name. It allocates only if the name has no value yet.
     pub fn put(&mut self, name: Name, value: V) -> Result<(), AllocError>
+        // Promise (ok, err, there), as NameMap::remove: an entry of such ..
         ensures ok { OnOk result (self.new ≡ map.insert self.old name.components value) }
         ensures err { OnErr result (self.new ≡ self.old) }
         ensures there { IsTrue (map.contains_key self.old name.components) → IsOk result }
@@ -169,6 +178,7 @@ impl<V: Drop> NameMap<V> {
 
     /// Exchanges `value` with the value of a name. Returns whether the name has one.
     pub fn replace<K: NameKey>(&mut self, key: &K, value: &mut V) -> bool
+        // Promise (there, taken, given, absent), as NameMap::remove: an entry of such ..
         ensures there { result ≡ map.contains_key self.old (K.components key.now) }
         ensures taken { IsTrue result → map.get self.old (K.components key.now) ≡ Some value.new }
         ensures given { IsTrue result → self.new ≡ map.insert self.old (K.components key.now) value.old }
@@ -185,6 +195,7 @@ impl<V: Drop> NameMap<V> {
 
     /// Removes a name from the map and returns its value.
     pub fn remove<K: NameKey>(&mut self, key: &K) -> Option<V>
+        // Promise (value, map): an entry of such a map is set, replaced and removed by its name's components.
         ensures value { result ≡ map.get self.old (K.components key.now) }
         ensures map { self.new ≡ map.remove self.old (K.components key.now) }
     {
@@ -196,6 +207,7 @@ impl<V: Drop> NameMap<V> {
 
     /// Keeps the names whose values pass the test and drops the others, in one pass.
     pub fn retain<P: ValueTest<V>>(&mut self, test: &P)
+        // Promise, as NameMap::change_values: each value is changed ..
         ensures { self.new ≡ retain_values self.old (P.passes test.now) }
     {
         self.entries.retain(|entry| test.passes(&entry.value));
@@ -203,6 +215,7 @@ impl<V: Drop> NameMap<V> {
 
     /// Changes each value in place, in one pass. It doesn't allocate.
     pub fn change_values<C: ValueChange<V>>(&mut self, change: &C)
+        // Promise: each value is changed where it is; a map keeps the names whose values pass a test.
         ensures { self.new ≡ change_values self.old (C.changed change.now) }
     {
         for entry in self.entries.iter_mut() {
@@ -212,6 +225,7 @@ impl<V: Drop> NameMap<V> {
 
     /// Does this work on the values at `count` places from `from` on. Returns the next place, if there is one.
     pub fn keep_up<U: Upkeep<V>>(&mut self, from: usize, count: usize, upkeep: &U) -> Option<usize>
+        // Promise, as Pairs::free_dropped of replay: tidying allocates nothing, and ..
         ensures { self.new ≡ self.old }
     {
         let end = from.saturating_add(count).min(self.entries.len());
@@ -227,6 +241,7 @@ impl<V: Drop> NameMap<V> {
 
     /// Removes all names.
     pub fn clear(&mut self)
+        // Promise, as NameMap::new: a map from names ..
         ensures { self.new ≡ map.empty }
     {
         self.entries.clear();

@@ -34,6 +34,7 @@ impl Default for Policy {
     ghost use Rattle.std.specs.Prelude.{◌≡◌};
     ghost use Rattle.principal_rows.specs.Policy.{default_policy};
 
+    // Promise, as Row::first: the row of a ..
     ghost is_default = { λ policy. policy ≡ default_policy };
 
     /// Returns the policy of a new principal.

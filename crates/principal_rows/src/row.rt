@@ -62,7 +62,9 @@ impl Versions {
 
     /// Returns version 1 alone, with these keys.
     pub fn first(alloc: Global, keys: KeyList) -> Result<Versions, AllocError>
+        // Promise: new keys become the current version, and a version that is not current can be dropped.
         ensures versions { IfOk result (λ versions. versions ≡ record { number = 1; keys = keys } ∷ []) }
+        // Promise, as Versions::as_slice: every row has such ..
         ensures valid { IfOk result IsVersions }
     {
         let mut versions = Vec::new(alloc);
@@ -72,8 +74,11 @@ impl Versions {
 
     /// Returns these versions if they are valid: at least one, with positive, descending numbers.
     pub fn new(versions: Vec<KeyVersion>) -> Option<Versions>
+        // Promise (some, versions): versions are made exactly of one or more whose numbers are from 1 to 4294967295 and
+        // fall.
         ensures some { is_some result ≡ are_versions versions.items }
         ensures versions { IfSome result (λ made. made ≡ versions.items) }
+        // Promise, as Versions::as_slice: every row has such ..
         ensures valid { IfSome result IsVersions }
     {
         if are_versions(&versions) {
@@ -85,7 +90,9 @@ impl Versions {
 
     /// Returns the versions, the current one first.
     pub fn as_slice(&self) -> &[KeyVersion]
+        // Promise, as Versions::first: new keys become the ..
         ensures versions { result.now ≡ self.now }
+        // Promise: every row has such versions.
         ensures valid { IsVersions self.now }
     {
         self.versions.as_slice()
@@ -93,7 +100,9 @@ impl Versions {
 
     /// Returns the version whose keys encrypt new tickets.
     pub fn current(&self) -> &KeyVersion
+        // Promise, as Versions::first: new keys become the ..
         ensures version { result.now ≡ current self.now }
+        // Promise, as Versions::as_slice: every row has such ..
         ensures valid { IsKeyList result.now.keys }
     {
         &self.versions[0]
@@ -101,6 +110,7 @@ impl Versions {
 
     /// Returns the version with this number, if it is there.
     pub fn find(&self, number: u32) -> Option<&KeyVersion>
+        // Promise, as Versions::first: new keys become the ..
         ensures { option_copied result ≡ version_of self.now number }
     {
         self.versions
@@ -111,8 +121,10 @@ impl Versions {
     /// Makes these keys the current version, with the next number.
     pub fn add(&mut self, keys: KeyList) -> Result<(), AllocError>
         requires { (current self.old).number < 4294967295 }
+        // Promise (ok, err), as Versions::first: new keys become the ..
         ensures ok { OnOk result (self.new ≡ with_keys keys self.old) }
         ensures err { OnErr result (self.new ≡ self.old) }
+        // Promise, as Versions::as_slice: every row has such ..
         ensures valid { IsVersions self.new }
     {
         let number = self.current().number + 1;
@@ -122,7 +134,9 @@ impl Versions {
     /// Drops the version with this number, which must not be the current one.
     pub fn drop(&mut self, number: u32)
         requires { (current self.old).number ≢ number }
+        // Promise, as Versions::first: new keys become the ..
         ensures versions { self.new ≡ without number self.old }
+        // Promise, as Versions::as_slice: every row has such ..
         ensures valid { IsVersions self.new }
     {
         self.versions.retain(|version| version.number != number);
@@ -130,7 +144,9 @@ impl Versions {
 
     /// Returns a copy.
     pub fn copy(&self, alloc: Global) -> Result<Versions, AllocError>
+        // Promise, as Versions::first: new keys become the ..
         ensures versions { IfOk result (λ versions. versions ≡ self.now) }
+        // Promise, as Versions::as_slice: every row has such ..
         ensures valid { IfOk result IsVersions }
     {
         let mut versions = Vec::new(alloc);
@@ -177,6 +193,8 @@ impl Row {
 
     /// Returns the row of a new principal, with these keys as version 1 and the default policy.
     pub fn first(alloc: Global, keys: KeyList) -> Result<Row, AllocError>
+        // Promise (row, valid): the row of a new principal has its keys as version 1, and the policy of a new
+        // principal; a copy is equal.
         ensures row { IfOk result (λ row. row ≡ first_row keys) }
         ensures valid { IfOk result IsRow }
     {
@@ -188,6 +206,7 @@ impl Row {
 
     /// Returns a copy.
     pub fn copy(&self, alloc: Global) -> Result<Row, AllocError>
+        // Promise (row, valid), as Row::first: the row of a ..
         ensures row { IfOk result (λ row. row ≡ self.now) }
         ensures valid { IfOk result IsRow }
     {

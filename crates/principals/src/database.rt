@@ -46,6 +46,8 @@ impl Database {
     ///
     /// Fails with `BadName` if the realm does not have 1 to 255 bytes.
     pub fn first(alloc: Global, realm: &[u8], krbtgt_keys: KeyList) -> Result<Database, NameFault>
+        // Promise (first, bad_name): a new realm's database has its ticket-granting service `krbtgt/REALM` alone; it is
+        // refused exactly where the realm has not 1 to 255 bytes.
         ensures first { IfOk result (λ database. database ≡ first_database realm.now krbtgt_keys) }
         ensures bad_name { (result ≡ Err NameFault.BadName) ↔ (¬ IsComponent realm.now) }
     {
@@ -66,6 +68,7 @@ impl Database {
         requires realm { IsComponent realm }
         requires names { (name : Components) → IsTrue (map.contains_key rows name) → IsWithinLimits name }
         requires rows { AreRows rows }
+        // Promise: rows within the limits are a database exactly where `krbtgt/REALM` is among them.
         ensures { result ≡ (if map.contains_key rows (tgs_principal realm)
             then Some (record { realm = realm; rows = rows }) else None) }
     {
@@ -80,6 +83,7 @@ impl Database {
 
     /// Returns a copy.
     pub fn copy(&self, alloc: Global) -> Result<Database, AllocError>
+        // Promise: a copy of a database is equal.
         ensures { IfOk result (λ database. database ≡ self.now) }
     {
         let entries = copy_entries(alloc, self.rows.entries())?;
@@ -91,6 +95,8 @@ impl Database {
 
     /// Returns the realm's bytes, 1 to 255.
     pub fn realm(&self) -> &[u8]
+        // Promise (realm, valid, short): every database has a realm within the limits, names within the limits, rows
+        // with keys of their types' lengths, and `krbtgt/REALM`.
         ensures realm { result.now ≡ self.now.realm }
         ensures valid { IsDatabase self.now }
         ensures short { length self.now.realm ≤ 255 }
@@ -100,7 +106,9 @@ impl Database {
 
     /// Returns the row of a principal. Names are compared by their components alone.
     pub fn get(&self, name: &Name) -> Option<&Row>
+        // Promise: a row is looked up by the name's components, owned or borrowed.
         ensures row { option_copied result ≡ map.get self.now.rows name.now.components }
+        // Promise, as Database::realm: every database has a ..
         ensures valid { IfSome result (λ row. IsRow row.now) }
     {
         self.rows.get(name)
@@ -108,7 +116,9 @@ impl Database {
 
     /// Returns the row of a principal whose name is borrowed, as from a request. It allocates nothing.
     pub fn get_ref(&self, name_ref: &NameRef<'_>) -> Option<&Row>
+        // Promise, as Database::get: a row is looked ..
         ensures row { option_copied result ≡ map.get self.now.rows name_ref.now.components }
+        // Promise, as Database::realm: every database has a ..
         ensures valid { IfSome result (λ row. IsRow row.now) }
     {
         row_of(&self.rows, name_ref)
@@ -116,7 +126,9 @@ impl Database {
 
     /// Returns the row of the ticket-granting service, without building its name.
     pub fn tgs(&self) -> Option<&Row>
+        // Promise, as Database::get: a row is looked ..
         ensures row { option_copied result ≡ map.get self.now.rows (tgs_principal self.now.realm) }
+        // Promise, as Database::realm: every database has a ..
         ensures valid { IfSome result (λ row. IsRow row.now) }
     {
         self.rows.get(&TgsOf {
@@ -126,6 +138,7 @@ impl Database {
 
     /// Returns how many principals there are.
     pub fn len(&self) -> usize
+        // Promise: each row has one place, in rising order.
         ensures { result ≡ map.len self.now.rows }
     {
         self.rows.len()
@@ -133,6 +146,7 @@ impl Database {
 
     /// Returns the name and row at an index, for each index below `len`. Names are in rising order.
     pub fn at(&self, place: usize) -> Option<(&Name, &Row)>
+        // Promise, as Database::len: each row has one ..
         ensures { option_map (λ e. (e.0.now.components, e.1.now)) result ≡ slice_get (map.entries self.now.rows) place }
     {
         self.rows.at(place)
@@ -140,6 +154,7 @@ impl Database {
 
     /// Returns the names with their rows, in rising order.
     pub fn entries(&self) -> &[Entry<Row>]
+        // Promise, as Database::len: each row has one ..
         ensures { pairs result.now ≡ map.entries self.now.rows }
     {
         self.rows.entries()
@@ -147,6 +162,8 @@ impl Database {
 
     /// Makes the change. A refused change leaves the database unchanged.
     pub fn apply(&mut self, alloc: Global, change: &Change) -> Result<(), ChangeFault>
+        // Promise (changed, refused, otherwise, err): a change is made on the row that it names, or it is refused by
+        // the first error that holds, and the database is as it was.
         ensures changed { OnOk result (self.new ≡ changed self.old change.now) }
         ensures refused { IfSome (refusal self.old change.now) (λ fault. result ≡ Err fault) }
         ensures otherwise { IfNone (refusal self.old change.now) (IsOkUnless result ChangeFault.Memory) }

@@ -46,6 +46,7 @@ impl<'a> NameKey for TgsOf<'a> {
 
 /// Checks whether a borrowed name is that of the realm's ticket-granting service.
 pub fn names_tgs(name: &NameRef<'_>, realm: &[u8]) -> bool
+    // Promise, as Database::get: a row is looked ..
     ensures { result ≡ eq_by_cmp name_cmp name.now.components (tgs_principal realm.now) }
 {
     let mut components = name.components.iter();

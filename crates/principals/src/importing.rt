@@ -20,6 +20,8 @@ impl Database {
         name: &Name,
         versions: Versions,
     ) -> Result<(), ChangeFault>
+        // Promise (imported, refused, otherwise, err): a principal that is not there is added with its versions of keys
+        // and the default policy, or refused by the first error that holds.
         ensures imported { OnOk result (self.new ≡ imported self.old name.now.components versions) }
         ensures refused { IfSome (first_holding (add_rules self.old name.now.components)) (λ fault. result ≡ Err fault) }
         ensures otherwise { IfNone (first_holding (add_rules self.old name.now.components))

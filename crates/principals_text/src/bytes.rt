@@ -29,6 +29,8 @@ impl fmt::Display for DatabaseFault {
 
 /// Reads the bytes of a file as a database. Bytes that are not UTF-8 are no JSON.
 pub fn read_bytes(alloc: Global, octets: &[u8]) -> Result<Database, DatabaseFault>
+    // Promise (ok, fault): a database that is taken is the one that the file's bytes spell, and one that is refused is
+    // refused by its first error, or as no UTF-8, unless memory runs out.
     ensures ok { IfOk result (λ database. text_database octets.now ≡ Ok database) }
     ensures fault { IfErr result (λ fault. RefusesBytes octets.now fault.cause) }
 {

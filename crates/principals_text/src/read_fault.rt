@@ -25,6 +25,7 @@ pub enum ReadFault {
 impl ReadFault {
     /// Returns the word that commands print if a text is refused. Out of memory has none: it refuses nothing.
     pub fn refusal(self) -> Option<&'static str>
+        // Promise: each error has its word.
         ensures { option_map (λ word. word.now) result ≡ read_refusal self }
     {
         match self {

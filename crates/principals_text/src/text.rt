@@ -37,6 +37,8 @@ pub const LONGEST_TEXT: usize = 1_073_741_824;
 /// Returns the database that a text denotes. A text in the form that `write` gives is read row by row, any other as
 /// a whole.
 pub fn read(alloc: Global, text: &str) -> Result<Database, ReadFault>
+    // Promise (ok, fault): a text is read as the database that it spells, or fails with the error that the definition
+    // says, unless memory runs out.
     ensures ok { IfOk result (λ database. text_database text.now ≡ Ok database) }
     ensures fault { IfErr result (λ fault. fault ≢ ReadFault.Memory → text_database text.now ≡ Err fault) }
 {
@@ -77,6 +79,8 @@ fn read_value(alloc: Global, value: &Value) -> Result<Database, ReadFault>
 
 /// Returns the text of the database, in the newest version: compact, with members in the order of their names.
 pub fn write(alloc: Global, database: &Database) -> Result<String, AllocError>
+    // Promise (text, value, reads_back): **what is written is read back** to an equal database; the text is the one
+    // that the definition says.
     ensures text { IfOk result (λ text. string_bytes text ≡ compact_text (database_value database.now)) }
     ensures value { IfOk result (λ text. read_text (string_bytes text) ≡ Some (database_value database.now)) }
     ensures reads_back { IfOk result (λ text. text_database (string_bytes text) ≡ Ok database.now) }

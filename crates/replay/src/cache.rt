@@ -29,6 +29,8 @@ pub struct ReplayCache<T> {
 impl<T: Keep> ReplayCache<T> {
     /// Returns the cache of a client that never sent anything.
     pub fn first(alloc: Global) -> ReplayCache<T>
+        // Promise: a client's replay cache after a first start, after a restart, at an opening, and with other
+        // failures; a copy is equal.
         ensures { result ≡ first }
     {
         ReplayCache {
@@ -41,6 +43,7 @@ impl<T: Keep> ReplayCache<T> {
     /// Returns the cache of a client after a loss: no authenticator that may have been accepted before `at` is accepted
     /// again.
     pub fn restarted(alloc: Global, at: Moment) -> ReplayCache<T>
+        // Promise, as ReplayCache::first: a client's replay cache ..
         ensures { result ≡ restarted_cache at.sec }
     {
         ReplayCache {
@@ -52,6 +55,7 @@ impl<T: Keep> ReplayCache<T> {
 
     /// Returns an empty cache with this floor.
     pub fn empty(alloc: Global, floor: i64) -> ReplayCache<T>
+        // Promise: whether a replay cache is empty.
         ensures { result ≡ empty_cache floor }
     {
         ReplayCache {
@@ -63,6 +67,7 @@ impl<T: Keep> ReplayCache<T> {
 
     /// Checks whether nothing is recorded, and the floor is this one.
     pub fn is_empty(&self, floor: i64) -> bool
+        // Promise, as ReplayCache::empty: whether a replay cache ..
         ensures { result ≡ is_empty floor self.now }
     {
         self.failures.are_none() && self.floor == floor && self.pairs.is_empty()
@@ -70,6 +75,7 @@ impl<T: Keep> ReplayCache<T> {
 
     /// Returns the verdict on the pair (`ctime`, `cusec`) at this moment, when at most `limit` pairs are recorded.
     pub fn check(&self, at: Moment, ctime: i64, cusec: u32, limit: u32) -> Verdict<&T>
+        // Promise (verdict, timely, new): a replay cache's verdict on an authenticator, and what it stores.
         ensures verdict { verdict_copied result ≡ verdict self.now at.sec (ctime, cusec) limit }
         // A pair within the clock skew that is no repeat may be recorded.
         ensures timely { IfNew result (is_beyond_clock_skew self.now.floor at.sec ctime ≡ false) }
@@ -98,6 +104,7 @@ impl<T: Keep> ReplayCache<T> {
     ) -> Result<(), AllocError>
         requires timely { is_beyond_clock_skew self.old.floor at.sec ctime ≡ false }
         requires new { map.get self.old.pairs (ctime, cusec) ≡ None }
+        // Promise (ok, err), as ReplayCache::check: a replay cache's verdict ..
         ensures ok { OnOk result (self.new ≡ recorded self.old at.sec (ctime, cusec) kept) }
         ensures err { OnErr result (self.new ≡ self.old) }
     {
@@ -111,6 +118,7 @@ impl<T: Keep> ReplayCache<T> {
     /// Drops the pairs that are too old to come again at this moment. It raises the floor above them, and to a day
     /// before this moment; the failures are unchanged. It allocates nothing.
     pub fn tidy(&mut self, at: Moment)
+        // Promise, as tidied_unseen: authenticators that can't come ..
         ensures { self.new ≡ tidied self.old at.sec }
     {
         let start = self.floor.max(at.sec - SKEW);
@@ -120,6 +128,7 @@ impl<T: Keep> ReplayCache<T> {
 
     /// Frees the memory of the pairs that a tidying dropped.
     pub fn free_dropped(&mut self)
+        // Promise, as Pairs::free_dropped: tidying allocates nothing, and ..
         ensures { self.new ≡ self.old }
     {
         self.pairs.free_dropped();
@@ -127,6 +136,7 @@ impl<T: Keep> ReplayCache<T> {
 
     /// Sets the failures. The recorded authenticators are unchanged.
     pub fn set_failures(&mut self, failures: Failures)
+        // Promise, as ReplayCache::first: a client's replay cache ..
         ensures { self.new ≡ record self.old { failures = failures } }
     {
         self.failures = failures;
@@ -134,6 +144,7 @@ impl<T: Keep> ReplayCache<T> {
 
     /// Returns a copy.
     pub fn copy(&self, alloc: Global) -> Result<ReplayCache<T>, AllocError>
+        // Promise, as ReplayCache::first: a client's replay cache ..
         ensures { IfOk result (λ copy. copy ≡ self.now) }
     {
         Ok(ReplayCache {
@@ -146,6 +157,7 @@ impl<T: Keep> ReplayCache<T> {
 
 /// Returns the floor of a client with nothing recorded, tidied at this moment: at least a day before it.
 pub fn floor_on(floor: i64, at: Moment) -> i64
+    // Promise, as tidied_unseen: authenticators that can't come ..
     ensures { result ≡ floor_on floor at.sec }
 {
     floor.max(at.sec - DAY)

@@ -19,6 +19,8 @@ pub enum Opening {
 impl Opening {
     /// Returns the second since 1970 below which a time is too old, for a client that sent nothing since the opening.
     pub fn floor(self) -> i64
+        // Promise, as tidied_unseen: authenticators that can't come ..
+        // Promise, as Kdc::open of kdc_core: a KDC starts with ..
         ensures { result ≡ opening_floor self }
     {
         match self {
@@ -31,6 +33,7 @@ impl Opening {
 impl<T: Keep> ReplayCache<T> {
     /// Returns the cache of a client that sent nothing since the opening.
     pub fn opened(alloc: Global, opening: Opening) -> ReplayCache<T>
+        // Promise, as ReplayCache::first: a client's replay cache ..
         ensures { result ≡ opened_cache opening }
     {
         match opening {

@@ -50,6 +50,7 @@ pub fn put_entry<W: FieldWriter>(
     alloc: Global,
     entry: &Entry<'_>,
 ) -> Result<(), AllocError>
+    // Promise, as LogWriter::write_entry: **an entry becomes its ..
     ensures { (fields : List Field) → W.Holds line.old fields
         → OnOk result (W.Holds line.new (with_fields fields (entry_fields entry.now))) }
 {

@@ -42,8 +42,10 @@ impl FieldWriter for JsonFields {
 /// Returns the line for a request: its fields as one JSON object (RFC 8259), with each value as a string under its
 /// name, and a line feed. Non-printable bytes become question marks.
 pub fn json_line(alloc: Global, entry: &Entry<'_>) -> Result<Vec<u8>, AllocError>
+    // Promise, as LogWriter::write_entry: **an entry becomes its ..
     ensures text { IfOk result (λ line. line.items ≡ json_line (entry_fields entry.now)) }
     // The result is a single line, whatever the names contain.
+    // Promise, as text_line: a line is one ..
     ensures one { IfOk result (λ line. IsLine line.items) }
 {
     let mut fields = JsonFields {

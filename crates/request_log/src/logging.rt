@@ -24,6 +24,10 @@ pub trait LogWriter {
 
     /// Writes the entry for a request.
     fn write_entry(&mut self, alloc: Global, entry: &Entry<'_>)
+        // Promise, as Counts::count of kdc_metrics: **the counts are those ..
+        // Promise: **an entry becomes its line**, made of the audit record, after what was written before, or is
+        // counted as lost.
+        // Promise: the next line that is written has one before it that says how many were lost.
         ensures { Logs self.old entry.now self.new };
 
     // By an entry its record grows by that one.

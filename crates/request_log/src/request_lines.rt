@@ -105,6 +105,7 @@ impl<W: Write> LogWriter for RequestLines<W> {
 
 /// Returns the line of an entry.
 fn line_of(alloc: Global, format: LogFormat, entry: &Entry<'_>) -> Result<Vec<u8>, AllocError>
+    // Promise, as LogWriter::write_entry: **an entry becomes its ..
     ensures { IfOk result (λ line. line.items ≡ entry_line format entry.now) }
 {
     match format {

@@ -41,9 +41,12 @@ impl FieldWriter for TextFields {
 /// Returns the line for a request: its fields in order, separated by spaces: first the values with a fixed place, then
 /// `NAME=VALUE`. Non-printable bytes become question marks. The line is cut after 639 bytes.
 pub fn text_line(alloc: Global, entry: &Entry<'_>) -> Result<Vec<u8>, AllocError>
+    // Promise, as LogWriter::write_entry: **an entry becomes its ..
     ensures text { IfOk result (λ line. line.items ≡ text_line (entry_fields entry.now)) }
     // The result is a single line, whatever the names contain.
+    // Promise: a line is one line, of printable characters and a line feed at its end, whatever the names are.
     ensures one { IfOk result (λ line. IsLine line.items) }
+    // Promise: a line of text has at most 640 bytes.
     ensures short { IfOk result (λ line. length line.items ≤ longest + 1) }
 {
     let mut fields = TextFields {

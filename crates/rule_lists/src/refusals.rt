@@ -11,6 +11,7 @@ pub type Attempt<T, R> = Result<Result<T, R>, AllocError>;
 
 /// Returns the reason of the first condition that holds.
 pub fn first_holding<R: Copy>(rules: &[(bool, R)]) -> Option<R>
+    // Promise: the reason of the first condition that holds decides; if none holds, what was found.
     ensures { result ≡ first_holding rules.now }
 {
     for (holds, reason) in rules {
@@ -24,6 +25,7 @@ pub fn first_holding<R: Copy>(rules: &[(bool, R)]) -> Option<R>
 /// Returns `found` if none of the conditions holds. Fails with the reason of the first that holds, or with `otherwise`
 /// if nothing was found.
 pub fn decide<T: Drop, R: Copy>(rules: &[(bool, R)], found: Option<T>, otherwise: R) -> Result<T, R>
+    // Promise, as first_holding: the reason of the ..
     ensures { result ≡ decided rules.now found otherwise }
 {
     match first_holding(rules) {

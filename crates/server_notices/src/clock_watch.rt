@@ -46,6 +46,7 @@ impl fmt::Display for Refused {
 /// Returns which requests are refused right after a start with this floor at this moment. A floor before that moment
 /// refuses only what is too old.
 pub fn refused_at_start(floor: i64, at: Moment) -> Option<Refused>
+    // Promise, as ClockWatch::take: what is logged of ..
     ensures { result ≡ clocks.refused_at_start floor at.sec }
 {
     if at.sec < floor {
@@ -80,6 +81,8 @@ impl ClockWatch {
 
     /// Takes the moment of an event. Returns which requests are refused, once a minute while they are.
     pub fn take(&mut self, now: Moment) -> Option<Refused>
+        // Promise (said, watched): what is logged of a clock that went back: which requests are refused and until when,
+        // at once and then once a minute.
         ensures said { result ≡ clocks.said_at self.old now }
         ensures watched { self.new ≡ clocks.watched self.old now }
     {

@@ -49,6 +49,7 @@ pub fn line_words(
     alloc: Global,
     line: &[u8],
 ) -> Result<Result<Vec<String>, &'static str>, AllocError>
+    // Promise: the words of a line are those of a shell's: a quotation, an escape and a comment as there.
     ensures words { IfOk result (λ read. IfOk read (λ words. words_of_line line.now ≡ Some (map string_bytes words.items))) }
 {
     let Ok(text) = std::str::from_utf8(line) else {

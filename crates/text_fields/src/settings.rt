@@ -190,6 +190,7 @@ impl TimeField {
 impl Setting {
     /// Reads a field's name and its value, with an equals sign between them.
     pub fn parse(text: &str) -> Option<Setting>
+        // Promise (read, none), as setting_of: a field of a ..
         ensures read { IfSome result (λ setting. IsSettingText setting text.now) }
         ensures none { IfNone result ((setting : settings.Setting) → ¬ IsSettingText setting text.now) }
     {
@@ -200,6 +201,7 @@ impl Setting {
     /// Reads the value of the field with this name. Returns `None` if there is no such field or the value isn't valid
     /// for it.
     pub fn of(name: &str, value: &str) -> Option<Setting>
+        // Promise (read, none), as setting_of: a field of a ..
         ensures read { IfSome result (λ setting. IsSettingOf setting name.now value.now) }
         ensures none { IfNone result ((setting : settings.Setting) → ¬ IsSettingOf setting name.now value.now) }
     {
@@ -213,6 +215,7 @@ impl Setting {
     /// Reads a date as the value of the field with this name. Returns `None` if there is no such field, its value is
     /// not a time, or this is not a date.
     pub fn of_date(name: &str, value: &str) -> Option<Setting>
+        // Promise (read, none), as setting_of: a field of a ..
         ensures read { IfSome result (λ setting. IsDateOf setting name.now value.now) }
         ensures none { IfNone result ((setting : settings.Setting) → ¬ IsDateOf setting name.now value.now) }
     {
@@ -228,6 +231,7 @@ impl Setting {
 
     /// Returns the number of the version of the database's text that brought the field.
     pub fn since(self) -> u64
+        // Promise, as field_kind: `field_kind` says which kind ..
         ensures { result ≡ since self }
     {
         self.row().since
@@ -246,6 +250,7 @@ impl Setting {
 
     /// Returns the settings of a policy, in the order of their names.
     pub fn all(policy: Policy) -> [Setting; SETTINGS]
+        // Promise (settings, same), as Setting::on: the settings of a ..
         ensures settings { result ≡ settings_of policy }
         ensures same { (other : policies.Policy)
             → fold (λ made setting. with_setting setting made) other result ≡ policy }
@@ -268,6 +273,7 @@ impl Setting {
 
     /// Returns the policy with this field set.
     pub fn on(self, policy: Policy) -> Policy
+        // Promise: the settings of a policy make it of any other one.
         ensures { result ≡ with_setting self policy }
     {
         let mut policy = policy;
@@ -306,6 +312,8 @@ impl fmt::Display for Setting {
 
 /// Returns what the value of the field with this name is. `None` if a policy has no such field.
 pub fn field_kind(name: &str) -> Option<FieldKind>
+    // Promise: `field_kind` says which kind of value a field takes, `since` is the version of the database's text that
+    // brought a field.
     ensures { result ≡ field_kind name.now }
 {
     match field_named(name) {

@@ -31,6 +31,7 @@ impl Unit {
 /// Reads a time span, in seconds: a decimal number followed by its unit, which is `s`, `m`, `h` or `d`. `None` also for
 /// 2^32 seconds and more.
 pub fn span(text: &str) -> Option<u32>
+    // Promise (read, none): a time span is read exactly where it is a decimal number with its unit, below 2^32 seconds.
     ensures read { IfSome result (λ seconds. IsSpanText seconds text.now) }
     ensures none { IfNone result ((seconds : ℕ) → ¬ IsSpanText seconds text.now) }
 {
@@ -40,6 +41,7 @@ pub fn span(text: &str) -> Option<u32>
 
 /// Reads a lifetime: a number of seconds, or a time span.
 pub fn lifetime(text: &str) -> Option<u32>
+    // Promise (read, none), as span: a time span is ..
     ensures read { IfSome result (λ seconds. IsU32Text seconds text.now ⊎ IsSpanText seconds text.now) }
     ensures none { IfNone result ((seconds : ℕ) → ¬ (IsU32Text seconds text.now ⊎ IsSpanText seconds text.now)) }
 {

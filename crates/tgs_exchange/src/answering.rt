@@ -54,14 +54,19 @@ pub fn tgs_answer(
     presented: &Presented,
 ) -> Result<TgsAnswer, AllocError>
     requires { IsKnown view.now body.now presented.now }
+    // Promise (reply, kept): the answer to a TGS-REQ whose ticket and authenticator were decrypted, and what is stored
+    // of request and reply.
     ensures reply { IfOk result (λ answer.
         answer.reply.items ≡ (tgs_answer view.now incoming.now body.now presented.now).reply) }
     ensures kept { IfOk result (λ answer.
         answer.kept ≡ (tgs_answer view.now incoming.now body.now presented.now).kept) }
     // The outcome follows from the decision, and from whether the reply fits the room.
+    // Promise (outcome, outcome_spelled): the outcome of a TGS-REQ is what was decided; the bytes spell what it says.
     ensures outcome { IfOk result (λ answer.
         answer.outcome ≡ tgs_outcome view.now incoming.now body.now presented.now) }
     // The bytes encode the message that the rules prescribe, or are the stored reply.
+    // Promise: the bytes of the answer to a TGS-REQ spell the message that the rules prescribe, or are those of the
+    // stored reply.
     ensures spelled { IfOk result (λ answer.
         Spelled view.now incoming.now.at incoming.now.random body.now presented.now answer.reply.items) }
     // They are what the outcome says.
@@ -69,8 +74,11 @@ pub fn tgs_answer(
         OutcomeSpelled view.now incoming.now.at incoming.now.random body.now presented.now answer.outcome
         answer.reply.items) }
     // If a ticket is issued, the reply key and the service's key find the same inside.
+    // Promise: if a ticket is admitted now, the reply key and the service's key, which the ticket names, find the same
+    // inside.
     ensures same { IfOk result (λ answer. Opens view.now incoming.now.at incoming.now.random body.now presented.now) }
     // An authenticator to record is within the clock skew and no repeat.
+    // Promise (timely, new): an authenticator that is to be stored has no clock skew and is no repeat.
     ensures timely { IfOk result (λ answer.
         IfSome answer.kept (λ kept. is_beyond_clock_skew view.now.cache.floor incoming.now.at.sec
         presented.now.authenticator.ctime ≡ false)) }

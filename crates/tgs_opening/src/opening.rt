@@ -31,8 +31,11 @@ pub fn tgs_open(
     message: &KdcReqRef<'_>,
 ) -> Attempt<Presented, Rejection>
     requires { IfSome (tgs_data message.now) (λ value. length value < 2147483648) }
+    // Promise: what a TGS-REQ presents, or the first rule that refuses it, with the client of the ticket if that was
+    // decrypted, unless memory runs out.
     ensures value { IfOk result (λ found. found ≡ presented view.now message.now) }
     // The authorization data are short enough for another ticket.
+    // Promise: the presented ticket's authorization data are short enough for another ticket.
     ensures authorization { IfOk result (λ found. IfOk found (λ presented.
         IfSome presented.ticket.authorization_data (λ list. length ((list_of typed).text list) < 2147483648))) }
 {

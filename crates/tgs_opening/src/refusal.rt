@@ -102,6 +102,7 @@ impl TgsRefusal {
 
     /// Returns the error code of the KRB-ERROR that answers it (RFC 4120, section 7.5.9).
     pub fn code(self) -> Code
+        // Promise, as AsRefusal::code of as_exchange: the code of each ..
         ensures { result ≡ code_of self }
     {
         match self {
@@ -135,6 +136,7 @@ impl TgsRefusal {
 
     /// Returns its name in the log and among the counters.
     pub fn word(self) -> &'static str
+        // Promise, as AsRefusal::word of as_exchange: the name of each ..
         ensures { result.now ≡ word_of self }
     {
         match self {
@@ -168,6 +170,7 @@ impl TgsRefusal {
 
     /// Returns its place among those of its exchange.
     pub fn place(self) -> usize
+        // Promise (value, range), as AsRefusal::word of as_exchange: the name of each ..
         ensures value { result ≡ place_of self }
         ensures range { result < refusal_count }
     {

@@ -122,6 +122,7 @@ fn is_for_asked(
 
 /// Checks whether the name is this service's. Only the components count.
 pub fn is_named(name: Option<&NameRef<'_>>, service: &Name) -> bool
+    // Promise: whether a name that may be absent is this service's.
     ensures { result ≡ is_named (option_copied name.entry) service.now }
 {
     match name {

@@ -7,6 +7,7 @@ use krb_types::ReqBodyRef;
 
 /// Checks whether the request asks for the option.
 pub fn asks(body: &ReqBodyRef<'_>, option: KdcOption) -> bool
+    // Promise: whether a request asks for an option, and for a renewal or a validation.
     ensures { result ≡ asks body.now option }
 {
     body.kdc_options.has(option)
@@ -14,6 +15,7 @@ pub fn asks(body: &ReqBodyRef<'_>, option: KdcOption) -> bool
 
 /// Checks whether the request renews or validates the presented ticket.
 pub fn keeps_ticket(body: &ReqBodyRef<'_>) -> bool
+    // Promise, as asks: whether a request asks ..
     ensures { result ≡ keeps_ticket body.now }
 {
     asks(body, KdcOption::Renew) || asks(body, KdcOption::Validate)

@@ -37,6 +37,8 @@ pub fn as_times(
     limits: &Limits,
     body: &ReqBodyRef<'_>,
 ) -> Option<Times>
+    // Promise (value, range): the times of a ticket are those of the definition, and are civil seconds, the end after
+    // the start; whether a request without POSTDATED asks for a start that is too late.
     ensures value { result ≡ as_times at.sec client.now service.now limits.now body.now }
     ensures range { IfSome result IsTimes }
 {
@@ -53,6 +55,7 @@ pub fn tgs_times(
     limits: &Limits,
     body: &ReqBodyRef<'_>,
 ) -> Option<Times>
+    // Promise (value, range), as as_times: the times of a ..
     ensures value { result ≡ tgs_times at.sec ticket.now client.now service.now limits.now body.now }
     ensures range { IfSome result IsTimes }
 {
@@ -157,6 +160,7 @@ fn valid_times(start: i64, end: i64, renew_till: Option<KTime>) -> Option<Times>
 /// Checks whether the request asks for a start beyond the clock skew without the option POSTDATED.
 pub fn starts_too_late(now: i64, body: &ReqBodyRef<'_>) -> bool
     requires { IsSecond now }
+    // Promise, as as_times: the times of a ..
     ensures { result ≡ starts_too_late now body.now }
 {
     !asks(body, KdcOption::Postdated) && now + SKEW < from_or(now, body)

@@ -18,6 +18,7 @@ pub struct MemoryRows {
 impl MemoryRows {
     /// Returns a source whose looks find these, in order. After them the rows never change.
     pub fn new(alloc: Global, coming: VecDeque<Look>) -> MemoryRows
+        // Promise, as MemoryWire::new: what is in memory, ..
         ensures records { ⟦<MemoryRows as RowSource>⟧.recorded result ≡ Some [] }
     {
         MemoryRows {
@@ -28,6 +29,7 @@ impl MemoryRows {
 
     /// Returns what the looks found, in order, if there was enough memory to record all of it.
     pub fn looks(&self) -> Option<&[Look]>
+        // Promise, as MemoryWire::did: what is in memory ..
         ensures { option_copied result ≡ ⟦<MemoryRows as RowSource>⟧.recorded self.now }
     {
         self.looks.entries()

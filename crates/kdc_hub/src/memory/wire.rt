@@ -30,6 +30,7 @@ impl MemoryWire {
         coming: VecDeque<(Moment, Event)>,
         calls_before_fault: Option<u64>,
     ) -> MemoryWire
+        // Promise: what is in memory, over which tests serve, begins with an empty record: wire and source.
         ensures records { ⟦<MemoryWire as Wire>⟧.recorded result ≡ Some [] }
     {
         MemoryWire {
@@ -43,6 +44,8 @@ impl MemoryWire {
 
     /// Returns what it did, in order, if there was enough memory to record all of it.
     pub fn did(&self) -> Option<&[WireCall]>
+        // Promise: what is in memory returns its record; so every record that the clauses of this part speak of is kept
+        // by something.
         ensures { option_copied result ≡ ⟦<MemoryWire as Wire>⟧.recorded self.now }
     {
         self.did.entries()

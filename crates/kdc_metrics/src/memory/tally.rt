@@ -19,6 +19,7 @@ pub struct MemoryTally {
 impl MemoryTally {
     /// Returns a tally that has counted nothing.
     pub fn new(alloc: Global) -> MemoryTally
+        // Promise, as MemoryHost::new of kdc_server: host, sockets, tally, journal ..
         ensures { IsNew (⟦<MemoryTally as Tally>⟧.recorded result) }
     {
         MemoryTally {
@@ -29,6 +30,7 @@ impl MemoryTally {
 
     /// Returns what was polled and tried, in order, unless memory ran out for it.
     pub fn did(&self) -> Option<&[WireCall]>
+        // Promise, as MemoryWire::did of kdc_hub: what is in memory ..
         ensures { option_copied result ≡ ⟦<MemoryTally as Tally>⟧.recorded self.now }
     {
         self.did.entries()

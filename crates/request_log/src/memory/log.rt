@@ -37,6 +37,7 @@ pub struct MemoryLog {
 impl MemoryLog {
     /// Returns an empty log.
     pub fn new(alloc: Global) -> MemoryLog
+        // Promise, as MemoryHost::new of kdc_server: host, sockets, tally, journal ..
         ensures { IsNew (⟦<MemoryLog as LogWriter>⟧.logged result) }
     {
         MemoryLog {
@@ -46,6 +47,7 @@ impl MemoryLog {
 
     /// Returns the entries, in order, unless memory ran out for one.
     pub fn entries(&self) -> Option<&[MemoryEntry]>
+        // Promise, as MemoryWire::did of kdc_hub: what is in memory ..
         ensures { seen_as entry_by (option_copied result) ≡ ⟦<MemoryLog as LogWriter>⟧.logged self.now }
     {
         self.entries.entries()
