@@ -4,6 +4,7 @@ ghost use Rattle.kdc_reports.specs.Numbers.{numbers_text};
 ghost use Rattle.kdc_server.specs.Reporter.{due, refused_until, second_of};
 
 use crate::host::Host;
+use crate::life_wire::{Begun, LifeWire};
 use crate::server_wire::ServerWire;
 use file_store::VERSION;
 use kdc_hub::{Hub, Onlooker, RowSource, RowsState, Served, ServerView};
@@ -98,11 +99,11 @@ impl<H: Host> Reporter<H> {
     }
 }
 
-impl<H: Host> Onlooker<ServerWire<H>, Option<H::Rows>, ChaCha20Rng> for Reporter<H> {
+impl<H: Host, B: Begun> Onlooker<LifeWire<H, B>, Option<H::Rows>, ChaCha20Rng> for Reporter<H> {
     fn see(
         &mut self,
         alloc: Global,
-        server: &ServerView<'_, ServerWire<H>, Option<H::Rows>, ChaCha20Rng>,
+        server: &ServerView<'_, LifeWire<H, B>, Option<H::Rows>, ChaCha20Rng>,
     ) {
         if self.writer.is_none() {
             return;
@@ -112,10 +113,11 @@ impl<H: Host> Onlooker<ServerWire<H>, Option<H::Rows>, ChaCha20Rng> for Reporter
             return;
         };
         self.reported = Some(at);
-        let Some(counts) = server.wire.log().counts() else {
+        let wire = server.wire.server_wire();
+        let Some(counts) = wire.log().counts() else {
             return;
         };
-        let numbers = self.numbers_of(server.wire, server.source.state(), server.hub);
+        let numbers = self.numbers_of(wire, server.source.state(), server.hub);
         self.write(alloc, &numbers, counts);
     }
 }

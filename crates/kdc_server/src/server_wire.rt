@@ -5,6 +5,7 @@ ghost use Rattle.kdc_hub.specs.Wire.{IsCounted, Records, acted, faults_of, polle
 ghost use Rattle.kdc_hub.specs.Rounds.{action_connection};
 ghost use Rattle.kdc_reports.specs.Clocks.{clock_after};
 ghost use Rattle.kdc_files.specs.Journal.{handed_by, is_kept};
+ghost use Rattle.kdc_files.specs.Keeping.{AsksFor};
 ghost use Rattle.kdc_reports.specs.Log.{LogsAll, arrival_after, entries_of};
 ghost use Rattle.kdc_reports.specs.Memory.{after_act, memory_after};
 ghost use Rattle.kdc_files.specs.Recorded.{IsNew};
@@ -187,6 +188,9 @@ impl<H: Host> Wire for ServerWire<H> {
         // The authenticator that the reply makes the KDC remember is handed to the journal, and no other.
         ensures handed { Records (H.Journal.handed self.old.journal) (handed_by self.old.came.at action.now)
             (H.Journal.handed self.new.journal) }
+        // Nothing else is asked of it.
+        ensures asked { AsksFor action.now (is_kept H.Journal.is_whole self.new.journal action.now)
+            (H.Journal.state self.old.journal) (H.Journal.state self.new.journal) }
         // If the journal has kept all, and the start is not quiet about it, the action is done.
         ensures sent { may_send H.Journal.is_whole self.new.journal self.old.quiet_until self.old.came.at action.now ≡ true
             → Records (H.Sockets.recorded self.old.sockets) (acted action.now result ∷ [])

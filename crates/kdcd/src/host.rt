@@ -12,8 +12,8 @@ use kdc_reports::{
     CountedLog, FaultCount, JournalNews, LogFormat, MetricsFile, MetricsPaths, RequestLines,
     Started,
 };
-use kdc_sockets::{BindFault, SharedWriter, SocketWire};
 use kdc_server::{Host, ServeOptions, StartNews};
+use kdc_sockets::{BindFault, SharedWriter, SocketWire};
 use krb_fields::Moment;
 use principal_rows::Limits;
 use principals::Database;
@@ -100,6 +100,8 @@ impl<'a> Host for SystemHost<'a> {
 
     ghost recorded = { λ _. None };
 
+    ghost world = { λ _. None };
+
     fn read_rows(&mut self, alloc: Global) -> Result<Database, ServerFileCause> {
         let Some(rows) = &mut self.rows else {
             return Err(ServerFileCause::from(Error::from(ErrorKind::NotFound)));
@@ -166,6 +168,7 @@ impl<'a> Host for SystemHost<'a> {
         refuse_journal(alloc, place, leftover(is_first, self.removes_journal))
     }
 
+    #[tactic(auto, using(kdc_files::specs::KeepingLaws::nothing_begun))]
     fn begin_journal(
         &mut self,
         alloc: Global,
