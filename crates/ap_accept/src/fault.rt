@@ -3,7 +3,6 @@ ghost use Rattle.std.specs.Prelude.{◌≡◌};
 ghost use Rattle.ap_accept.specs.declared.fault.ApFault.TheVariants.{Refused, Memory};
 ghost use Rattle.ap_accept.specs.declared.fault.ResumeFault.TheVariants as resuming;
 
-use crate::refusal_texts::refusal_text;
 use ap_req::ApRefusal;
 use std::alloc::{AllocError, AllocFailed};
 use std::error::Error;
@@ -24,7 +23,7 @@ impl fmt::Display for ApFault {
     fn fmt<W: fmt::Write>(&self, f: &mut fmt::Formatter<W>) -> fmt::Result {
         match self {
             ApFault::NotAnApReq => f.write_str("the bytes do not encode an AP-REQ"),
-            ApFault::Refused(refusal) => f.write_str(refusal_text(*refusal)),
+            ApFault::Refused(refusal) => f.write_str(refusal.text()),
             ApFault::Memory => f.write_str("out of memory"),
         }
     }

@@ -8,11 +8,11 @@ ghost use Rattle.ap_accept.specs.Reply.{IsApReply, reply_if, reply_of, reply_par
 
 use crate::presented::Presented;
 use crate::receipt::Receipt;
+use encrypted_data::seal_part;
 use enctypes::{Key, KeyUsage};
 use krb_elements::Octets;
 use krb_fields::EncryptedData;
 use krb_types::{ApRep, Authenticator, EncApRepPart, encode_ap_rep};
-use encrypted_data::seal_part;
 use std::alloc::{AllocError, Global};
 
 /// Returns the bytes of the AP-REP, if it is asked for.

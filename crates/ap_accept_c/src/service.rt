@@ -13,7 +13,7 @@ use crate::last::{Last, Refusal};
 use crate::part::Part;
 use crate::status::Status;
 use crate::texts::text_of;
-use ap_accept::{Accepted, Acceptor, AcceptorOptions, ApFault, Opening, TicketLabel, refusal_text};
+use ap_accept::{Accepted, Acceptor, AcceptorOptions, ApFault, Opening, TicketLabel};
 use cred_files::Keytab;
 use krb_fields::{Moment, Name, NameFault};
 use std::alloc::Global;
@@ -195,7 +195,7 @@ impl Service {
     /// Returns the text for a status number: of a refusal, if it is the last one, that of its rule.
     pub fn text_of(&self, number: i32) -> &'static str {
         match self.last.refusal {
-            Some(refusal) if refusal.rule.code().number() == number => refusal_text(refusal.rule),
+            Some(refusal) if refusal.rule.code().number() == number => refusal.rule.text(),
             _ => text_of(number),
         }
     }

@@ -4,11 +4,11 @@ ghost use Rattle.ap_req.specs.Authenticators.{authenticator_in, authenticator_of
 
 use crate::decryption::open_by;
 use crate::refusal::ApRefusal;
+use encrypted_data::{ReadyKeys, key_of};
 use enctypes::{Key, KeyUsage};
 use krb_fields::{EncryptedDataRef, Typed};
 use krb_types::{Authenticator, EncTicketPart};
 use rule_lists::Attempt;
-use encrypted_data::{ReadyKeys, key_of};
 use std::alloc::{AllocError, Global};
 use std::cmp::Ordering;
 

@@ -3,9 +3,9 @@ ghost use Rattle.std.specs.Prelude.{◌≡◌, IfOk, IfSome};
 ghost use Rattle.enctypes.specs.KeyUsage.{usage_number};
 ghost use Rattle.encrypted_data.specs.Parts.{IsSpelledWithin, opened_as};
 
+use encrypted_data::{ReadyKeys, open_part};
 use enctypes::{Key, KeyUsage};
 use krb_elements::ReadOwned;
-use encrypted_data::{ReadyKeys, open_part};
 use std::alloc::{AllocError, Global};
 
 /// Decrypts a value as `open_part` does, with the server's cache of keys if it has one.

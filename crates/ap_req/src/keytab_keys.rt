@@ -6,10 +6,10 @@ ghost use Rattle.ap_req.specs.Keytab.{held_in, service_of, ticket_key};
 
 use crate::held_key::HeldKey;
 use cred_files::Keytab;
+use encrypted_data::type_numbered;
 use enctypes::Key;
 use krb_fields::Name;
 use krb_types::TicketRef;
-use encrypted_data::type_numbered;
 
 /// Returns what the keytab holds for a ticket with this service.
 pub fn held_in<'k>(keytab: &'k Keytab, ticket: &TicketRef<'_>, service: &Name) -> HeldKey<'k>

@@ -24,6 +24,7 @@ mod decryption;
 mod held_key;
 mod keytab_keys;
 mod refusal;
+mod refusal_texts;
 mod session_keys;
 mod tickets;
 mod validity;

@@ -3,10 +3,10 @@ ghost use Rattle.std.specs.Prelude.{◌≡◌};
 ghost use Rattle.ap_req.specs.Authenticators.{part_rules, session_key_of};
 
 use crate::refusal::ApRefusal;
+use encrypted_data::key_of;
 use enctypes::Key;
 use krb_types::EncTicketPart;
 use rule_lists::decide;
-use encrypted_data::key_of;
 
 /// Returns the session key, after checking that the client is of this realm and that the ticket is bound to no address.
 pub fn session_key_of(realm: &[u8], part: &EncTicketPart) -> Result<Key, ApRefusal>

@@ -8,12 +8,12 @@ ghost use Rattle.ap_req.specs.Tickets.{is_other_version, opened_with, shown_tick
 use crate::decryption::open_by;
 use crate::held_key::{HeldKey, lacks_key, lacks_version};
 use crate::refusal::ApRefusal;
+use encrypted_data::ReadyKeys;
 use enctypes::{Key, KeyUsage};
 use krb_fields::numbers::{AP_REQ, PVNO};
 use krb_fields::{ApOption, EncryptedDataRef};
 use krb_types::{ApReqRef, EncTicketPart};
 use rule_lists::{Attempt, decide};
-use encrypted_data::ReadyKeys;
 use std::alloc::{AllocError, Global};
 
 /// Decrypts the ticket with the key that the server holds for it, or returns the first rule that refuses it. A server's

@@ -13,7 +13,7 @@ use Rattle.rule_lists.specs.RefusalLaws.{decided_found}
 use Rattle.rule_lists.specs.Refusals.{Rule, decided}
 use Rattle.ticket_times.specs.declared.times.Times.{Times}
 use Rattle.as_exchange.specs.View.{AsView}
-use Rattle.as_exchange.specs.Terms.{admission_of, terms, terms_if, terms_of, times_of}
+use Rattle.as_exchange.specs.Terms.{admission_of, terms, terms_if, common_terms, times_of}
 use Rattle.as_exchange.specs.Rules.{admitted, rules_by, timestamp_of}
 use Rattle.as_exchange.specs.NamedLaws.{admitted_terms, found_by}
 use Rattle.as_exchange.specs.Decision.{IfIssued, by_admission, decision}
@@ -27,7 +27,7 @@ abbrev pub AreAsked : ReqBody → Admission → Type 0
 AreAsked body a = (body.cname ≡ Some a.terms.client_name) × (body.sname ≡ Some a.terms.service.name)
 
 asked_of : (types : List ℤ) (cname sname : Name) (client service : Row) (t : Terms)
-    → terms_of types cname sname client service ≡ Some t
+    → common_terms types cname sname client service ≡ Some t
     → (Some cname ≡ Some t.client_name) × (Some sname ≡ Some t.service.name)
 asked_of types cname sname client service t e =
     let found = found_by cname client (first_key (current_keys client) types) (service_terms types sname service) t e in

@@ -23,7 +23,7 @@ use Rattle.rule_lists.specs.Refusals.{Rule, decided}
 use Rattle.ticket_times.specs.declared.times.Times.{Times}
 use Rattle.as_exchange.specs.View.{AsView}
 use Rattle.as_exchange.specs.Known.{IsKnown}
-use Rattle.as_exchange.specs.Terms.{terms, terms_by, terms_if, terms_of, admission_of}
+use Rattle.as_exchange.specs.Terms.{terms, terms_by, terms_if, common_terms, admission_of}
 use Rattle.as_exchange.specs.declared.terms.Terms.{Terms}
 use Rattle.as_exchange.specs.declared.terms.Admission.{Admission}
 
@@ -61,7 +61,7 @@ found_by cname client (Some r) (Some s) t e = (
 
 named_of : (types : List ℤ) (cname sname : Name) (client service : Row) (t : Terms) → IsWithinLimits cname.components
     → IsWithinLimits sname.components
-    → terms_of types cname sname client service ≡ Some t → IsNamed (Some client) (Some service) t
+    → common_terms types cname sname client service ≡ Some t → IsNamed (Some client) (Some service) t
 named_of types cname sname client service t c s e =
     let found = found_by cname client (first_key (current_keys client) types) (service_terms types sname service) t e in
     let of_service = found_terms types sname service t.service found.3 in

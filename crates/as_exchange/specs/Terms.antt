@@ -28,12 +28,12 @@ terms_by cname client (Some reply) (Some service) = Some (record {
 terms_by cname client (Some reply) None = None
 terms_by cname client None service = None
 
-abbrev pub terms_of : List ℤ → Name → Name → Row → Row → Option Terms
-terms_of types cname sname client service =
+abbrev pub common_terms : List ℤ → Name → Name → Row → Row → Option Terms
+common_terms types cname sname client service =
     terms_by cname client (first_key (current_keys client) types) (service_terms types sname service)
 
 abbrev pub terms_if : List ℤ → Option Name → Option Name → Option Row → Option Row → Option Terms
-terms_if types (Some cname) (Some sname) (Some client) (Some service) = terms_of types cname sname client service
+terms_if types (Some cname) (Some sname) (Some client) (Some service) = common_terms types cname sname client service
 terms_if types (Some cname) (Some sname) (Some client) None = None
 terms_if types (Some cname) (Some sname) None service = None
 terms_if types (Some cname) None client service = None

@@ -15,7 +15,7 @@ ghost use Rattle.as_exchange.specs.declared.outcome.AsOutcome.TheVariants.{Refus
 use crate::deciding::decision;
 use crate::decision::Decision;
 use crate::errors::as_error;
-use crate::issuing::{as_rep, granted_of};
+use crate::issuing::{as_rep, granted_by};
 use crate::outcome::AsOutcome;
 use crate::refusal::{AsRefusal, Effect};
 use crate::rules::is_good;
@@ -155,7 +155,7 @@ fn issued(
     }
     Ok(AsAnswer {
         reply,
-        outcome: AsOutcome::Issued(granted_of(incoming.at, body, admission)),
+        outcome: AsOutcome::Issued(granted_by(incoming.at, body, admission)),
         failures: after_timestamp(view.current_failures(), admission.timestamp),
     })
 }

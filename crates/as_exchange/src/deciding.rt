@@ -5,7 +5,7 @@ ghost use Rattle.as_exchange.specs.Decision.{by_admission, decision};
 use crate::decision::Decision;
 use crate::refusal::AsRefusal;
 use crate::rules::{admitted, timestamp_of};
-use crate::terms::{Admission, terms_for};
+use crate::terms::{Admission, find_terms};
 use crate::view::AsView;
 use kdc_replies::Incoming;
 use krb_types::KdcReqRef;
@@ -22,7 +22,7 @@ pub fn decision(
     ensures { IfOk result (λ decided. decided ≡ decision view.now incoming.now.at.sec message.now) }
 {
     let timestamp = timestamp_of(alloc, view.client, incoming, message)?;
-    let terms = terms_for(alloc, view, &message.body.value)?;
+    let terms = find_terms(alloc, view, &message.body.value)?;
     let admitted = admitted(view, incoming.at, message, timestamp, terms);
     Ok(by_admission(timestamp, admitted))
 }

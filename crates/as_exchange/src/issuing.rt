@@ -15,6 +15,7 @@ ghost use Rattle.as_exchange.specs.Rules.{is_good};
 use crate::rules::is_good;
 use crate::terms::{Admission, Terms};
 use crate::view::AsView;
+use encrypted_data::PartKey;
 use enctypes::KeyUsage;
 use kdc_replies::{
     Grant, Granted, Incoming, ReplyInputs, session_key, ticket_reply, version_number,
@@ -24,7 +25,6 @@ use krb_fields::numbers::{AS_REP, ENC_AS_REP_PART};
 use krb_fields::{Flags, Moment, PaData};
 use krb_types::ReqBodyRef;
 use preauth::etype_info2;
-use encrypted_data::PartKey;
 use std::alloc::{AllocError, Global};
 use ticket_times::as_flags;
 
@@ -57,7 +57,7 @@ pub fn as_rep(
         random: incoming.random,
         ready: incoming.ready,
     };
-    let grant = grant_of(view, incoming, body, admission);
+    let grant = grant_by(view, incoming, body, admission);
     ticket_reply::<AS_REP, ENC_AS_REP_PART>(
         alloc,
         &grant,
@@ -68,7 +68,7 @@ pub fn as_rep(
     )
 }
 
-fn grant_of<'g>(
+fn grant_by<'g>(
     view: &AsView<'g>,
     incoming: &Incoming<'_>,
     body: &ReqBodyRef<'_>,
@@ -111,8 +111,8 @@ fn flags_of(body: &ReqBodyRef<'_>, admission: &Admission) -> Flags
     )
 }
 
-/// Returns the properties of the issued ticket for the request's account.
-pub fn granted_of(at: Moment, body: &ReqBodyRef<'_>, admission: &Admission) -> Granted
+/// Returns the properties of the issued ticket for the request's audit record.
+pub fn granted_by(at: Moment, body: &ReqBodyRef<'_>, admission: &Admission) -> Granted
     ensures { result ≡ granted_by at body.now admission.now }
 {
     let Admission { terms, times, .. } = admission;

@@ -14,9 +14,9 @@ use kdc_replies::{Incoming, denies_tickets, has_come, is_disabled, is_expired};
 use krb_fields::numbers::{AS_REQ, PVNO};
 use krb_fields::{KdcOption, Moment};
 use krb_types::{KdcReqRef, ReqBodyRef};
-use rule_lists::decide;
 use preauth::{Outcome, check_timestamp, is_locked};
 use principal_rows::Row;
+use rule_lists::decide;
 use std::alloc::{AllocError, Global};
 use ticket_times::{Times, asks, starts_too_late};
 

@@ -1,6 +1,6 @@
 //! The keys for the encryption types that a request asks for, and the times of the ticket.
 ghost use Rattle.std.specs.Prelude.{◌≡◌, IfOk};
-ghost use Rattle.as_exchange.specs.Terms.{admission_of, terms, terms_of, times_of};
+ghost use Rattle.as_exchange.specs.Terms.{admission_of, terms, common_terms, times_of};
 
 use crate::view::AsView;
 use enctypes::Key;
@@ -40,7 +40,7 @@ pub struct Admission {
 }
 
 /// Returns the terms of a request, or `None` if a name or a row is absent or there is no common encryption type.
-pub fn terms_for(
+pub fn find_terms(
     alloc: Global,
     view: &AsView<'_>,
     body: &ReqBodyRef<'_>,
@@ -59,10 +59,10 @@ pub fn terms_for(
     let Some(service) = view.service else {
         return Ok(None);
     };
-    terms_of(alloc, &body.etype, cname, sname, client, service)
+    common_terms(alloc, &body.etype, cname, sname, client, service)
 }
 
-fn terms_of(
+fn common_terms(
     alloc: Global,
     types: &SeqRef<'_, i32>,
     cname: &NameRef<'_>,
@@ -70,7 +70,7 @@ fn terms_of(
     client_row: &Row,
     service_row: &Row,
 ) -> Result<Option<Terms>, AllocError>
-    ensures { IfOk result (λ found. found ≡ terms_of types.now cname.now sname.now client_row.now service_row.now) }
+    ensures { IfOk result (λ found. found ≡ common_terms types.now cname.now sname.now client_row.now service_row.now) }
 {
     let version = client_row.versions.current();
     let Some(reply_key) = first_key(&version.keys, types) else {

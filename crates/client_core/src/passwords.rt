@@ -5,12 +5,12 @@ ghost use Rattle.client_core.specs.Faults.{Gives};
 ghost use Rattle.client_core.specs.Passwords.{count_if, count_in, count_of, entry_of, key_as, password_key, salt_of};
 
 use crate::fault::{ClientFault, given};
+use encrypted_data::type_numbered;
 use enctypes::{Etype, Key, string_to_key};
 use krb_elements::{KerberosString, Octets, Seq};
 use krb_fields::Name;
 use krb_types::EtypeInfo2Entry;
 use rule_lists::Attempt;
-use encrypted_data::type_numbered;
 use std::alloc::{AllocError, Global};
 
 /// The greatest count of iterations of string-to-key that a client accepts from a KDC.

@@ -11,12 +11,12 @@ ghost use Rattle.client_core.specs.Presenting.{IsShortChecksum, authenticator_of
 
 use crate::sessions::Session;
 use cred_files::Principal;
+use encrypted_data::{PartKey, encrypted, key_part};
 use enctypes::{Key, KeyUsage};
 use krb_elements::UInt32;
 use krb_fields::numbers::{AP_REQ, PVNO};
 use krb_fields::{Flags, Moment, Typed};
 use krb_types::{ApReq, Authenticator, encode_ap_req};
-use encrypted_data::{PartKey, encrypted, key_part};
 use std::alloc::{AllocError, Global};
 
 /// Returns the authenticator, which the client encrypts with the session key.

@@ -20,6 +20,7 @@ use crate::fault::{
 };
 use crate::key_role::KeyRole;
 use cred_files::Credential;
+use encrypted_data::open_part;
 use enctypes::{Key, KeyUsage};
 use krb_der::KTime;
 use krb_elements::{Octets, OctetsRef, read};
@@ -27,7 +28,6 @@ use krb_fields::numbers::{AS_REP, ENC_AS_REP_PART, ENC_TGS_REP_PART, PVNO, TGS_R
 use krb_fields::{EncryptedDataRef, KdcOption, Moment, SKEW};
 use krb_types::{EncKdcRepPart, KdcRepRef, KrbErrorRef, TicketRef, Under, read_kdc_rep};
 use rule_lists::{Attempt, decide};
-use encrypted_data::open_part;
 use std::alloc::{AllocError, Global};
 use std::cmp::Ordering;
 

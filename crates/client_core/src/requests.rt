@@ -16,12 +16,12 @@ ghost use Rattle.client_core.specs.Requests.{timestamp_data, timestamp_part};
 ghost use Rattle.client_core.specs.ShortLaws.{AreShortData};
 
 use crate::asked::Asked;
+use encrypted_data::{PartKey, encrypted};
 use enctypes::{Key, KeyUsage};
 use krb_elements::{Octets, Seq, write};
 use krb_fields::numbers::{PA_ENC_TIMESTAMP, PVNO};
 use krb_fields::{Moment, PaData};
 use krb_types::{Exchange, KdcReq, PaEncTsEnc, ReqBody, encode_kdc_req};
-use encrypted_data::{PartKey, encrypted};
 use std::alloc::{AllocError, Global};
 
 /// Returns the bytes of an AS-REQ without preauthentication.

@@ -8,12 +8,12 @@ ghost use Rattle.client_core.specs.ServiceReplies.{if_ap_reply, reads_ap, repeat
 
 use crate::fault::{ClientFault, Mismatch, Rejection, given, unless_rejected};
 use crate::replies::refusal_in;
+use encrypted_data::open_part;
 use enctypes::{Key, KeyUsage};
 use krb_elements::read;
 use krb_fields::Moment;
 use krb_types::{ApRepRef, EncApRepPart};
 use rule_lists::{Attempt, decide};
-use encrypted_data::open_part;
 use std::alloc::Global;
 
 /// Returns the contents of an AP-REP under the session key, or the first fault. `sent` is the moment of the AP-REQ.

@@ -5,11 +5,11 @@ ghost use Rattle.client_core.specs.Sessions.{IsPresentable, is_presentable, sess
 ghost use Rattle.client_core.specs.Sessions as definitions;
 
 use cred_files::Credential;
+use encrypted_data::key_of;
 use enctypes::Key;
 use krb_elements::read;
 use krb_fields::is_component;
 use krb_types::{Ticket, TicketRef};
-use encrypted_data::key_of;
 use std::alloc::{AllocError, Global};
 
 /// The greatest size of a ticket, or of a checksum, that a client sends, in bytes.

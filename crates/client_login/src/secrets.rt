@@ -13,12 +13,12 @@ use crate::infos::info_in_reply;
 use crate::ticket_requests::offered;
 use client_core::{Asked, ClientFault, EtypeInfo2, count_of, entry_of, password_key};
 use cred_files::{Keytab, Principal};
+use encrypted_data::type_numbered;
 use enctypes::{Etype, Key};
 use krb_elements::{Octets, Seq};
 use krb_fields::Name;
 use krb_fields::numbers::AS_REP;
 use krb_types::{EtypeInfo2Entry, KdcRepRef};
-use encrypted_data::type_numbered;
 use std::alloc::{AllocError, Global};
 
 /// A client's secret, which proves who it is.

@@ -17,13 +17,13 @@ use crate::faults::{Doubt, LoginError, LoginFault};
 use crate::network::Network;
 use ap_req::{has_ended, has_not_started, keytab_key, ticket_terms};
 use cred_files::{Credential, Keytab, Principal, SessionKey};
+use encrypted_data::open_part;
 use enctypes::{Key, KeyUsage};
 use krb_elements::read;
 use krb_fields::{Moment, Name, TicketFlag, Typed};
 use krb_types::{EncTicketPart, TicketRef};
-use rule_lists::Attempt;
 use rand_core::Rng;
-use encrypted_data::open_part;
+use rule_lists::Attempt;
 use std::alloc::{AllocError, Global};
 use std::cmp::Ordering;
 

@@ -64,7 +64,7 @@ impl fmt::Display for CredFault {
 impl Error for CredFault {}
 
 /// Why no value could be read from the front of bytes.
-#[derive(Clone, Copy, PartialEq, Eq)]
+#[derive(Clone, Copy, Debug, PartialEq, Eq)]
 pub enum Cut {
     /// The bytes end before the value does.
     End,

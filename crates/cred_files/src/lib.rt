@@ -16,6 +16,8 @@
 //! | [`Cache::read`], [`Cache::write`] | a credential cache from the bytes of a file; the bytes of its file |
 //! | [`Cache::find`], [`Cache::put`] | the credential for a service; puts one in, in place of an earlier one |
 //!
+//! [`Reader`] reads numbers and bytes from the front of any bytes.
+//!
 //! It does not open files: `client_files` does. Keytabs of version 1 and caches of versions 1 to 3 are refused.
 #![tactic(auto)]
 
@@ -26,6 +28,7 @@ mod keytab;
 mod keytab_entry;
 mod magic;
 mod principal;
+mod principal_text;
 mod reader;
 mod room;
 mod stored;
@@ -34,7 +37,8 @@ mod writer;
 
 pub use cache::Cache;
 pub use credential::{Credential, SessionKey, Times, TypedOctets};
-pub use fault::CredFault;
+pub use fault::{CredFault, Cut};
 pub use keytab::{Keytab, Miss};
 pub use keytab_entry::KeytabEntry;
 pub use principal::Principal;
+pub use reader::Reader;

@@ -3,6 +3,7 @@ pub mod Numbered
 pub mod NumberedLaws
 pub mod Key
 pub mod KeyUsage
+pub mod ApplicationUsage
 pub mod ShortOctets
 pub mod Derivation
 pub mod Hash

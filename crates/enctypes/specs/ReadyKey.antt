@@ -11,7 +11,6 @@ use Rattle.enctypes.specs.declared.mac_key.MacKey.{MacKey}
 use Rattle.enctypes.specs.declared.mac_key.MacKey.TheVariants.{Sha1, Sha256, Sha384}
 use Rattle.enctypes.specs.Derivation.{ke, ki}
 use Rattle.enctypes.specs.Key.{ProtocolKey}
-use Rattle.enctypes.specs.KeyUsage.{usage_number}
 
 -- the hashers are those for the key, with the hash function of the encryption type
 abbrev pub IsMacKey : Etype → List ℕ → MacKey → Type 0
@@ -26,9 +25,14 @@ pub record ReadyKey : Type 0 where
   pub key : ProtocolKey
   pub usage : KeyUsage
 
+-- what sealing derives, by the key and the usage's number
+pub record SealingKey : Type 0 where
+  pub key : ProtocolKey
+  pub usage : ℕ
+
 -- the AES key is Ke, a decryption schedule is that of Ke, and the HMAC key is Ki
-pub record IsReady (key : ProtocolKey) (usage : KeyUsage) (cipher : List ℕ) (schedule : Option (List ℕ))
+pub record IsReady (key : ProtocolKey) (usage : ℕ) (cipher : List ℕ) (schedule : Option (List ℕ))
     (hashers : MacKey) : Type 0 where
-  pub encryption : cipher ≡ ke key.etype key.bytes (usage_number usage)
+  pub encryption : cipher ≡ ke key.etype key.bytes usage
   pub decryption : IfSome schedule (λ words. IsInverseSchedule (key_expansion cipher) words (nr_of cipher))
-  pub integrity : IsMacKey key.etype (ki key.etype key.bytes (usage_number usage)) hashers
+  pub integrity : IsMacKey key.etype (ki key.etype key.bytes usage) hashers

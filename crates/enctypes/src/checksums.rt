@@ -19,7 +19,7 @@ pub fn checksum(key: &Key, usage: KeyUsage, text: &[u8]) -> Mac
     ensures len { length result ≡ mac_len key.now.etype }
     ensures most { length result ≤ 24 }
 {
-    checksum_key(key, usage).mac(&[text])
+    checksum_key(key, usage.number()).mac(&[text])
 }
 
 /// Checks whether the bytes are the checksum of the text. It always compares all of them.
@@ -30,11 +30,11 @@ pub fn verify(key: &Key, usage: KeyUsage, text: &[u8], octets: &[u8]) -> bool
     are_same(octets, checksum(key, usage, text).bytes())
 }
 
-/// Derives Kc from a key for a usage, and hashes it.
-pub fn checksum_key(key: &Key, usage: KeyUsage) -> MacKey
-    ensures { IsMacKey key.now.etype (kc key.now.etype key.now.bytes (usage_number usage)) result }
+/// Derives Kc from a key for a usage's number, and hashes it.
+pub fn checksum_key(key: &Key, usage: u32) -> MacKey
+    ensures { IsMacKey key.now.etype (kc key.now.etype key.now.bytes usage) result }
 {
     let etype = key.etype();
-    let checksum_key = derived_key(etype, key.bytes(), usage.number(), Purpose::Checksum);
+    let checksum_key = derived_key(etype, key.bytes(), usage, Purpose::Checksum);
     MacKey::new(etype, checksum_key.bytes())
 }

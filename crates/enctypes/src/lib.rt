@@ -20,6 +20,7 @@
 //! | [`ReadyKey::seal`], [`ReadyKey::open`] | the same | the same, with a prepared key |
 //! | [`checksum`], [`verify`] | RFC 3961, section 5.4; RFC 8009, section 6 | the HMAC of a text |
 //! | [`ReadyChecksum::verify`] | the same | the same, with a prepared key |
+//! | [`ApplicationUsage::seal`], `open`, `checksum`, `verify` | RFC 4120, section 7.5.1 | the same, for a usage of an application |
 //!
 //! `open` returns a text exactly if some confounder seals it to this cipher, and no cipher has two texts with one key.
 //! It opens what `seal` returned for the same key and usage. The calls depend on the key's encryption type: [`Suite`]
@@ -34,6 +35,7 @@
 mod aes_key;
 mod aes_sha1;
 mod aes_sha2;
+mod application_usage;
 mod checksums;
 mod derivation;
 mod derived_key;
@@ -49,6 +51,7 @@ mod purpose;
 mod ready_checksum;
 mod ready_key;
 mod sealing;
+mod sealing_key;
 mod sha2_profile;
 mod short_octets;
 mod simplified;
@@ -56,6 +59,7 @@ mod suite;
 
 pub use aes_sha1::{Aes128CtsHmacSha1_96, Aes256CtsHmacSha1_96};
 pub use aes_sha2::{Aes128CtsHmacSha256_128, Aes256CtsHmacSha384_192};
+pub use application_usage::ApplicationUsage;
 pub use checksums::{checksum, verify};
 pub use etype::Etype;
 pub use hash::Hash;

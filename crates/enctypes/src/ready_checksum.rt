@@ -42,7 +42,7 @@ impl ReadyChecksum {
         ReadyChecksum {
             key: *key,
             usage,
-            hashed: checksum_key(key, usage),
+            hashed: checksum_key(key, usage.number()),
         }
     }
 

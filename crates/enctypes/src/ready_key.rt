@@ -1,56 +1,35 @@
 //! Prepared keys: everything that sealing and opening derive from a key, derived once.
-ghost use Rattle.std.specs.Prelude.{◌≡◌, ◌≤◌, ◌<◌, ◌+◌, ◌++◌, ℕ, List, length, option_map, Some, IfOk, IfSome, IfNone};
-ghost use Rattle.std.specs.Prelude.{◌↔◌, All, IsTrue};
-ghost use Rattle.aes_cts.specs.Cts.{cts, cts_inverse};
-ghost use Rattle.enctypes.specs.declared.etype.Etype as types;
-ghost use Rattle.enctypes.specs.Etype.{key_len, mac_len};
-ghost use Rattle.enctypes.specs.Key.{IsKey};
+ghost use Rattle.std.specs.Prelude.{◌≡◌, ◌≤◌, ◌<◌, ◌+◌, ◌↔◌, All, length, option_map, Some, IfOk, IfSome, IfNone, IsTrue};
+ghost use Rattle.enctypes.specs.Etype.{mac_len};
 ghost use Rattle.enctypes.specs.KeyUsage.{usage_number};
-ghost use Rattle.enctypes.specs.Derivation.{ke, ki};
-ghost use Rattle.enctypes.specs.ReadyKey.{IsMacKey};
-ghost use Rattle.enctypes.specs.Sealing.{cut_hmac, zero_vector, macs_cipher, authenticated, seal};
-ghost use Rattle.enctypes.specs.Sealing.{Opens, OpensNothing, opened};
+ghost use Rattle.enctypes.specs.Sealing.{seal, Opens, OpensNothing, opened};
 
-use crate::aes_key::aes_key;
-use crate::derivation::derive_both;
-use crate::derived_key::DerivedKey;
-use crate::key::LONGEST;
-use crate::mac_key::MacKey;
 use crate::octets::are_same;
-use crate::purpose::{Purpose, usage_constant};
-use crate::{Etype, Key, KeyUsage, Mac};
-use aes_cts::{AesKey, DecryptionSchedule};
+use crate::sealing_key::SealingKey;
+use crate::{Etype, Key, KeyUsage};
 use std::alloc::{AllocError, Global};
 use std::fmt;
 use std::marker::Model;
-
-/// The length of the confounder, which is sealed before the text, in bytes.
-const CONFOUNDER_LEN: usize = 16;
-
-/// The initial cipher state.
-const ZERO_VECTOR: [u8; 16] = [0; 16];
 
 /// A key prepared for sealing and opening with one usage: it holds the key schedule of Ke and the hashed Ki.
 ///
 /// Contracts see the key and the usage. It owns no memory.
 #[derive(Drop)]
 pub struct ReadyKey {
-    key: Key,
     usage: KeyUsage,
-    cipher: AesKey,
-    // The decryption schedule of `cipher`, after `prepare_to_open`.
-    decryption: Option<DecryptionSchedule>,
-    integrity: MacKey,
+    derived: SealingKey,
 }
 
 impl Model for ReadyKey {
+    ghost use Rattle.std.specs.Prelude.{◌≡◌};
+    ghost use Rattle.enctypes.specs.KeyUsage.{usage_number};
     ghost use Rattle.enctypes.specs.ReadyKey as ready;
 
     ghost Value = { ready.ReadyKey };
 
-    ghost view = { λ r. record { key = r.key; usage = r.usage } };
+    ghost view = { λ r. record { key = r.derived.key; usage = r.usage } };
 
-    ghost invariant = { λ r. ready.IsReady r.key r.usage r.cipher r.decryption r.integrity };
+    ghost invariant = { λ r. r.derived.usage ≡ usage_number r.usage };
 }
 
 impl ReadyKey {
@@ -59,13 +38,9 @@ impl ReadyKey {
         ensures ready { result ≡ record { key = key.now; usage = usage } }
         ensures octets { All (λ b. b < 256) key.now.bytes }
     {
-        let (cipher, integrity) = sealing_keys(key.etype(), key.bytes(), usage.number());
         ReadyKey {
-            key: *key,
             usage,
-            cipher,
-            decryption: None,
-            integrity: MacKey::new(key.etype(), integrity.bytes()),
+            derived: SealingKey::new(key, usage.number()),
         }
     }
 
@@ -73,25 +48,22 @@ impl ReadyKey {
     pub fn prepare_to_open(&mut self)
         ensures { self.new ≡ self.old }
     {
-        if self.decryption.is_none() {
-            self.decryption = Some(self.cipher.decryption_schedule());
-        }
+        self.derived.prepare_to_open();
     }
 
     /// Returns the encryption type of the key.
     pub fn etype(&self) -> Etype
         ensures { result ≡ self.now.key.etype }
     {
-        self.key.etype()
+        self.derived.key().etype()
     }
 
     /// Checks whether it is this key, prepared for this usage. It always compares all bytes.
     pub fn is_for(&self, key: &Key, usage: KeyUsage) -> bool
         ensures { IsTrue result ↔ (self.now ≡ record { key = key.now; usage = usage }) }
     {
-        self.usage == usage
-            && self.key.etype() == key.etype()
-            && are_same(self.key.bytes(), key.bytes())
+        let own = self.derived.key();
+        self.usage == usage && own.etype() == key.etype() && are_same(own.bytes(), key.bytes())
     }
 
     /// Seals a text, like `seal` with this key and usage.
@@ -112,13 +84,7 @@ impl ReadyKey {
             opened self.now.key.etype self.now.key.bytes (usage_number self.now.usage) sealed.items
             ≡ Some text.now) }
     {
-        let mac_len = self.mac_len();
-        let mut sealed = Vec::with_capacity(alloc, CONFOUNDER_LEN + text.len() + mac_len)?;
-        sealed.extend_from_slice(confounder)?;
-        sealed.extend_from_slice(text)?;
-        let mac = self.encipher(&mut sealed);
-        sealed.extend_from_slice(mac.bytes())?;
-        Ok(sealed)
+        self.derived.seal(alloc, confounder, text)
     }
 
     /// Opens a sealed text, like `open` with this key and usage.
@@ -133,81 +99,7 @@ impl ReadyKey {
             length cipher.now ≡ 16 + mac_len self.now.key.etype + length text.items)) }
         ensures short { length cipher.now < 16 + mac_len self.now.key.etype → result ≡ Ok None }
     {
-        let mac_len = self.mac_len();
-        if cipher.len() < CONFOUNDER_LEN + mac_len {
-            return Ok(None);
-        }
-        let (enciphered, mac) = cipher.split_at(cipher.len() - mac_len);
-        let mut text = Vec::with_capacity(alloc, enciphered.len())?;
-        text.extend_from_slice(enciphered)?;
-        let expected = self.decipher(&mut text);
-        if !are_same(expected.bytes(), mac) {
-            return Ok(None);
-        }
-        text.copy_within(CONFOUNDER_LEN.., 0);
-        text.truncate(enciphered.len() - CONFOUNDER_LEN);
-        Ok(Some(text))
-    }
-
-    // Returns the length of the HMAC at the end of a sealed text, in bytes.
-    fn mac_len(&self) -> usize
-        ensures value { result ≡ mac_len self.now.key.etype }
-        ensures most { result ≤ 24 }
-        ensures valid { IsKey self.now.key }
-    {
-        self.key.etype().mac_len()
-    }
-
-    // Encrypts confounder and text in place, and returns the HMAC for the end of the sealed text.
-    fn encipher(&self, text: &mut [u8]) -> Mac
-        requires { 16 ≤ length text.old }
-        ensures value { text.new
-            ≡ cts (ke self.now.key.etype self.now.key.bytes (usage_number self.now.usage)) zero_vector text.old }
-        ensures mac { result ≡ cut_hmac self.now.key.etype
-            (ki self.now.key.etype self.now.key.bytes (usage_number self.now.usage))
-            (authenticated (macs_cipher self.now.key.etype) text.old text.new) }
-    {
-        if self.key.etype().macs_cipher() {
-            self.cipher.cts_encrypt(&ZERO_VECTOR, text);
-            mac_of_cipher(&self.integrity, text)
-        } else {
-            let mac = mac_of_plain(&self.integrity, text);
-            self.cipher.cts_encrypt(&ZERO_VECTOR, text);
-            mac
-        }
-    }
-
-    // Decrypts confounder and text in place, and returns the HMAC that the sealed text must end with.
-    fn decipher(&self, text: &mut [u8]) -> Mac
-        requires { 16 ≤ length text.old }
-        ensures value { text.new
-            ≡ cts_inverse (ke self.now.key.etype self.now.key.bytes (usage_number self.now.usage)) zero_vector
-            text.old }
-        ensures mac { result ≡ cut_hmac self.now.key.etype
-            (ki self.now.key.etype self.now.key.bytes (usage_number self.now.usage))
-            (authenticated (macs_cipher self.now.key.etype) text.new text.old) }
-    {
-        if self.key.etype().macs_cipher() {
-            let mac = mac_of_cipher(&self.integrity, text);
-            self.decrypt(text);
-            mac
-        } else {
-            self.decrypt(text);
-            mac_of_plain(&self.integrity, text)
-        }
-    }
-
-    // Decrypts confounder and text in place.
-    fn decrypt(&self, text: &mut [u8])
-        requires { 16 ≤ length text.old }
-        ensures { text.new
-            ≡ cts_inverse (ke self.now.key.etype self.now.key.bytes (usage_number self.now.usage)) zero_vector
-            text.old }
-    {
-        match &self.decryption {
-            Some(schedule) => self.cipher.cts_decrypt_under(schedule, &ZERO_VECTOR, text),
-            None => self.cipher.cts_decrypt(&ZERO_VECTOR, text),
-        }
+        self.derived.open(alloc, cipher)
     }
 }
 
@@ -215,45 +107,8 @@ impl ReadyKey {
 impl fmt::Debug for ReadyKey {
     fn fmt<W: fmt::Write>(&self, f: &mut fmt::Formatter<W>) -> fmt::Result {
         f.debug_struct("ReadyKey")
-            .field("key", &self.key)
+            .field("key", self.derived.key())
             .field("usage", &self.usage)
             .finish_non_exhaustive()
     }
-}
-
-// Derives Ke, as an AES key, and Ki.
-fn sealing_keys(etype: Etype, key: &[u8], usage: u32) -> (AesKey, DerivedKey)
-    requires { length key.now ≡ key_len etype }
-    ensures encryption { result.0 ≡ ke etype key.now usage }
-    ensures integrity { result.1 ≡ ki etype key.now usage }
-{
-    let mut encryption = [0; LONGEST];
-    let mut integrity = [0; LONGEST];
-    let encryption = &mut encryption[..etype.key_len()];
-    let integrity = &mut integrity[..etype.mac_key_len()];
-    derive_both(
-        etype,
-        key,
-        &usage_constant(usage, Purpose::Encryption),
-        encryption,
-        &usage_constant(usage, Purpose::Integrity),
-        integrity,
-    );
-    (aes_key(encryption), DerivedKey::new(integrity))
-}
-
-// Returns the HMAC of confounder and text (RFC 3961, section 5.3).
-fn mac_of_plain(integrity: &MacKey, text: &[u8]) -> Mac
-    ensures { (etype : types.Etype) (key : List ℕ) → IsMacKey etype key integrity.now
-        → result ≡ cut_hmac etype key text.now }
-{
-    integrity.mac(&[text])
-}
-
-// Returns the HMAC of the initial cipher state and the cipher (RFC 8009, section 5).
-fn mac_of_cipher(integrity: &MacKey, text: &[u8]) -> Mac
-    ensures { (etype : types.Etype) (key : List ℕ) → IsMacKey etype key integrity.now
-        → result ≡ cut_hmac etype key (zero_vector ++ text.now) }
-{
-    integrity.mac(&[&ZERO_VECTOR, text])
 }

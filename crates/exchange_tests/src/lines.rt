@@ -1,7 +1,9 @@
 //! Tests of the lines of a log (`request_log`, `kdc_reports`): the names in them, their JSON, and who asked. The moment
 //! is the first second of 2024.
 use enctypes::Etype;
-use kdc_core::{Account, ApRefusal, AsOutcome, AsRefusal, Bears, Granted, TgsOutcome, TgsRefusal};
+use kdc_core::{
+    ApRefusal, AsOutcome, AsRefusal, AuditRecord, Bears, Granted, TgsOutcome, TgsRefusal,
+};
 use kdc_reports::{LogFormat, LogWriter, RequestLines};
 use krb_der::KTime;
 use krb_fields::{Flags, Moment, Name};
@@ -56,30 +58,30 @@ fn granted(flags: u32, life: i64, renewable: Option<i64>) -> Granted {
     }
 }
 
-fn login(client: Option<Name>, service: Option<Name>, outcome: AsOutcome) -> Option<Account> {
-    Some(Account::As {
+fn login(client: Option<Name>, service: Option<Name>, outcome: AsOutcome) -> Option<AuditRecord> {
+    Some(AuditRecord::As {
         client,
         service,
         outcome,
     })
 }
 
-fn ticket(client: Option<Name>, service: Option<Name>, outcome: TgsOutcome) -> Option<Account> {
-    Some(Account::Tgs {
+fn ticket(client: Option<Name>, service: Option<Name>, outcome: TgsOutcome) -> Option<AuditRecord> {
+    Some(AuditRecord::Tgs {
         client,
         service,
         outcome,
     })
 }
 
-pub(crate) fn account(
+pub(crate) fn audit(
     client: Option<Name>,
     service: Option<Name>,
     became: Became,
-) -> Option<Account> {
+) -> Option<AuditRecord> {
     match became {
         Became::Unanswered => None,
-        Became::NoRequest => Some(Account::NoRequest),
+        Became::NoRequest => Some(AuditRecord::NoRequest),
         Became::LoginRefused(rule) => login(client, service, AsOutcome::Refused(rule)),
         Became::LoginTooBig => login(client, service, AsOutcome::TooBig),
         Became::Login(flags, life, renewable) => {
@@ -100,12 +102,12 @@ pub(crate) fn account(
 pub(crate) type Log = RequestLines<Vec<u8>>;
 
 /// Writes the line of a request.
-fn write(alloc: Global, log: &mut Log, asker: Asker, account: Option<Account>) {
+fn write(alloc: Global, log: &mut Log, asker: Asker, audit: Option<AuditRecord>) {
     if let Some(now) = Moment::new(MIDNIGHT, 999_999) {
         let entry = Entry {
             at: now,
             asker,
-            account: account.as_ref(),
+            audit: audit.as_ref(),
             is_sent: true,
         };
         log.write_entry(alloc, &entry);
@@ -113,12 +115,12 @@ fn write(alloc: Global, log: &mut Log, asker: Asker, account: Option<Account>) {
 }
 
 /// Writes the line of a request from `192.0.2.7:53122` over UDP.
-pub(crate) fn write_from_peer(alloc: Global, log: &mut Log, account: Option<Account>) {
+pub(crate) fn write_from_peer(alloc: Global, log: &mut Log, audit: Option<AuditRecord>) {
     let asker = Asker {
         transport: Transport::Udp,
         peer: Some(SocketAddr::from(([192, 0, 2, 7], 53_122))),
     };
-    write(alloc, log, asker, account);
+    write(alloc, log, asker, audit);
 }
 
 const UNKNOWN: Became = Became::LoginRefused(AsRefusal::ClientUnknown);
@@ -159,7 +161,7 @@ bbbbbbbbbbbbbbbbbbbbbbbbbbbbbbbbbbbbbbbbbbbbbbbbbbbbbbbbbbbbbbbbbbbbbbbbbbbbbbbb
 /// Writes the line of a refused login by a client with these components, for no service.
 fn write_client(alloc: Global, log: &mut Log, components: &[&[u8]]) {
     if let Ok(name) = Name::new(alloc, 1, components) {
-        write_from_peer(alloc, log, account(Some(name), None, UNKNOWN));
+        write_from_peer(alloc, log, audit(Some(name), None, UNKNOWN));
     }
 }
 
@@ -167,7 +169,7 @@ fn write_client(alloc: Global, log: &mut Log, components: &[&[u8]]) {
 fn no_name_forges_a_line_and_a_long_one_is_cut_to_200_characters(rt: HostRuntime) {
     let alloc = rt.alloc();
     let mut log = RequestLines::new(Vec::new(alloc), LogFormat::Text);
-    write_from_peer(alloc, &mut log, account(None, None, UNKNOWN));
+    write_from_peer(alloc, &mut log, audit(None, None, UNKNOWN));
     let forged: &[&[u8]] = &[b"u krbtgt/A.B ticket 10h\n2024-01-01", b"\xff"];
     write_client(alloc, &mut log, forged);
     write_client(alloc, &mut log, &[b"a-b_c.d", b"x@y", b"/", b"Z9"]);
@@ -194,13 +196,9 @@ fn a_line_of_json_has_the_same_fields(rt: HostRuntime) -> Result<(), Fail> {
     let service = Name::from_text(alloc, "krbtgt/A.B")?;
     let mut log = RequestLines::new(Vec::new(alloc), LogFormat::Json);
     let issued = Became::Login(0x40C0_0000, 36_000, Some(604_800));
-    write_from_peer(
-        alloc,
-        &mut log,
-        account(Some(client), Some(service), issued),
-    );
+    write_from_peer(alloc, &mut log, audit(Some(client), Some(service), issued));
     let refused = Became::Refused(TgsRefusal::Ap(ApRefusal::BadMatch));
-    write_from_peer(alloc, &mut log, account(None, None, refused));
+    write_from_peer(alloc, &mut log, audit(None, None, refused));
     assert!(rt; log.lines().as_slice() == OBJECTS.as_bytes());
     Ok(())
 }
@@ -219,7 +217,7 @@ fn a_line_says_who_asked(rt: HostRuntime) {
             transport: Transport::Tcp,
             peer,
         };
-        write(alloc, &mut log, asker, Some(Account::NoRequest));
+        write(alloc, &mut log, asker, Some(AuditRecord::NoRequest));
     }
     assert!(rt; log.lines().as_slice() == ASKERS.as_bytes());
 }

@@ -1,6 +1,6 @@
 //! Tests that each rule and each outcome has its line in a log (`request_log`, `kdc_reports`). Rules have the names of
 //! `docs/PROTOCOL.md`, and the codes of RFC 4120, section 7.5.9. The moment is the first second of 2024.
-use crate::lines::{Became, Log, account, write_from_peer};
+use crate::lines::{Became, Log, audit, write_from_peer};
 use kdc_core::{ApRefusal, AsRefusal, Bears, TgsRefusal};
 use kdc_reports::{LogFormat, RequestLines};
 use krb_fields::Name;
@@ -300,7 +300,7 @@ fn write_cases(alloc: Global, log: &mut Log, cases: &[Case]) -> Result<(), Fail>
     for (became, _) in cases {
         let client = Name::from_text(alloc, "u")?;
         let service = Name::from_text(alloc, "krbtgt/A.B")?;
-        write_from_peer(alloc, log, account(Some(client), Some(service), *became));
+        write_from_peer(alloc, log, audit(Some(client), Some(service), *became));
     }
     Ok(())
 }

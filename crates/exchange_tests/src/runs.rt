@@ -1,7 +1,7 @@
 //! A server over a host in memory: what it asks of its host, and what its sockets, its tally, its journal and its log
 //! record. Its journal fails once. And starts without a journal that find the one of an earlier server.
 use journal::{Doubt, Start};
-use kdc_core::{Account, Bears, TgsOutcome};
+use kdc_core::{AuditRecord, Bears, TgsOutcome};
 use kdc_files::{HandedOver, JournalBeginning};
 use kdc_hub::{Action, Event, Look, MemoryRows, Peer, Totals, WireCall};
 use kdc_reports::{LogFormat, MemoryEntry, MemoryMetrics, Refused};
@@ -256,24 +256,24 @@ fn are_logged(record: Option<&[MemoryEntry]>) -> bool {
             is_logged(login, Transport::Udp, true)
                 && is_logged(withheld, Transport::Tcp, false)
                 && is_logged(sent, Transport::Udp, true)
-                && is_resent(&sent.account)
+                && is_resent(&sent.audit)
         }
         _ => false,
     }
 }
 
 /// Checks whether a ticket was sent again.
-fn is_resent(account: &Option<Account>) -> bool {
-    match account {
-        Some(account) => outcome_of(account) == Some(TgsOutcome::Resent(Bears::Ticket)),
+fn is_resent(audit: &Option<AuditRecord>) -> bool {
+    match audit {
+        Some(audit) => outcome_of(audit) == Some(TgsOutcome::Resent(Bears::Ticket)),
         None => false,
     }
 }
 
-fn outcome_of(account: &Account) -> Option<TgsOutcome> {
-    match account {
-        Account::Tgs { outcome, .. } => Some(*outcome),
-        Account::NoRequest | Account::As { .. } => None,
+fn outcome_of(audit: &AuditRecord) -> Option<TgsOutcome> {
+    match audit {
+        AuditRecord::Tgs { outcome, .. } => Some(*outcome),
+        AuditRecord::NoRequest | AuditRecord::As { .. } => None,
     }
 }
 

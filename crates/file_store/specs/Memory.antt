@@ -1,5 +1,6 @@
 -- The files of a store in memory.
 use Rattle.std.specs.Prelude.{ℕ, List, [], ◌∷◌, Option, Some, None, option_map, if◌then◌else◌, string_bytes, bytes_eq}
+use Rattle.file_store.specs.Input.{Input, lines_of}
 use Rattle.file_store.specs.World.{World}
 use Rattle.file_store.specs.declared.memory_store.MemoryStore.{MemoryStore}
 use Rattle.file_store.specs.declared.memory_store.StoredFile.{StoredFile}
@@ -22,3 +23,6 @@ world_of store = record {
   now = store.seconds;
   rights = λ path. rights_under store.user;
 }
+
+abbrev pub input_of : MemoryStore → Input
+input_of store = record { lines = lines_of store.input.items; terminal = store.terminal }

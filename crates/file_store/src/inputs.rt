@@ -2,9 +2,10 @@
 //! source.
 ghost use Rattle.std.specs.Prelude.{◌≡◌, ◌≤◌, ◌<◌, IfErr, IfOk, IfNone, IfSome, length, take, vec_len};
 ghost use Rattle.std.specs.Prelude.{◌==◌, Option, OnOk, OnErr, Some, codes, option_map};
-ghost use Rattle.std.specs.List.{position};
+ghost use Rattle.std.specs.List.{after_first, position};
 ghost use Rattle.file_store.specs.Counting.{IsShown, IsWriteShown};
 ghost use Rattle.file_store.specs.Inputs.{first_line};
+ghost use Rattle.file_store.specs.Input.{HasLongLine, TakesLine};
 ghost use Rattle.file_store.specs.World.{with_file, HasFirstLine, HasLongFirstLine, HasRights, HasSeed, IsDrawn, IsFirst, IsNow};
 ghost use Rattle.file_store.specs.World.{IsRead, IsThere};
 
@@ -32,6 +33,7 @@ pub const STANDARD_INPUT: &str = "standard input";
 pub fn has_file<'p, S: Store>(store: &mut S, path: &'p str) -> Result<bool, FileFault<'p>>
     ensures there { IfOk result (λ found. IsThere (S.world store.old) path.now found) }
     ensures unchanged { S.world store.new ≡ S.world store.old }
+    ensures kept { S.input store.new ≡ S.input store.old }
     ensures named { IfErr result (λ fault. fault.path.now ≡ path.now) }
     ensures shown { IsShown (S.fault_count store.old) result (S.fault_count store.new) }
 {
@@ -50,6 +52,7 @@ pub fn read_file<'p, S: Store>(
     ensures within { IfOk result (λ octets. vec_len octets ≤ 16777216) }
     ensures read { IfOk result (λ octets. IsRead (S.world store.old) path.now octets.items) }
     ensures unchanged { S.world store.new ≡ S.world store.old }
+    ensures kept { S.input store.new ≡ S.input store.old }
     ensures named { IfErr result (λ fault. fault.path.now ≡ path.now) }
     ensures shown { IsShown (S.fault_count store.old) result (S.fault_count store.new) }
 {
@@ -66,6 +69,7 @@ pub fn read_at_most<'p, S: Store>(
     ensures within { IfOk result (λ octets. vec_len octets ≤ most) }
     ensures read { IfOk result (λ octets. IsRead (S.world store.old) path.now octets.items) }
     ensures unchanged { S.world store.new ≡ S.world store.old }
+    ensures kept { S.input store.new ≡ S.input store.old }
     ensures named { IfErr result (λ fault. fault.path.now ≡ path.now) }
     ensures shown { IsShown (S.fault_count store.old) result (S.fault_count store.new) }
 {
@@ -89,6 +93,7 @@ pub fn read_stream<'p, S: Store>(
     ensures within { IfOk result (λ octets. vec_len octets ≤ 16777216) }
     ensures read { IfOk result (λ octets. IsRead (S.world store.old) path.now octets.items) }
     ensures unchanged { S.world store.new ≡ S.world store.old }
+    ensures kept { S.input store.new ≡ S.input store.old }
     ensures named { IfErr result (λ fault. fault.path.now ≡ path.now) }
     ensures shown { IsShown (S.fault_count store.old) result (S.fault_count store.new) }
 {
@@ -106,6 +111,7 @@ pub fn read_stream<'p, S: Store>(
 pub fn file_rights<'p, S: Store>(store: &mut S, path: &'p str) -> Result<FileRights, FileFault<'p>>
     ensures rights { IfOk result (λ rights. HasRights (S.world store.old) path.now rights) }
     ensures unchanged { S.world store.new ≡ S.world store.old }
+    ensures kept { S.input store.new ≡ S.input store.old }
     ensures named { IfErr result (λ fault. fault.path.now ≡ path.now) }
     ensures shown { IsShown (S.fault_count store.old) result (S.fault_count store.new) }
 {
@@ -123,6 +129,7 @@ pub fn first_octet<'p, S: Store>(
 ) -> Result<Option<u8>, FileFault<'p>>
     ensures first { IfOk result (λ octet. IsFirst (S.world store.old) path.now octet) }
     ensures unchanged { S.world store.new ≡ S.world store.old }
+    ensures kept { S.input store.new ≡ S.input store.old }
     ensures named { IfErr result (λ fault. fault.path.now ≡ path.now) }
     ensures shown { IsShown (S.fault_count store.old) result (S.fault_count store.new) }
 {
@@ -142,6 +149,7 @@ pub fn write_file<'p, S: Store>(
 ) -> Result<Written, FileFault<'p>>
     ensures written { OnOk result (S.world store.new ≡ option_map (with_file path.now octets.now) (S.world store.old)) }
     ensures unchanged { OnErr result (S.world store.new ≡ S.world store.old) }
+    ensures kept { S.input store.new ≡ S.input store.old }
     ensures named { IfErr result (λ fault. fault.path.now ≡ path.now) }
     ensures shown { IsWriteShown (S.fault_count store.old) result (S.fault_count store.new) }
 {
@@ -162,6 +170,7 @@ pub fn update_file<'p, S: Store>(
 ) -> Result<Written, FileFault<'p>>
     ensures written { OnOk result (S.world store.new ≡ option_map (with_file path.now octets.now) (S.world store.old)) }
     ensures unchanged { OnErr result (S.world store.new ≡ S.world store.old) }
+    ensures kept { S.input store.new ≡ S.input store.old }
     ensures named { IfErr result (λ fault. fault.path.now ≡ path.now) }
     ensures shown { IsWriteShown (S.fault_count store.old) result (S.fault_count store.new) }
 {
@@ -181,6 +190,7 @@ pub fn write_unsynced<'p, S: Store>(
 ) -> Result<(), FileFault<'p>>
     ensures written { OnOk result (S.world store.new ≡ option_map (with_file path.now octets.now) (S.world store.old)) }
     ensures unchanged { OnErr result (S.world store.new ≡ S.world store.old) }
+    ensures kept { S.input store.new ≡ S.input store.old }
     ensures named { IfErr result (λ fault. fault.path.now ≡ path.now) }
     ensures shown { IsShown (S.fault_count store.old) result (S.fault_count store.new) }
 {
@@ -197,6 +207,7 @@ pub fn lock_file<'p, S: Store>(
     path: &'p str,
 ) -> Result<bool, FileFault<'p>>
     ensures unchanged { S.world store.new ≡ S.world store.old }
+    ensures kept { S.input store.new ≡ S.input store.old }
     ensures named { IfErr result (λ fault. fault.path.now ≡ path.now) }
     ensures shown { IsShown (S.fault_count store.old) result (S.fault_count store.new) }
 {
@@ -210,6 +221,7 @@ pub fn lock_file<'p, S: Store>(
 pub fn read_clock<S: Store>(store: &mut S) -> Result<u64, FileFault<'static>>
     ensures now { IfOk result (λ seconds. IsNow (S.world store.old) seconds) }
     ensures unchanged { S.world store.new ≡ S.world store.old }
+    ensures kept { S.input store.new ≡ S.input store.old }
     ensures shown { IsShown (S.fault_count store.old) result (S.fault_count store.new) }
 {
     match store.seconds() {
@@ -226,6 +238,7 @@ pub fn read_seed<'p, S: Store>(
 ) -> Result<[u8; 32], FileFault<'p>>
     ensures read { IfOk result (λ seed. HasSeed (S.world store.old) (Some path.now) seed) }
     ensures unchanged { S.world store.new ≡ S.world store.old }
+    ensures kept { S.input store.new ≡ S.input store.old }
     ensures named { IfErr result (λ fault. fault.path.now ≡ path.now) }
     ensures shown { IsShown (S.fault_count store.old) result (S.fault_count store.new) }
 {
@@ -247,6 +260,7 @@ pub fn read_or_draw_seed<'p, S: Store>(
 ) -> Result<[u8; 32], FileFault<'p>>
     ensures seed { IfOk result (λ seed. HasSeed (S.world store.old) (option_map (λ named. named.now) path.entry) seed) }
     ensures unchanged { S.world store.new ≡ S.world store.old }
+    ensures kept { S.input store.new ≡ S.input store.old }
     ensures shown { IsShown (S.fault_count store.old) result (S.fault_count store.new) }
 {
     match path {
@@ -259,6 +273,7 @@ pub fn read_or_draw_seed<'p, S: Store>(
 pub fn draw_seed<S: Store>(store: &mut S) -> Result<[u8; 32], FileFault<'static>>
     ensures drawn { IfOk result (λ seed. IsDrawn (S.world store.old) seed) }
     ensures unchanged { S.world store.new ≡ S.world store.old }
+    ensures kept { S.input store.new ≡ S.input store.old }
     ensures shown { IsShown (S.fault_count store.old) result (S.fault_count store.new) }
 {
     match store.random() {
@@ -288,6 +303,7 @@ pub fn read_password<'p, S: Store>(
     ensures line { IfOk result (λ found. IfSome found (λ pass. HasFirstLine (S.world store.old) path.now pass.items)) }
     ensures long { IfOk result (λ found. IfNone found (HasLongFirstLine (S.world store.old) path.now 1024)) }
     ensures unchanged { S.world store.new ≡ S.world store.old }
+    ensures kept { S.input store.new ≡ S.input store.old }
     ensures named { IfErr result (λ fault. fault.path.now ≡ path.now) }
     ensures shown { IsShown (S.fault_count store.old) result (S.fault_count store.new) }
 {
@@ -309,6 +325,9 @@ pub fn ask_password<S: Store>(
     realm: &str,
 ) -> Result<Option<Vec<u8>>, FileFault<'static>>
     ensures within { IfOk result (λ found. IfSome found (λ pass. vec_len pass ≤ 1024)) }
+    ensures line { IfOk result (λ found. IfSome found (λ pass.
+        TakesLine (S.input store.old) pass.items (S.input store.new))) }
+    ensures long { IfOk result (λ found. IfNone found (HasLongLine (S.input store.old) 1024)) }
     ensures unchanged { S.world store.new ≡ S.world store.old }
     ensures named { IfErr result (λ fault. fault.path.now ≡ codes "standard input") }
     ensures shown { IsShown (S.fault_count store.old) result (S.fault_count store.new) }
@@ -326,6 +345,9 @@ fn ask_line<S: Store>(
     realm: &str,
 ) -> io::Result<Option<Vec<u8>>>
     ensures within { IfOk result (λ found. IfSome found (λ pass. vec_len pass ≤ 1024)) }
+    ensures line { IfOk result (λ found. IfSome found (λ pass.
+        TakesLine (S.input store.old) pass.items (S.input store.new))) }
+    ensures long { IfOk result (λ found. IfNone found (HasLongLine (S.input store.old) 1024)) }
     ensures unchanged { S.world store.new ≡ S.world store.old }
     ensures shown { IfOk result (λ _. S.fault_count store.new ≡ S.fault_count store.old) }
 {
@@ -352,6 +374,16 @@ pub(crate) fn line_of(octets: &[u8]) -> &[u8]
     match line_end(octets) {
         Some(end) => octets.split_at(end).0,
         None => octets,
+    }
+}
+
+/// Returns the bytes behind the first line feed. None if there is no line feed.
+pub(crate) fn after_line(octets: &[u8]) -> &[u8]
+    ensures { result.now ≡ after_first (λ b. b == 0x0A) octets.now }
+{
+    match line_end(octets) {
+        Some(end) => octets.split_at(end + 1).1,
+        None => octets.split_at(octets.len()).1,
     }
 }
 

@@ -1,10 +1,13 @@
 //! Files, random bytes and an input in memory, for tests.
-ghost use Rattle.std.specs.Prelude.{◌≡◌, ◌≤◌, Some, IfOk, OnOk, OnErr, IfSome, vec_len, option_map, is_some};
-ghost use Rattle.file_store.specs.Memory.{file_at, rights_under, world_of};
+ghost use Rattle.std.specs.Prelude.{◌≡◌, ◌≤◌, ◌∷◌, [], Some, IfErr, IfNone, IfOk, OnOk, OnErr, IfSome, vec_len, option_map, is_some};
+ghost use Rattle.std.specs.IoError.{error_kind};
+ghost use Rattle.std.specs.declared.io.ErrorKind.TheVariants.{UnexpectedEof};
+ghost use Rattle.file_store.specs.Input.{IsFirstLong, lines_of};
+ghost use Rattle.file_store.specs.Memory.{file_at, input_of, rights_under, world_of};
 ghost use Rattle.file_store.specs.World.{first_octet, with_file, without_file};
 
 use crate::counting::{counted, counted_write};
-use crate::inputs::line_of;
+use crate::inputs::{after_line, line_of};
 use crate::plain_files::OWNER_ONLY;
 use crate::store::{FileRights, NewMode, Store, Written};
 use std::alloc::{AllocError, Global};
@@ -78,6 +81,7 @@ impl MemoryStore {
     pub fn remove_file(&mut self, alloc: Global, path: &str) -> Result<(), AllocError>
         ensures removed { OnOk result (world_of self.new ≡ without_file path.now (world_of self.old)) }
         ensures unchanged { OnErr result (world_of self.new ≡ world_of self.old) }
+        ensures kept { input_of self.new ≡ input_of self.old }
         ensures faults { self.new.faults ≡ self.old.faults }
     {
         let file = StoredFile {
@@ -92,6 +96,7 @@ impl MemoryStore {
     pub fn set(&mut self, alloc: Global, path: &str, octets: &[u8]) -> Result<(), AllocError>
         ensures written { OnOk result (world_of self.new ≡ with_file path.now octets.now (world_of self.old)) }
         ensures unchanged { OnErr result (world_of self.new ≡ world_of self.old) }
+        ensures kept { input_of self.new ≡ input_of self.old }
         ensures faults { self.new.faults ≡ self.old.faults }
     {
         let file = StoredFile {
@@ -128,7 +133,12 @@ impl MemoryStore {
         alloc: Global,
         octets: &[u8],
         terminal: bool,
-    ) -> Result<(), AllocError> {
+    ) -> Result<(), AllocError>
+        ensures given { OnOk result (input_of self.new ≡ record { lines = lines_of octets.now; terminal = terminal }) }
+        ensures kept { OnErr result (input_of self.new ≡ input_of self.old) }
+        ensures unchanged { world_of self.new ≡ world_of self.old }
+        ensures faults { self.new.faults ≡ self.old.faults }
+    {
         self.input = Vec::from_slice(alloc, octets)?;
         self.terminal = terminal;
         Ok(())
@@ -163,6 +173,7 @@ impl MemoryStore {
     fn put(&mut self, alloc: Global, path: &str, octets: &[u8]) -> io::Result<()>
         ensures written { OnOk result (Some (world_of self.new) ≡ Some (with_file path.now octets.now (world_of self.old))) }
         ensures unchanged { OnErr result (Some (world_of self.new) ≡ Some (world_of self.old)) }
+        ensures kept { Some (input_of self.new) ≡ Some (input_of self.old) }
         ensures faults { self.new.faults ≡ self.old.faults }
     {
         match self.end {
@@ -192,15 +203,18 @@ fn octets_of(file: &StoredFile) -> Option<&[u8]>
 }
 
 /// Takes the next line from an input.
+#[tactic(auto, using(crate::proofs::Lines::first_is, crate::proofs::Lines::first_long))]
 fn take_line(alloc: Global, input: &mut Vec<u8>, most: usize) -> io::Result<Option<Vec<u8>>>
-    ensures { IfOk result (λ found. IfSome found (λ octets. vec_len octets ≤ most)) }
+    ensures within { IfOk result (λ found. IfSome found (λ octets. vec_len octets ≤ most)) }
+    ensures line { IfOk result (λ found. IfSome found (λ octets. lines_of input.old.items ≡ octets.items ∷ lines_of input.new.items)) }
+    ensures long { IfOk result (λ found. IfNone found (IsFirstLong (lines_of input.old.items) most)) }
+    ensures ended { IfErr result (λ error. error_kind error ≡ UnexpectedEof → lines_of input.old.items ≡ []) }
 {
     if input.is_empty() {
         return Err(Error::from(ErrorKind::UnexpectedEof));
     }
     let line = Vec::from_slice(alloc, line_of(input))?;
-    let left = input.get(line.len().saturating_add(1)..).unwrap_or(&[]);
-    *input = Vec::from_slice(alloc, left)?;
+    *input = Vec::from_slice(alloc, after_line(input))?;
     if line.len() > most {
         return Ok(None);
     }
@@ -211,6 +225,8 @@ impl Store for MemoryStore {
     ghost fault_count = { λ s. s.faults };
 
     ghost world = { λ s. Some (world_of s) };
+
+    ghost input = { λ s. Some (input_of s) };
 
     fn exists(&mut self, path: &str) -> io::Result<bool> {
         Ok(self.get(path).is_some())

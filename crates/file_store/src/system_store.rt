@@ -324,6 +324,9 @@ where
     // no contract knows what a file of the system contains
     ghost world = { λ _. None };
 
+    // no contract knows what somebody types
+    ghost input = { λ _. None };
+
     fn exists(&mut self, path: &str) -> io::Result<bool> {
         let found = fs::exists(self.files, path);
         self.faults = counted(self.faults, &found);

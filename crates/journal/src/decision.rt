@@ -14,8 +14,8 @@ use crate::keeping::floor_on;
 use crate::reading::Journal;
 use krb_elements::Seq;
 use krb_fields::{Moment, SKEW};
-use rule_lists::first_holding;
 use replay::{Opening, Resumption, Seen};
+use rule_lists::first_holding;
 use std::alloc::{AllocError, Global};
 use std::fmt;
 

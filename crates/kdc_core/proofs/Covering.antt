@@ -35,13 +35,13 @@ use Rattle.kdc_state.proofs.Tidied.{cache_tidied}
 use Rattle.kdc_state.specs.State.{cache_of}
 use Rattle.kdc_state.specs.declared.state.State.{State}
 use Rattle.kdc_core.proofs.Tickets.{cache_kept, named_cache, replaced_cache, unless_memory}
-use Rattle.kdc_core.specs.Answer.{after_incoming, answer_of, counted, keep, stamped}
+use Rattle.kdc_core.specs.Answer.{after_incoming, contents_answer, counted, keep, stamped}
 use Rattle.kdc_core.specs.Contents.{contents, names_answered}
 use Rattle.kdc_core.specs.ContentsLaws.{AreNamesOf, are_names_of, nothing_kept}
-use Rattle.kdc_core.specs.NewlySeen.{CanBeResumed, Covers, CoversOn, CoversOpened, CoversResumed, HoldsNewlySeen, IsUpTo, event_sees, newly_seen_of, newly_seen_to, resumption_at, run_sees, seen_of}
+use Rattle.kdc_core.specs.NewlySeen.{CanBeResumed, Covers, CoversOn, CoversOpened, CoversResumed, HoldsNewlySeen, IsUpTo, event_sees, contents_seen, incoming_seen, resumption_at, run_sees, seen_if_kept}
 use Rattle.kdc_core.specs.Request.{request_of}
 use Rattle.kdc_core.specs.Run.{after_event, run}
-use Rattle.kdc_core.specs.View.{Named, as_view, components_of, named, presented_view, tgs_view, view, view_of}
+use Rattle.kdc_core.specs.View.{Named, as_view, components_of, named, presented_view, tgs_view, view, named_view}
 use Rattle.kdc_core.specs.Held.{Contents}
 use Rattle.kdc_core.specs.Held.Contents.{NoRequest, AsReq, RefusedTgsReq, TgsReq}
 use Rattle.kdc_core.specs.declared.run.Event.{Event}
@@ -94,31 +94,31 @@ module _ (c : Components) (r : Resumption) (now : ℤ) where
 
     module _ (incoming : Incoming) (in_time : incoming.at.sec ≤ℤ now) where
       tgs_held : (p : Presented) (kept : Option Kept)
-          → HeldBy (cache_of (keep state (Some p.ticket.cname.components) (stamped (cache_of state p.ticket.cname.components) incoming.at.sec p kept)) c) (with_any (seen_of p kept) [])
+          → HeldBy (cache_of (keep state (Some p.ticket.cname.components) (stamped (cache_of state p.ticket.cname.components) incoming.at.sec p kept)) c) (with_any (seen_if_kept p kept) [])
       tgs_held p (Some kept) =
-          of_either p.ticket.cname.components (stamped (cache_of state p.ticket.cname.components) incoming.at.sec p (Some kept)) (with_any (seen_of p (Some kept)) [])
-          (λ same. recorded_held (cache_of state p.ticket.cname.components) (resumed_cache (later (with_any (seen_of p (Some kept)) [])) c) incoming.at.sec
-          (subst (λ name. HeldBy (cache_of state name) (with_any (seen_of p (Some kept)) [])) (same_name c p.ticket.cname.components same) (stays (with_any (seen_of p (Some kept)) [])))
+          of_either p.ticket.cname.components (stamped (cache_of state p.ticket.cname.components) incoming.at.sec p (Some kept)) (with_any (seen_if_kept p (Some kept)) [])
+          (λ same. recorded_held (cache_of state p.ticket.cname.components) (resumed_cache (later (with_any (seen_if_kept p (Some kept)) [])) c) incoming.at.sec
+          (subst (λ name. HeldBy (cache_of state name) (with_any (seen_if_kept p (Some kept)) [])) (same_name c p.ticket.cname.components same) (stays (with_any (seen_if_kept p (Some kept)) [])))
           (late_enough r.floor incoming.at.sec now in_time) (stamp_of p) kept
           (last_spent c r (int_max r.floor (now -ℤ pos skew)) (record { client = p.ticket.cname; ctime = p.authenticator.ctime; cusec = p.authenticator.cusec }) same))
       tgs_held p None = of_either p.ticket.cname.components None [] (λ same. subst (λ name. HeldBy (cache_of state name) []) (same_name c p.ticket.cname.components same) (stays []))
 
       abbrev IsHeld : Named → Contents → Type 0
       IsHeld names held =
-          HeldBy (cache_of (keep state names.client (answer_of (view_of state names) incoming held).kept) c) (with_any (newly_seen_of (view_of state names) incoming held) [])
+          HeldBy (cache_of (keep state names.client (contents_answer (named_view state names) incoming held).kept) c) (with_any (contents_seen (named_view state names) incoming held) [])
 
       held_of : (names : Named) (held : Contents) → AreNamesOf names held → IsHeld names held
       held_of names NoRequest names_are = subst (λ (s : State). HeldBy (cache_of s c) []) (sym (nothing_kept state names.client)) (stays [])
       held_of names (AsReq message) names_are =
           subst (λ (n : Named). IsHeld n (AsReq message)) (sym names_are)
-          (as_held (components_of message.body.value.cname) (view_of state (names_answered (AsReq message))).cache (named_cache c state (names_answered (AsReq message)))
-          (as_answer (as_view (view_of state (names_answered (AsReq message)))) incoming message).failures)
+          (as_held (components_of message.body.value.cname) (named_view state (names_answered (AsReq message))).cache (named_cache c state (names_answered (AsReq message)))
+          (as_answer (as_view (named_view state (names_answered (AsReq message)))) incoming message).failures)
       held_of names (RefusedTgsReq message rejected) names_are = subst (λ (s : State). HeldBy (cache_of s c) []) (sym (nothing_kept state names.client)) (stays [])
       held_of names (TgsReq message p) names_are =
           subst (λ (n : Named). IsHeld n (TgsReq message p)) (sym names_are)
           (tgs_held p (tgs_answer (tgs_view (presented_view state message p)) incoming message.body.value p).kept)
 
-      request_held : HeldBy (cache_of (after_incoming state incoming) c) (with_any (newly_seen_to (view state incoming.octets) incoming) [])
+      request_held : HeldBy (cache_of (after_incoming state incoming) c) (with_any (incoming_seen (view state incoming.octets) incoming) [])
       request_held = held_of (named state incoming.octets) (contents (view state incoming.octets) (request_of incoming.octets)) (are_names_of state (request_of incoming.octets))
 
     -- ---- events
@@ -141,7 +141,7 @@ module _ (state : State) (incoming : Incoming) where
   IsThere after seen = is_some (map.get (cache_of after seen.client.components).pairs (stamp_seen seen)) ≡ true
 
   stamped_there : (p : Presented) (kept : Option Kept)
-      → IfSome (seen_of p kept)
+      → IfSome (seen_if_kept p kept)
       (IsThere (keep state (Some p.ticket.cname.components) (stamped (cache_of state p.ticket.cname.components) incoming.at.sec p kept)))
   stamped_there p (Some kept) =
       let name = p.ticket.cname.components in
@@ -156,7 +156,7 @@ module _ (state : State) (incoming : Incoming) where
 
   abbrev AreThere : Named → Contents → Type 0
   AreThere names held =
-      IfSome (newly_seen_of (view_of state names) incoming held) (IsThere (keep state names.client (answer_of (view_of state names) incoming held).kept))
+      IfSome (contents_seen (named_view state names) incoming held) (IsThere (keep state names.client (contents_answer (named_view state names) incoming held).kept))
 
   there_of : (names : Named) (held : Contents) → AreNamesOf names held → AreThere names held
   there_of names NoRequest names_are = tt

@@ -23,14 +23,14 @@ use Rattle.tgs_opening.specs.declared.rejection.Rejection.{Rejection}
 use Rattle.kdc_state.specs.State.{cache_of}
 use Rattle.kdc_state.specs.declared.state.State.{State}
 use Rattle.kdc_core.proofs.Frame.{other_kept}
-use Rattle.kdc_core.specs.Answer.{after_incoming, answer_of, counted, keep}
-use Rattle.kdc_core.specs.Contents.{contents, contents_in, tgs_contents}
+use Rattle.kdc_core.specs.Answer.{after_incoming, contents_answer, counted, keep}
+use Rattle.kdc_core.specs.Contents.{contents, message_contents, tgs_contents}
 use Rattle.kdc_core.specs.ContentsLaws.{nothing_kept, presented_client}
-use Rattle.kdc_core.specs.NewlySeen.{newly_seen_of, newly_seen_to, seen_of}
+use Rattle.kdc_core.specs.NewlySeen.{contents_seen, incoming_seen, seen_if_kept}
 use Rattle.kdc_core.specs.Request.{Request, request_of}
 use Rattle.kdc_core.specs.Shown.{IsSeenAlike, ShowsTicket}
-use Rattle.kdc_core.specs.View.{View, as_view, cache_named, client_in, components_of, named_by, named_in}
-use Rattle.kdc_core.specs.View.{tgs_view, ticket_view, view, view_of}
+use Rattle.kdc_core.specs.View.{View, as_view, cache_named, message_client, components_of, asked_names, request_names}
+use Rattle.kdc_core.specs.View.{tgs_view, ticket_view, view, named_view}
 
 seen_same : (old new : ReplayCache Kept) → new ≡ old → IsSeenAlike old new
 seen_same old new e = record { floor = ap (λ (c : ReplayCache Kept). c.floor) e; pairs = ap (λ (c : ReplayCache Kept). c.pairs) e }
@@ -78,28 +78,28 @@ module _ (state : State) (incoming : Incoming) where
   module _ (n : Components) (unshown : ShowsTicket state incoming.octets n → ⊥) where
     tgs_alike : (message : Received) → request_of incoming.octets ≡ Some (record { exchange = Tgs; message = message })
         → (r : Result Presented Rejection) → presented (ticket_view state message) message ≡ r
-        → IsSeenAlike (cache_of state n) (cache_of (keep state (client_in state Tgs message)
-        (answer_of (view_of state (named_in state (record { exchange = Tgs; message = message }))) incoming (tgs_contents message r)).kept) n)
+        → IsSeenAlike (cache_of state n) (cache_of (keep state (message_client state Tgs message)
+        (contents_answer (named_view state (request_names state (record { exchange = Tgs; message = message }))) incoming (tgs_contents message r)).kept) n)
     tgs_alike message is (Ok p) accepted =
-        seen_same (cache_of state n) _ (other_kept state (client_in state Tgs message) _ n
+        seen_same (cache_of state n) _ (other_kept state (message_client state Tgs message) _ n
         (λ e. unshown (shows message is p accepted n
         (some_is p.ticket.cname.components n (sym (presented_client (ticket_view state message) message p accepted) ∙ e)))))
     tgs_alike message is (Err rejected) accepted =
-        seen_same (cache_of state n) _ (ap (λ (s : State). cache_of s n) (nothing_kept state (client_in state Tgs message)))
+        seen_same (cache_of state n) _ (ap (λ (s : State). cache_of s n) (nothing_kept state (message_client state Tgs message)))
 
     exchange_alike : (exchange : Exchange) (message : Received)
         → request_of incoming.octets ≡ Some (record { exchange = exchange; message = message })
-        → IsSeenAlike (cache_of state n) (cache_of (keep state (client_in state exchange message)
-        (answer_of (view_of state (named_in state (record { exchange = exchange; message = message }))) incoming
-        (contents_in (view_of state (named_in state (record { exchange = exchange; message = message }))) exchange message)).kept) n)
+        → IsSeenAlike (cache_of state n) (cache_of (keep state (message_client state exchange message)
+        (contents_answer (named_view state (request_names state (record { exchange = exchange; message = message }))) incoming
+        (message_contents (named_view state (request_names state (record { exchange = exchange; message = message }))) exchange message)).kept) n)
     exchange_alike As message is =
         counted_alike state (components_of message.body.value.cname) n
-        (as_answer (as_view (view_of state (named_in state (record { exchange = As; message = message })))) incoming message).failures
+        (as_answer (as_view (named_view state (request_names state (record { exchange = As; message = message })))) incoming message).failures
     exchange_alike Tgs message is = tgs_alike message is (presented (ticket_view state message) message) refl
 
     request_alike : (request : Option Request) → request_of incoming.octets ≡ request
-        → IsSeenAlike (cache_of state n) (cache_of (keep state (named_by state request).client
-        (answer_of (view_of state (named_by state request)) incoming (contents (view_of state (named_by state request)) request)).kept) n)
+        → IsSeenAlike (cache_of state n) (cache_of (keep state (asked_names state request).client
+        (contents_answer (named_view state (asked_names state request)) incoming (contents (named_view state (asked_names state request)) request)).kept) n)
     request_alike (Some request) is = exchange_alike request.exchange request.message is
     request_alike None is = record { floor = refl; pairs = refl }
 
@@ -110,34 +110,34 @@ module _ (state : State) (incoming : Incoming) where
 
   recorded_shown : (message : Received) → request_of incoming.octets ≡ Some (record { exchange = Tgs; message = message })
       → (p : Presented) → presented (ticket_view state message) message ≡ Ok p → (kept : Option Kept)
-      → IfSome (seen_of p kept) (λ seen. ShowsTicket state incoming.octets seen.client.components)
+      → IfSome (seen_if_kept p kept) (λ seen. ShowsTicket state incoming.octets seen.client.components)
   recorded_shown message is p accepted (Some kept) = shows message is p accepted p.ticket.cname.components refl
   recorded_shown message is p accepted None = tt
 
   tgs_shown : (message : Received) → request_of incoming.octets ≡ Some (record { exchange = Tgs; message = message })
       → (v : View) (r : Result Presented Rejection) → presented (ticket_view state message) message ≡ r
-      → IfSome (newly_seen_of v incoming (tgs_contents message r)) (λ seen. ShowsTicket state incoming.octets seen.client.components)
+      → IfSome (contents_seen v incoming (tgs_contents message r)) (λ seen. ShowsTicket state incoming.octets seen.client.components)
   tgs_shown message is v (Ok p) accepted =
       recorded_shown message is p accepted (tgs_answer (tgs_view v) incoming message.body.value p).kept
   tgs_shown message is v (Err rejected) accepted = tt
 
   exchange_shown : (exchange : Exchange) (message : Received)
       → request_of incoming.octets ≡ Some (record { exchange = exchange; message = message })
-      → IfSome (newly_seen_of (view_of state (named_in state (record { exchange = exchange; message = message }))) incoming
-      (contents_in (view_of state (named_in state (record { exchange = exchange; message = message }))) exchange message))
+      → IfSome (contents_seen (named_view state (request_names state (record { exchange = exchange; message = message }))) incoming
+      (message_contents (named_view state (request_names state (record { exchange = exchange; message = message }))) exchange message))
       (λ seen. ShowsTicket state incoming.octets seen.client.components)
   exchange_shown As message is = tt
   exchange_shown Tgs message is =
-      tgs_shown message is (view_of state (named_in state (record { exchange = Tgs; message = message })))
+      tgs_shown message is (named_view state (request_names state (record { exchange = Tgs; message = message })))
       (presented (ticket_view state message) message) refl
 
   request_shown : (request : Option Request) → request_of incoming.octets ≡ request
-      → IfSome (newly_seen_of (view_of state (named_by state request)) incoming (contents (view_of state (named_by state request)) request))
+      → IfSome (contents_seen (named_view state (asked_names state request)) incoming (contents (named_view state (asked_names state request)) request))
       (λ seen. ShowsTicket state incoming.octets seen.client.components)
   request_shown (Some request) is = exchange_shown request.exchange request.message is
   request_shown None is = tt
 
-  pub seen_shown : IfSome (newly_seen_to (view state incoming.octets) incoming)
+  pub seen_shown : IfSome (incoming_seen (view state incoming.octets) incoming)
       (λ seen. ShowsTicket state incoming.octets seen.client.components)
   seen_shown = request_shown (request_of incoming.octets) refl
 

@@ -31,9 +31,9 @@ use Rattle.kdc_state.specs.declared.state.State.{State}
 use Rattle.kdc_core.proofs.Changes.{other_row, realm_stays, same_refusal, same_row_after}
 use Rattle.kdc_core.proofs.Frame.{database_kept, limits_kept, other_kept}
 use Rattle.kdc_core.specs.AgreementLaws.{names_agree, view_agrees}
-use Rattle.kdc_core.specs.Answer.{answer, answer_to, keep, after_incoming}
+use Rattle.kdc_core.specs.Answer.{answer, incoming_answer, keep, after_incoming}
 use Rattle.kdc_core.specs.Run.{after_change, after_event, event_reply, replaced, run, unless_faulty}
-use Rattle.kdc_core.specs.Struck.{AgreesFor, IsIsolated, Isolation, Names, NamesWithin, ServicesWithin, is_client, is_left, is_request, is_request_of, replies_to, strike}
+use Rattle.kdc_core.specs.Struck.{AgreesFor, IsIsolated, Isolation, Names, NamesWithin, ServicesWithin, is_client, is_left, is_request, is_clients_request, replies_to, strike}
 use Rattle.kdc_core.specs.Unaffected.{AreAlike, HasSameRows, IsAlike, Unaffected}
 use Rattle.kdc_core.specs.View.{Agrees, named, view}
 use Rattle.kdc_core.specs.declared.run.Event.{Event}
@@ -96,7 +96,7 @@ module _ (c : Components) (S : Names) where
     -- a request of another client is struck out
     other_request : is_client c (named state incoming.octets).client ≡ false → AgreesFor c S (after_incoming state incoming) other
     other_request apart =
-        let kept = (answer_to (view state incoming.octets) incoming).kept in
+        let kept = (incoming_answer (view state incoming.octets) incoming).kept in
         kept_agrees state other a (named state incoming.octets).client None kept None (a.cache ∙ sym (other_kept state (named state incoming.octets).client kept c (is_not_named c (named state incoming.octets).client apart)))
 
     -- the states agree at what a request of c names
@@ -111,22 +111,22 @@ module _ (c : Components) (S : Names) where
 
     own_cache : (named state incoming.octets).client ≡ Some c → Agrees state other incoming.octets → cache_of (after_incoming other incoming) c ≡ cache_of (after_incoming state incoming) c
     own_cache is agrees =
-        let kept : (answer_to (view other incoming.octets) incoming).kept ≡ (answer_to (view state incoming.octets) incoming).kept = ap (λ v. (answer_to v incoming).kept) (view_agrees state other incoming.octets agrees) in
+        let kept : (incoming_answer (view other incoming.octets) incoming).kept ≡ (incoming_answer (view state incoming.octets) incoming).kept = ap (λ v. (incoming_answer v incoming).kept) (view_agrees state other incoming.octets agrees) in
         let client : (named other incoming.octets).client ≡ Some c = ap (λ names. names.client) (names_agree state other incoming.octets agrees) ∙ is in
-        ap (λ o. cache_of (keep other o (answer_to (view other incoming.octets) incoming).kept) c) client
-        ∙ cache_kept other c (answer_to (view other incoming.octets) incoming).kept
+        ap (λ o. cache_of (keep other o (incoming_answer (view other incoming.octets) incoming).kept) c) client
+        ∙ cache_kept other c (incoming_answer (view other incoming.octets) incoming).kept
         ∙ (λ i. unwrap_or (kept i) (a.cache i))
-        ∙ sym (cache_kept state c (answer_to (view state incoming.octets) incoming).kept)
-        ∙ sym (ap (λ o. cache_of (keep state o (answer_to (view state incoming.octets) incoming).kept) c) is)
+        ∙ sym (cache_kept state c (incoming_answer (view state incoming.octets) incoming).kept)
+        ∙ sym (ap (λ o. cache_of (keep state o (incoming_answer (view state incoming.octets) incoming).kept) c) is)
 
     -- a request of c changes both in the same way
     own_request : (named state incoming.octets).client ≡ Some c → Agrees state other incoming.octets → AgreesFor c S (after_incoming state incoming) (after_incoming other incoming)
     own_request is agrees =
-        kept_agrees state other a (named state incoming.octets).client (named other incoming.octets).client (answer_to (view state incoming.octets) incoming).kept (answer_to (view other incoming.octets) incoming).kept
+        kept_agrees state other a (named state incoming.octets).client (named other incoming.octets).client (incoming_answer (view state incoming.octets) incoming).kept (incoming_answer (view other incoming.octets) incoming).kept
         (own_cache is agrees)
 
-    same_reply : Agrees state other incoming.octets → (answer_to (view other incoming.octets) incoming).reply ≡ (answer_to (view state incoming.octets) incoming).reply
-    same_reply agrees = ap (λ v. (answer_to v incoming).reply) (view_agrees state other incoming.octets agrees)
+    same_reply : Agrees state other incoming.octets → (incoming_answer (view other incoming.octets) incoming).reply ≡ (incoming_answer (view state incoming.octets) incoming).reply
+    same_reply agrees = ap (λ v. (incoming_answer v incoming).reply) (view_agrees state other incoming.octets agrees)
 
   -- ---- changes
 
@@ -269,7 +269,7 @@ module _ (c : Components) (S : Names) where
   -- an event that stays: the second state runs it, or one like it, and gives the same reply
   pub record IsLeft (state other : State) (event given : Event) : Type 0 where
     pub reply : event_reply other given ≡ event_reply state event
-    pub is_own : is_request other given ≡ is_request_of c state event
+    pub is_own : is_request other given ≡ is_clients_request c state event
     pub agrees : AgreesFor c S (after_event state event) (after_event other given)
 
   left_itself : (state other : State) (event : Event) (given : Event) → given ≡ event → IsLeft state other event event → IsLeft state other event given
@@ -298,7 +298,7 @@ module _ (c : Components) (S : Names) where
       (record { reply = refl; is_own = refl; agrees = both_resumed database is.0 limits resumption is.1 is.3 is.4 })
 
   -- an event that is struck out: no request of c, and only the first state runs it
-  pub event_struck : (state other : State) (event : Event) → AgreesFor c S state other → is_left c S state event ≡ false → (is_request_of c state event ≡ false) × AgreesFor c S (after_event state event) other
+  pub event_struck : (state other : State) (event : Event) → AgreesFor c S state other → is_left c S state event ≡ false → (is_clients_request c state event ≡ false) × AgreesFor c S (after_event state event) other
   event_struck state other (Request at random room octets) a struck =
       (struck, other_request state other (record { at = at; random = random; room = room; octets = octets }) a struck)
   event_struck state other (Change change) a struck = (refl, other_change state other change a struck)
@@ -318,11 +318,11 @@ module _ (c : Components) (S : Names) where
       afterwards = rest.afterwards;
     }
 
-    with_struck : (others : List Event) → is_left c S state event ≡ false → is_request_of c state event ≡ false
+    with_struck : (others : List Event) → is_left c S state event ≡ false → is_clients_request c state event ≡ false
         → IsIsolated c S (after_event state event) other events others → IsIsolated c S state other (event ∷ events) others
     with_struck others struck not_own rest = record {
       own = rest.own
-          ∙ ap (λ b. if b then event_reply state event ∷ replies_to (is_request_of c) (after_event state event) events else replies_to (is_request_of c) (after_event state event) events) (sym not_own);
+          ∙ ap (λ b. if b then event_reply state event ∷ replies_to (is_clients_request c) (after_event state event) events else replies_to (is_clients_request c) (after_event state event) events) (sym not_own);
       left = rest.left
           ∙ ap (λ b. if b then event_reply state event ∷ replies_to (is_left c S) (after_event state event) events else replies_to (is_left c S) (after_event state event) events) (sym struck);
       afterwards = rest.afterwards;

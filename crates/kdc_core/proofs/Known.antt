@@ -15,7 +15,7 @@ use Rattle.krb_types.specs.KdcReq.{Received}
 use Rattle.principal_rows.specs.declared.row.Row.{Row}
 use Rattle.principals.specs.Database.{IsDatabase}
 use Rattle.kdc_state.specs.declared.state.State.{State}
-use Rattle.kdc_core.specs.View.{as_view, components_of, presented_view, row_of, tgs_view, view_in}
+use Rattle.kdc_core.specs.View.{as_view, components_of, presented_view, row_of, tgs_view, message_view}
 
 row_known : (state : State) → IsDatabase state.database → (n : Name) (row : Option Row) → map.get state.database.rows n.components ≡ row → IfSome row (λ r. IsWithinLimits n.components)
 row_known state is n (Some r) e = is.names_fit n.components (ap is_some e)
@@ -26,7 +26,7 @@ name_known state is (Some n) = row_known state is n (map.get state.database.rows
 name_known state is None = tt
 
 pub known : (state : State) (message : Received) → IsDatabase state.database → IfSome message.body.value.sname (λ n. length (name.text n) < 2147483648)
-    → IsKnown (as_view (view_in state As message)) message.body.value
+    → IsKnown (as_view (message_view state As message)) message.body.value
 known state message is short = record {
   realm = (component_facts state.database.realm is.realm_fits).1;
   client = name_known state is message.body.value.cname;

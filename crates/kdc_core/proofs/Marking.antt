@@ -43,7 +43,7 @@ use Rattle.tgs_exchange.specs.View.{TgsView}
 use Rattle.tgs_exchange.specs.declared.decision.Decision.{Decision}
 use Rattle.tgs_exchange.specs.declared.decision.Decision.TheVariants.{Refuses, Records, Repeats, Issues}
 use Rattle.tgs_opening.specs.declared.presented.Presented.{Presented}
-use Rattle.kdc_core.specs.Answer.{answer_of, counted, keep, stamped}
+use Rattle.kdc_core.specs.Answer.{contents_answer, counted, keep, stamped}
 use Rattle.kdc_core.specs.Contents.{contents}
 use Rattle.kdc_core.specs.Marked.{AllMarked, AreMarked, IsMarked, KeepsMarked}
 use Rattle.kdc_core.specs.Request.{request_of}
@@ -159,7 +159,7 @@ unstored_marked floor client =
 -- ---- answers
 
 answer_marked : (v : View) (incoming : Incoming) (held : Contents) → AreMarked v.cache
-    → IfSome (answer_of v incoming held).kept AreMarked
+    → IfSome (contents_answer v incoming held).kept AreMarked
 answer_marked v incoming NoRequest marked = tt
 answer_marked v incoming (AsReq message) marked =
     counted_marked v.cache (as_answer (as_view v) incoming message).failures marked
@@ -201,7 +201,7 @@ module _ (state : State) (marked : AllMarked state) where
   event_marked (Request at random room octets) client =
       let incoming : Incoming = record { at = at; random = random; room = room; octets = octets } in
       keep_marked (named state octets).client
-      (answer_of (view state octets) incoming (contents (view state octets) (request_of octets))).kept
+      (contents_answer (view state octets) incoming (contents (view state octets) (request_of octets))).kept
       (answer_marked (view state octets) incoming (contents (view state octets) (request_of octets))
       (named_marked (named state octets).client)) client
   event_marked (Change change) client = change_marked change (refusal state.database change) client

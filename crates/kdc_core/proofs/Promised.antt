@@ -6,14 +6,14 @@ use Rattle.kdc_state.specs.State.{cache_of}
 use Rattle.kdc_state.specs.declared.state.State.{State}
 use Rattle.kdc_core.proofs.Frame.{database_kept, limits_kept, other_kept}
 use Rattle.kdc_core.proofs.Holders.{seen_shown, unshown_alike}
-use Rattle.kdc_core.specs.Account.{AccountSpelled, account_if, account_to}
-use Rattle.kdc_core.specs.AccountLaws.{account_holds, names_are_named}
+use Rattle.kdc_core.specs.Audit.{AuditSpelled, audit_if, incoming_audit}
+use Rattle.kdc_core.specs.AuditLaws.{audit_holds, names_are_named}
 use Rattle.kdc_core.specs.AgreementLaws.{after_agrees, names_agree, view_agrees}
-use Rattle.kdc_core.specs.Answer.{IsReply, OneTicketTwoKeys, ReplyOpens, after_incoming, answer_to}
+use Rattle.kdc_core.specs.Answer.{IsReply, OneTicketTwoKeys, ReplyOpens, after_incoming, incoming_answer}
 use Rattle.kdc_core.specs.Answered.{IsAnswered}
 use Rattle.kdc_core.specs.Contents.{contents}
 use Rattle.kdc_core.specs.IssuedLaws.{replies_issued, replies_sent}
-use Rattle.kdc_core.specs.NewlySeen.{newly_seen_to}
+use Rattle.kdc_core.specs.NewlySeen.{incoming_seen}
 use Rattle.kdc_core.specs.ReplyIn.{IsReplyIn}
 use Rattle.kdc_core.specs.Request.{request_of}
 use Rattle.kdc_core.specs.RequestLaws.{request_is}
@@ -21,24 +21,24 @@ use Rattle.kdc_core.specs.RulingLaws.{is_ruled}
 use Rattle.kdc_core.specs.Shown.{IsSeenAlike, ShowsTicket}
 use Rattle.kdc_core.specs.StandingLaws.{issued_standing}
 use Rattle.kdc_core.specs.View.{named, view}
-use Rattle.kdc_core.specs.declared.account.Answer.{Answer}
+use Rattle.kdc_core.specs.declared.audit.Answer.{Answer}
 
 -- what is known of an answer
-record IsGiven (before : State) (q : Incoming) (wants_account : Bool) (given : Answer) : Type 0 where
-  reply : given.reply ≡ (answer_to (view before q.octets) q).reply
-  account : given.account ≡ account_if wants_account (account_to (view before q.octets) q)
-  newly_seen : given.newly_seen ≡ newly_seen_to (view before q.octets) q
+record IsGiven (before : State) (q : Incoming) (wants_audit : Bool) (given : Answer) : Type 0 where
+  reply : given.reply ≡ (incoming_answer (view before q.octets) q).reply
+  audit : given.audit ≡ audit_if wants_audit (incoming_audit (view before q.octets) q)
+  newly_seen : given.newly_seen ≡ incoming_seen (view before q.octets) q
   spelled : IsReply (view before q.octets) q.at q.random (request_of q.octets) given.reply
-  outcome : AccountSpelled (view before q.octets) q given.reply (contents (view before q.octets) (request_of q.octets))
+  outcome : AuditSpelled (view before q.octets) q given.reply (contents (view before q.octets) (request_of q.octets))
   opens : ReplyOpens (view before q.octets) q.at q.random (request_of q.octets)
 
-module _ (before : State) (q : Incoming) (wants_account : Bool) (given : Answer) (after : State)
+module _ (before : State) (q : Incoming) (wants_audit : Bool) (given : Answer) (after : State)
     (long : 32 ≤ length q.random) (bytes : (i : ℕ) → get_or q.octets i 0 < 256) where
-  answered : IsGiven before q wants_account given → after ≡ after_incoming before q
-      → IsAnswered before q wants_account given after
+  answered : IsGiven before q wants_audit given → after ≡ after_incoming before q
+      → IsAnswered before q wants_audit given after
   answered g is =
       let v = view before q.octets in
-      let kept = (answer_to v q).kept in
+      let kept = (incoming_answer v q).kept in
       let whole : Result Answer Bool = Ok given in
       let sent : OneTicketTwoKeys v q.at q.random (request_of q.octets) given.reply =
       replies_sent v q.at q.random (λ (a : Answer). a.reply) (request_of q.octets) whole g.spelled g.opens in
@@ -50,9 +50,9 @@ module _ (before : State) (q : Incoming) (wants_account : Bool) (given : Answer)
         keys = sent;
         issued = replies_issued v q.at q.random long (λ (a : Answer). a.reply) (request_of q.octets) whole sent;
         standing = issued_standing before q.at q.random q.octets;
-        account = g.account;
+        audit = g.audit;
         names = names_are_named before q;
-        holds = account_holds v q long (λ (a : Answer). account_to v q) (λ (a : Answer). a.reply) whole refl g.outcome g.opens;
+        holds = audit_holds v q long (λ (a : Answer). incoming_audit v q) (λ (a : Answer). a.reply) whole refl g.outcome g.opens;
         newly_seen = g.newly_seen;
         shown = subst (λ o. IfSome o (λ seen. ShowsTicket before q.octets seen.client.components)) (sym g.newly_seen) (seen_shown before q);
         state = is;
@@ -60,28 +60,28 @@ module _ (before : State) (q : Incoming) (wants_account : Bool) (given : Answer)
         limits = ap (λ (s : State). s.limits) is ∙ limits_kept before (named before q.octets).client kept;
         caches = λ name other. ap (λ (s : State). cache_of s name) is ∙ other_kept before (named before q.octets).client kept name other;
         holder = λ name unshown. subst (λ (s : State). IsSeenAlike (cache_of before name) (cache_of s name)) (sym is) (unshown_alike before q name unshown);
-        agreement = λ other agrees. ap (λ v. answer_to v q) (view_agrees before other q.octets agrees);
-        same_account = λ other agrees. ap (λ v. account_to v q) (view_agrees before other q.octets agrees);
+        agreement = λ other agrees. ap (λ v. incoming_answer v q) (view_agrees before other q.octets agrees);
+        same_audit = λ other agrees. ap (λ v. incoming_audit v q) (view_agrees before other q.octets agrees);
         same_names = λ other agrees. names_agree before other q.octets agrees;
         afterwards = λ other agrees. after_agrees before other q agrees;
       }
 
 -- of a call
-pub is_answered : {E : Type 0} (before old : State) (q : Incoming) (wants_account : Bool) (r : Result Answer E) (after : State)
+pub is_answered : {E : Type 0} (before old : State) (q : Incoming) (wants_audit : Bool) (r : Result Answer E) (after : State)
     → before ≡ old → 32 ≤ length q.random → ((i : ℕ) → get_or q.octets i 0 < 256)
-    → IfOk r (λ given. given.reply ≡ (answer_to (view before q.octets) q).reply)
-    → IfOk r (λ given. given.account ≡ account_if wants_account (account_to (view before q.octets) q))
-    → IfOk r (λ given. given.newly_seen ≡ newly_seen_to (view before q.octets) q)
+    → IfOk r (λ given. given.reply ≡ (incoming_answer (view before q.octets) q).reply)
+    → IfOk r (λ given. given.audit ≡ audit_if wants_audit (incoming_audit (view before q.octets) q))
+    → IfOk r (λ given. given.newly_seen ≡ incoming_seen (view before q.octets) q)
     → IfOk r (λ given. IsReply (view before q.octets) q.at q.random (request_of q.octets) given.reply)
-    → IfOk r (λ given. AccountSpelled (view before q.octets) q given.reply (contents (view before q.octets) (request_of q.octets)))
+    → IfOk r (λ given. AuditSpelled (view before q.octets) q given.reply (contents (view before q.octets) (request_of q.octets)))
     → IfOk r (λ given. ReplyOpens (view before q.octets) q.at q.random (request_of q.octets))
     → OnOk r (after ≡ after_incoming before q)
-    → IfOk r (λ given. IsAnswered old q wants_account given after)
-is_answered before old q wants_account (Ok given) after same long bytes reply account seen spelled outcome opens is =
-    subst (λ (s : State). IsAnswered s q wants_account given after) same
-    (answered before q wants_account given after long bytes
-    (record { reply = reply; account = account; newly_seen = seen; spelled = spelled; outcome = outcome; opens = opens }) is)
-is_answered before old q wants_account (Err e) after same long bytes reply account seen spelled outcome opens is = tt
+    → IfOk r (λ given. IsAnswered old q wants_audit given after)
+is_answered before old q wants_audit (Ok given) after same long bytes reply audit seen spelled outcome opens is =
+    subst (λ (s : State). IsAnswered s q wants_audit given after) same
+    (answered before q wants_audit given after long bytes
+    (record { reply = reply; audit = audit; newly_seen = seen; spelled = spelled; outcome = outcome; opens = opens }) is)
+is_answered before old q wants_audit (Err e) after same long bytes reply audit seen spelled outcome opens is = tt
 
 -- what holds of the state after any call that answers or changes nothing
 pub after_either : {E : Type 0} (r : Result Answer E) (old new : State) (P : State → Type 0) → IfOk r (λ given. P new)

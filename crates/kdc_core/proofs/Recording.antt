@@ -8,12 +8,12 @@ use Rattle.tgs_exchange.specs.Decision.{stamp_of}
 use Rattle.tgs_opening.specs.declared.presented.Presented.{Presented}
 use Rattle.kdc_state.specs.State.{cache_of}
 use Rattle.kdc_state.specs.declared.state.State.{State}
-use Rattle.kdc_core.specs.After.{after, stamped_of, MayStay}
+use Rattle.kdc_core.specs.After.{after, authenticator_mark, MayStay}
 use Rattle.kdc_core.specs.Answer.{keep, stamped}
 use Rattle.kdc_core.specs.declared.mark.Mark.{Mark}
 
 module _ (state : State) (at : Moment) (p : Presented) where
-  stamped_after : (kept : Option Kept) → after state (stamped_of at p kept) ≡ keep state (Some p.ticket.cname.components)
+  stamped_after : (kept : Option Kept) → after state (authenticator_mark at p kept) ≡ keep state (Some p.ticket.cname.components)
       (stamped (cache_of state p.ticket.cname.components) at.sec p kept)
   stamped_after (Some kept) = refl
   stamped_after None = refl
@@ -21,15 +21,15 @@ module _ (state : State) (at : Moment) (p : Presented) where
   stamped_stays : (kept : Option Kept)
       → IfSome kept (λ k. is_beyond_clock_skew (cache_of state p.ticket.cname.components).floor at.sec p.authenticator.ctime ≡ false)
       → IfSome kept (λ k. map.get (cache_of state p.ticket.cname.components).pairs (stamp_of p) ≡ None)
-      → IfSome (stamped_of at p kept) (MayStay state)
+      → IfSome (authenticator_mark at p kept) (MayStay state)
   stamped_stays (Some kept) timely new = (timely, new)
   stamped_stays None timely new = tt
 
-  module _ (mark : Option Mark) (kept : Option Kept) (is : mark ≡ stamped_of at p kept) where
+  module _ (mark : Option Mark) (kept : Option Kept) (is : mark ≡ authenticator_mark at p kept) where
     pub recorded_after : (given : Option Kept) → kept ≡ given → after state mark ≡ keep state (Some p.ticket.cname.components)
         (stamped (cache_of state p.ticket.cname.components) at.sec p given)
     recorded_after given same =
-        ap (after state) is ∙ subst (λ (k : Option Kept). after state (stamped_of at p kept) ≡ keep state (Some p.ticket.cname.components)
+        ap (after state) is ∙ subst (λ (k : Option Kept). after state (authenticator_mark at p kept) ≡ keep state (Some p.ticket.cname.components)
         (stamped (cache_of state p.ticket.cname.components) at.sec p k)) same (stamped_after kept)
 
     pub recorded_stays : IfSome kept (λ k. is_beyond_clock_skew (cache_of state p.ticket.cname.components).floor at.sec p.authenticator.ctime ≡ false)

@@ -4,8 +4,8 @@ use Rattle.std.specs.Bool.{then_some}
 use Rattle.kdc_replies.specs.Incoming.{Incoming}
 use Rattle.kdc_state.specs.declared.state.State.{State}
 use Rattle.kdc_core.proofs.Promised.{is_answered}
-use Rattle.kdc_core.specs.Account.{Account, AccountSpelled, account_if}
-use Rattle.kdc_core.specs.AccountLaws.{account_answered, account_spelled}
+use Rattle.kdc_core.specs.Audit.{AuditRecord, AuditSpelled, audit_if}
+use Rattle.kdc_core.specs.AuditLaws.{audit_answered, audit_spelled}
 use Rattle.kdc_core.specs.After.{after_reply, seen_left}
 use Rattle.kdc_core.specs.Answer.{IsReply}
 use Rattle.kdc_core.specs.Answered.{IsAnswered}
@@ -18,33 +18,33 @@ use Rattle.kdc_core.specs.NewlySeenLaws.{newly_seen_answered}
 use Rattle.kdc_core.specs.Replied.{IsReplied}
 use Rattle.kdc_core.specs.Request.{request_of}
 use Rattle.kdc_core.specs.View.{view}
-use Rattle.kdc_core.specs.declared.account.Account.TheVariants.{NoRequest as NothingAsked}
-use Rattle.kdc_core.specs.declared.account.Answer.{Answer}
+use Rattle.kdc_core.specs.declared.audit.AuditRecord.TheVariants.{NoRequest as NothingAsked}
+use Rattle.kdc_core.specs.declared.audit.Answer.{Answer}
 use Rattle.kdc_core.specs.declared.mark.Mark.{Mark}
 
 module _ (before : State) (q : Incoming) (held : Contents) (octets : Option (List ℕ)) (mark : Option (Option Mark))
-    (account : Account) where
+    (audit : AuditRecord) where
   -- what the answer takes over from the reply
-  pub record IsMadeOf (wants_account : Bool) (given : Answer) (after : State) : Type 0 where
+  pub record IsMadeOf (wants_audit : Bool) (given : Answer) (after : State) : Type 0 where
     pub sent : given.reply ≡ octets
-    pub account_is : given.account ≡ account_if wants_account account
+    pub audit_is : given.audit ≡ audit_if wants_audit audit
     pub seen : given.newly_seen ≡ seen_left mark
     pub left : after ≡ after_reply before mark
 
-  pub answered_from : (old : State) (wants_account : Bool) (given : Answer) (after : State) → before ≡ old → 32 ≤ length q.random
+  pub answered_from : (old : State) (wants_audit : Bool) (given : Answer) (after : State) → before ≡ old → 32 ≤ length q.random
       → ((i : ℕ) → get_or q.octets i 0 < 256) → held ≡ contents (view before q.octets) (request_of q.octets)
-      → IsReplied before q held octets mark account → IsMadeOf wants_account given after → IsAnswered old q wants_account given after
-  answered_from old wants_account given after same long bytes is r made =
+      → IsReplied before q held octets mark audit → IsMadeOf wants_audit given after → IsAnswered old q wants_audit given after
+  answered_from old wants_audit given after same long bytes is r made =
       let whole : Result Bool Bool = Ok true in
       let given_whole : Result Answer Bool = Ok given in
-      is_answered before old q wants_account given_whole after same long bytes
+      is_answered before old q wants_audit given_whole after same long bytes
       (made.sent ∙ replies_so before q whole held is (λ _. octets) r.reply)
-      (made.account_is ∙ ap (account_if wants_account) (account_answered before q whole held is (λ _. account) r.account_is))
+      (made.audit_is ∙ ap (audit_if wants_audit) (audit_answered before q whole held is (λ _. audit) r.audit_is))
       (made.seen ∙ newly_seen_answered before q whole held is (λ _. seen_left mark) r.seen)
       (subst (λ (o : Option (List ℕ)). IsReply (view before q.octets) q.at q.random (request_of q.octets) o)
       (sym made.sent) (spells_so before q whole held is (λ _. octets) r.spelled))
-      (subst (λ (o : Option (List ℕ)). AccountSpelled (view before q.octets) q o (contents (view before q.octets) (request_of q.octets)))
-      (sym made.sent) (account_spelled before q whole held is (λ _. octets) r.outcome))
+      (subst (λ (o : Option (List ℕ)). AuditSpelled (view before q.octets) q o (contents (view before q.octets) (request_of q.octets)))
+      (sym made.sent) (audit_spelled before q whole held is (λ _. octets) r.outcome))
       (opens_held before q whole held is r.opens)
       (made.left ∙ leaves_so before q whole held is (λ _. mark) r.left)
 
@@ -52,16 +52,16 @@ module _ (before : State) (q : Incoming) (held : Contents) (octets : Option (Lis
 
 module _ (before : State) (q : Incoming) where
   nothing_replied : IsReplied before q NoRequest None None NothingAsked
-  nothing_replied = record { reply = refl; left = refl; account_is = refl; seen = refl; spelled = refl; outcome = refl; opens = tt }
+  nothing_replied = record { reply = refl; left = refl; audit_is = refl; seen = refl; spelled = refl; outcome = refl; opens = tt }
 
-  if_wanted : (wants_account : Bool) → then_some wants_account NothingAsked ≡ account_if wants_account NothingAsked
+  if_wanted : (wants_audit : Bool) → then_some wants_audit NothingAsked ≡ audit_if wants_audit NothingAsked
   if_wanted true = refl
   if_wanted false = refl
 
-  pub unread_answered : (old : State) (wants_account : Bool) (given : Answer) → before ≡ old → 32 ≤ length q.random
+  pub unread_answered : (old : State) (wants_audit : Bool) (given : Answer) → before ≡ old → 32 ≤ length q.random
       → ((i : ℕ) → get_or q.octets i 0 < 256) → None ≡ request_of q.octets
-      → given.reply ≡ None → given.account ≡ then_some wants_account NothingAsked → given.newly_seen ≡ None
-      → IsAnswered old q wants_account given old
-  unread_answered old wants_account given same long bytes none reply account seen =
-      answered_from before q NoRequest None None NothingAsked old wants_account given old same long bytes (none_read before q.octets none)
-      nothing_replied (record { sent = reply; account_is = account ∙ if_wanted wants_account; seen = seen; left = sym same })
+      → given.reply ≡ None → given.audit ≡ then_some wants_audit NothingAsked → given.newly_seen ≡ None
+      → IsAnswered old q wants_audit given old
+  unread_answered old wants_audit given same long bytes none reply audit seen =
+      answered_from before q NoRequest None None NothingAsked old wants_audit given old same long bytes (none_read before q.octets none)
+      nothing_replied (record { sent = reply; audit_is = audit ∙ if_wanted wants_audit; seen = seen; left = sym same })

@@ -48,7 +48,7 @@ use Rattle.principals.specs.Change.{changed, refusal}
 use Rattle.principals.specs.Database.{Principals}
 use Rattle.principals.specs.declared.change.Change.{Change as PrincipalChange}
 use Rattle.principals.specs.declared.change.ChangeFault.{ChangeFault}
-use Rattle.kdc_core.specs.Answer.{answer_of, counted, keep, after_incoming, stamped}
+use Rattle.kdc_core.specs.Answer.{contents_answer, counted, keep, after_incoming, stamped}
 use Rattle.kdc_core.specs.Contents.{contents, names_answered, presented_in}
 use Rattle.kdc_core.specs.ContentsLaws.{AreNamesOf, are_names_of, nothing_kept as as_it_was}
 use Rattle.kdc_core.specs.Request.{request_of}
@@ -56,7 +56,7 @@ use Rattle.kdc_core.specs.Run.{after_event, unless_faulty}
 use Rattle.kdc_core.specs.Struck.{is_client}
 use Rattle.kdc_core.proofs.Marking.{error_bears_none}
 use Rattle.kdc_core.specs.Tickets.{bears_ticket, OneTicket, RestartsFollow, RestartsFrom, ResumesFollow, ResumesWithAll, ticket_by, ticket_to}
-use Rattle.kdc_core.specs.View.{Named, View, as_view, components_of, cache_named, named, presented_view, tgs_view, view, view_of}
+use Rattle.kdc_core.specs.View.{Named, View, as_view, components_of, cache_named, named, presented_view, tgs_view, view, named_view}
 use Rattle.kdc_core.specs.Held.{Contents}
 use Rattle.kdc_core.specs.Held.Contents.{NoRequest, AsReq, RefusedTgsReq, TgsReq}
 use Rattle.kdc_core.specs.declared.run.Event.{Event}
@@ -258,7 +258,7 @@ module _ (c : Components) where
       (subst (λ m. unwrap_or (counted cache failures) m ≡ next_if state.limits.remembered m (option_map Counted failures)) is (counted_moves state.limits.remembered cache failures))
   as_moves state None cache is failures = refl
 
-  pub named_cache : (state : State) (names : Named) → IfSome names.client (λ name. (view_of state names).cache ≡ cache_of state name)
+  pub named_cache : (state : State) (names : Named) → IfSome names.client (λ name. (named_view state names).cache ≡ cache_of state name)
   named_cache state names = by_name names.client
     where
       by_name : (o : Option Components) → IfSome o (λ name. cache_named state o ≡ cache_of state name)
@@ -268,20 +268,20 @@ module _ (c : Components) where
   -- by what the request contains, with the names of the view
   abbrev Moves : State → Incoming → Named → Contents → Type 0
   Moves state incoming names held =
-      cache_of (keep state names.client (answer_of (view_of state names) incoming held).kept) c
-      ≡ next_if state.limits.remembered (cache_of state c) (happens_of (view_of state names) incoming held)
+      cache_of (keep state names.client (contents_answer (named_view state names) incoming held).kept) c
+      ≡ next_if state.limits.remembered (cache_of state c) (happens_of (named_view state names) incoming held)
 
   moves_of : (state : State) (incoming : Incoming) (names : Named) (held : Contents) → AreNamesOf names held → Moves state incoming names held
   moves_of state incoming names NoRequest names_are = ap (λ s. cache_of s c) (as_it_was state names.client)
   moves_of state incoming names (AsReq message) names_are =
       subst (λ (n : Named). Moves state incoming n (AsReq message)) (sym names_are)
-      (as_moves state (components_of message.body.value.cname) (view_of state (names_answered (AsReq message))).cache (named_cache state (names_answered (AsReq message)))
-      (as_answer (as_view (view_of state (names_answered (AsReq message)))) incoming message).failures)
+      (as_moves state (components_of message.body.value.cname) (named_view state (names_answered (AsReq message))).cache (named_cache state (names_answered (AsReq message)))
+      (as_answer (as_view (named_view state (names_answered (AsReq message)))) incoming message).failures)
   moves_of state incoming names (RefusedTgsReq message rejected) names_are = ap (λ s. cache_of s c) (as_it_was state names.client)
   moves_of state incoming names (TgsReq message p) names_are =
       let v = tgs_view (presented_view state message p) in
       subst (λ (n : Named). Moves state incoming n (TgsReq message p)) (sym names_are)
-      (moved_for state.limits.remembered state p.ticket.cname.components (answer_of (presented_view state message p) incoming (TgsReq message p)).kept _
+      (moved_for state.limits.remembered state p.ticket.cname.components (contents_answer (presented_view state message p) incoming (TgsReq message p)).kept _
       (cache_moves v incoming message.body.value p))
 
   moves_request : (state : State) (incoming : Incoming) → cache_of (after_incoming state incoming) c ≡ next_if state.limits.remembered (cache_of state c) (happens_request state incoming)
@@ -324,8 +324,8 @@ module _ (c : Components) where
 
   abbrev HandsOut : State → Incoming → Named → Contents → Type 0
   HandsOut state incoming names held =
-      IfSome (if is_client c names.client then ticket_by (presented_in held) (answer_of (view_of state names) incoming held).reply else None)
-      (IsGiven Give state.limits.remembered (cache_of state c) (happens_of (view_of state names) incoming held))
+      IfSome (if is_client c names.client then ticket_by (presented_in held) (contents_answer (named_view state names) incoming held).reply else None)
+      (IsGiven Give state.limits.remembered (cache_of state c) (happens_of (named_view state names) incoming held))
 
   gives_of : (state : State) (incoming : Incoming) (names : Named) (held : Contents) → AreNamesOf names held → HandsOut state incoming names held
   gives_of state incoming names NoRequest names_are = nothing_given (is_client c names.client) _

@@ -39,7 +39,7 @@ use Rattle.kdc_state.specs.State.{cache_of, restarted, tidied_state}
 use Rattle.kdc_state.specs.declared.state.State.{State}
 use Rattle.kdc_core.proofs.Frame.{database_kept, limits_kept}
 use Rattle.kdc_core.proofs.Tickets.{cache_kept}
-use Rattle.kdc_core.specs.Answer.{Answer, after_incoming, answer_of, counted, keep, stamped}
+use Rattle.kdc_core.specs.Answer.{Answer, after_incoming, contents_answer, counted, keep, stamped}
 use Rattle.kdc_core.specs.Contents.{contents}
 use Rattle.kdc_core.specs.Request.{request_of}
 use Rattle.kdc_core.specs.Run.{after_event, event_reply, unless_faulty}
@@ -120,7 +120,7 @@ module _ (second : ℤ) (v : View) (m : ReplayCache Kept) (incoming : Incoming) 
       at (Some kept) = ap (λ k. tidied k second) (same_recorded second incoming.at.sec m v.cache (stamp_of p) kept le same)
       at None = same
 
-  answered_alike : (held : Contents) → IsAnsweredAlike second m v.cache (answer_of with_other incoming held) (answer_of v incoming held)
+  answered_alike : (held : Contents) → IsAnsweredAlike second m v.cache (contents_answer with_other incoming held) (contents_answer v incoming held)
   answered_alike NoRequest = record { reply = refl; kept = same }
   answered_alike (AsReq message) =
       let failures : m.failures ≡ v.cache.failures = ap (λ (k : ReplayCache Kept). k.failures) same in
@@ -171,8 +171,8 @@ module _ (second : ℤ) (t : State) (floor : ℤ) (stored : map.FinMap name_cmp 
 
   module _ (incoming : Incoming) (le : second ≤ℤ incoming.at.sec) where
     answers : IsAnsweredAlike second (cache_named s (named t incoming.octets).client) (cache_named t (named t incoming.octets).client)
-        (answer_of (view s incoming.octets) incoming (contents (view s incoming.octets) (request_of incoming.octets)))
-        (answer_of (view t incoming.octets) incoming (contents (view t incoming.octets) (request_of incoming.octets)))
+        (contents_answer (view s incoming.octets) incoming (contents (view s incoming.octets) (request_of incoming.octets)))
+        (contents_answer (view t incoming.octets) incoming (contents (view t incoming.octets) (request_of incoming.octets)))
     answers =
         answered_alike second (view t incoming.octets) (cache_named s (named t incoming.octets).client) incoming le (named_alike (named t incoming.octets).client)
         (contents (view t incoming.octets) (request_of incoming.octets))

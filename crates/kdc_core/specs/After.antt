@@ -15,25 +15,26 @@ use Rattle.kdc_core.specs.declared.mark.Mark.{Mark}
 use Rattle.kdc_core.specs.declared.mark.Mark.TheVariants.{Counted, Stamped}
 
 -- a named client whose failures change
-abbrev pub counted_of : Option Name → Option Failures → Option Mark
-counted_of (Some name) (Some failures) = Some (Counted name failures)
-counted_of (Some name) None = None
-counted_of None failures = None
+abbrev pub failures_mark : Option Name → Option Failures → Option Mark
+failures_mark (Some name) (Some failures) = Some (Counted name failures)
+failures_mark (Some name) None = None
+failures_mark None failures = None
 
 -- an authenticator to record, with what is stored for it
-abbrev pub stamped_of : Moment → Presented → Option Kept → Option Mark
-stamped_of at p (Some kept) = Some (Stamped p.ticket.cname at p.authenticator.ctime p.authenticator.cusec kept)
-stamped_of at p None = None
+abbrev pub authenticator_mark : Moment → Presented → Option Kept → Option Mark
+authenticator_mark at p (Some kept) = Some (Stamped p.ticket.cname at p.authenticator.ctime p.authenticator.cusec kept)
+authenticator_mark at p None = None
 
 -- the authenticator that it records, if any
-abbrev pub seen_in : Option Mark → Option Seen
-seen_in (Some (Counted client failures)) = None
-seen_in (Some (Stamped client at ctime cusec kept)) = Some (record { client = client; ctime = ctime; cusec = cusec })
-seen_in None = None
+abbrev pub marked_seen : Option Mark → Option Seen
+marked_seen (Some (Counted client failures)) = None
+marked_seen (Some (Stamped client at ctime cusec kept)) =
+    Some (record { client = client; ctime = ctime; cusec = cusec })
+marked_seen None = None
 
 -- without a reply none is recorded
 abbrev pub seen_left : Option (Option Mark) → Option Seen
-seen_left (Some mark) = seen_in mark
+seen_left (Some mark) = marked_seen mark
 seen_left None = None
 
 abbrev pub after_mark : State → Mark → State

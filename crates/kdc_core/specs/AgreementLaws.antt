@@ -17,10 +17,11 @@ use Rattle.replay.specs.Tidied.{empty_cache}
 use Rattle.kdc_state.specs.declared.state.State.{State}
 use Rattle.kdc_state.specs.State.{cache_of}
 use Rattle.tgs_opening.specs.Opening.{opened_ticket}
-use Rattle.kdc_core.specs.Answer.{answer_to, keep, after_incoming}
+use Rattle.kdc_core.specs.Answer.{incoming_answer, keep, after_incoming}
 use Rattle.kdc_core.specs.Request.{Request, request_of}
-use Rattle.kdc_core.specs.View.{Agrees, client_in, client_of, components_of, cache_named, named, named_by, row_of}
-use Rattle.kdc_core.specs.View.{ticket_view, view, view_of}
+use Rattle.kdc_core.specs.View.{Agrees, message_client, ticket_client, components_of, cache_named, named, asked_names}
+use Rattle.kdc_core.specs.View.{row_of}
+use Rattle.kdc_core.specs.View.{ticket_view, view, named_view}
 
 same_row : (state other : State) (c : Option Components)
     → IfSome c (λ c. map.get other.database.rows c ≡ map.get state.database.rows c) → row_of other c ≡ row_of state c
@@ -36,16 +37,17 @@ same_cache state other None h = (refl, refl)
 
 same_client : (state other : State) (exchange : Exchange) (message : Received)
     → ticket_view other message ≡ ticket_view state message
-    → client_in other exchange message ≡ client_in state exchange message
+    → message_client other exchange message ≡ message_client state exchange message
 same_client state other As message e = refl
-same_client state other Tgs message e = ap (λ v. client_of (opened_ticket v message)) e
+same_client state other Tgs message e = ap (λ v. ticket_client (opened_ticket v message)) e
 
 module _ (state other : State) (realm : other.database.realm ≡ state.database.realm)
     (tgs : map.get other.database.rows (tgs_principal other.database.realm) ≡ map.get state.database.rows
     (tgs_principal state.database.realm)) where
   -- the service's rows agree, so both decrypt the presented ticket alike, and the clients are the same
-  pub same_names : (o : Option Request) → row_of other (named_by state o).service ≡ row_of state (named_by state o).service
-      → named_by other o ≡ named_by state o
+  pub same_names : (o : Option Request) → row_of other (asked_names state o).service
+      ≡ row_of state (asked_names state o).service
+      → asked_names other o ≡ asked_names state o
   same_names (Some request) service =
       let ticket : ticket_view other request.message ≡ ticket_view state request.message = (λ i.
       record { realm = realm i; tgs = tgs i; service = service i }) in
@@ -75,7 +77,7 @@ view_agrees state other bytes a =
     let service : row_of other (named state bytes).service ≡ row_of state
     (named state bytes).service = same_row state other (named state bytes).service a.service in
     let client = same_cache state other (named state bytes).client a.client in
-    ap (view_of other) (names_agree state other bytes a) ∙ (λ i. record {
+    ap (named_view other) (names_agree state other bytes a) ∙ (λ i. record {
       realm = a.realm i;
       limits = a.limits i;
       client = client.0 i;
@@ -127,5 +129,5 @@ after_agrees state other incoming a =
     let bytes = incoming.octets in
     subst (λ (s : State). Agrees (after_incoming state incoming) s bytes)
     (λ i. keep other (sym (names_agree state other bytes a) i).client
-    (answer_to (sym (view_agrees state other bytes a) i) incoming).kept)
-    (keep_agrees state other bytes (named state bytes).client (answer_to (view state bytes) incoming).kept a)
+    (incoming_answer (sym (view_agrees state other bytes a) i) incoming).kept)
+    (keep_agrees state other bytes (named state bytes).client (incoming_answer (view state bytes) incoming).kept a)

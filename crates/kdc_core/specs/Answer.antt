@@ -57,28 +57,28 @@ refused v at message refusal = record {
 
 -- ---- given the contents of the bytes
 
-abbrev pub answer_of : View → Incoming → Contents → Answer
-answer_of v incoming NoRequest = record { reply = None; kept = None }
-answer_of v incoming (AsReq message) = of_as v (as_answer (as_view v) incoming message)
-answer_of v incoming (RefusedTgsReq message rejected) = refused v incoming.at message rejected.rule
-answer_of v incoming (TgsReq message p) =
+abbrev pub contents_answer : View → Incoming → Contents → Answer
+contents_answer v incoming NoRequest = record { reply = None; kept = None }
+contents_answer v incoming (AsReq message) = of_as v (as_answer (as_view v) incoming message)
+contents_answer v incoming (RefusedTgsReq message rejected) = refused v incoming.at message rejected.rule
+contents_answer v incoming (TgsReq message p) =
     of_tgs v incoming.at.sec p (tgs_answer (tgs_view v) incoming message.body.value p)
 
 -- the bytes of a reply encode the message that answers
-abbrev pub SpelledOf : View → Moment → List ℕ → Contents → List ℕ → Type 0
-SpelledOf v at random NoRequest octets = ⊥
-SpelledOf v at random (AsReq message) octets = AsSpelled (as_view v) at random message octets
-SpelledOf v at random (RefusedTgsReq message rejected) octets =
+abbrev pub ContentsSpelled : View → Moment → List ℕ → Contents → List ℕ → Type 0
+ContentsSpelled v at random NoRequest octets = ⊥
+ContentsSpelled v at random (AsReq message) octets = AsSpelled (as_view v) at random message octets
+ContentsSpelled v at random (RefusedTgsReq message rejected) octets =
     krb_error.Spells (tgs_error v.realm at message.body.value rejected.rule) octets
-SpelledOf v at random (TgsReq message p) octets = TgsSpelled (tgs_view v) at random message.body.value p octets
+ContentsSpelled v at random (TgsReq message p) octets = TgsSpelled (tgs_view v) at random message.body.value p octets
 
 -- if a ticket is issued, the reply key decrypts the reply to the session key, flags and times that the service's key
 -- finds in the ticket
-abbrev pub OpensOf : View → Moment → List ℕ → Contents → Type 0
-OpensOf v at random NoRequest = ⊤
-OpensOf v at random (AsReq message) = AsOpens (as_view v) at random message
-OpensOf v at random (RefusedTgsReq message rejected) = ⊤
-OpensOf v at random (TgsReq message p) = TgsOpens (tgs_view v) at random message.body.value p
+abbrev pub ContentsOpen : View → Moment → List ℕ → Contents → Type 0
+ContentsOpen v at random NoRequest = ⊤
+ContentsOpen v at random (AsReq message) = AsOpens (as_view v) at random message
+ContentsOpen v at random (RefusedTgsReq message rejected) = ⊤
+ContentsOpen v at random (TgsReq message p) = TgsOpens (tgs_view v) at random message.body.value p
 
 -- if a ticket is issued, these bytes encode its reply, which is decrypted as above, or an error in its place
 abbrev pub SentOf : View → Moment → List ℕ → Contents → List ℕ → Type 0
@@ -88,9 +88,9 @@ SentOf v at random (RefusedTgsReq message rejected) octets = ⊤
 SentOf v at random (TgsReq message p) octets = TgsSent (tgs_view v) at random message.body.value p octets
 
 -- there is a reply if and only if there is a request
-abbrev pub IsReplyTo : View → Moment → List ℕ → Option (List ℕ) → Contents → Type 0
-IsReplyTo v at random (Some octets) held = SpelledOf v at random held octets
-IsReplyTo v at random None held = held ≡ NoRequest
+abbrev pub IsContentsReply : View → Moment → List ℕ → Option (List ℕ) → Contents → Type 0
+IsContentsReply v at random (Some octets) held = ContentsSpelled v at random held octets
+IsContentsReply v at random None held = held ≡ NoRequest
 
 abbrev pub IsSentTo : View → Moment → List ℕ → Option (List ℕ) → Contents → Type 0
 IsSentTo v at random (Some octets) held = SentOf v at random held octets
@@ -98,18 +98,18 @@ IsSentTo v at random None held = held ≡ NoRequest
 
 -- ---- given the bytes of a request
 
-abbrev pub answer_to : View → Incoming → Answer
-answer_to v incoming = answer_of v incoming (contents v (request_of incoming.octets))
+abbrev pub incoming_answer : View → Incoming → Answer
+incoming_answer v incoming = contents_answer v incoming (contents v (request_of incoming.octets))
 
 -- `random` are 64 random bytes, `room` is the greatest size of a reply with a ticket, and `octets` is the request
 abbrev pub answer : View → Moment → List ℕ → ℕ → List ℕ → Answer
-answer v at random room octets = answer_to v (record { at = at; random = random; room = room; octets = octets })
+answer v at random room octets = incoming_answer v (record { at = at; random = random; room = room; octets = octets })
 
 abbrev pub IsReply : View → Moment → List ℕ → Option Request → Option (List ℕ) → Type 0
-IsReply v at random request reply = IsReplyTo v at random reply (contents v request)
+IsReply v at random request reply = IsContentsReply v at random reply (contents v request)
 
 abbrev pub ReplyOpens : View → Moment → List ℕ → Option Request → Type 0
-ReplyOpens v at random request = OpensOf v at random (contents v request)
+ReplyOpens v at random request = ContentsOpen v at random (contents v request)
 
 -- If a ticket is issued, its reply is sent, and the reply key decrypts that to the session key, flags and times that
 -- the service's key finds in the ticket; or an error is sent in its place.
@@ -126,7 +126,7 @@ keep state None kept = state
 
 abbrev pub after_incoming : State → Incoming → State
 after_incoming state incoming =
-    keep state (named state incoming.octets).client (answer_to (view state incoming.octets) incoming).kept
+    keep state (named state incoming.octets).client (incoming_answer (view state incoming.octets) incoming).kept
 
 abbrev pub after_request : State → Moment → List ℕ → ℕ → List ℕ → State
 after_request state at random room octets =

@@ -6,30 +6,32 @@ use Rattle.krb_fields.specs.Name.{Components}
 use Rattle.krb_fields.specs.declared.moment.Moment.{Moment}
 use Rattle.kdc_state.specs.State.{cache_of}
 use Rattle.kdc_state.specs.declared.state.State.{State}
-use Rattle.kdc_core.specs.Account.{AccountHolds, account_if, account_names, account_to}
-use Rattle.kdc_core.specs.Answer.{IsReply, OneTicketTwoKeys, after_incoming, answer_to}
-use Rattle.kdc_core.specs.Issued.{IsReplyOf, issued}
-use Rattle.kdc_core.specs.NewlySeen.{newly_seen_to}
+use Rattle.kdc_core.specs.Audit.{AuditHolds, audit_if, audit_names, incoming_audit}
+use Rattle.kdc_core.specs.Answer.{IsReply, OneTicketTwoKeys, after_incoming, incoming_answer}
+use Rattle.kdc_core.specs.Issued.{IsTicketReply, issued}
+use Rattle.kdc_core.specs.NewlySeen.{incoming_seen}
 use Rattle.kdc_core.specs.Request.{Request, SpellsRequest, request_of}
 use Rattle.kdc_core.specs.Ruling.{IsRuled}
 use Rattle.kdc_core.specs.Shown.{IsSeenAlike, ShowsTicket}
 use Rattle.kdc_core.specs.View.{Agrees, named, view}
-use Rattle.kdc_core.specs.declared.account.Answer.{Answer}
+use Rattle.kdc_core.specs.declared.audit.Answer.{Answer}
 
 -- the request with these bytes, its moment, the random bytes for its answer and the room for a reply with a ticket
 abbrev pub asked : Moment → List ℕ → ℕ → List ℕ → Incoming
 asked at random room octets = record { at = at; random = random; room = room; octets = octets }
 
--- The state before, the request, whether an account is wanted, the answer, and the state after it.
-pub record IsAnswered (before : State) (q : Incoming) (wants_account : Bool) (given : Answer) (after : State) : Type 0 where
+-- The state before, the request, whether an audit record is wanted, the answer, and the state after it.
+pub record IsAnswered (before : State) (q : Incoming) (wants_audit : Bool) (given : Answer) (after : State)
+    : Type 0 where
   -- the request is the one that the bytes encode, if they encode one and are no more than 2147483647
   pub request : (r : Request)
       → (request_of q.octets ≡ Some r) ↔ (SpellsRequest r q.octets × (length q.octets ≤ 2147483647))
   -- the reply is the one that the rules prescribe
-  pub reply : given.reply ≡ (answer_to (view before q.octets) q).reply
+  pub reply : given.reply ≡ (incoming_answer (view before q.octets) q).reply
   -- a TGS-REQ gets what the first rule of their one list says, or a ticket if none holds
-  pub ruled : IsRuled (view before q.octets) q (answer_to (view before q.octets) q) (account_to (view before q.octets) q)
-      (issued (view before q.octets) q.at q.random (request_of q.octets)) (request_of q.octets)
+  pub ruled : IsRuled (view before q.octets) q (incoming_answer (view before q.octets) q)
+      (incoming_audit (view before q.octets) q) (issued (view before q.octets) q.at q.random (request_of q.octets))
+      (request_of q.octets)
   -- its bytes encode the message that the rules prescribe, or are a stored reply
   pub spelled : IsReply (view before q.octets) q.at q.random (request_of q.octets) given.reply
   -- If a ticket is issued, the bytes encode its reply, or an error in its place. The reply key decrypts the reply to
@@ -41,16 +43,16 @@ pub record IsAnswered (before : State) (q : Incoming) (wants_account : Bool) (gi
       (view before q.octets).client (view before q.octets).service q.at.sec)
   -- the same for the issued ticket: what the client and the service decrypt is what was granted
   pub issued : IfSome (issued (view before q.octets) q.at q.random (request_of q.octets))
-      (λ issue. IsReplyOf issue given.reply)
-  -- the account is the one that the same rules give, if it is wanted
-  pub account : given.account ≡ account_if wants_account (account_to (view before q.octets) q)
+      (λ issue. IsTicketReply issue given.reply)
+  -- the audit record is the one that the same rules give, if it is wanted
+  pub audit : given.audit ≡ audit_if wants_audit (incoming_audit (view before q.octets) q)
   -- it names the client and the service that the request names
-  pub names : account_names (account_to (view before q.octets) q) ≡ named before q.octets
+  pub names : audit_names (incoming_audit (view before q.octets) q) ≡ named before q.octets
   -- it is true of the reply
-  pub holds : AccountHolds (view before q.octets) q.at q.random (request_of q.octets)
-      (account_to (view before q.octets) q) given.reply
+  pub holds : AuditHolds (view before q.octets) q.at q.random (request_of q.octets)
+      (incoming_audit (view before q.octets) q) given.reply
   -- the authenticator that is reported as recorded is the one that the same rules record
-  pub newly_seen : given.newly_seen ≡ newly_seen_to (view before q.octets) q
+  pub newly_seen : given.newly_seen ≡ incoming_seen (view before q.octets) q
   -- it is of a client whose ticket the request shows
   pub shown : IfSome given.newly_seen (λ seen. ShowsTicket before q.octets seen.client.components)
   -- the state afterwards is the one that the rules prescribe
@@ -63,11 +65,11 @@ pub record IsAnswered (before : State) (q : Incoming) (wants_account : Bool) (gi
   -- without a ticket of a client nothing changes what that client's replay cache has seen
   pub holder : (name : Components) → (ShowsTicket before q.octets name → ⊥)
       → IsSeenAlike (cache_of before name) (cache_of after name)
-  -- a second state that agrees at what the request names gives the same answer, the same account and the same names
+  -- a second state that agrees at what the request names gives the same answer, audit record and names
   pub agreement : (other : State) → Agrees before other q.octets
-      → answer_to (view other q.octets) q ≡ answer_to (view before q.octets) q
-  pub same_account : (other : State) → Agrees before other q.octets
-      → account_to (view other q.octets) q ≡ account_to (view before q.octets) q
+      → incoming_answer (view other q.octets) q ≡ incoming_answer (view before q.octets) q
+  pub same_audit : (other : State) → Agrees before other q.octets
+      → incoming_audit (view other q.octets) q ≡ incoming_audit (view before q.octets) q
   pub same_names : (other : State) → Agrees before other q.octets → named other q.octets ≡ named before q.octets
   -- they agree there afterwards too
   pub afterwards : (other : State) → Agrees before other q.octets

@@ -20,12 +20,12 @@ abbrev pub tgs_contents : Received → Result Presented Rejection → Contents
 tgs_contents message (Ok p) = TgsReq message p
 tgs_contents message (Err rejected) = RefusedTgsReq message rejected
 
-abbrev pub contents_in : View → Exchange → Received → Contents
-contents_in v As message = AsReq message
-contents_in v Tgs message = tgs_contents message (presented (opening_view v) message)
+abbrev pub message_contents : View → Exchange → Received → Contents
+message_contents v As message = AsReq message
+message_contents v Tgs message = tgs_contents message (presented (opening_view v) message)
 
 abbrev pub contents : View → Option Request → Contents
-contents v (Some request) = contents_in v request.exchange request.message
+contents v (Some request) = message_contents v request.exchange request.message
 contents v None = NoRequest
 
 -- what a TGS-REQ presents, if its ticket and authenticator can be decrypted

@@ -14,13 +14,13 @@ use Rattle.tgs_opening.specs.declared.presented.Presented.{Presented}
 use Rattle.tgs_opening.specs.declared.rejection.Rejection.{Rejection}
 use Rattle.kdc_state.specs.declared.state.State.{State}
 use Rattle.kdc_core.specs.After.{after_reply}
-use Rattle.kdc_core.specs.Answer.{answer_of, answer_to, keep, after_incoming}
-use Rattle.kdc_core.specs.Answer.{IsReply, IsReplyTo, ReplyOpens}
-use Rattle.kdc_core.specs.Answer.{OpensOf}
-use Rattle.kdc_core.specs.Contents.{contents, contents_in, names_answered, tgs_contents}
+use Rattle.kdc_core.specs.Answer.{contents_answer, incoming_answer, keep, after_incoming}
+use Rattle.kdc_core.specs.Answer.{IsReply, IsContentsReply, ReplyOpens}
+use Rattle.kdc_core.specs.Answer.{ContentsOpen}
+use Rattle.kdc_core.specs.Contents.{contents, message_contents, names_answered, tgs_contents}
 use Rattle.kdc_core.specs.Request.{Request, request_of}
-use Rattle.kdc_core.specs.View.{Named, client_of, components_of, named, named_by, named_in}
-use Rattle.kdc_core.specs.View.{ticket_view, view, view_of}
+use Rattle.kdc_core.specs.View.{Named, ticket_client, components_of, named, asked_names, request_names}
+use Rattle.kdc_core.specs.View.{ticket_view, view, named_view}
 use Rattle.kdc_core.specs.Held.{Contents}
 use Rattle.kdc_core.specs.Held.Contents.{NoRequest, AsReq, RefusedTgsReq, TgsReq}
 use Rattle.kdc_core.specs.declared.mark.Mark.{Mark}
@@ -28,10 +28,10 @@ use Rattle.kdc_core.specs.declared.mark.Mark.{Mark}
 -- ---- what is presented has the client of the decrypted ticket
 
 pub presented_client : (v : TicketView) (message : Received) (p : Presented) → presented v message ≡ Ok p
-    → client_of (opened_ticket v message) ≡ Some p.ticket.cname.components
+    → ticket_client (opened_ticket v message) ≡ Some p.ticket.cname.components
 presented_client v message p e =
     let (o, opens, same) = ticket_opened v message p e in
-    ap client_of opens ∙ ap (λ (part : EncTicketPart). Some part.cname.components) same
+    ap ticket_client opens ∙ ap (λ (part : EncTicketPart). Some part.cname.components) same
 
 -- ---- so the contents give the names of the request
 
@@ -43,7 +43,7 @@ AreNamesOf names (TgsReq message p) = names ≡ names_answered (TgsReq message p
 
 module _ (state : State) where
   tgs_names : (message : Received) (r : Result Presented Rejection) → presented (ticket_view state message) message ≡ r
-      → AreNamesOf (named_in state (record { exchange = Tgs; message = message })) (tgs_contents message r)
+      → AreNamesOf (request_names state (record { exchange = Tgs; message = message })) (tgs_contents message r)
   tgs_names message (Ok p) is = λ i. record {
     client = presented_client (ticket_view state message) message p is i;
     service = components_of message.body.value.sname;
@@ -51,14 +51,14 @@ module _ (state : State) where
   tgs_names message (Err rejected) is = tt
 
   names_in : (exchange : Exchange) (message : Received)
-      → AreNamesOf (named_in state (record { exchange = exchange; message = message }))
-      (contents_in (view_of state (named_in state (record { exchange = exchange; message = message })))
+      → AreNamesOf (request_names state (record { exchange = exchange; message = message }))
+      (message_contents (named_view state (request_names state (record { exchange = exchange; message = message })))
       exchange message)
   names_in As message = refl
   names_in Tgs message = tgs_names message (presented (ticket_view state message) message) refl
 
   pub are_names_of : (request : Option Request)
-      → AreNamesOf (named_by state request) (contents (view_of state (named_by state request)) request)
+      → AreNamesOf (asked_names state request) (contents (named_view state (asked_names state request)) request)
   are_names_of (Some request) = names_in request.exchange request.message
   are_names_of None = tt
 
@@ -70,7 +70,7 @@ nothing_kept state None = refl
 
 module _ {A E : Type 0} (state : State) (incoming : Incoming) (r : Result A E) where
   abbrev Answers : (A → Option (List ℕ)) → Named → Contents → Type 0
-  Answers octets names held = IfOk r (λ a. octets a ≡ (answer_of (view_of state names) incoming held).reply)
+  Answers octets names held = IfOk r (λ a. octets a ≡ (contents_answer (named_view state names) incoming held).reply)
 
   pub reply_so : (octets : A → Option (List ℕ)) (names : Named) (held : Contents) → AreNamesOf names held
       → Answers octets (names_answered held) held → Answers octets names held
@@ -83,7 +83,7 @@ module _ {A E : Type 0} (state : State) (incoming : Incoming) (r : Result A E) w
   abbrev Leaves : (A → Option (Option Mark)) → Named → Contents → Type 0
   Leaves mark names held =
       IfOk r (λ a. after_reply state (mark a) ≡ keep state names.client
-      (answer_of (view_of state names) incoming held).kept)
+      (contents_answer (named_view state names) incoming held).kept)
 
   nothing_left : (mark : A → Option (Option Mark)) (names : Named) → IfOk r (λ a. after_reply state (mark a) ≡ state)
       → IfOk r (λ a. after_reply state (mark a) ≡ keep state names.client None)
@@ -98,18 +98,19 @@ module _ {A E : Type 0} (state : State) (incoming : Incoming) (r : Result A E) w
   after_so mark names (TgsReq message p) names_are h = subst (λ (n : Named). Leaves mark n (TgsReq message p)) (sym names_are) h
 
   abbrev Spells : (A → Option (List ℕ)) → Named → Contents → Type 0
-  Spells octets names held = IfOk r (λ a. IsReplyTo (view_of state names) incoming.at incoming.random (octets a) held)
+  Spells octets names held =
+      IfOk r (λ a. IsContentsReply (named_view state names) incoming.at incoming.random (octets a) held)
 
   -- the bytes of the answer to a refused TGS-REQ depend on the realm alone
   refused_so : (o : Option (List ℕ)) (names other : Named) (message : Received) (rejected : Rejection)
-      → IsReplyTo (view_of state names) incoming.at incoming.random o (RefusedTgsReq message rejected)
-      → IsReplyTo (view_of state other) incoming.at incoming.random o (RefusedTgsReq message rejected)
+      → IsContentsReply (named_view state names) incoming.at incoming.random o (RefusedTgsReq message rejected)
+      → IsContentsReply (named_view state other) incoming.at incoming.random o (RefusedTgsReq message rejected)
   refused_so (Some octets) names other message rejected h = h
   refused_so None names other message rejected h = h
 
   unnamed_so : (o : Option (List ℕ)) (names other : Named)
-      → IsReplyTo (view_of state names) incoming.at incoming.random o NoRequest
-      → IsReplyTo (view_of state other) incoming.at incoming.random o NoRequest
+      → IsContentsReply (named_view state names) incoming.at incoming.random o NoRequest
+      → IsContentsReply (named_view state other) incoming.at incoming.random o NoRequest
   unnamed_so (Some octets) names other h = h
   unnamed_so None names other h = h
 
@@ -131,7 +132,7 @@ module _ {A E : Type 0} (state : State) (incoming : Incoming) (r : Result A E) w
       subst (λ (n : Named). Spells state incoming r octets n (TgsReq message p)) (sym names_are) h
 
   abbrev Opens : Named → Contents → Type 0
-  Opens names held = IfOk r (λ a. OpensOf (view_of state names) incoming.at incoming.random held)
+  Opens names held = IfOk r (λ a. ContentsOpen (named_view state names) incoming.at incoming.random held)
 
   pub opens_so : (names : Named) (held : Contents) → AreNamesOf names held → Opens (names_answered held) held → Opens names held
   opens_so names NoRequest names_are h = h
@@ -150,7 +151,7 @@ module _ {A E : Type 0} (state : State) (incoming : Incoming) (r : Result A E) (
   names_are = subst (λ (h : Contents). AreNamesOf names h) (sym is) (are_names_of state (request_of incoming.octets))
 
   pub replies_so : (octets : A → Option (List ℕ)) → Answers state incoming r octets (names_answered held) held
-      → IfOk r (λ a. octets a ≡ (answer_to (view state incoming.octets) incoming).reply)
+      → IfOk r (λ a. octets a ≡ (incoming_answer (view state incoming.octets) incoming).reply)
   replies_so octets h =
       subst (λ (h : Contents). Answers state incoming r octets names h) is
       (reply_so state incoming r octets names held names_are h)

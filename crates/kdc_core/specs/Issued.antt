@@ -10,17 +10,17 @@ use Rattle.kdc_core.specs.View.{View, as_view, tgs_view}
 use Rattle.kdc_core.specs.Held.{Contents}
 use Rattle.kdc_core.specs.Held.Contents.{NoRequest, AsReq, RefusedTgsReq, TgsReq}
 
-abbrev pub issued_of : View → Moment → List ℕ → Contents → Option Issue
-issued_of v at random NoRequest = None
-issued_of v at random (AsReq message) = as_exchange.issued (as_view v) at random message
-issued_of v at random (RefusedTgsReq message rejected) = None
-issued_of v at random (TgsReq message p) = tgs_exchange.issued (tgs_view v) at random message.body.value p
+abbrev pub contents_issue : View → Moment → List ℕ → Contents → Option Issue
+contents_issue v at random NoRequest = None
+contents_issue v at random (AsReq message) = as_exchange.issued (as_view v) at random message
+contents_issue v at random (RefusedTgsReq message rejected) = None
+contents_issue v at random (TgsReq message p) = tgs_exchange.issued (tgs_view v) at random message.body.value p
 
 -- what a request is issued at this moment, with these random bytes; a reply that is sent again issues nothing new
 abbrev pub issued : View → Moment → List ℕ → Option Request → Option Issue
-issued v at random request = issued_of v at random (contents v request)
+issued v at random request = contents_issue v at random (contents v request)
 
 -- a reply bears the ticket, or is an error because there was no room for it
-abbrev pub IsReplyOf : Issue → Option (List ℕ) → Type 0
-IsReplyOf issue (Some octets) = IsIssuedOrError issue octets
-IsReplyOf issue None = ⊥
+abbrev pub IsTicketReply : Issue → Option (List ℕ) → Type 0
+IsTicketReply issue (Some octets) = IsIssuedOrError issue octets
+IsTicketReply issue None = ⊥

@@ -5,16 +5,17 @@ use Rattle.as_exchange.specs.IssuedLaws as as_exchange
 use Rattle.tgs_exchange.specs.IssuedLaws as tgs_exchange
 use Rattle.kdc_replies.specs.Issue.{Issue, IsIssuedOrError}
 use Rattle.krb_fields.specs.declared.moment.Moment.{Moment}
-use Rattle.kdc_core.specs.Answer.{IsReply, IsReplyTo, IsSentTo, OneTicketTwoKeys, OpensOf, ReplyOpens, SentOf, SpelledOf}
+use Rattle.kdc_core.specs.Answer.{IsReply, IsContentsReply, IsSentTo, OneTicketTwoKeys, ContentsOpen, ReplyOpens}
+use Rattle.kdc_core.specs.Answer.{SentOf, ContentsSpelled}
 use Rattle.kdc_core.specs.Contents.{contents}
-use Rattle.kdc_core.specs.Issued.{IsReplyOf, issued, issued_of}
+use Rattle.kdc_core.specs.Issued.{IsTicketReply, issued, contents_issue}
 use Rattle.kdc_core.specs.Request.{Request}
 use Rattle.kdc_core.specs.View.{View, as_view, tgs_view}
 use Rattle.kdc_core.specs.Held.{Contents}
 use Rattle.kdc_core.specs.Held.Contents.{NoRequest, AsReq, RefusedTgsReq, TgsReq}
 
 module _ (v : View) (at : Moment) (random octets : List ℕ) where
-  sent_so : (held : Contents) → SpelledOf v at random held octets → OpensOf v at random held
+  sent_so : (held : Contents) → ContentsSpelled v at random held octets → ContentsOpen v at random held
       → SentOf v at random held octets
   sent_so NoRequest spelled opens = tt
   sent_so (AsReq message) spelled opens =
@@ -25,7 +26,7 @@ module _ (v : View) (at : Moment) (random octets : List ℕ) where
 
   module _ (long : 32 ≤ length random) (issue : Issue) where
     issued_so : (held : Contents) → SentOf v at random held octets
-        → issued_of v at random held ≡ Some issue → IsIssuedOrError issue octets
+        → contents_issue v at random held ≡ Some issue → IsIssuedOrError issue octets
     issued_so NoRequest sent e = absurd cc
     issued_so (AsReq message) sent e =
         as_exchange.reply_is_issued (as_view v) at random octets long issue message sent e
@@ -40,8 +41,8 @@ module _ (v : View) (at : Moment) (random octets : List ℕ) where
     reply_is_issued request sent e = issued_so (contents v request) sent e
 
 module _ (v : View) (at : Moment) (random : List ℕ) where
-  sent_to : (held : Contents) (reply : Option (List ℕ)) → IsReplyTo v at random reply held
-      → OpensOf v at random held → IsSentTo v at random reply held
+  sent_to : (held : Contents) (reply : Option (List ℕ)) → IsContentsReply v at random reply held
+      → ContentsOpen v at random held → IsSentTo v at random reply held
   sent_to held (Some octets) spelled opens = sent_so v at random octets held spelled opens
   sent_to held None nothing opens = nothing
 
@@ -54,19 +55,19 @@ module _ (v : View) (at : Moment) (random : List ℕ) where
 
   module _ (long : 32 ≤ length random) where
     replied : (held : Contents) (reply : Option (List ℕ)) → IsSentTo v at random reply held
-        → IfSome (issued_of v at random held) (λ issue. IsReplyOf issue reply)
-    replied held (Some octets) sent = by_issue (issued_of v at random held) refl
+        → IfSome (contents_issue v at random held) (λ issue. IsTicketReply issue reply)
+    replied held (Some octets) sent = by_issue (contents_issue v at random held) refl
       where
-        by_issue : (o : Option Issue) → issued_of v at random held ≡ o
+        by_issue : (o : Option Issue) → contents_issue v at random held ≡ o
             → IfSome o (λ issue. IsIssuedOrError issue octets)
         by_issue (Some issue) e = issued_so v at random octets long issue held sent e
         by_issue None e = tt
     replied held None nothing =
-        subst (λ (h : Contents). IfSome (issued_of v at random h) (λ issue. ⊥)) (sym nothing) tt
+        subst (λ (h : Contents). IfSome (contents_issue v at random h) (λ issue. ⊥)) (sym nothing) tt
 
     -- What a call sends to a request that is issued a ticket bears that ticket, or is an error in its place.
     pub replies_issued : {A E : Type 0} (octets_of : A → Option (List ℕ)) (request : Option Request) (r : Result A E)
         → IfOk r (λ a. OneTicketTwoKeys v at random request (octets_of a))
-        → IfOk r (λ a. IfSome (issued v at random request) (λ issue. IsReplyOf issue (octets_of a)))
+        → IfOk r (λ a. IfSome (issued v at random request) (λ issue. IsTicketReply issue (octets_of a)))
     replies_issued octets_of request (Ok a) sent = replied (contents v request) (octets_of a) sent
     replies_issued octets_of request (Err e) sent = tt

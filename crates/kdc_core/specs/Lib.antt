@@ -5,7 +5,7 @@ pub mod Contents
 pub mod Answer
 pub mod Shown
 pub mod Issued
-pub mod Account
+pub mod Audit
 pub mod Run
 pub mod Struck
 pub mod Ruling
@@ -24,6 +24,6 @@ pub mod AgreementLaws
 pub mod RequestLaws
 pub mod IssuedLaws
 pub mod StandingLaws
-pub mod AccountLaws
+pub mod AuditLaws
 pub mod NewlySeenLaws
 pub mod RulingLaws

@@ -33,28 +33,28 @@ use Rattle.kdc_core.specs.declared.run.Event.TheVariants.{Request, Change, Repla
 -- ---- what is recorded
 
 -- the presented authenticator, with the client of its ticket, if something is stored for it
-abbrev pub seen_of : Presented → Option Kept → Option Seen
-seen_of p (Some kept) = Some (record {
+abbrev pub seen_if_kept : Presented → Option Kept → Option Seen
+seen_if_kept p (Some kept) = Some (record {
   client = p.ticket.cname;
   ctime = p.authenticator.ctime;
   cusec = p.authenticator.cusec;
 })
-seen_of p None = None
+seen_if_kept p None = None
 
-abbrev pub newly_seen_of : View → Incoming → Contents → Option Seen
-newly_seen_of v incoming NoRequest = None
-newly_seen_of v incoming (AsReq message) = None
-newly_seen_of v incoming (RefusedTgsReq message rejected) = None
-newly_seen_of v incoming (TgsReq message p) =
-    seen_of p (tgs_answer (tgs_view v) incoming message.body.value p).kept
+abbrev pub contents_seen : View → Incoming → Contents → Option Seen
+contents_seen v incoming NoRequest = None
+contents_seen v incoming (AsReq message) = None
+contents_seen v incoming (RefusedTgsReq message rejected) = None
+contents_seen v incoming (TgsReq message p) =
+    seen_if_kept p (tgs_answer (tgs_view v) incoming message.body.value p).kept
 
-abbrev pub newly_seen_to : View → Incoming → Option Seen
-newly_seen_to v incoming = newly_seen_of v incoming (contents v (request_of incoming.octets))
+abbrev pub incoming_seen : View → Incoming → Option Seen
+incoming_seen v incoming = contents_seen v incoming (contents v (request_of incoming.octets))
 
 -- takes what `answer` of specs/Answer.antt takes, and gives the authenticator that this answer records
 abbrev pub newly_seen : View → Moment → List ℕ → ℕ → List ℕ → Option Seen
 newly_seen v at random room octets =
-    newly_seen_to v (record { at = at; random = random; room = room; octets = octets })
+    incoming_seen v (record { at = at; random = random; room = room; octets = octets })
 
 -- the authenticator that an event records, if any
 abbrev pub event_sees : State → Event → Option Seen

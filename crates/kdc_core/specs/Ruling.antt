@@ -12,18 +12,18 @@ use Rattle.tgs_exchange.specs.declared.decision.Decision.{Decision}
 use Rattle.tgs_exchange.specs.declared.decision.Decision.TheVariants.{Refuses, Records, Repeats, Issues}
 use Rattle.tgs_exchange.specs.declared.outcome.TgsOutcome.TheVariants.{Refused, Issued, Resent, TooBig}
 use Rattle.tgs_opening.specs.declared.refusal.TgsRefusal.{TgsRefusal}
-use Rattle.kdc_core.specs.Account.{Account}
+use Rattle.kdc_core.specs.Audit.{AuditRecord}
 use Rattle.kdc_core.specs.Answer.{Answer, refused}
 use Rattle.kdc_core.specs.Request.{Request}
 use Rattle.kdc_core.specs.View.{View, opening_view, tgs_view}
-use Rattle.kdc_core.specs.declared.account.Account.TheVariants.{NoRequest, As, Tgs}
+use Rattle.kdc_core.specs.declared.audit.AuditRecord.TheVariants.{NoRequest, As, Tgs}
 
 -- the first rule of `refusals` (specs/Refusals.antt of tgs_exchange) that holds
 abbrev pub tgs_ruling : View → ℤ → Received → Option (Decision Kept)
 tgs_ruling v now message = ruling (opening_view v) (tgs_view v) now message
 
--- the account names this rule
-abbrev pub IsRefusedBy : TgsRefusal → Account → Type 0
+-- the audit record names this rule
+abbrev pub IsRefusedBy : TgsRefusal → AuditRecord → Type 0
 IsRefusedBy rule NoRequest = ⊥
 IsRefusedBy rule (As client service outcome) = ⊥
 IsRefusedBy rule (Tgs client service (Refused other)) = other ≡ rule
@@ -31,16 +31,16 @@ IsRefusedBy rule (Tgs client service (Issued granted)) = ⊥
 IsRefusedBy rule (Tgs client service (Resent bears)) = ⊥
 IsRefusedBy rule (Tgs client service TooBig) = ⊥
 
--- A rule that refuses sends its error, and the account names it; what is stored with the authenticator depends on where
--- the rule stands. A repeated authenticator gets what was stored for it. If no rule holds, a ticket is issued.
-abbrev pub Follows : View → Incoming → Received → Option (Decision Kept) → Answer → Account → Option Issue → Type 0
-Follows v q message (Some (Refuses rule)) a account issue = (a ≡ refused v q.at message rule) × IsRefusedBy rule account
-Follows v q message (Some (Records rule)) a account issue =
-    (a.reply ≡ (refused v q.at message rule).reply) × (is_some a.kept ≡ true) × IsRefusedBy rule account
-Follows v q message (Some (Repeats kept)) a account issue =
+-- A rule that refuses sends its error, and the audit record names it; what is stored with the authenticator depends on
+-- where the rule stands. A repeated authenticator gets what was stored for it. If no rule holds, a ticket is issued.
+abbrev pub Follows : View → Incoming → Received → Option (Decision Kept) → Answer → AuditRecord → Option Issue → Type 0
+Follows v q message (Some (Refuses rule)) a audit issue = (a ≡ refused v q.at message rule) × IsRefusedBy rule audit
+Follows v q message (Some (Records rule)) a audit issue =
+    (a.reply ≡ (refused v q.at message rule).reply) × (is_some a.kept ≡ true) × IsRefusedBy rule audit
+Follows v q message (Some (Repeats kept)) a audit issue =
     (a.reply ≡ Some (repeated (tgs_view v) q message.body.value kept).reply) × (a.kept ≡ None)
-Follows v q message (Some (Issues admission)) a account issue = ⊥
-Follows v q message None a account issue = is_some issue ≡ true
+Follows v q message (Some (Issues admission)) a audit issue = ⊥
+Follows v q message None a audit issue = is_some issue ≡ true
 
 abbrev pub if_tgs : Exchange → Type 0 → Type 0
 if_tgs OfAs P = ⊤
@@ -51,6 +51,7 @@ abbrev pub IfTgsReq : Option Request → (Received → Type 0) → Type 0
 IfTgsReq (Some request) P = if_tgs request.exchange (P request.message)
 IfTgsReq None P = ⊤
 
--- of the answer to a request, the account of it and what it is issued
-abbrev pub IsRuled : View → Incoming → Answer → Account → Option Issue → Option Request → Type 0
-IsRuled v q a account issue request = IfTgsReq request (λ message. Follows v q message (tgs_ruling v q.at.sec message) a account issue)
+-- of the answer to a request, the audit record of it and what it is issued
+abbrev pub IsRuled : View → Incoming → Answer → AuditRecord → Option Issue → Option Request → Type 0
+IsRuled v q a audit issue request =
+    IfTgsReq request (λ message. Follows v q message (tgs_ruling v q.at.sec message) a audit issue)

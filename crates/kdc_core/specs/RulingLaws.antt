@@ -21,14 +21,14 @@ use Rattle.tgs_opening.specs.Opening.{presented}
 use Rattle.tgs_opening.specs.declared.presented.Presented.{Presented}
 use Rattle.tgs_opening.specs.declared.refusal.TgsRefusal.TheVariants.{Ap}
 use Rattle.tgs_opening.specs.declared.rejection.Rejection.{Rejection}
-use Rattle.kdc_core.specs.Account.{account_of, account_to}
-use Rattle.kdc_core.specs.Answer.{answer_of, answer_to, of_tgs, stamped}
-use Rattle.kdc_core.specs.Contents.{contents, contents_in, tgs_contents}
-use Rattle.kdc_core.specs.Issued.{issued, issued_of}
+use Rattle.kdc_core.specs.Audit.{contents_audit, incoming_audit}
+use Rattle.kdc_core.specs.Answer.{contents_answer, incoming_answer, of_tgs, stamped}
+use Rattle.kdc_core.specs.Contents.{contents, message_contents, tgs_contents}
+use Rattle.kdc_core.specs.Issued.{issued, contents_issue}
 use Rattle.kdc_core.specs.Request.{Request, request_of}
 use Rattle.kdc_core.specs.Ruling.{Follows, IsRuled, if_tgs, tgs_ruling}
 use Rattle.kdc_core.specs.View.{View, opening_view, tgs_view}
-use Rattle.kdc_core.specs.declared.account.Account.TheVariants.{Tgs}
+use Rattle.kdc_core.specs.declared.audit.AuditRecord.TheVariants.{Tgs}
 
 either : (b : Bool) (x y : TgsAnswer) → x.kept ≡ None → y.kept ≡ None → (if b then x else y).kept ≡ None
 either true x y e f = e
@@ -42,7 +42,7 @@ repeat_keeps v q body kept =
     (record { reply = kept.reply; kept = None }) refl refl) refl
 
 module _ (v : View) (q : Incoming) (message : Received) where
-  -- a decision that its reply, its account and its ticket are made of
+  -- a decision that its reply, its audit record and its ticket are made of
   decided_follows : (p : Presented) (d : Decision Kept)
       → Follows v q message (refusing d) (of_tgs v q.at.sec p (answer_by (tgs_view v) q message.body.value p d))
       (Tgs (Some p.ticket.cname) message.body.value.sname (outcome_by (tgs_view v) q message.body.value p d))
@@ -54,34 +54,38 @@ module _ (v : View) (q : Incoming) (message : Received) where
   decided_follows p (Issues admission) = refl
 
   presented_follows : (r : Result Presented Rejection)
-      → Follows v q message (by_presented (tgs_view v) q.at.sec message r) (answer_of v q (tgs_contents message r))
-      (account_of v q (tgs_contents message r)) (issued_of v q.at q.random (tgs_contents message r))
+      → Follows v q message (by_presented (tgs_view v) q.at.sec message r)
+      (contents_answer v q (tgs_contents message r))
+      (contents_audit v q (tgs_contents message r)) (contents_issue v q.at q.random (tgs_contents message r))
   presented_follows (Ok p) = decided_follows p (decision (tgs_view v) q.at.sec message.body.value p)
   presented_follows (Err rejected) = (refl, refl)
 
   tgs_follows : Follows v q message (tgs_ruling v q.at.sec message)
-      (answer_of v q (tgs_contents message (presented (opening_view v) message)))
-      (account_of v q (tgs_contents message (presented (opening_view v) message)))
-      (issued_of v q.at q.random (tgs_contents message (presented (opening_view v) message)))
+      (contents_answer v q (tgs_contents message (presented (opening_view v) message)))
+      (contents_audit v q (tgs_contents message (presented (opening_view v) message)))
+      (contents_issue v q.at q.random (tgs_contents message (presented (opening_view v) message)))
   tgs_follows =
       subst (λ (r : Option (Decision Kept)). Follows v q message r
-      (answer_of v q (tgs_contents message (presented (opening_view v) message)))
-      (account_of v q (tgs_contents message (presented (opening_view v) message)))
-      (issued_of v q.at q.random (tgs_contents message (presented (opening_view v) message))))
+      (contents_answer v q (tgs_contents message (presented (opening_view v) message)))
+      (contents_audit v q (tgs_contents message (presented (opening_view v) message)))
+      (contents_issue v q.at q.random (tgs_contents message (presented (opening_view v) message))))
       (sym (ruled (tgs_view v) q.at.sec message v.tgs)) (presented_follows (presented (opening_view v) message))
 
 module _ (v : View) (q : Incoming) where
   exchange_follows : (exchange : Exchange) (message : Received)
-      → if_tgs exchange (Follows v q message (tgs_ruling v q.at.sec message) (answer_of v q (contents_in v exchange message))
-      (account_of v q (contents_in v exchange message)) (issued_of v q.at q.random (contents_in v exchange message)))
+      → if_tgs exchange (Follows v q message (tgs_ruling v q.at.sec message)
+      (contents_answer v q (message_contents v exchange message))
+      (contents_audit v q (message_contents v exchange message))
+      (contents_issue v q.at q.random (message_contents v exchange message)))
   exchange_follows OfAs message = tt
   exchange_follows OfTgs message = tgs_follows v q message
 
   request_follows : (request : Option Request)
-      → IsRuled v q (answer_of v q (contents v request)) (account_of v q (contents v request))
-      (issued_of v q.at q.random (contents v request)) request
+      → IsRuled v q (contents_answer v q (contents v request)) (contents_audit v q (contents v request))
+      (contents_issue v q.at q.random (contents v request)) request
   request_follows (Some request) = exchange_follows request.exchange request.message
   request_follows None = tt
 
-  pub is_ruled : IsRuled v q (answer_to v q) (account_to v q) (issued v q.at q.random (request_of q.octets)) (request_of q.octets)
+  pub is_ruled : IsRuled v q (incoming_answer v q) (incoming_audit v q) (issued v q.at q.random (request_of q.octets))
+      (request_of q.octets)
   is_ruled = request_follows (request_of q.octets)

@@ -32,14 +32,14 @@ is_request state (Reopen database limits at) = false
 is_request state (Resume database limits resumption) = false
 
 -- a request whose named client is c
-abbrev pub is_request_of : Components → State → Event → Bool
-is_request_of c state (Request at random room request) = is_client c (named state request).client
-is_request_of c state (Change change) = false
-is_request_of c state (Replace database) = false
-is_request_of c state (Tidy at) = false
-is_request_of c state (Restart at) = false
-is_request_of c state (Reopen database limits at) = false
-is_request_of c state (Resume database limits resumption) = false
+abbrev pub is_clients_request : Components → State → Event → Bool
+is_clients_request c state (Request at random room request) = is_client c (named state request).client
+is_clients_request c state (Change change) = false
+is_clients_request c state (Replace database) = false
+is_clients_request c state (Tidy at) = false
+is_clients_request c state (Restart at) = false
+is_clients_request c state (Reopen database limits at) = false
+is_clients_request c state (Resume database limits resumption) = false
 
 -- whether an event stays for the client c, when the rows of S matter: a request of c, a change of the row of c or of a
 -- name in S, and each replacement, tidying and restart
@@ -97,7 +97,7 @@ pub record AgreesFor (c : Components) (S : Names) (state other : State) : Type 0
 -- how a run and the struck run of a second state are related
 pub record IsIsolated (c : Components) (S : Names) (state other : State) (events struck : List Event) : Type 0 where
   -- the replies to c's requests are, in order, those of the struck run to its requests
-  pub own : replies_to is_request other struck ≡ replies_to (is_request_of c) state events
+  pub own : replies_to is_request other struck ≡ replies_to (is_clients_request c) state events
   -- the struck run gives each event that stays the reply that the run gives it
   pub left : replies other struck ≡ replies_to (is_left c S) state events
   -- the final states agree for c

@@ -13,7 +13,7 @@ use Rattle.kdc_core.specs.NewlySeen.{Covers}
 use Rattle.kdc_core.specs.Run.{after_event, event_reply}
 use Rattle.kdc_core.specs.Struck.{is_client}
 use Rattle.kdc_core.specs.Contents.{contents, presented_in}
-use Rattle.kdc_core.specs.View.{named, named_by, view_of}
+use Rattle.kdc_core.specs.View.{named, asked_names, named_view}
 use Rattle.kdc_core.specs.declared.run.Event.{Event}
 use Rattle.kdc_core.specs.declared.run.Event.TheVariants.{Request, Change, Replace, Tidy, Restart, Reopen, Resume}
 
@@ -57,8 +57,8 @@ ResumesFollow state [] = ⊤
 ResumesFollow state (event ∷ events) = ResumesWithAll state event × ResumesFollow (after_event state event) events
 
 -- what a request presents, if it is a TGS-REQ that can be decrypted
-abbrev pub presented_by : State → Option Read → Option Presented
-presented_by state request = presented_in (contents (view_of state (named_by state request)) request)
+abbrev pub request_presented : State → Option Read → Option Presented
+request_presented state request = presented_in (contents (named_view state (asked_names state request)) request)
 
 -- whether a reply bears a ticket: its bytes begin with the tag of a TGS-REP
 abbrev pub bears_ticket : List ℕ → Bool
@@ -73,7 +73,8 @@ ticket_by None reply = None
 -- the ticket that a reply brings to the client c for an authenticator
 abbrev pub ticket_for : Components → State → Event → Option (List ℕ) → Option (Stamp × List ℕ)
 ticket_for c state (Request at random room request) reply =
-    if is_client c (named state request).client then ticket_by (presented_by state (request_of request)) reply else None
+    if is_client c (named state request).client
+    then ticket_by (request_presented state (request_of request)) reply else None
 ticket_for c state (Change change) reply = None
 ticket_for c state (Replace database) reply = None
 ticket_for c state (Tidy at) reply = None

@@ -8,7 +8,7 @@ use Rattle.replay.specs.Resumed.{resumed_cache}
 use Rattle.replay.specs.declared.seen.Resumption.{Resumption}
 use Rattle.kdc_state.specs.declared.state.State.{State}
 use Rattle.kdc_core.specs.Run.{run}
-use Rattle.kdc_core.specs.Struck.{AgreesFor, Names, ServicesWithin, is_request_of, replies_to, strike}
+use Rattle.kdc_core.specs.Struck.{AgreesFor, Names, ServicesWithin, is_clients_request, replies_to, strike}
 use Rattle.kdc_core.specs.declared.run.Event.{Event}
 use Rattle.kdc_core.specs.declared.run.Event.TheVariants.{Request, Change, Replace, Tidy, Restart, Reopen, Resume}
 
@@ -41,7 +41,7 @@ AreAlike c S (event ∷ events) (other ∷ others) = IsAlike c S event other × 
 
 -- c's requests get the same replies, in order, and the final states agree for c
 pub record GetsTheSame (c : Components) (S : Names) (state other : State) (events others : List Event) : Type 0 where
-  pub replies : replies_to (is_request_of c) other others ≡ replies_to (is_request_of c) state events
+  pub replies : replies_to (is_clients_request c) other others ≡ replies_to (is_clients_request c) state events
   pub afterwards : AgreesFor c S (run state events) (run other others)
 
 -- Two runs from states that agree for c, in which the same events stay for c; only what their replacement databases and

@@ -45,27 +45,27 @@ ticket_view state message = record {
 }
 
 -- the client in a decrypted ticket
-abbrev pub client_of : Result OpenedTicket TgsRefusal → Option Components
-client_of (Ok ticket) = Some ticket.part.cname.components
-client_of (Err refusal) = None
+abbrev pub ticket_client : Result OpenedTicket TgsRefusal → Option Components
+ticket_client (Ok ticket) = Some ticket.part.cname.components
+ticket_client (Err refusal) = None
 
 -- AS-REQ: the body's client. TGS-REQ: the client of the presented ticket, if that can be decrypted
-abbrev pub client_in : State → Exchange → Received → Option Components
-client_in state As message = components_of message.body.value.cname
-client_in state Tgs message = client_of (opened_ticket (ticket_view state message) message)
+abbrev pub message_client : State → Exchange → Received → Option Components
+message_client state As message = components_of message.body.value.cname
+message_client state Tgs message = ticket_client (opened_ticket (ticket_view state message) message)
 
-abbrev pub named_in : State → Request → Named
-named_in state request = record {
-  client = client_in state request.exchange request.message;
+abbrev pub request_names : State → Request → Named
+request_names state request = record {
+  client = message_client state request.exchange request.message;
   service = components_of request.message.body.value.sname;
 }
 
-abbrev pub named_by : State → Option Request → Named
-named_by state (Some request) = named_in state request
-named_by state None = record { client = None; service = None }
+abbrev pub asked_names : State → Option Request → Named
+asked_names state (Some request) = request_names state request
+asked_names state None = record { client = None; service = None }
 
 abbrev pub named : State → List ℕ → Named
-named state bytes = named_by state (request_of bytes)
+named state bytes = asked_names state (request_of bytes)
 
 -- realm and limits, the rows of the named client, of the named service and of the ticket-granting service, and the
 -- named client's replay cache
@@ -82,8 +82,8 @@ abbrev pub cache_named : State → Option Components → ReplayCache Kept
 cache_named state (Some name) = cache_of state name
 cache_named state None = opened_cache First
 
-abbrev pub view_of : State → Named → View
-view_of state names = record {
+abbrev pub named_view : State → Named → View
+named_view state names = record {
   realm = state.database.realm;
   limits = state.limits;
   client = row_of state names.client;
@@ -93,8 +93,9 @@ view_of state names = record {
 }
 
 -- of a request that was read
-abbrev pub view_in : State → Exchange → Received → View
-view_in state exchange message = view_of state (named_in state (record { exchange = exchange; message = message }))
+abbrev pub message_view : State → Exchange → Received → View
+message_view state exchange message =
+    named_view state (request_names state (record { exchange = exchange; message = message }))
 
 -- the client of the presented ticket, and the requested service
 abbrev pub names_presented : Received → Presented → Named
@@ -102,10 +103,10 @@ names_presented message p =
     record { client = Some p.ticket.cname.components; service = components_of message.body.value.sname }
 
 abbrev pub presented_view : State → Received → Presented → View
-presented_view state message p = view_of state (names_presented message p)
+presented_view state message p = named_view state (names_presented message p)
 
 abbrev pub view : State → List ℕ → View
-view state bytes = view_of state (named state bytes)
+view state bytes = named_view state (named state bytes)
 
 -- a second state with the same realm and limits agrees at what the bytes name in the first
 pub record Agrees (state other : State) (bytes : List ℕ) : Type 0 where

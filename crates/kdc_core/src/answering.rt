@@ -1,18 +1,18 @@
-//! The reply to a request, with its account and the change of the client's replay cache.
+//! The reply to a request, with its audit record and the change of the client's replay cache.
 ghost use Rattle.std.specs.Prelude.{◌≡◌, ◌<◌, length, None, Some, IfOk, IfSome};
 ghost use Rattle.krb_types.specs.KrbError.{krb_error};
 ghost use Rattle.tgs_exchange.specs.Answer.{tgs_error};
 ghost use Rattle.tgs_opening.specs.Tickets.{tgs_data};
 ghost use Rattle.krb_elements.specs.Codec.{written};
 ghost use Rattle.kdc_core.specs.After.{MayStay};
-ghost use Rattle.kdc_core.specs.Contents.{IsShortName, contents_in};
+ghost use Rattle.kdc_core.specs.Contents.{IsShortName, message_contents};
 ghost use Rattle.kdc_core.specs.Replied.{IsReplied};
-ghost use Rattle.kdc_core.specs.View.{view_in};
-ghost use Rattle.kdc_core.specs.declared.account.Account.TheVariants.{Tgs};
+ghost use Rattle.kdc_core.specs.View.{message_view};
+ghost use Rattle.kdc_core.specs.declared.audit.AuditRecord.TheVariants.{Tgs};
 ghost use Rattle.tgs_exchange.specs.declared.outcome.TgsOutcome.TheVariants.{Refused};
 
-use crate::account::{Account, lent_name};
 use crate::as_replies::as_reply;
+use crate::audit::{AuditRecord, lent_name};
 use crate::contents::open_presented;
 use crate::mark::Mark;
 use crate::tgs_replies::tgs_reply;
@@ -32,7 +32,7 @@ pub struct Answered<'q> {
     /// The change to make in the client's replay cache, if any.
     pub mark: Option<Mark>,
     /// How the request was handled. Names from the request are borrowed from its bytes.
-    pub account: Account<NameRef<'q>>,
+    pub audit: AuditRecord<NameRef<'q>>,
 }
 
 /// Returns the reply to a request of this exchange.
@@ -46,8 +46,9 @@ pub fn reply_to<'q>(
     requires sname { IsShortName message.now }
     requires value { IfSome (tgs_data message.now) (λ value. length value < 2147483648) }
     ensures replied { IfOk result (λ reply.
-        IsReplied state.now incoming.now (contents_in (view_in state.now exchange message.now) exchange message.now)
-        (Some reply.octets.items) (Some reply.mark) reply.account) }
+        IsReplied state.now incoming.now
+        (message_contents (message_view state.now exchange message.now) exchange message.now)
+        (Some reply.octets.items) (Some reply.mark) reply.audit) }
     ensures stays { IfOk result (λ reply. IfSome reply.mark (MayStay state.now)) }
 {
     match exchange {
@@ -77,8 +78,8 @@ fn refused<'q>(
         krb_error.Spells (tgs_error state.now.database.realm incoming.now.at message.now.body.value
         rejection.rule) reply.octets.items) }
     ensures mark { IfOk result (λ reply. reply.mark ≡ None) }
-    ensures account { IfOk result (λ reply.
-        reply.account ≡ Tgs rejection.client message.now.body.value.sname (Refused rejection.rule)) }
+    ensures audit { IfOk result (λ reply.
+        reply.audit ≡ Tgs rejection.client message.now.body.value.sname (Refused rejection.rule)) }
 {
     let realm = state.database.realm();
     let body = &message.body.value;
@@ -86,7 +87,7 @@ fn refused<'q>(
     Ok(Answered {
         octets: tgs_error(alloc, realm, incoming.at, body, rule)?,
         mark: None,
-        account: Account::Tgs {
+        audit: AuditRecord::Tgs {
             client,
             service: lent_name(body.sname.as_ref()),
             outcome: TgsOutcome::Refused(rule),

@@ -2,16 +2,16 @@
 ghost use Rattle.std.specs.Prelude.{◌≡◌, None, Some, IfOk, IfSome, option_copied};
 ghost use Rattle.as_exchange.specs.Known.{IsKnown};
 ghost use Rattle.krb_types.specs.declared.kdc_req.Exchange.TheVariants.{As};
-ghost use Rattle.kdc_core.specs.Account.{account_of, AccountSpelledOf};
-ghost use Rattle.kdc_core.specs.After.{after, counted_of, seen_in, MayStay};
-ghost use Rattle.kdc_core.specs.Answer.{answer_of, keep, OpensOf, SpelledOf};
+ghost use Rattle.kdc_core.specs.Audit.{contents_audit, OutcomeSpelled};
+ghost use Rattle.kdc_core.specs.After.{after, failures_mark, marked_seen, MayStay};
+ghost use Rattle.kdc_core.specs.Answer.{contents_answer, keep, ContentsOpen, ContentsSpelled};
 ghost use Rattle.kdc_core.specs.Contents.{IsShortName};
-ghost use Rattle.kdc_core.specs.View.{as_view, components_of, cache_named, view_in};
+ghost use Rattle.kdc_core.specs.View.{as_view, components_of, cache_named, message_view};
 ghost use Rattle.kdc_core.specs.Held.Contents.{AsReq};
 ghost use Rattle.kdc_state.specs.declared.state.State as states;
 
-use crate::account::{Account, lent_name};
 use crate::answering::Answered;
+use crate::audit::{AuditRecord, lent_name};
 use crate::contents::row_of;
 use crate::mark::Mark;
 use as_exchange::{AsAnswer, AsView, as_answer};
@@ -31,23 +31,23 @@ pub fn as_reply<'q>(
 ) -> Result<Answered<'q>, AllocError>
     requires { IsShortName message.now }
     ensures reply { IfOk result (λ reply.
-        Some reply.octets.items ≡ (answer_of (view_in state.now As message.now) incoming.now
+        Some reply.octets.items ≡ (contents_answer (message_view state.now As message.now) incoming.now
         (AsReq message.now)).reply) }
     ensures after { IfOk result (λ reply.
         after state.now reply.mark
         ≡ keep state.now (components_of message.now.body.value.cname)
-        (answer_of (view_in state.now As message.now) incoming.now (AsReq message.now)).kept) }
-    ensures account { IfOk result (λ reply.
-        reply.account ≡ account_of (view_in state.now As message.now) incoming.now (AsReq message.now)) }
+        (contents_answer (message_view state.now As message.now) incoming.now (AsReq message.now)).kept) }
+    ensures audit { IfOk result (λ reply.
+        reply.audit ≡ contents_audit (message_view state.now As message.now) incoming.now (AsReq message.now)) }
     // It records no authenticator.
-    ensures newly_seen { IfOk result (λ reply. seen_in reply.mark ≡ None) }
+    ensures newly_seen { IfOk result (λ reply. marked_seen reply.mark ≡ None) }
     ensures outcome_spelled { IfOk result (λ reply.
-        AccountSpelledOf (view_in state.now As message.now) incoming.now (AsReq message.now) reply.octets.items) }
+        OutcomeSpelled (message_view state.now As message.now) incoming.now (AsReq message.now) reply.octets.items) }
     ensures spelled { IfOk result (λ reply.
-        SpelledOf (view_in state.now As message.now) incoming.now.at incoming.now.random
+        ContentsSpelled (message_view state.now As message.now) incoming.now.at incoming.now.random
         (AsReq message.now) reply.octets.items) }
     ensures same { IfOk result (λ reply.
-        OpensOf (view_in state.now As message.now) incoming.now.at incoming.now.random (AsReq message.now)) }
+        ContentsOpen (message_view state.now As message.now) incoming.now.at incoming.now.random (AsReq message.now)) }
     ensures stays { IfOk result (λ reply. IfSome reply.mark (MayStay state.now)) }
 {
     let view = as_view(state, message);
@@ -57,11 +57,11 @@ pub fn as_reply<'q>(
         outcome,
         failures,
     } = as_answer(alloc, &view, incoming, message)?;
-    let mark = counted_of(alloc, body.cname.as_ref(), failures)?;
+    let mark = failures_mark(alloc, body.cname.as_ref(), failures)?;
     Ok(Answered {
         octets: reply,
         mark,
-        account: Account::As {
+        audit: AuditRecord::As {
             client: lent_name(body.cname.as_ref()),
             service: lent_name(body.sname.as_ref()),
             outcome,
@@ -72,8 +72,8 @@ pub fn as_reply<'q>(
 /// Returns the part of the state that an AS-REQ is answered from.
 fn as_view<'s>(state: &'s State, message: &KdcReqRef<'_>) -> AsView<'s>
     requires { IsShortName message.now }
-    ensures view { result ≡ as_view (view_in state.now As message.now) }
-    ensures known { IsKnown (as_view (view_in state.now As message.now)) message.now.body.value }
+    ensures view { result ≡ as_view (message_view state.now As message.now) }
+    ensures known { IsKnown (as_view (message_view state.now As message.now)) message.now.body.value }
 {
     let body = &message.body.value;
     AsView {
@@ -96,13 +96,13 @@ fn failures_of(state: &State, name: Option<&NameRef<'_>>) -> Failures
 }
 
 /// Returns the client whose failures change, if it is named and they do.
-fn counted_of(
+fn failures_mark(
     alloc: Global,
     name: Option<&NameRef<'_>>,
     failures: Option<Failures>,
 ) -> Result<Option<Mark>, AllocError>
-    ensures value { IfOk result (λ mark. mark ≡ counted_of (option_copied name.entry) failures) }
-    ensures none_seen { IfOk result (λ mark. seen_in mark ≡ None) }
+    ensures value { IfOk result (λ mark. mark ≡ failures_mark (option_copied name.entry) failures) }
+    ensures none_seen { IfOk result (λ mark. marked_seen mark ≡ None) }
     ensures stays { (state : states.State) → IfOk result (λ mark. IfSome mark (MayStay state)) }
 {
     let Some(name) = name else {

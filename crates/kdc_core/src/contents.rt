@@ -9,12 +9,12 @@ ghost use Rattle.kdc_core.specs.Contents.{IsShortName};
 ghost use Rattle.kdc_core.specs.Request.{request_of, requested};
 ghost use Rattle.kdc_core.specs.View.{components_of, row_of, ticket_view};
 
+use encrypted_data::ReadyKeys;
 use kdc_state::State;
 use krb_fields::NameRef;
 use krb_types::{Exchange, KdcReqRef, read_kdc_req};
-use rule_lists::Attempt;
 use principal_rows::Row;
-use encrypted_data::ReadyKeys;
+use rule_lists::Attempt;
 use std::alloc::Global;
 use tgs_opening::{Presented, Rejection, TicketView, tgs_open};
 

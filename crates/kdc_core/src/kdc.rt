@@ -5,9 +5,9 @@ ghost use Rattle.std.specs.FinMap as map;
 ghost use Rattle.std.specs.Option.{option_copied};
 ghost use Rattle.krb_fields.specs.Name.{Components};
 ghost use Rattle.kdc_core.specs.Answer.{answer, after_request, error_octets, IsReply, OneTicketTwoKeys};
-ghost use Rattle.kdc_core.specs.Account.{account};
+ghost use Rattle.kdc_core.specs.Audit.{audit};
 ghost use Rattle.kdc_core.specs.Answered.{IsAnswered, asked};
-ghost use Rattle.kdc_core.specs.Issued.{issued, IsReplyOf};
+ghost use Rattle.kdc_core.specs.Issued.{issued, IsTicketReply};
 ghost use Rattle.kdc_core.specs.Request.{Request, SpellsRequest, request_of};
 ghost use Rattle.kdc_core.specs.Ruling.{IsRuled};
 ghost use Rattle.kdc_core.specs.Run.{after_event, replaced};
@@ -27,11 +27,12 @@ ghost use Rattle.replay.specs.Tidied.{tidied};
 ghost use Rattle.kdc_state.specs.declared.state.State as states;
 ghost use Rattle.principals.specs.Change.{refusal, changed};
 
-use crate::account::{Account, Answer, account_if, reply_alone};
 use crate::answering::reply_to;
+use crate::audit::{Answer, AuditRecord, audit_if, reply_alone};
 use crate::contents::read_request;
 use crate::mark::keep_mark;
 use crate::timed_request::TimedRequest;
+use encrypted_data::ReadyKeys;
 use kdc_replies::{Incoming, error_reply};
 use kdc_state::{CacheSizes, Opening, State};
 use krb_elements::Octets;
@@ -39,7 +40,6 @@ use krb_fields::{Code, Moment, Name};
 use principal_rows::{Limits, Row};
 use principals::{Change, ChangeFault, Database};
 use replay::Resumption;
-use encrypted_data::ReadyKeys;
 use std::alloc::{AllocError, Global};
 use std::error::Error;
 use std::fmt;
@@ -149,7 +149,7 @@ impl Kdc {
         // A TGS-REQ gets what the first rule of their one list says, or a ticket if none holds.
         ensures ruled { IsRuled (view self.old request.now) (asked at random.now room request.now)
             (answer (view self.old request.now) at random.now room request.now)
-            (account (view self.old request.now) at random.now room request.now)
+            (audit (view self.old request.now) at random.now room request.now)
             (issued (view self.old request.now) at random.now (request_of request.now)) (request_of request.now) }
         // The bytes of a reply encode the message that the rules prescribe, or are a stored reply.
         ensures spelled { IfOk result (λ reply.
@@ -164,7 +164,7 @@ impl Kdc {
         // The same for the issued ticket: what the client and the service decrypt is what was granted.
         ensures issued { IfOk result (λ reply.
             IfSome (issued (view self.old request.now) at random.now (request_of request.now))
-            (λ issue. IsReplyOf issue (option_map (λ octets. octets.items) reply))) }
+            (λ issue. IsTicketReply issue (option_map (λ octets. octets.items) reply))) }
         // A ticket is issued only if its client and its service are in good standing: both have rows, neither is
         // disabled or expired, and tickets may be issued for the service.
         ensures standing { IfSome (issued (view self.old request.now) at random.now (request_of request.now)) (λ issue.
@@ -200,26 +200,26 @@ impl Kdc {
         reply_alone(self.answer(alloc, random, room, &timed, false))
     }
 
-    /// Answers as [`Kdc::handle`] does, with an account of the request, if it is wanted, and with the authenticator
-    /// that is recorded for it. The names of an account are copied before anything changes. A call that runs out of
-    /// memory changes nothing.
+    /// Answers as [`Kdc::handle`] does, with an audit record of the request, if that is wanted, and with the
+    /// authenticator that is recorded for it. The names of an audit record are copied before anything changes. A call
+    /// that runs out of memory changes nothing.
     pub fn answer<'q>(
         &mut self,
         alloc: Global,
         random: &'q [u8; 64],
         room: u32,
         request: &TimedRequest<'q>,
-        wants_account: bool,
+        wants_audit: bool,
     ) -> Result<Answer, AllocError>
         ensures answered { IfOk result (λ given. IsAnswered self.old
-            (asked request.now.at random.now room request.now.octets.now) wants_account given self.new) }
+            (asked request.now.at random.now room request.now.octets.now) wants_audit given self.new) }
         ensures err { OnErr result (self.new ≡ self.old) }
     {
         let TimedRequest { at, octets } = *request;
         let Some((exchange, message)) = read_request(octets) else {
             return Ok(Answer {
                 reply: None,
-                account: wants_account.then_some(Account::NoRequest),
+                audit: wants_audit.then_some(AuditRecord::NoRequest),
                 newly_seen: None,
             });
         };
@@ -231,10 +231,10 @@ impl Kdc {
             ready: &self.ready,
         };
         let answered = reply_to(&self.state, alloc, &incoming, exchange, &message)?;
-        let account = account_if(alloc, wants_account, &answered.account)?;
+        let audit = audit_if(alloc, wants_audit, &answered.audit)?;
         Ok(Answer {
             reply: Some(Octets::new(answered.octets)),
-            account,
+            audit,
             newly_seen: keep_mark(&mut self.state, alloc, answered.mark)?,
         })
     }

@@ -1,4 +1,4 @@
-//! The key distribution centre: answers the bytes of a request with a reply and an account of the request.
+//! The key distribution centre: answers the bytes of a request with a reply and an audit record of the request.
 //!
 //! ```
 //! let mut kdc = Kdc::open(alloc, database, limits, Opening::Restart(start))?;
@@ -12,7 +12,7 @@
 //! |---|---|
 //! | [`Kdc::open`], [`Kdc::resume`] | a KDC with a database, also with the authenticators that were seen before |
 //! | [`Kdc::handle`] | answers the bytes of a request, with the bytes of a reply or none |
-//! | [`Kdc::answer`] | the same, with the account of the request and the authenticator that it records |
+//! | [`Kdc::answer`] | the same, with the audit record of the request and the authenticator that it records |
 //! | [`Kdc::apply`], [`Kdc::replace`] | changes the database; replaces it |
 //! | [`Kdc::tidy`] | drops authenticators that are too old to come again |
 //! | [`Kdc::run`] | handles events in order: requests, changes, restarts |
@@ -21,9 +21,9 @@
 //! 64 random bytes for each request. `kdc_hub` is such a caller.
 #![tactic(auto)]
 
-mod account;
 mod answering;
 mod as_replies;
+mod audit;
 mod contents;
 mod kdc;
 mod laws;
@@ -32,9 +32,9 @@ mod run;
 mod tgs_replies;
 mod timed_request;
 
-pub use account::{Account, Answer};
 pub use ap_req::ApRefusal;
 pub use as_exchange::{AsOutcome, AsRefusal};
+pub use audit::{Answer, AuditRecord};
 pub use kdc::{Kdc, OtherRealm};
 pub use kdc_replies::Granted;
 pub use kdc_state::{CacheSizes, Opening};

@@ -1,6 +1,6 @@
 //! The change that a request makes in its client's replay cache.
 ghost use Rattle.std.specs.Prelude.{◌≡◌, IfOk, IfSome, OnOk, OnErr};
-ghost use Rattle.kdc_core.specs.After.{after, seen_in, MayStay};
+ghost use Rattle.kdc_core.specs.After.{after, marked_seen, MayStay};
 
 use kdc_state::State;
 use krb_fields::{Moment, Name};
@@ -34,7 +34,7 @@ pub fn keep_mark(
 ) -> Result<Option<Seen>, AllocError>
     requires { IfSome mark (MayStay state.old) }
     ensures ok { OnOk result (state.new ≡ after state.old mark) }
-    ensures seen { IfOk result (λ seen. seen ≡ seen_in mark) }
+    ensures seen { IfOk result (λ seen. seen ≡ marked_seen mark) }
     ensures err { OnErr result (state.new ≡ state.old) }
 {
     match mark {

@@ -3,16 +3,16 @@ ghost use Rattle.std.specs.Prelude.{◌≡◌, Some, IfOk, IfSome};
 ghost use Rattle.tgs_exchange.specs.Known.{IsKnown};
 ghost use Rattle.replay.specs.Tidied.{empty_cache};
 ghost use Rattle.kdc_state.specs.State.{cache_of};
-ghost use Rattle.kdc_core.specs.Account.{account_of, AccountSpelledOf};
-ghost use Rattle.kdc_core.specs.After.{after, seen_in, stamped_of, MayStay};
-ghost use Rattle.kdc_core.specs.Answer.{answer_of, keep, OpensOf, SpelledOf};
+ghost use Rattle.kdc_core.specs.Audit.{contents_audit, OutcomeSpelled};
+ghost use Rattle.kdc_core.specs.After.{after, marked_seen, authenticator_mark, MayStay};
+ghost use Rattle.kdc_core.specs.Answer.{contents_answer, keep, ContentsOpen, ContentsSpelled};
 ghost use Rattle.kdc_core.specs.Contents.{IsShortData, IsShortName};
-ghost use Rattle.kdc_core.specs.NewlySeen.{newly_seen_of, seen_of};
+ghost use Rattle.kdc_core.specs.NewlySeen.{contents_seen, seen_if_kept};
 ghost use Rattle.kdc_core.specs.View.{presented_view, tgs_view};
 ghost use Rattle.kdc_core.specs.Held.Contents.{TgsReq};
 
-use crate::account::{Account, lent_name};
 use crate::answering::Answered;
+use crate::audit::{AuditRecord, lent_name};
 use crate::contents::row_of;
 use crate::mark::Mark;
 use kdc_replies::Incoming;
@@ -35,27 +35,27 @@ pub fn tgs_reply<'q>(
     requires sname { IsShortName message.now }
     requires authorization { IsShortData presented }
     ensures reply { IfOk result (λ reply.
-        Some reply.octets.items ≡ (answer_of (presented_view state.now message.now presented) incoming.now
+        Some reply.octets.items ≡ (contents_answer (presented_view state.now message.now presented) incoming.now
         (TgsReq message.now presented)).reply) }
     ensures after { IfOk result (λ reply.
         after state.now reply.mark
         ≡ keep state.now (Some presented.ticket.cname.components)
-        (answer_of (presented_view state.now message.now presented) incoming.now
+        (contents_answer (presented_view state.now message.now presented) incoming.now
         (TgsReq message.now presented)).kept) }
-    ensures account { IfOk result (λ reply.
-        reply.account ≡ account_of (presented_view state.now message.now presented) incoming.now
+    ensures audit { IfOk result (λ reply.
+        reply.audit ≡ contents_audit (presented_view state.now message.now presented) incoming.now
         (TgsReq message.now presented)) }
     ensures newly_seen { IfOk result (λ reply.
-        seen_in reply.mark
-        ≡ newly_seen_of (presented_view state.now message.now presented) incoming.now (TgsReq message.now presented)) }
+        marked_seen reply.mark
+        ≡ contents_seen (presented_view state.now message.now presented) incoming.now (TgsReq message.now presented)) }
     ensures outcome_spelled { IfOk result (λ reply.
-        AccountSpelledOf (presented_view state.now message.now presented) incoming.now (TgsReq message.now presented)
+        OutcomeSpelled (presented_view state.now message.now presented) incoming.now (TgsReq message.now presented)
         reply.octets.items) }
     ensures spelled { IfOk result (λ reply.
-        SpelledOf (presented_view state.now message.now presented) incoming.now.at incoming.now.random
+        ContentsSpelled (presented_view state.now message.now presented) incoming.now.at incoming.now.random
         (TgsReq message.now presented) reply.octets.items) }
     ensures same { IfOk result (λ reply.
-        OpensOf (presented_view state.now message.now presented) incoming.now.at incoming.now.random
+        ContentsOpen (presented_view state.now message.now presented) incoming.now.at incoming.now.random
         (TgsReq message.now presented)) }
     ensures stays { IfOk result (λ reply. IfSome reply.mark (MayStay state.now)) }
 {
@@ -66,11 +66,11 @@ pub fn tgs_reply<'q>(
         outcome,
         kept,
     } = tgs_answer(alloc, &view, incoming, &message.body.value, &presented)?;
-    let mark = stamped_of(alloc, incoming.at, &presented, kept)?;
+    let mark = authenticator_mark(alloc, incoming.at, &presented, kept)?;
     Ok(Answered {
         octets: reply,
         mark,
-        account: Account::Tgs {
+        audit: AuditRecord::Tgs {
             client: Some(client_of(presented)),
             service: lent_name(message.body.value.sname.as_ref()),
             outcome,
@@ -125,14 +125,14 @@ fn cache_of<'s>(
 }
 
 /// Returns the authenticator to record, if any.
-fn stamped_of(
+fn authenticator_mark(
     alloc: Global,
     at: Moment,
     presented: &Presented,
     kept: Option<Kept>,
 ) -> Result<Option<Mark>, AllocError>
-    ensures mark { IfOk result (λ mark. mark ≡ stamped_of at presented.now kept) }
-    ensures seen { IfOk result (λ mark. seen_in mark ≡ seen_of presented.now kept) }
+    ensures mark { IfOk result (λ mark. mark ≡ authenticator_mark at presented.now kept) }
+    ensures seen { IfOk result (λ mark. marked_seen mark ≡ seen_if_kept presented.now kept) }
 {
     let Some(kept) = kept else {
         return Ok(None);

@@ -15,15 +15,15 @@ use Rattle.kdc_core.proofs.Isolation.{isolation, unaffected as unaffected_run}
 use Rattle.kdc_core.proofs.Tickets.{one_ticket}
 use Rattle.kdc_core.proofs.Unseen.{tidies_unseen}
 use Rattle.kdc_core.proofs.Runs.{replies_append, run_append}
-use Rattle.kdc_core.specs.Account.{account, account_if}
-use Rattle.kdc_core.specs.AccountLaws.{unanswered}
+use Rattle.kdc_core.specs.Audit.{audit, audit_if}
+use Rattle.kdc_core.specs.AuditLaws.{unanswered}
 use Rattle.kdc_core.specs.NewlySeen.{Covers, event_sees, newly_seen, resumption_at, run_sees}
 use Rattle.kdc_core.specs.NewlySeenLaws.{none_newly_seen}
 use Rattle.kdc_core.specs.Answer.{answer}
 use Rattle.kdc_core.specs.Run.{after_event, event_reply, replies, run}
 use Rattle.kdc_core.specs.View.{View, view}
-use Rattle.kdc_core.specs.declared.account.Account.TheVariants.{NoRequest}
-use Rattle.kdc_core.specs.Struck.{AgreesFor, is_request, is_request_of, replies_to}
+use Rattle.kdc_core.specs.declared.audit.AuditRecord.TheVariants.{NoRequest}
+use Rattle.kdc_core.specs.Struck.{AgreesFor, is_request, is_clients_request, replies_to}
 use Rattle.kdc_core.specs.Tickets.{RestartsFollow, RestartsFrom, ResumesFollow, ResumesWithAll, ticket_to, tickets_to}
 use Rattle.kdc_core.specs.declared.run.Event.{Event as KdcEvent}
 use Rattle.kdc_core.specs.declared.run.Event.TheVariants.{Request, Change, Replace, Tidy, Restart, Reopen, Resume}
@@ -38,11 +38,11 @@ use Rattle.kdc_hub.specs.Issuing.{Issuing, after, reply_by, reply_of, too_long}
 use Rattle.kdc_hub.specs.StreamStep.{StreamStep, action_for, after_reply, after_some, messages_step, reply_then, stream_room, stream_step}
 use Rattle.kdc_hub.specs.Hub.{HubState, Step, brings, datagram_room, greatest_request, hub_step, with_stream, most_connections, nothing, opened, messages_in, sent, stopped}
 use Rattle.kdc_hub.specs.Logged.{Entry, Stop, logged, step_by, step_of}
-use Rattle.kdc_hub.specs.History.{AnswersWhoAsked, IsPrefix, CanBeResumed, IsOfOneProcess, IsOneRun, KeepsAccounts, account_in, accounts, event_accounts, octets_of, turn_accounts, OneTicketInProcess, OneTicketSent, ServesAlike, TidiesUnseen, Turn, Unaffected, Stepped, Replaced, Tidied, Reopened, Resumed, after_turn, all_seen_by, seen_by, turn_sees, after_turns, answers, asked, chosen, event_requests, events_in, others_after, piece_requests, newly_seen_in, replies_by, reply_of_action, requests_by, stopped_requests, stream_requests, tickets_among, turn_events, turn_replies}
+use Rattle.kdc_hub.specs.History.{AnswersWhoAsked, IsPrefix, CanBeResumed, IsOfOneProcess, IsOneRun, KeepsAudits, audit_in, audits, event_audits, octets_of, turn_audits, OneTicketInProcess, OneTicketSent, ServesAlike, TidiesUnseen, Turn, Unaffected, Stepped, Replaced, Tidied, Reopened, Resumed, after_turn, all_seen_by, seen_by, turn_sees, after_turns, answers, asked, chosen, event_requests, events_in, others_after, piece_requests, newly_seen_in, replies_by, reply_of_action, requests_by, stopped_requests, stream_requests, tickets_among, turn_events, turn_replies}
 
 -- ---- one request
 
--- the reply to an event of a run, with an account if accounts are kept
+-- the reply to an event of a run, with an audit record if audit records are kept
 abbrev event_given : Bool → State → KdcEvent → Option Reply
 event_given kept state (Request at random room request) = reply_by kept (view state request) at random room request
 event_given kept state (Change change) = None
@@ -62,7 +62,7 @@ unfolding reply_by
 octets_given kept v at random room request = by_reply (answer v at random room request).reply
   where
     by_reply : (o : Option (List ℕ))
-        → octets_of (option_map (λ message. record { message = message; account = account_if kept (account v at random room request); newly_seen = newly_seen v at random room request }) o) ≡ o
+        → octets_of (option_map (λ message. record { message = message; audit = audit_if kept (audit v at random room request); newly_seen = newly_seen v at random room request }) o) ≡ o
     by_reply (Some octets) = refl
     by_reply None = refl
 
@@ -79,15 +79,15 @@ replies_given : (kept : Bool) (state : State) (events : List KdcEvent) → map_l
 replies_given kept state [] = refl
 replies_given kept state (event ∷ events) = λ k. event_octets kept state event k ∷ replies_given kept (after_event state event) events k
 
-account_given : (v : View) (at : Moment) (random : List ℕ) (room : ℕ) (request : List ℕ)
-    → account_in (reply_by true v at random room request) ≡ Some (account v at random room request)
+audit_given : (v : View) (at : Moment) (random : List ℕ) (room : ℕ) (request : List ℕ)
+    → audit_in (reply_by true v at random room request) ≡ Some (audit v at random room request)
 unfolding reply_by
-account_given v at random room request =
+audit_given v at random room request =
     by_reply (answer v at random room request).reply (unanswered v (record { at = at; random = random; room = room; octets = request }))
   where
-    by_reply : (o : Option (List ℕ)) → (o ≡ None → account v at random room request ≡ NoRequest)
-        → account_in (option_map (λ message. record { message = message; account = account_if true (account v at random room request); newly_seen = newly_seen v at random room request }) o)
-        ≡ Some (account v at random room request)
+    by_reply : (o : Option (List ℕ)) → (o ≡ None → audit v at random room request ≡ NoRequest)
+        → audit_in (option_map (λ message. record { message = message; audit = audit_if true (audit v at random room request); newly_seen = newly_seen v at random room request }) o)
+        ≡ Some (audit v at random room request)
     by_reply (Some octets) none = refl
     by_reply None none = ap Some (sym (none refl))
 
@@ -98,7 +98,7 @@ seen_given kept v at random room request =
     by_reply (answer v at random room request).reply (none_newly_seen v (record { at = at; random = random; room = room; octets = request }))
   where
     by_reply : (o : Option (List ℕ)) → (o ≡ None → newly_seen v at random room request ≡ None)
-        → seen_by (option_map (λ message. record { message = message; account = account_if kept (account v at random room request); newly_seen = newly_seen v at random room request }) o)
+        → seen_by (option_map (λ message. record { message = message; audit = audit_if kept (audit v at random room request); newly_seen = newly_seen v at random room request }) o)
         ≡ with_any (newly_seen v at random room request) []
     by_reply (Some octets) none = refl
     by_reply None none = ap (λ o. with_any o []) (sym (none refl))
@@ -122,16 +122,16 @@ sees_append state (event ∷ events) others =
     ap (λ l. with_any (event_sees state event) [] ++ l) (sees_append (after_event state event) events others)
     ∙ sym (append_assoc (with_any (event_sees state event) []) (run_sees (after_event state event) events) (run_sees (run (after_event state event) events) others))
 
-asked_reply : (i : Issuing) (at : Moment) (room : ℕ) (request : List ℕ) → event_given i.accounts i.kdc (asked i at room request) ≡ reply_of i at room request
+asked_reply : (i : Issuing) (at : Moment) (room : ℕ) (request : List ℕ) → event_given i.audits i.kdc (asked i at room request) ≡ reply_of i at room request
 unfolding reply_of
 asked_reply i at room request = refl
 
 pub asked_octets : (i : Issuing) (at : Moment) (room : ℕ) (request : List ℕ) → event_reply i.kdc (asked i at room request) ≡ octets_of (reply_of i at room request)
-asked_octets i at room request = sym (event_octets i.accounts i.kdc (asked i at room request)) ∙ ap octets_of (asked_reply i at room request)
+asked_octets i at room request = sym (event_octets i.audits i.kdc (asked i at room request)) ∙ ap octets_of (asked_reply i at room request)
 
-asked_accounts : (i : Issuing) (at : Moment) (room : ℕ) (request : List ℕ) → (after i at room request).accounts ≡ i.accounts
+asked_audits : (i : Issuing) (at : Moment) (room : ℕ) (request : List ℕ) → (after i at room request).audits ≡ i.audits
 unfolding after
-asked_accounts i at room request = refl
+asked_audits i at room request = refl
 
 pub asked_after : (i : Issuing) (at : Moment) (room : ℕ) (request : List ℕ) → after_event i.kdc (asked i at room request) ≡ (after i at room request).kdc
 unfolding after
@@ -170,15 +170,15 @@ first_of_run (suc n) kept state (event ∷ events) = ap (λ l. event_given kept 
 
 module _ (at : Moment) (conn : ℕ) (fault : Option FrameFault) where
   record AreStepped (i : Issuing) (requests : List KdcEvent) (r : StreamStep) : Type 0 where
-    pub sent : replies_by (length requests) r.actions ≡ given i.accounts i.kdc requests
+    pub sent : replies_by (length requests) r.actions ≡ given i.audits i.kdc requests
     pub kdc : r.issuing.kdc ≡ run i.kdc requests
-    pub accounts : r.issuing.accounts ≡ i.accounts
+    pub audits : r.issuing.audits ≡ i.audits
     pub begins : IsPrefix (map_list (action_for conn) (replies_by (length requests) r.actions)) r.actions
 
   none_left : (i : Issuing) (fault : Option FrameFault) → AreStepped i [] (messages_step i at conn fault [])
   unfolding messages_step replies_by
-  none_left i None = record { sent = refl; kdc = refl; accounts = refl; begins = record { others = []; is = refl } }
-  none_left i (Some fault) = record { sent = refl; kdc = refl; accounts = refl; begins = record { others = Write conn (too_long i.kdc at) ∷ Close conn BadLength ∷ []; is = refl } }
+  none_left i None = record { sent = refl; kdc = refl; audits = refl; begins = record { others = []; is = refl } }
+  none_left i (Some fault) = record { sent = refl; kdc = refl; audits = refl; begins = record { others = Write conn (too_long i.kdc at) ∷ Close conn BadLength ∷ []; is = refl } }
 
   one_asked : (i : Issuing) (message : List ℕ) (reply : Option Reply) → reply_of i at stream_room message ≡ reply → (requests : List KdcEvent) (others : StreamStep)
       → AreStepped (after i at stream_room message) requests others
@@ -186,15 +186,15 @@ module _ (at : Moment) (conn : ℕ) (fault : Option FrameFault) where
   unfolding replies_by
   one_asked i message (Some reply) is requests others rest = record {
     sent = (λ k. sym (asked_reply i at stream_room message ∙ is) k
-        ∷ (rest.sent ∙ (λ j. given (asked_accounts i at stream_room message j) (sym (asked_after i at stream_room message) j) requests)) k);
+        ∷ (rest.sent ∙ (λ j. given (asked_audits i at stream_room message j) (sym (asked_after i at stream_room message) j) requests)) k);
     kdc = rest.kdc ∙ ap (λ s. run s requests) (sym (asked_after i at stream_room message));
-    accounts = rest.accounts ∙ asked_accounts i at stream_room message;
+    audits = rest.audits ∙ asked_audits i at stream_room message;
     begins = record { others = rest.begins.others; is = ap (λ l. Write conn reply ∷ l) rest.begins.is };
   }
   one_asked i message None is requests others rest = record {
     sent = ap (λ r. r ∷ []) (sym (asked_reply i at stream_room message ∙ is));
     kdc = sym (asked_after i at stream_room message);
-    accounts = asked_accounts i at stream_room message;
+    audits = asked_audits i at stream_room message;
     begins = record { others = []; is = refl };
   }
 
@@ -229,9 +229,9 @@ nobody_before (suc n) i at = refl
 -- ---- one entry
 
 record IsStepped (hub : HubState) (requests : List KdcEvent) (actions : List Action) (new : Issuing) : Type 0 where
-  pub sent : replies_by (length requests) actions ≡ given hub.issuing.accounts hub.issuing.kdc requests
+  pub sent : replies_by (length requests) actions ≡ given hub.issuing.audits hub.issuing.kdc requests
   pub kdc : new.kdc ≡ run hub.issuing.kdc requests
-  pub accounts : new.accounts ≡ hub.issuing.accounts
+  pub audits : new.audits ≡ hub.issuing.audits
 
 module _ (hub : HubState) where
   abbrev opened_by : ℕ → Bool → Bool → Step
@@ -255,22 +255,22 @@ module _ (hub : HubState) where
         let r = messages_stepped at conn (handed_out (fed s piece)).fault hub.issuing (handed_out (fed s piece)).messages in
         let step = stream_step hub.issuing at conn (fed s piece) in
         let same = with_stream_kdc step.stays conn (left (fed s piece)) step.issuing in
-        record { sent = r.sent; kdc = ap (λ (i : Issuing). i.kdc) same ∙ r.kdc; accounts = ap (λ (i : Issuing). i.accounts) same ∙ r.accounts }
-    piece_stepped conn piece None = record { sent = no_reply []; kdc = refl; accounts = refl }
+        record { sent = r.sent; kdc = ap (λ (i : Issuing). i.kdc) same ∙ r.kdc; audits = ap (λ (i : Issuing). i.audits) same ∙ r.audits }
+    piece_stepped conn piece None = record { sent = no_reply []; kdc = refl; audits = refl }
 
     event_stepped : (event : Event) → IsStepped hub (event_requests hub at event) (hub_step hub at event).actions (hub_step hub at event).hub.issuing
     event_stepped (Datagram peer request) = record {
       sent = sent_reply peer (reply_of hub.issuing at datagram_room request) ∙ ap (λ r. r ∷ []) (sym (asked_reply hub.issuing at datagram_room request));
       kdc = sym (asked_after hub.issuing at datagram_room request);
-      accounts = asked_accounts hub.issuing at datagram_room request;
+      audits = asked_audits hub.issuing at datagram_room request;
     }
     event_stepped (Opened conn) = record {
       sent = no_reply _;
       kdc = ap (λ (i : Issuing). i.kdc) (opened_kdc conn (map.contains_key hub.connections conn) (nat_lt (map.len hub.connections) most_connections));
-      accounts = ap (λ (i : Issuing). i.accounts) (opened_kdc conn (map.contains_key hub.connections conn) (nat_lt (map.len hub.connections) most_connections));
+      audits = ap (λ (i : Issuing). i.audits) (opened_kdc conn (map.contains_key hub.connections conn) (nat_lt (map.len hub.connections) most_connections));
     }
     event_stepped (Bytes conn piece) = piece_stepped conn piece (map.get hub.connections conn)
-    event_stepped (Closed conn) = record { sent = no_reply _; kdc = refl; accounts = refl }
+    event_stepped (Closed conn) = record { sent = no_reply _; kdc = refl; audits = refl }
 
     piece_before : (piece : List ℕ) (o : Option Splitting) (done : ℕ) → (after_some done hub.issuing at (messages_in piece o)).kdc ≡ run hub.issuing.kdc (take done (piece_requests hub.issuing at piece o))
     piece_before piece (Some s) done = some_before done hub.issuing at (handed_out (fed s piece)).messages
@@ -278,19 +278,19 @@ module _ (hub : HubState) where
     piece_before piece None (suc done) = nobody_before (suc done) hub.issuing at
 
     stopped_stepped : (event : Event) (done draws : ℕ) → IsStepped hub (stopped_requests hub at event done) (stopped hub at event done draws).actions (stopped hub at event done draws).hub.issuing
-    stopped_stepped (Datagram peer request) done draws = record { sent = no_reply _; kdc = nobody_before done hub.issuing at; accounts = refl }
-    stopped_stepped (Opened conn) done draws = record { sent = no_reply _; kdc = nobody_before done hub.issuing at; accounts = refl }
+    stopped_stepped (Datagram peer request) done draws = record { sent = no_reply _; kdc = nobody_before done hub.issuing at; audits = refl }
+    stopped_stepped (Opened conn) done draws = record { sent = no_reply _; kdc = nobody_before done hub.issuing at; audits = refl }
     stopped_stepped (Bytes conn piece) done draws =
         let o = map.get hub.connections conn in
         let requests = piece_requests hub.issuing at piece o in
         record {
           sent = first_replies done requests (brings hub at conn piece o).actions
               ∙ ap (take done) (piece_stepped conn piece o).sent
-              ∙ first_of_run done hub.issuing.accounts hub.issuing.kdc requests;
+              ∙ first_of_run done hub.issuing.audits hub.issuing.kdc requests;
           kdc = piece_before piece o done;
-          accounts = refl;
+          audits = refl;
         }
-    stopped_stepped (Closed conn) done draws = record { sent = no_reply _; kdc = refl; accounts = refl }
+    stopped_stepped (Closed conn) done draws = record { sent = no_reply _; kdc = refl; audits = refl }
 
     entry_stepped : (stop : Option Stop) (event : Event) → IsStepped hub (requests_by stop hub at event) (step_by stop hub at event).actions (step_by stop hub at event).hub.issuing
     entry_stepped None event = event_stepped event
@@ -395,34 +395,34 @@ entry_asks hub at (Some stop) (Opened conn) = tt
 entry_asks hub at (Some stop) (Bytes conn piece) = some_asked stop.done _ (piece_asks hub.issuing at piece (map.get hub.connections conn))
 entry_asks hub at (Some stop) (Closed conn) = tt
 
--- if accounts are kept, each request has one
-accounts_given : (kept : Bool) → IsTrue kept → (state : State) (events : List KdcEvent) → AreAsked events
-    → map_list account_in (given kept state events) ≡ accounts state events
-accounts_given kept is state [] asked = refl
-accounts_given kept is state (Request at random room request ∷ events) asked =
-    let one : account_in (reply_by kept (view state request) at random room request) ≡ Some (account (view state request) at random room request)
-    = subst (λ b. account_in (reply_by b (view state request) at random room request) ≡ Some (account (view state request) at random room request)) (sym is)
-    (account_given (view state request) at random room request) in
-    λ k. one k ∷ accounts_given kept is (after_event state (Request at random room request)) events asked.1 k
-accounts_given kept is state (Change change ∷ events) asked = absurd asked.0
-accounts_given kept is state (Replace database ∷ events) asked = absurd asked.0
-accounts_given kept is state (Tidy at ∷ events) asked = absurd asked.0
-accounts_given kept is state (Restart at ∷ events) asked = absurd asked.0
-accounts_given kept is state (Reopen database limits at ∷ events) asked = absurd asked.0
-accounts_given kept is state (Resume database limits resumption ∷ events) asked = absurd asked.0
+-- if audit records are kept, each request has one
+audits_given : (kept : Bool) → IsTrue kept → (state : State) (events : List KdcEvent) → AreAsked events
+    → map_list audit_in (given kept state events) ≡ audits state events
+audits_given kept is state [] asked = refl
+audits_given kept is state (Request at random room request ∷ events) asked =
+    let one : audit_in (reply_by kept (view state request) at random room request) ≡ Some (audit (view state request) at random room request)
+    = subst (λ b. audit_in (reply_by b (view state request) at random room request) ≡ Some (audit (view state request) at random room request)) (sym is)
+    (audit_given (view state request) at random room request) in
+    λ k. one k ∷ audits_given kept is (after_event state (Request at random room request)) events asked.1 k
+audits_given kept is state (Change change ∷ events) asked = absurd asked.0
+audits_given kept is state (Replace database ∷ events) asked = absurd asked.0
+audits_given kept is state (Tidy at ∷ events) asked = absurd asked.0
+audits_given kept is state (Restart at ∷ events) asked = absurd asked.0
+audits_given kept is state (Reopen database limits at ∷ events) asked = absurd asked.0
+audits_given kept is state (Resume database limits resumption ∷ events) asked = absurd asked.0
 
-accounts_append : (state : State) (events others : List KdcEvent) → accounts state (events ++ others) ≡ accounts state events ++ accounts (run state events) others
-accounts_append state [] others = refl
-accounts_append state (event ∷ events) others =
-    ap (λ l. event_accounts state event ++ l) (accounts_append (after_event state event) events others)
-    ∙ sym (append_assoc (event_accounts state event) (accounts (after_event state event) events) (accounts (run (after_event state event) events) others))
+audits_append : (state : State) (events others : List KdcEvent) → audits state (events ++ others) ≡ audits state events ++ audits (run state events) others
+audits_append state [] others = refl
+audits_append state (event ∷ events) others =
+    ap (λ l. event_audits state event ++ l) (audits_append (after_event state event) events others)
+    ∙ sym (append_assoc (event_audits state event) (audits (after_event state event) events) (audits (run (after_event state event) events) others))
 
 -- ---- histories
 
 record IsTurned (hub : HubState) (turn : Turn) : Type 0 where
   pub sent : turn_replies hub turn ≡ replies hub.issuing.kdc (turn_events hub turn)
-  pub accounts_are : IsTrue hub.issuing.accounts → turn_accounts hub turn ≡ accounts hub.issuing.kdc (turn_events hub turn)
-  pub keeps : IsTrue hub.issuing.accounts → KeepsAccounts turn → IsTrue (after_turn hub turn).issuing.accounts
+  pub audits_are : IsTrue hub.issuing.audits → turn_audits hub turn ≡ audits hub.issuing.kdc (turn_events hub turn)
+  pub keeps : IsTrue hub.issuing.audits → KeepsAudits turn → IsTrue (after_turn hub turn).issuing.audits
   pub seen : turn_sees hub turn ≡ run_sees hub.issuing.kdc (turn_events hub turn)
   pub kdc : (after_turn hub turn).issuing.kdc ≡ run hub.issuing.kdc (turn_events hub turn)
 
@@ -431,32 +431,32 @@ turned hub (Stepped entry) =
     let step = entry_stepped hub entry.at entry.stop entry.event in
     let requests = requests_by entry.stop hub entry.at entry.event in
     record {
-      sent = ap (map_list octets_of) step.sent ∙ replies_given hub.issuing.accounts hub.issuing.kdc requests;
-      accounts_are = λ kept. ap (map_list account_in) step.sent
-          ∙ accounts_given hub.issuing.accounts kept hub.issuing.kdc requests (entry_asks hub entry.at entry.stop entry.event);
-      keeps = λ kept all. step.accounts ∙ kept;
-      seen = ap all_seen_by step.sent ∙ sees_given hub.issuing.accounts hub.issuing.kdc requests;
+      sent = ap (map_list octets_of) step.sent ∙ replies_given hub.issuing.audits hub.issuing.kdc requests;
+      audits_are = λ kept. ap (map_list audit_in) step.sent
+          ∙ audits_given hub.issuing.audits kept hub.issuing.kdc requests (entry_asks hub entry.at entry.stop entry.event);
+      keeps = λ kept all. step.audits ∙ kept;
+      seen = ap all_seen_by step.sent ∙ sees_given hub.issuing.audits hub.issuing.kdc requests;
       kdc = step.kdc;
     }
-turned hub (Replaced database) = record { sent = refl; accounts_are = λ kept. refl; keeps = λ kept all. kept; seen = refl; kdc = refl }
-turned hub (Tidied at) = record { sent = refl; accounts_are = λ kept. refl; keeps = λ kept all. kept; seen = refl; kdc = refl }
-turned hub (Reopened database limits at random kept) = record { sent = refl; accounts_are = λ before. refl; keeps = λ before all. all; seen = refl; kdc = refl }
-turned hub (Resumed database limits resumption random kept) = record { sent = refl; accounts_are = λ before. refl; keeps = λ before all. all; seen = refl; kdc = refl }
+turned hub (Replaced database) = record { sent = refl; audits_are = λ kept. refl; keeps = λ kept all. kept; seen = refl; kdc = refl }
+turned hub (Tidied at) = record { sent = refl; audits_are = λ kept. refl; keeps = λ kept all. kept; seen = refl; kdc = refl }
+turned hub (Reopened database limits at random kept) = record { sent = refl; audits_are = λ before. refl; keeps = λ before all. all; seen = refl; kdc = refl }
+turned hub (Resumed database limits resumption random kept) = record { sent = refl; audits_are = λ before. refl; keeps = λ before all. all; seen = refl; kdc = refl }
 
 pub turned_kdc : (hub : HubState) (turn : Turn) → (after_turn hub turn).issuing.kdc ≡ run hub.issuing.kdc (turn_events hub turn)
 turned_kdc hub turn = (turned hub turn).kdc
 
 pub one_run : (start : HubState) (turns : List Turn) → IsOneRun start turns
-one_run start [] = record { replies_are = refl; accounts_are = λ kept all. refl; newly_seen_are = refl; kdc_is = refl }
+one_run start [] = record { replies_are = refl; audits_are = λ kept all. refl; newly_seen_are = refl; kdc_is = refl }
 one_run start (turn ∷ turns) =
     let first = turned start turn in
     let rest = one_run (after_turn start turn) turns in
     let later = events_in (after_turn start turn) turns in
     record {
       replies_are = (λ k. first.sent k ++ (rest.replies_are ∙ ap (λ s. replies s later) first.kdc) k) ∙ sym (replies_append start.issuing.kdc (turn_events start turn) later);
-      accounts_are = λ kept all.
-          (λ k. first.accounts_are kept k ++ (rest.accounts_are (first.keeps kept all.0) all.1 ∙ ap (λ s. accounts s later) first.kdc) k)
-          ∙ sym (accounts_append start.issuing.kdc (turn_events start turn) later);
+      audits_are = λ kept all.
+          (λ k. first.audits_are kept k ++ (rest.audits_are (first.keeps kept all.0) all.1 ∙ ap (λ s. audits s later) first.kdc) k)
+          ∙ sym (audits_append start.issuing.kdc (turn_events start turn) later);
       newly_seen_are = (λ k. first.seen k ++ (rest.newly_seen_are ∙ ap (λ s. run_sees s later) first.kdc) k)
           ∙ sym (sees_append start.issuing.kdc (turn_events start turn) later);
       kdc_is = rest.kdc_is ∙ ap (λ s. run s later) first.kdc ∙ sym (run_append start.issuing.kdc (turn_events start turn) later);
@@ -489,8 +489,8 @@ serves_alike start turns other others c S tgs within a same =
           ∙ chosen_of_run is_request l (events_in other others)
           ∙ ap (replies_to is_request l) same
           ∙ isolated.own
-          ∙ sym (chosen_of_run (is_request_of c) k (events_in start turns))
-          ∙ ap (chosen (is_request_of c) k (events_in start turns)) (sym here.replies_are);
+          ∙ sym (chosen_of_run (is_clients_request c) k (events_in start turns))
+          ∙ ap (chosen (is_clients_request c) k (events_in start turns)) (sym here.replies_are);
       afterwards = subst (λ s. AgreesFor c S s (after_turns other others).issuing.kdc) (sym here.kdc_is)
           (subst (λ s. AgreesFor c S (run k (events_in start turns)) s) (sym (there.kdc_is ∙ ap (run l) same)) isolated.afterwards);
     }
@@ -503,11 +503,11 @@ unaffected start turns other others c S tgs within within_other a same =
     let l = other.issuing.kdc in
     let gets = unaffected_run c S k l (events_in start turns) (events_in other others) tgs within within_other a same in
     record {
-      replies = ap (chosen (is_request_of c) l (events_in other others)) there.replies_are
-          ∙ chosen_of_run (is_request_of c) l (events_in other others)
+      replies = ap (chosen (is_clients_request c) l (events_in other others)) there.replies_are
+          ∙ chosen_of_run (is_clients_request c) l (events_in other others)
           ∙ gets.replies
-          ∙ sym (chosen_of_run (is_request_of c) k (events_in start turns))
-          ∙ ap (chosen (is_request_of c) k (events_in start turns)) (sym here.replies_are);
+          ∙ sym (chosen_of_run (is_clients_request c) k (events_in start turns))
+          ∙ ap (chosen (is_clients_request c) k (events_in start turns)) (sym here.replies_are);
       afterwards = subst (λ s. AgreesFor c S s (after_turns other others).issuing.kdc) (sym here.kdc_is)
           (subst (λ s. AgreesFor c S (run k (events_in start turns)) s) (sym there.kdc_is) gets.afterwards);
     }

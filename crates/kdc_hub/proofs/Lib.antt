@@ -2,7 +2,7 @@ pub mod Tables
 pub mod Streams
 pub mod Steps
 pub mod Logs
-pub mod Accounting
+pub mod Auditing
 pub mod Cuts
 pub mod Working
 pub mod Rounds

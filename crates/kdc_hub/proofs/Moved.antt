@@ -18,10 +18,10 @@ use Rattle.kdc_core.specs.AgreementLaws.{names_agree, same_names}
 use Rattle.kdc_core.specs.Answer.{answer}
 use Rattle.kdc_core.specs.Request.{request_of}
 use Rattle.kdc_core.specs.Run.{after_change, after_event, replaced, unless_faulty}
-use Rattle.kdc_core.specs.Struck.{AgreesFor, Names, NamesWithin, ServicesWithin, is_client, is_left, is_request, is_request_of, replies_to, strike}
+use Rattle.kdc_core.specs.Struck.{AgreesFor, Names, NamesWithin, ServicesWithin, is_client, is_left, is_request, is_clients_request, replies_to, strike}
 use Rattle.kdc_core.specs.Unaffected.{AreAlike}
 use Rattle.kdc_core.specs.Unseen.{untidied}
-use Rattle.kdc_core.specs.View.{named, named_by, row_of, view}
+use Rattle.kdc_core.specs.View.{named, asked_names, row_of, view}
 use Rattle.kdc_core.specs.declared.run.Event.{Event as KdcEvent}
 use Rattle.kdc_core.specs.declared.run.Event.TheVariants.{Request, Change, Replace, Tidy, Restart, Reopen, Resume}
 use Rattle.kdc_hub.specs.History.{chosen, events_in}
@@ -37,7 +37,7 @@ row_same state other same None = refl
 named_same : (state other : State) → other.database ≡ state.database → (bytes : List ℕ) → named other bytes ≡ named state bytes
 named_same state other same bytes =
     same_names state other (ap (λ (d : Principals). d.realm) same) (ap (λ (d : Principals). map.get d.rows (tgs_principal d.realm)) same) (request_of bytes)
-    (row_same state other same (named_by state (request_of bytes)).service)
+    (row_same state other same (asked_names state (request_of bytes)).service)
 
 change_same : (state other : State) → other.database ≡ state.database → (change : PrincipalChange)
     → (after_change other change).database ≡ (after_change state change).database
@@ -164,7 +164,7 @@ module _ (c : Components) (S : Names) where
 
   -- ---- what stays gets the same replies
 
-  own_request : (state : State) (event : KdcEvent) → is_left c S state event ≡ true → is_request_of c state event ≡ is_request state event
+  own_request : (state : State) (event : KdcEvent) → is_left c S state event ≡ true → is_clients_request c state event ≡ is_request state event
   own_request state (Request at random room request) left = left
   own_request state (Change change) left = refl
   own_request state (Replace database) left = refl
@@ -195,12 +195,12 @@ moves_nothing_else start turns other others c S tgs within within_other a follow
     let theirs = (isolation l there c S l granted within_other (agrees_itself c S l)).own in
     let left = untidied_left c S (concerning c S start turns) k k refl (struck_left c S here k k tgs within (agrees_itself c S k)) in
     let same = same_replies c S (untidied (concerning c S start turns)) (untidied (concerning c S other others)) k l tgs left a alike in
-    ap (chosen (is_request_of c) l there) (one_run other others).replies_are
-    ∙ (chosen_of_run (is_request_of c) l there
+    ap (chosen (is_clients_request c) l there) (one_run other others).replies_are
+    ∙ (chosen_of_run (is_clients_request c) l there
     ∙ (sym theirs
     ∙ (tidies_unseen l (concerning c S other others) follow_other
     ∙ (same
     ∙ (sym (tidies_unseen k (concerning c S start turns) follow)
     ∙ (mine
-    ∙ (sym (chosen_of_run (is_request_of c) k here)
-    ∙ ap (chosen (is_request_of c) k here) (sym (one_run start turns).replies_are))))))))
+    ∙ (sym (chosen_of_run (is_clients_request c) k here)
+    ∙ ap (chosen (is_clients_request c) k here) (sym (one_run start turns).replies_are))))))))

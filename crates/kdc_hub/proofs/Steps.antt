@@ -22,17 +22,17 @@ use Rattle.kdc_hub.proofs.Tables.{set_anew, taken_out}
 abbrev pub Table : Type 0
 Table = map.FinMap nat_cmp Splitting
 
-pub same_issuing : (k l : State) (r s : Stream) (a b : Bool) → k ≡ l → r ≡ s → a ≡ b → (let x : Issuing = record { kdc = k; random = r; accounts = a } in x) ≡ record { kdc = l; random = s; accounts = b }
-same_issuing k l r s a b e h f = λ i. record { kdc = e i; random = h i; accounts = f i }
+pub same_issuing : (k l : State) (r s : Stream) (a b : Bool) → k ≡ l → r ≡ s → a ≡ b → (let x : Issuing = record { kdc = k; random = r; audits = a } in x) ≡ record { kdc = l; random = s; audits = b }
+same_issuing k l r s a b e h f = λ i. record { kdc = e i; random = h i; audits = f i }
 
 -- nothing was answered, and nothing drawn, or 64 bytes
 pub stopped_before : (n draws : ℕ) (i : Issuing) (at : Moment) (requests : List (List ℕ)) → n ≡ 0 → draws ≡ 0 → i ≡ stopped_issuing i at requests n draws
 unfolding after_some drawn
 stopped_before n draws i at requests e d = rw (e, d) refl
 
-pub stopped_drawn : (n draws : ℕ) (i i' : Issuing) (at : Moment) (requests : List (List ℕ)) → n ≡ 0 → draws ≡ 1 → i'.kdc ≡ i.kdc → i'.random ≡ (fill_bytes 64 i.random).1 → i'.accounts ≡ i.accounts → i' ≡ stopped_issuing i at requests n draws
+pub stopped_drawn : (n draws : ℕ) (i i' : Issuing) (at : Moment) (requests : List (List ℕ)) → n ≡ 0 → draws ≡ 1 → i'.kdc ≡ i.kdc → i'.random ≡ (fill_bytes 64 i.random).1 → i'.audits ≡ i.audits → i' ≡ stopped_issuing i at requests n draws
 unfolding after_some drawn
-stopped_drawn n draws i i' at requests e d kdc random accounts = rw (e, d) (same_issuing i'.kdc i.kdc i'.random _ i'.accounts i.accounts kdc random accounts)
+stopped_drawn n draws i i' at requests e d kdc random audits = rw (e, d) (same_issuing i'.kdc i.kdc i'.random _ i'.audits i.audits kdc random audits)
 
 pub same_hub_state : (i j : Issuing) (c d : Table) → i ≡ j → c ≡ d → (let s : HubState = record { issuing = i; connections = c } in s) ≡ record { issuing = j; connections = d }
 same_hub_state i j c d e h = rw (e, h) refl
@@ -75,15 +75,15 @@ module _ (hub : HubState) (at : Moment) (conn : ℕ) (piece : List ℕ) (o : Opt
 
   -- memory ran out
   pub is_stopped : (done : List Action) (i : Issuing) (draws : ℕ) (place : Splitting) (table table' : Table)
-      → done ≡ take (length done) (stream_step hub.issuing at conn f).actions → i.kdc ≡ (after_some (length done) hub.issuing at (handed_out f).messages).kdc → i.random ≡ drawn draws hub.issuing.random → i.accounts ≡ hub.issuing.accounts
+      → done ≡ take (length done) (stream_step hub.issuing at conn f).actions → i.kdc ≡ (after_some (length done) hub.issuing at (handed_out f).messages).kdc → i.random ≡ drawn draws hub.issuing.random → i.audits ≡ hub.issuing.audits
       → table ≡ map.insert hub.connections conn place → table' ≡ map.remove table conn
       → (done ≡ take (length done) (brings hub at conn piece o).actions)
       × ((let x : HubState = record { issuing = i; connections = table' } in x) ≡ record { issuing = stopped_issuing hub.issuing at (messages_in piece o) (length done) draws; connections = map.remove hub.connections conn })
   unfolding full
-  is_stopped done i draws place table table' acts kdc random accounts first then = (
+  is_stopped done i draws place table table' acts kdc random audits first then = (
     acts ∙ ap (take (length done)) taken_actions,
     same_hub_state i _ table' (map.remove hub.connections conn)
-        (same_issuing i.kdc _ i.random _ i.accounts hub.issuing.accounts kdc random accounts ∙ ap (λ x. stopped_issuing hub.issuing at (handed_out x).messages (length done) draws) feed ∙ sym (ap (λ x. stopped_issuing hub.issuing at (messages_in piece x) (length done) draws) is))
+        (same_issuing i.kdc _ i.random _ i.audits hub.issuing.audits kdc random audits ∙ ap (λ x. stopped_issuing hub.issuing at (handed_out x).messages (length done) draws) feed ∙ sym (ap (λ x. stopped_issuing hub.issuing at (messages_in piece x) (length done) draws) is))
         (then ∙ ap (λ m. map.remove m conn) first ∙ taken_out hub.connections conn place),
   )
 

@@ -12,7 +12,7 @@ use Rattle.kdc_hub.specs.declared.event.Action.TheVariants.{Write, Close}
 use Rattle.kdc_hub.specs.declared.event.CloseReason.TheVariants.{BadLength}
 use Rattle.kdc_hub.specs.declared.reply.Reply.{Reply}
 use Rattle.kdc_core.specs.View.{view}
-use Rattle.kdc_hub.specs.Accounts.{FirstHold, ReplyHolds, if_answered}
+use Rattle.kdc_hub.specs.Audits.{FirstHold, ReplyHolds, if_answered}
 use Rattle.kdc_hub.specs.Issuing.{Issuing, after, reply_of, too_long}
 use Rattle.kdc_hub.specs.StreamStep.{StreamStep, after_reply, after_some, reply_then, drawn, messages_step, stream_step, stream_room, action_for}
 
@@ -25,8 +25,8 @@ pub record IsOnTheWay (at : Moment) (conn : ℕ) (i₀ : Issuing) (s₀ : Splitt
   pub same_left : left s ≡ left s₀
   pub some : (j : ℕ) → after_some (length actions + j) i₀ at (handed_out s₀).messages ≡ after_some j i at (handed_out s).messages
   pub random : (j : ℕ) → drawn (length actions + j) i₀.random ≡ drawn j i.random
-  pub accounts : i.accounts ≡ i₀.accounts
-  -- if the accounts of the requests to come are true, all are
+  pub audits : i.audits ≡ i₀.audits
+  -- if the audit records of the requests to come are true, all are
   pub hold : (j : ℕ) → FirstHold j i at stream_room (handed_out s).messages → FirstHold (length actions + j) i₀ at stream_room (handed_out s₀).messages
 
 pub at_start : (at : Moment) (conn : ℕ) (i : Issuing) (s : Splitting) → IsOnTheWay at conn i s [] i s
@@ -35,7 +35,7 @@ at_start at conn i s = record {
   same_left = refl;
   some = λ j. ap (λ n. after_some n i at (handed_out s).messages) (let e : 0 + j ≡ j = omega arith in e);
   random = λ j. ap (λ n. drawn n i.random) (let e : 0 + j ≡ j = omega arith in e);
-  accounts = refl;
+  audits = refl;
   hold = λ j h. subst (λ n. FirstHold n i at stream_room (handed_out s).messages) (let e : j ≡ 0 + j = omega arith in e) h;
 }
 
@@ -68,7 +68,7 @@ drawn_one : (j : ℕ) (i : Issuing) (at : Moment) (m : List ℕ) → drawn (suc 
 unfolding drawn after
 drawn_one j i at m = refl
 
--- the account of one request, and those of the requests after it
+-- the audit record of one request, and those of the requests after it
 hold_one : (j : ℕ) (i : Issuing) (at : Moment) (c d : Cutting) (m : List ℕ) → c ≡ message_then m d
     → ReplyHolds (view i.kdc m) at (fill_bytes 64 i.random).0 m (reply_of i at stream_room m)
     → FirstHold j (after i at stream_room m) at stream_room d.messages → FirstHold (suc j) i at stream_room c.messages
@@ -98,9 +98,9 @@ nothing_held : (at : Moment) (i : Issuing) (requests : List (List ℕ)) → Firs
 unfolding FirstHold
 nothing_held at i requests = tt
 
-after_accounts : (i : Issuing) (at : Moment) (m : List ℕ) → (after i at stream_room m).accounts ≡ i.accounts
+after_audits : (i : Issuing) (at : Moment) (m : List ℕ) → (after i at stream_room m).audits ≡ i.audits
 unfolding after
-after_accounts i at m = refl
+after_audits i at m = refl
 
 one_longer : (actions : List Action) (a : Action) (j : ℕ) → length (actions ++ a ∷ []) + j ≡ length actions + suc j
 one_longer actions a j = omega (arith, length-append actions (a ∷ []))
@@ -117,7 +117,7 @@ module _ (at : Moment) (conn : ℕ) (i₀ : Issuing) (s₀ : Splitting) where
         same_left = same ∙ w.same_left;
         some = λ j. ap (λ n. after_some n i₀ at (handed_out s₀).messages) (one_longer actions (action_for conn (reply_of i at stream_room m)) j) ∙ w.some (suc j) ∙ after_one j i at (handed_out s) (handed_out t) m first reply;
         random = λ j. ap (λ n. drawn n i₀.random) (one_longer actions (action_for conn (reply_of i at stream_room m)) j) ∙ w.random (suc j) ∙ drawn_one j i at m;
-        accounts = after_accounts i at m ∙ w.accounts;
+        audits = after_audits i at m ∙ w.audits;
         hold = λ j h. subst (λ n. FirstHold n i₀ at stream_room (handed_out s₀).messages) (sym (one_longer actions (action_for conn (reply_of i at stream_room m)) j))
             (w.hold (suc j) (hold_one j i at (handed_out s) (handed_out t) m first one h));
       }
@@ -129,7 +129,7 @@ module _ (at : Moment) (conn : ℕ) (i₀ : Issuing) (s₀ : Splitting) where
   goes_out actions i s w actions' i' t m first more next reply =
       rw (more, next) (sym (w.all ∙ ap (before actions) (step_one i at conn (handed_out s) (handed_out t) m first) ∙ without_reply conn actions (reply_of i at stream_room m) (after i at stream_room m) (stream_step (after i at stream_room m) at conn t) reply))
 
-  -- its account is true, and so are those before it
+  -- its audit record is true, and so are those before it
   pub all_hold : (actions : List Action) (i : Issuing) (s : Splitting) → IsOnTheWay at conn i₀ s₀ actions i s → (actions' : List Action) (t : Splitting) (m : List ℕ)
       → handed_out s ≡ message_then m (handed_out t) → actions' ≡ actions ++ action_for conn (reply_of i at stream_room m) ∷ []
       → false ≡ is_some (reply_of i at stream_room m) → ReplyHolds (view i.kdc m) at (fill_bytes 64 i.random).0 m (reply_of i at stream_room m)

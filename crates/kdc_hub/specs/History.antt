@@ -18,15 +18,15 @@ use Rattle.replay.specs.declared.seen.Seen.{Seen}
 use Rattle.kdc_state.specs.Resumed.{resumed_state}
 use Rattle.kdc_state.specs.State.{opened_state, tidied_state}
 use Rattle.kdc_state.specs.declared.state.State.{State}
-use Rattle.kdc_core.specs.Account.{Account, account}
+use Rattle.kdc_core.specs.Audit.{AuditRecord, audit}
 use Rattle.kdc_core.specs.NewlySeen.{AreUpTo, Covers, resumption_at, run_sees}
 use Rattle.kdc_core.specs.Run.{after_event, replaced, replies, run}
-use Rattle.kdc_core.specs.Struck.{AgreesFor, Names, ServicesWithin, is_request, is_request_of, replies_to, strike}
+use Rattle.kdc_core.specs.Struck.{AgreesFor, Names, ServicesWithin, is_request, is_clients_request, replies_to, strike}
 use Rattle.kdc_core.specs.Tickets.{RestartsFollow, ResumesFollow, ticket_for}
 use Rattle.kdc_core.specs.Unaffected.{AreAlike}
 use Rattle.kdc_core.specs.Unseen.{RequestsFollow, untidied}
 use Rattle.kdc_core.specs.View.{view}
-use Rattle.kdc_core.specs.declared.account.Account.TheVariants.{NoRequest}
+use Rattle.kdc_core.specs.declared.audit.AuditRecord.TheVariants.{NoRequest}
 use Rattle.kdc_core.specs.declared.run.Event.{Event as KdcEvent}
 use Rattle.kdc_core.specs.declared.run.Event.TheVariants.{Request, Change, Replace, Tidy, Restart as Restarts, Reopen}
 use Rattle.kdc_core.specs.declared.run.Event.TheVariants.{Resume}
@@ -99,10 +99,10 @@ replies_by (suc n) (action ∷ actions) = reply_of_action action ∷ replies_by 
 abbrev pub octets_of : Option Reply → Option (List ℕ)
 octets_of reply = option_map (λ (r : Reply). r.message) reply
 
--- what is recorded about a request: the account in its reply; without a reply, that it was no request
-abbrev pub account_in : Option Reply → Option Account
-account_in (Some reply) = reply.account
-account_in None = Some NoRequest
+-- what is recorded about a request: the audit record in its reply; without a reply, that it was no request
+abbrev pub audit_in : Option Reply → Option AuditRecord
+audit_in (Some reply) = reply.audit
+audit_in None = Some NoRequest
 
 -- the actions that send replies to the requesting peer or connection
 abbrev pub answers : Event → List (Option Reply) → List Action
@@ -114,8 +114,8 @@ answers (Closed conn) replies = []
 -- ---- histories
 
 -- an event's step; another database; a tidying; or the end of the process and the start of another. The new one has its
--- own generator, and keeps accounts or not. It refuses all that may have come before, or resumes with what is known of
--- it.
+-- own generator, and keeps audit records or not. It refuses all that may have come before, or resumes with what is
+-- known of it.
 pub data Turn : Type 0 where
   Stepped : Entry → Turn
   Replaced : Principals → Turn
@@ -133,7 +133,7 @@ after_turn hub (Reopened database limits at random kept) = record {
   issuing = record {
     kdc = opened_state database limits (Restart at);
     random = random;
-    accounts = kept;
+    audits = kept;
   };
   connections = map.empty;
 }
@@ -141,7 +141,7 @@ after_turn hub (Resumed database limits resumption random kept) = record {
   issuing = record {
     kdc = resumed_state database limits resumption;
     random = random;
-    accounts = kept;
+    audits = kept;
   };
   connections = map.empty;
 }
@@ -154,7 +154,7 @@ turn_events hub (Tidied at) = Tidy at ∷ []
 turn_events hub (Reopened database limits at random kept) = Reopen database limits at ∷ []
 turn_events hub (Resumed database limits resumption random kept) = Resume database limits resumption ∷ []
 
--- the replies that are sent to the requests of an entry, with their accounts
+-- the replies that are sent to the requests of an entry, with their audit records
 abbrev pub entry_replies : HubState → Entry → List (Option Reply)
 entry_replies hub entry = replies_by (length (requests_of hub entry)) (step_of hub entry).actions
 
@@ -178,39 +178,39 @@ abbrev pub replies_in : HubState → List Turn → List (Option (List ℕ))
 replies_in hub [] = []
 replies_in hub (turn ∷ turns) = turn_replies hub turn ++ replies_in (after_turn hub turn) turns
 
--- the accounts of the requests, in order, each in the action that answers it
-abbrev pub turn_accounts : HubState → Turn → List (Option Account)
-turn_accounts hub (Stepped entry) = map_list account_in (entry_replies hub entry)
-turn_accounts hub (Replaced database) = []
-turn_accounts hub (Tidied at) = []
-turn_accounts hub (Reopened database limits at random kept) = []
-turn_accounts hub (Resumed database limits resumption random kept) = []
+-- the audit records of the requests, in order, each in the action that answers it
+abbrev pub turn_audits : HubState → Turn → List (Option AuditRecord)
+turn_audits hub (Stepped entry) = map_list audit_in (entry_replies hub entry)
+turn_audits hub (Replaced database) = []
+turn_audits hub (Tidied at) = []
+turn_audits hub (Reopened database limits at random kept) = []
+turn_audits hub (Resumed database limits resumption random kept) = []
 
-abbrev pub accounts_in : HubState → List Turn → List (Option Account)
-accounts_in hub [] = []
-accounts_in hub (turn ∷ turns) = turn_accounts hub turn ++ accounts_in (after_turn hub turn) turns
+abbrev pub audits_in : HubState → List Turn → List (Option AuditRecord)
+audits_in hub [] = []
+audits_in hub (turn ∷ turns) = turn_audits hub turn ++ audits_in (after_turn hub turn) turns
 
--- the accounts of a run's requests, in order
-abbrev pub event_accounts : State → KdcEvent → List (Option Account)
-event_accounts state (Request at random room request) = Some (account (view state request) at random room request) ∷ []
-event_accounts state (Change change) = []
-event_accounts state (Replace database) = []
-event_accounts state (Tidy at) = []
-event_accounts state (Restarts at) = []
-event_accounts state (Reopen database limits at) = []
-event_accounts state (Resume database limits resumption) = []
+-- the audit records of a run's requests, in order
+abbrev pub event_audits : State → KdcEvent → List (Option AuditRecord)
+event_audits state (Request at random room request) = Some (audit (view state request) at random room request) ∷ []
+event_audits state (Change change) = []
+event_audits state (Replace database) = []
+event_audits state (Tidy at) = []
+event_audits state (Restarts at) = []
+event_audits state (Reopen database limits at) = []
+event_audits state (Resume database limits resumption) = []
 
-abbrev pub accounts : State → List KdcEvent → List (Option Account)
-accounts state [] = []
-accounts state (event ∷ events) = event_accounts state event ++ accounts (after_event state event) events
+abbrev pub audits : State → List KdcEvent → List (Option AuditRecord)
+audits state [] = []
+audits state (event ∷ events) = event_audits state event ++ audits (after_event state event) events
 
--- if the new process keeps accounts
-abbrev pub KeepsAccounts : Turn → Type 0
-KeepsAccounts (Stepped entry) = ⊤
-KeepsAccounts (Replaced database) = ⊤
-KeepsAccounts (Tidied at) = ⊤
-KeepsAccounts (Reopened database limits at random kept) = IsTrue kept
-KeepsAccounts (Resumed database limits resumption random kept) = IsTrue kept
+-- if the new process keeps audit records
+abbrev pub KeepsAudits : Turn → Type 0
+KeepsAudits (Stepped entry) = ⊤
+KeepsAudits (Replaced database) = ⊤
+KeepsAudits (Tidied at) = ⊤
+KeepsAudits (Reopened database limits at random kept) = IsTrue kept
+KeepsAudits (Resumed database limits resumption random kept) = IsTrue kept
 
 -- the authenticators recorded by the requests that these replies answer, in order
 abbrev pub seen_by : Option Reply → List Seen
@@ -246,9 +246,9 @@ AnswersWhoAsked = (hub : HubState) (entry : Entry)
 -- complete requests, the replacements, the tidyings and the restarts, in order.
 pub record IsOneRun (start : HubState) (turns : List Turn) : Type 0 where
   pub replies_are : replies_in start turns ≡ replies start.issuing.kdc (events_in start turns)
-  -- if accounts are kept, each request has one, and it is that of the run
-  pub accounts_are : IsTrue start.issuing.accounts → AllByRecursion KeepsAccounts turns
-      → accounts_in start turns ≡ accounts start.issuing.kdc (events_in start turns)
+  -- if audit records are kept, each request has one, and it is that of the run
+  pub audits_are : IsTrue start.issuing.audits → AllByRecursion KeepsAudits turns
+      → audits_in start turns ≡ audits start.issuing.kdc (events_in start turns)
   -- the replies report every authenticator that the run records, in order
   pub newly_seen_are : newly_seen_in start turns ≡ run_sees start.issuing.kdc (events_in start turns)
   pub kdc_is : (after_turns start turns).issuing.kdc ≡ run start.issuing.kdc (events_in start turns)
@@ -277,7 +277,7 @@ sent_to test start turns = chosen test start.issuing.kdc (events_in start turns)
 
 pub record AreServedAlike (c : Components) (S : Names) (start other : HubState) (turns others : List Turn)
     : Type 0 where
-  pub replies : sent_to is_request other others ≡ sent_to (is_request_of c) start turns
+  pub replies : sent_to is_request other others ≡ sent_to (is_clients_request c) start turns
   pub afterwards : AgreesFor c S (after_turns start turns).issuing.kdc (after_turns other others).issuing.kdc
 
 -- What others send, over any connections and in any pieces, never changes what a client gets. In a second history only
@@ -294,7 +294,7 @@ abbrev pub ServesAlike : Type 0
 ServesAlike = (start : HubState) (turns : List Turn) → ServesAlikeFrom start turns
 
 pub record GetsTheSame (c : Components) (S : Names) (start other : HubState) (turns others : List Turn) : Type 0 where
-  pub replies : sent_to (is_request_of c) other others ≡ sent_to (is_request_of c) start turns
+  pub replies : sent_to (is_clients_request c) other others ≡ sent_to (is_clients_request c) start turns
   pub afterwards : AgreesFor c S (after_turns start turns).issuing.kdc (after_turns other others).issuing.kdc
 
 -- The same for two histories in which others send what they like: c's requests are the same in both, each at its moment

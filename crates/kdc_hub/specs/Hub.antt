@@ -97,7 +97,7 @@ abbrev pub stopped_issuing : Issuing → Moment → List (List ℕ) → ℕ → 
 stopped_issuing i at requests done draws = record {
   kdc = (after_some done i at requests).kdc;
   random = drawn draws i.random;
-  accounts = i.accounts;
+  audits = i.audits;
 }
 
 abbrev pub stopped : HubState → Moment → Event → ℕ → ℕ → Step

@@ -6,7 +6,7 @@ pub mod Works
 pub mod Cutting
 pub mod Wire
 pub mod Rounds
-pub mod Accounts
+pub mod Audits
 pub mod Acts
 pub mod History
 pub mod Parties

@@ -2,7 +2,7 @@
 use Rattle.std.specs.Prelude.{◌≡◌, IsTrue, List}
 use Rattle.krb_fields.specs.Name.{Components}
 use Rattle.krb_fields.specs.Granting.{tgs_principal}
-use Rattle.kdc_core.specs.Struck.{AgreesFor, Names, ServicesWithin, is_request_of, strike}
+use Rattle.kdc_core.specs.Struck.{AgreesFor, Names, ServicesWithin, is_clients_request, strike}
 use Rattle.kdc_core.specs.Unaffected.{AreAlike}
 use Rattle.kdc_core.specs.Unseen.{RequestsFollow, untidied}
 use Rattle.kdc_core.specs.declared.run.Event.{Event as KdcEvent}
@@ -26,7 +26,7 @@ MovesNothingElseFrom start turns = (other : HubState) (others : List Turn) (c : 
     → AgreesFor c S start.issuing.kdc other.issuing.kdc
     → RequestsFollow (concerning c S start turns) → RequestsFollow (concerning c S other others)
     → AreAlike c S (untidied (concerning c S start turns)) (untidied (concerning c S other others))
-    → sent_to (is_request_of c) other others ≡ sent_to (is_request_of c) start turns
+    → sent_to (is_clients_request c) other others ≡ sent_to (is_clients_request c) start turns
 
 abbrev pub MovesNothingElse : Type 0
 MovesNothingElse = (start : HubState) (turns : List Turn) → MovesNothingElseFrom start turns

@@ -13,7 +13,7 @@ ghost use Rattle.replay.specs.Sizes.{limited};
 ghost use Rattle.replay.specs.declared.seen.Resumption.{Resumption};
 ghost use Rattle.kdc_hub.specs.Hub.{AreDraws, HubState, Steps, hub_state};
 ghost use Rattle.kdc_hub.specs.Logged.{Entry, LogsNext, logged};
-ghost use Rattle.kdc_hub.specs.Accounts.{AccountsHold};
+ghost use Rattle.kdc_hub.specs.Audits.{AuditsHold};
 ghost use Rattle.kdc_hub.specs.declared.event.Action.TheVariants.{Close};
 ghost use Rattle.kdc_hub.specs.declared.event.CloseReason.TheVariants.{Full};
 ghost use Rattle.kdc_hub.specs.declared.event.Event.TheVariants.{Datagram, Opened, Bytes, Closed};
@@ -46,29 +46,29 @@ pub struct Hub<R> {
 }
 
 impl<R: Rng> Hub<R> {
-    /// Returns a hub without connections. If it keeps accounts, its replies have the accounts of their requests. It
-    /// allocates nothing yet.
-    pub fn new(alloc: Global, kdc: Kdc, rng: R, keeps_accounts: bool) -> Hub<R>
+    /// Returns a hub without connections. If it keeps audit records, its replies have the audit records of their
+    /// requests. It allocates nothing yet.
+    pub fn new(alloc: Global, kdc: Kdc, rng: R, keeps_audits: bool) -> Hub<R>
         ensures kdc { (hub_state R.stream result).issuing.kdc ≡ kdc }
         ensures random { (hub_state R.stream result).issuing.random ≡ R.stream rng }
-        ensures accounts { (hub_state R.stream result).issuing.accounts ≡ keeps_accounts }
+        ensures audits { (hub_state R.stream result).issuing.audits ≡ keeps_audits }
         ensures connections { (hub_state R.stream result).connections ≡ map.empty }
         // Over a centre that reopens, it is the hub of a new process, whatever came before.
         ensures reopened { (before : HubState) (database : Principals) (limits : Limits) (at : moments.Moment)
             → kdc ≡ opened_state database limits (Restart at)
             → hub_state R.stream result
-            ≡ after_turn before (Reopened database limits at (R.stream rng) keeps_accounts) }
+            ≡ after_turn before (Reopened database limits at (R.stream rng) keeps_audits) }
         // The same over a centre that resumes.
         ensures resumed { (before : HubState) (database : Principals) (limits : Limits) (r : Resumption)
             → kdc ≡ resumed_state database limits r
             → hub_state R.stream result
-            ≡ after_turn before (Resumed database limits r (R.stream rng) keeps_accounts) }
+            ≡ after_turn before (Resumed database limits r (R.stream rng) keeps_audits) }
     {
         Hub {
             issuer: Issuer {
                 kdc,
                 rng,
-                keeps_accounts,
+                keeps_audits,
             },
             connections: Connections::new(alloc),
         }
@@ -128,8 +128,8 @@ impl<R: Rng> Hub<R> {
             → LogsNext start entries at event result (hub_state R.stream self.new) }
         ensures step { Steps (hub_state R.stream self.old) at event result (hub_state R.stream self.new) }
         ensures draws { IfErr result AreDraws }
-        // The account of each request that it answers is true of the reply, at the state before that request.
-        ensures accounts { AccountsHold (hub_state R.stream self.old) at event result }
+        // The audit record of each request that it answers is true of the reply, at the state before that request.
+        ensures audits { AuditsHold (hub_state R.stream self.old) at event result }
         // The end of a connection allocates nothing.
         ensures closed { (conn : ℕ) → event ≡ Closed conn → IsOk result }
     {
@@ -158,7 +158,7 @@ impl<R: Rng> Hub<R> {
         ensures step { Steps (hub_state R.stream self.old) request.now.at (Datagram peer request.now.octets.now) result
             (hub_state R.stream self.new) }
         ensures draws { IfErr result AreDraws }
-        ensures accounts { AccountsHold (hub_state R.stream self.old) request.now.at
+        ensures audits { AuditsHold (hub_state R.stream self.old) request.now.at
             (Datagram peer request.now.octets.now) result }
     {
         let Ok(mut actions) = Vec::with_capacity(alloc, 1) else {
@@ -205,7 +205,7 @@ impl<R: Rng> Hub<R> {
         ensures step { Steps (hub_state R.stream self.old) timed.at (Bytes timed.conn piece.now) result
             (hub_state R.stream self.new) }
         ensures draws { IfErr result AreDraws }
-        ensures accounts { AccountsHold (hub_state R.stream self.old) timed.at (Bytes timed.conn piece.now) result }
+        ensures audits { AuditsHold (hub_state R.stream self.old) timed.at (Bytes timed.conn piece.now) result }
     {
         let conn = timed.conn;
         let place = Splitter::new(alloc, GREATEST_STREAM_REQUEST);

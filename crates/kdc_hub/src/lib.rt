@@ -36,7 +36,7 @@ mod wires;
 
 pub use event::{Action, CloseReason, Event, HubFault, Peer};
 pub use hub::Hub;
-pub use kdc_core::{Account, CacheSizes, OtherRealm};
+pub use kdc_core::{AuditRecord, CacheSizes, OtherRealm};
 pub use laws::{any_cutting, one_run};
 pub use life::serve_life;
 pub use memory::MemoryWire;

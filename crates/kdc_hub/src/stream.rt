@@ -5,7 +5,7 @@ ghost use Rattle.framing.specs.Splitting.{handed_out, left};
 ghost use Rattle.kdc_hub.specs.Hub.{AreDraws};
 ghost use Rattle.kdc_hub.specs.Issuing.{after, issuing, reply_of, too_long};
 ghost use Rattle.kdc_hub.specs.StreamStep.{after_some, drawn, stream_step, stream_room, action_for};
-ghost use Rattle.kdc_hub.specs.Accounts.{FirstHold, ReplyHolds};
+ghost use Rattle.kdc_hub.specs.Audits.{FirstHold, ReplyHolds};
 ghost use Rattle.kdc_core.specs.View.{view};
 ghost use Rattle.rand_core.specs.Stream.{fill_bytes};
 ghost use Rattle.kdc_hub.specs.declared.event.Action.TheVariants.{Write, Close};
@@ -73,11 +73,11 @@ pub fn answer_stream<R: Rng>(
         (handed_out stream.old).messages).kdc) }
     ensures drawn { IfErr result (λ fault. R.stream issuer.new.rng ≡ drawn fault.draws (R.stream issuer.old.rng)) }
     ensures draws { IfErr result AreDraws }
-    ensures keeps { issuer.new.keeps_accounts ≡ issuer.old.keeps_accounts }
-    ensures accounts { IfOk result (λ s.
+    ensures keeps { issuer.new.keeps_audits ≡ issuer.old.keeps_audits }
+    ensures audits { IfOk result (λ s.
         FirstHold (length s.actions.items) (issuing R.stream issuer.old) timed.at stream_room
         (handed_out stream.old).messages) }
-    ensures accounts_done { IfErr result (λ fault.
+    ensures audits_done { IfErr result (λ fault.
         FirstHold (length fault.done.items) (issuing R.stream issuer.old) timed.at stream_room
         (handed_out stream.old).messages) }
 {
@@ -146,7 +146,7 @@ fn answer_request<R: Rng>(
         (ReplyHolds (view issuer.old.kdc request.now) timed.at (fill_bytes 64 (R.stream issuer.old.rng)).0 request.now
         (reply_of (issuing R.stream issuer.old) timed.at stream_room request.now)) }
     ensures err { OnErr result ((actions.new.items ≡ actions.old.items) × (issuer.new.kdc ≡ issuer.old.kdc)) }
-    ensures accounts { issuer.new.keeps_accounts ≡ issuer.old.keeps_accounts }
+    ensures audits { issuer.new.keeps_audits ≡ issuer.old.keeps_audits }
     ensures drawn { IfErr result
         (λ fault. R.stream issuer.new.rng ≡ drawn (if fault.drawn then 1 else 0) (R.stream issuer.old.rng)) }
 {

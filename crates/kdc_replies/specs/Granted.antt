@@ -1,4 +1,4 @@
--- The properties of an issued ticket, for the account of a request.
+-- The properties of an issued ticket, for the audit record of a request.
 use Rattle.kdc_replies.specs.Issue.{Issue}
 use Rattle.kdc_replies.specs.declared.granted.Granted.{Granted}
 

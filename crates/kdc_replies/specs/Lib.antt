@@ -7,7 +7,7 @@ pub mod Grant
 pub mod Reply
 pub mod Issue
 pub mod Granted
-pub mod Accounts
+pub mod Audits
 -- laws that proofs cite; readers of a contract don't need them
 pub mod ServiceTermsLaws
 pub mod GoodStandingLaws

@@ -4,13 +4,13 @@ ghost use Rattle.krb_types.specs.EncKdcRepPart.{enc_kdc_rep_part};
 ghost use Rattle.krb_types.specs.EncTicketPart.{enc_ticket_part};
 ghost use Rattle.kdc_replies.specs.Grant.{IsShort, no_realms, ticket_part, reply_part};
 
+use encrypted_data::key_part;
 use enctypes::Key;
 use krb_der::KTime;
 use krb_elements::{KerberosStringRef, Lent, Octets, Seq, UInt32};
 use krb_fields::numbers::{DOMAIN_X500_COMPRESS, LR_NONE};
 use krb_fields::{Flags, Name, Typed};
 use krb_types::{EncKdcRepPart, EncTicketPart, LastReq};
-use encrypted_data::key_part;
 use std::alloc::{AllocError, Global};
 use ticket_times::Times;
 

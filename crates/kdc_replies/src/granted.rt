@@ -1,4 +1,4 @@
-//! The properties of an issued ticket, for the account of a request.
+//! The properties of an issued ticket, for the audit record of a request.
 use enctypes::Etype;
 use krb_der::KTime;
 use krb_fields::Flags;

@@ -1,6 +1,6 @@
 //! An incoming request.
-use krb_fields::Moment;
 use encrypted_data::ReadyKeys;
+use krb_fields::Moment;
 use std::marker::Model;
 
 /// An incoming request, and what its answer needs beside the KDC's state.

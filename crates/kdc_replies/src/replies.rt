@@ -12,11 +12,11 @@ ghost use Rattle.kdc_replies.specs.Reply.{OpensAlike, sealed_part, reply_of};
 
 use crate::grant::{Grant, LentName, LentRealm};
 use crate::tickets::{LentTicket, ServiceKey, confounder, ticket};
+use encrypted_data::{PartKey, ReadyKeys};
 use krb_der::KTime;
 use krb_elements::{Lent, Seq, UInt32, write};
 use krb_fields::{EncryptedData, PaData};
 use krb_types::{KdcRep, Under};
-use encrypted_data::{PartKey, ReadyKeys};
 use std::alloc::{AllocError, Global};
 
 /// What a reply with a ticket needs besides the grant and the keys.

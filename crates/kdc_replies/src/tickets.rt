@@ -8,12 +8,12 @@ ghost use Rattle.kdc_replies.specs.Grant.{IsShort, ticket_part};
 ghost use Rattle.kdc_replies.specs.Reply.{ticket_confounder, granted_ticket};
 
 use crate::grant::{Grant, LentName, LentRealm};
+use encrypted_data::{PartKey, ReadyKeys};
 use enctypes::{Key, KeyUsage};
 use krb_elements::{Lent, UInt32};
 use krb_fields::EncryptedData;
 use krb_fields::numbers::PVNO;
 use krb_types::Ticket;
-use encrypted_data::{PartKey, ReadyKeys};
 use std::alloc::{AllocError, Global};
 
 /// A key of a service, which encrypts its tickets.

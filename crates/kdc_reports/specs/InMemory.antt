@@ -4,4 +4,4 @@ use Rattle.kdc_reports.specs.declared.memory_log.MemoryEntry.{MemoryEntry}
 
 -- an entry of a log
 abbrev pub entry_by : MemoryEntry → LogEntry
-entry_by e = record { at = e.at; asker = e.asker; account = e.account; is_sent = e.is_sent }
+entry_by e = record { at = e.at; asker = e.asker; audit = e.audit; is_sent = e.is_sent }

@@ -3,8 +3,8 @@ use Rattle.std.specs.Prelude.{◌≡◌, ◌⊎◌, ◌+◌, ◌-◌, ◌^◌, �
 use Rattle.std.specs.Io.KnownBytes.{Appends}
 use Rattle.std.specs.declared.net.socket_addr.SocketAddr.{SocketAddr}
 use Rattle.krb_fields.specs.declared.moment.Moment.{Moment}
-use Rattle.kdc_core.specs.Account.{Account}
-use Rattle.kdc_core.specs.declared.account.Account.TheVariants.{NoRequest as NothingAsked}
+use Rattle.kdc_core.specs.Audit.{AuditRecord}
+use Rattle.kdc_core.specs.declared.audit.AuditRecord.TheVariants.{NoRequest as NothingAsked}
 use Rattle.kdc_hub.specs.declared.event.Action.{Action}
 use Rattle.kdc_hub.specs.declared.event.Action.TheVariants.{SendTo, Pass, Write, Close}
 use Rattle.kdc_hub.specs.declared.event.CloseReason.{CloseReason}
@@ -51,23 +51,23 @@ arrival_after peer_of came (Failed action) = came
 
 -- what is counted of an entry
 abbrev pub asked_by : LogEntry → Asked
-asked_by entry = record { transport = entry.asker.transport; account = entry.account; is_sent = entry.is_sent }
+asked_by entry = record { transport = entry.asker.transport; audit = entry.audit; is_sent = entry.is_sent }
 
 -- what an action that answers says of the request; a length that is too large is no request
-abbrev pub reports : Option Account → List (Option Account)
-reports (Some account) = Some account ∷ []
+abbrev pub reports : Option AuditRecord → List (Option AuditRecord)
+reports (Some audit) = Some audit ∷ []
 reports None = []
 
-abbrev pub closing_reports : CloseReason → List (Option Account)
+abbrev pub closing_reports : CloseReason → List (Option AuditRecord)
 closing_reports NoRequest = Some NothingAsked ∷ []
 closing_reports BadLength = Some NothingAsked ∷ []
 closing_reports Full = []
 closing_reports OutOfMemory = None ∷ []
 
-abbrev pub reported : Action → List (Option Account)
-reported (SendTo peer reply) = reports reply.account
+abbrev pub reported : Action → List (Option AuditRecord)
+reported (SendTo peer reply) = reports reply.audit
 reported (Pass peer) = Some NothingAsked ∷ []
-reported (Write conn reply) = reports reply.account
+reported (Write conn reply) = reports reply.audit
 reported (Close conn reason) = closing_reports reason
 
 -- who sent the request that an action answers, by the address that the connection of its event came from
@@ -78,9 +78,9 @@ asker_of source (Write conn reply) = record { transport = Tcp; peer = source }
 asker_of source (Close conn reason) = record { transport = Tcp; peer = source }
 
 -- one entry for each
-abbrev pub entries_by : Moment → Asker → Bool → List (Option Account) → List LogEntry
-entries_by at asker is_sent accounts =
-    map (λ account. record { at = at; asker = asker; account = account; is_sent = is_sent }) accounts
+abbrev pub entries_by : Moment → Asker → Bool → List (Option AuditRecord) → List LogEntry
+entries_by at asker is_sent audits =
+    map (λ audit. record { at = at; asker = asker; audit = audit; is_sent = is_sent }) audits
 
 -- an action has one entry for the request that it answers, if it answers one
 abbrev pub entries_of : Arrival → Action → Bool → List LogEntry

@@ -60,7 +60,7 @@ impl<L: LogWriter> LogWriter for CountedLog<L> {
     fn write_entry(&mut self, alloc: Global, entry: &Entry<'_>) {
         self.log.write_entry(alloc, entry);
         let transport = entry.asker.transport;
-        self.counts.count(transport, entry.account, entry.is_sent);
+        self.counts.count(transport, entry.audit, entry.is_sent);
     }
 }
 

@@ -7,7 +7,7 @@ ghost use Rattle.kdc_reports.specs.LogLaws.{log_if_records};
 ghost use Rattle.kdc_files.specs.Recorded.{record_of};
 ghost use Rattle.request_log.specs.Entry.{LogEntry};
 
-use kdc_hub::{Account, Action, CloseReason, Event, Peers, Reply, WireFault};
+use kdc_hub::{Action, AuditRecord, CloseReason, Event, Peers, Reply, WireFault};
 use krb_fields::Moment;
 use request_log::{Asker, Entry, Transport};
 use std::alloc::Global;
@@ -102,19 +102,19 @@ pub fn log_action<L: LogWriter>(alloc: Global, log: &mut L, tried: &Tried<'_>)
 {
     match tried.action {
         Action::SendTo { reply, .. } => log_reply(alloc, log, tried, reply),
-        Action::Pass { .. } => log_account(alloc, log, tried, Some(&Account::NoRequest)),
+        Action::Pass { .. } => log_audit(alloc, log, tried, Some(&AuditRecord::NoRequest)),
         Action::Write { reply, .. } => log_reply(alloc, log, tried, reply),
         Action::Close { reason, .. } => log_close(alloc, log, tried, *reason),
     }
 }
 
-/// Writes the entry for the request that a reply answers. Without an account it answers no request.
+/// Writes the entry for the request that a reply answers. Without an audit record it answers no request.
 fn log_reply<L: LogWriter>(alloc: Global, log: &mut L, tried: &Tried<'_>, reply: &Reply)
     ensures { LogsAll L.Logs log.old (entries_by tried.now.came.at (asker_of tried.now.came.source tried.now.action.now)
-        tried.now.is_sent (reports reply.now.account)) log.new }
+        tried.now.is_sent (reports reply.now.audit)) log.new }
 {
-    match &reply.account {
-        Some(account) => log_account(alloc, log, tried, Some(account)),
+    match &reply.audit {
+        Some(audit) => log_audit(alloc, log, tried, Some(audit)),
         None => {}
     }
 }
@@ -125,31 +125,31 @@ fn log_close<L: LogWriter>(alloc: Global, log: &mut L, tried: &Tried<'_>, reason
         tried.now.is_sent (closing_reports reason)) log.new }
 {
     match reason {
-        CloseReason::NoRequest => log_account(alloc, log, tried, Some(&Account::NoRequest)),
-        CloseReason::BadLength => log_account(alloc, log, tried, Some(&Account::NoRequest)),
+        CloseReason::NoRequest => log_audit(alloc, log, tried, Some(&AuditRecord::NoRequest)),
+        CloseReason::BadLength => log_audit(alloc, log, tried, Some(&AuditRecord::NoRequest)),
         CloseReason::Full => {}
-        CloseReason::OutOfMemory => log_account(alloc, log, tried, None),
+        CloseReason::OutOfMemory => log_audit(alloc, log, tried, None),
     }
 }
 
-/// Writes the entry for the request that an action answers, with this account.
-fn log_account<L: LogWriter>(
+/// Writes the entry for the request that an action answers, with this audit record.
+fn log_audit<L: LogWriter>(
     alloc: Global,
     log: &mut L,
     tried: &Tried<'_>,
-    account: Option<&Account>,
+    audit: Option<&AuditRecord>,
 )
     ensures { L.Logs log.old (record {
       at = tried.now.came.at;
       asker = asker_of tried.now.came.source tried.now.action.now;
-      account = option_copied account.entry;
+      audit = option_copied audit.entry;
       is_sent = tried.now.is_sent;
     }) log.new }
 {
     let entry = Entry {
         at: tried.came.at,
         asker: asker_of(tried.came.source, tried.action),
-        account,
+        audit,
         is_sent: tried.is_sent,
     };
     log.write_entry(alloc, &entry);

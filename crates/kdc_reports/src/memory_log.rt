@@ -8,7 +8,7 @@ ghost use Rattle.kdc_reports.specs.InMemory.{entry_by};
 ghost use Rattle.request_log.specs.Entry.{LogEntry};
 
 use crate::logging::LogWriter;
-use kdc_core::Account;
+use kdc_core::AuditRecord;
 use kdc_files::Record;
 use krb_fields::Moment;
 use request_log::{Asker, Entry};
@@ -21,8 +21,8 @@ pub struct MemoryEntry {
     pub at: Moment,
     /// Who sent it.
     pub asker: Asker,
-    /// What the KDC made of it. There is no account if memory ran out.
-    pub account: Option<Account>,
+    /// What the KDC made of it. There is no audit record if memory ran out.
+    pub audit: Option<AuditRecord>,
     /// Whether its reply was sent.
     pub is_sent: bool,
 }
@@ -74,14 +74,14 @@ impl LogWriter for MemoryLog {
 fn entry_copy(alloc: Global, entry: &Entry<'_>) -> Result<MemoryEntry, AllocError>
     ensures { IfOk result (λ copy. entry_by copy ≡ entry.now) }
 {
-    let account = match entry.account {
-        Some(account) => Some(account.copy(alloc)?),
+    let audit = match entry.audit {
+        Some(audit) => Some(audit.copy(alloc)?),
         None => None,
     };
     Ok(MemoryEntry {
         at: entry.at,
         asker: entry.asker,
-        account,
+        audit,
         is_sent: entry.is_sent,
     })
 }

@@ -6,7 +6,7 @@ use Rattle.std.specs.Result.{is_ok}
 use Rattle.std.proofs.lemmas.List.{append-nil, map-append}
 use Rattle.std.proofs.lemmas.List.Elements.{filter-append}
 use Rattle.krb_fields.specs.declared.moment.Moment.{Moment}
-use Rattle.kdc_core.specs.Account.{Account}
+use Rattle.kdc_core.specs.Audit.{AuditRecord}
 use Rattle.kdc_hub.specs.declared.event.Action.{Action}
 use Rattle.kdc_hub.specs.declared.event.Event.{Event}
 use Rattle.kdc_hub.specs.declared.wires.WireCall.{WireCall}
@@ -134,10 +134,10 @@ by_poll r tally tally_new sockets sockets_new journal log at at_new noted polls 
 shown_said : (at : Moment) (is_sent : Bool) (came : Arrival) (action : Action) → came.at ≡ at → map said (entries_of came action is_sent) ≡ says at is_sent (reported action)
 shown_said at is_sent came action is = each (reported action) ∙ ap (λ t. says t is_sent (reported action)) is
   where
-    each : (accounts : List (Option Account))
-        → map said (map (λ account. record { at = came.at; asker = asker_of came.source action; account = account; is_sent = is_sent }) accounts) ≡ says came.at is_sent accounts
+    each : (audits : List (Option AuditRecord))
+        → map said (map (λ audit. record { at = came.at; asker = asker_of came.source action; audit = audit; is_sent = is_sent }) audits) ≡ says came.at is_sent audits
     each [] = refl
-    each (account ∷ accounts) = ap (λ l. record { at = came.at; account = account; is_sent = is_sent } ∷ l) (each accounts)
+    each (audit ∷ audits) = ap (λ l. record { at = came.at; audit = audit; is_sent = is_sent } ∷ l) (each audits)
 
 -- by entries written one after another a log's record grows by them
 module _ {L : Type 0} (logged : L → Option (List LogEntry)) (Logs : L → LogEntry → L → Type 0)

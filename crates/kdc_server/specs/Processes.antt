@@ -31,7 +31,7 @@ use Rattle.kdc_server.specs.Resuming.{known_before, raised_floor}
 use Rattle.kdc_server.specs.Served.{handed_in}
 
 -- A process that follows others: its rows, its limits, the moment of its start, the moment by which it opens if it
--- refuses, what it made of the journals, its random octets, whether it keeps accounts, and its life.
+-- refuses, what it made of the journals, its random octets, whether it keeps audit records, and its life.
 pub record Process : Type 0 where
   pub database : Principals
   pub limits : Limits
@@ -39,13 +39,13 @@ pub record Process : Type 0 where
   pub from : Moment
   pub start : Start
   pub random : Stream
-  pub accounts : Bool
+  pub audits : Bool
   pub periods : List Period
 
 -- how it begins
 abbrev pub beginning_by : Process → Start → Turn
-beginning_by p (Resumes r check) = Resumed p.database p.limits r p.random p.accounts
-beginning_by p (Refuses doubt floor) = Reopened p.database p.limits p.from p.random p.accounts
+beginning_by p (Resumes r check) = Resumed p.database p.limits r p.random p.audits
+beginning_by p (Refuses doubt floor) = Reopened p.database p.limits p.from p.random p.audits
 
 abbrev pub beginning : Process → Turn
 beginning p = beginning_by p p.start

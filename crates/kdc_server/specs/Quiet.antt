@@ -6,8 +6,8 @@ use Rattle.krb_fields.specs.Skew.{skew}
 use Rattle.krb_fields.specs.declared.numbers.TheConstants.{KRB_AP_ERR_SKEW}
 use Rattle.krb_fields.specs.Code.{number_of}
 use Rattle.krb_fields.specs.declared.moment.Moment.{Moment}
-use Rattle.kdc_core.specs.Account.{Account}
-use Rattle.kdc_core.specs.declared.account.Account.TheVariants.{NoRequest, As, Tgs}
+use Rattle.kdc_core.specs.Audit.{AuditRecord}
+use Rattle.kdc_core.specs.declared.audit.AuditRecord.TheVariants.{NoRequest, As, Tgs}
 use Rattle.kdc_hub.specs.declared.event.Action.{Action}
 use Rattle.kdc_hub.specs.declared.event.Action.TheVariants.{SendTo, Pass, Write, Close}
 use Rattle.tgs_exchange.specs.declared.outcome.TgsOutcome.{TgsOutcome}
@@ -24,7 +24,7 @@ is_skew (Resent bears) = false
 is_skew TooBig = false
 
 -- one of a TGS-REQ
-abbrev pub is_skewed : Option Account → Bool
+abbrev pub is_skewed : Option AuditRecord → Bool
 is_skewed (Some NoRequest) = false
 is_skewed (Some (As client service outcome)) = false
 is_skewed (Some (Tgs client service outcome)) = is_skew outcome
@@ -32,9 +32,9 @@ is_skewed None = false
 
 -- whether the action sends such a reply
 abbrev pub sends_skew : Action → Bool
-sends_skew (SendTo peer reply) = is_skewed reply.account
+sends_skew (SendTo peer reply) = is_skewed reply.audit
 sends_skew (Pass peer) = false
-sends_skew (Write conn reply) = is_skewed reply.account
+sends_skew (Write conn reply) = is_skewed reply.audit
 sends_skew (Close conn reason) = false
 
 -- such a reply is withheld before the second up to which the server is quiet, if it is

@@ -120,6 +120,6 @@ pub record IsReady (options : ServeOptions) (before after : Option (List HostDid
   pub realm : beginning.realm ≡ rows.realm
   pub floor : beginning.floor ≡ (known_before (opened_by options.is_first beginning.at) beginning.start).floor
   pub random : hub.issuing.random ≡ seeded (seed_by (option_copied options.seed) octets)
-  pub accounts : hub.issuing.accounts ≡ (is_some options.log || options.is_quiet || is_some options.metrics)
+  pub audits : hub.issuing.audits ≡ (is_some options.log || options.is_quiet || is_some options.metrics)
   pub connections : hub.connections ≡ map.empty
   pub count : row_count ≡ map.len rows.rows

@@ -2,7 +2,7 @@
 use Rattle.std.specs.Prelude.{◌≡◌, Bool, true, false, not, List, [], ◌∷◌, ◌++◌, map, Option, IfSome}
 use Rattle.std.specs.List.{filter}
 use Rattle.krb_fields.specs.declared.moment.Moment.{Moment}
-use Rattle.kdc_core.specs.Account.{Account}
+use Rattle.kdc_core.specs.Audit.{AuditRecord}
 use Rattle.kdc_hub.specs.declared.wires.WireCall.{WireCall}
 use Rattle.kdc_hub.specs.declared.wires.WireCall.TheVariants.{Polled, Waited, Missed, Acted, Failed}
 use Rattle.kdc_hub.specs.Wire.{is_fault}
@@ -34,14 +34,14 @@ handed_in = in_order handed_of
 -- an entry of the log, but for who asked
 pub record Said : Type 0 where
   pub at : Moment
-  pub account : Option Account
+  pub audit : Option AuditRecord
   pub is_sent : Bool
 
 abbrev pub said : LogEntry → Said
-said entry = record { at = entry.at; account = entry.account; is_sent = entry.is_sent }
+said entry = record { at = entry.at; audit = entry.audit; is_sent = entry.is_sent }
 
-abbrev pub says : Moment → Bool → List (Option Account) → List Said
-says at is_sent accounts = map (λ account. record { at = at; account = account; is_sent = is_sent }) accounts
+abbrev pub says : Moment → Bool → List (Option AuditRecord) → List Said
+says at is_sent audits = map (λ audit. record { at = at; audit = audit; is_sent = is_sent }) audits
 
 -- what the log says
 abbrev pub said_of : Moment → WireCall → List Said

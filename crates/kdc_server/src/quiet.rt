@@ -3,7 +3,7 @@ ghost use Rattle.std.specs.Prelude.{◌≡◌, option_copied};
 ghost use Rattle.kdc_server.specs.Quiet.{is_skew, is_skewed, quiet_until, quiet_withholds, sends_skew};
 
 use kdc_core::TgsOutcome;
-use kdc_hub::{Account, Action};
+use kdc_hub::{Action, AuditRecord};
 use kdc_reports::Refused;
 use krb_fields::numbers::KRB_AP_ERR_SKEW;
 use krb_fields::{Moment, SKEW};
@@ -43,18 +43,18 @@ fn sends_skew(action: &Action) -> bool
 {
     match action {
         Action::SendTo { reply, .. } | Action::Write { reply, .. } => {
-            is_skewed(reply.account.as_ref())
+            is_skewed(reply.audit.as_ref())
         }
         Action::Pass { .. } | Action::Close { .. } => false,
     }
 }
 
-fn is_skewed(account: Option<&Account>) -> bool
-    ensures { result ≡ is_skewed (option_copied account.entry) }
+fn is_skewed(audit: Option<&AuditRecord>) -> bool
+    ensures { result ≡ is_skewed (option_copied audit.entry) }
 {
-    match account {
-        Some(Account::Tgs { outcome, .. }) => is_skew(outcome),
-        Some(Account::NoRequest | Account::As { .. }) | None => false,
+    match audit {
+        Some(AuditRecord::Tgs { outcome, .. }) => is_skew(outcome),
+        Some(AuditRecord::NoRequest | AuditRecord::As { .. }) | None => false,
     }
 }
 

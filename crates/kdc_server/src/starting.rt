@@ -200,18 +200,18 @@ fn hub_of(
     ensures kdc { IfOk result (λ hub. (hub_state chacha20 hub).issuing.kdc
         ≡ started_state rows options.now.limits (opened_by options.now.is_first beginning.now.at) beginning.now.start) }
     ensures random { IfOk result (λ hub. (hub_state chacha20 hub).issuing.random ≡ seeded seed) }
-    ensures accounts { IfOk result (λ hub. (hub_state chacha20 hub).issuing.accounts
+    ensures audits { IfOk result (λ hub. (hub_state chacha20 hub).issuing.audits
         ≡ (is_some options.now.log || options.now.is_quiet || is_some options.now.metrics)) }
     ensures connections { IfOk result (λ hub. (hub_state chacha20 hub).connections ≡ map.empty) }
 {
     let opening = opened_by(options.is_first, beginning.at);
     let kdc = open(alloc, rows, options.limits, opening, &beginning.start)?;
     let rng = ChaCha20Rng::from_seed(seed);
-    Ok(Hub::new(alloc, placed(kdc, seed), rng, keeps_accounts(options)))
+    Ok(Hub::new(alloc, placed(kdc, seed), rng, keeps_audits(options)))
 }
 
-/// Checks whether the log, a quiet start or the counts of requests need the account of each request.
-fn keeps_accounts(options: &ServeOptions<'_>) -> bool
+/// Checks whether the log, a quiet start or the counts of requests need the audit record of each request.
+fn keeps_audits(options: &ServeOptions<'_>) -> bool
     ensures { result ≡ (is_some options.now.log || options.now.is_quiet || is_some options.now.metrics) }
 {
     options.log.is_some() || options.is_quiet || options.metrics.is_some()

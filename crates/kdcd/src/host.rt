@@ -12,8 +12,8 @@ use kdc_reports::{
     CountedLog, FaultCount, JournalNews, LogFormat, MetricsFile, MetricsPaths, RequestLines,
     Started,
 };
-use kdc_sockets::{BindFault, SharedWriter, SocketWire};
 use kdc_server::{Host, ServeOptions, StartNews};
+use kdc_sockets::{BindFault, SharedWriter, SocketWire};
 use krb_fields::Moment;
 use principal_rows::Limits;
 use principals::Database;

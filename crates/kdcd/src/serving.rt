@@ -1,8 +1,8 @@
 //! Serving a realm: `kdcd serve`.
 use crate::host::{Errors, SystemHost};
 use command_line::Status;
-use kdc_sockets::{BindFault, ReadyWriter, SharedWriter};
 use kdc_server::{Ran, ServeOptions, SystemPart, run_server};
+use kdc_sockets::{BindFault, ReadyWriter, SharedWriter};
 use std::io;
 use std::io::Write;
 

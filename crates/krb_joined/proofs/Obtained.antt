@@ -4,9 +4,9 @@ use Rattle.std.specs.Prelude.{IfSome}
 use Rattle.cred_files.specs.declared.credential.Credential.{Credential}
 use Rattle.krb_der.specs.Spelling.{IsBytes}
 use Rattle.krb_fields.specs.declared.moment.Moment.{Moment}
-use Rattle.kdc_core.specs.Answer.{OneTicketTwoKeys, answer_of}
+use Rattle.kdc_core.specs.Answer.{OneTicketTwoKeys, contents_answer}
 use Rattle.kdc_core.specs.Contents.{contents}
-use Rattle.kdc_core.specs.Issued.{issued, issued_of}
+use Rattle.kdc_core.specs.Issued.{issued, contents_issue}
 use Rattle.kdc_core.specs.IssuedLaws.{reply_is_issued}
 use Rattle.kdc_core.specs.Request.{Request}
 use Rattle.kdc_core.specs.View.{View}
@@ -25,14 +25,14 @@ use Rattle.krb_joined.proofs.Taken.{credential_taken}
 module _ (v : View) (at : Moment) (random : List ℕ) where
   -- ---- without a reply, nothing was issued
 
-  replied : (incoming : Incoming) (held : Contents) → (answer_of v incoming held).reply ≡ None → issued_of v at random held ≡ None
+  replied : (incoming : Incoming) (held : Contents) → (contents_answer v incoming held).reply ≡ None → contents_issue v at random held ≡ None
   replied incoming NoRequest none = refl
   replied incoming (AsReq message) none = absurd cc
   replied incoming (RefusedTgsReq message rejected) none = refl
   replied incoming (TgsReq message p) none = absurd cc
 
   pub none_issued : (room : ℕ) (bytes : List ℕ) (request : Option Request)
-      → (answer_of v (record { at = at; random = random; room = room; octets = bytes }) (contents v request)).reply ≡ None → issued v at random request ≡ None
+      → (contents_answer v (record { at = at; random = random; room = room; octets = bytes }) (contents v request)).reply ≡ None → issued v at random request ≡ None
   none_issued room bytes request none = replied (record { at = at; random = random; room = room; octets = bytes }) (contents v request) none
 
   -- ---- a reply

@@ -3,6 +3,7 @@ ghost use Rattle.std.specs.Prelude.{◌≡◌, IfOk, option_copied};
 ghost use Rattle.preauth.specs.Timestamp.{first_of, encrypted_in, opened_of, time_of, is_skewed, outcome};
 
 use crate::keys::key_numbered;
+use encrypted_data::ReadyKeys;
 use enctypes::KeyUsage;
 use krb_der::KTime;
 use krb_elements::{OctetsRef, SeqRef, read};
@@ -10,7 +11,6 @@ use krb_fields::numbers::PA_ENC_TIMESTAMP;
 use krb_fields::{EncryptedDataRef, Moment, PaDataRef, SKEW};
 use krb_types::PaEncTsEnc;
 use principal_rows::{KeyList, Row};
-use encrypted_data::ReadyKeys;
 use std::alloc::{AllocError, Global};
 
 /// What a request shows about the client's key.

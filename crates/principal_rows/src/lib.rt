@@ -13,7 +13,7 @@
 //! }
 //! ```
 //!
-//! Nothing here makes a key: `text_fields` does. `principals` has the database of a realm, and changes it.
+//! Nothing here makes a key: `principal_keys` does. `principals` has the database of a realm, and changes it.
 #![tactic(auto)]
 
 mod key_list;

@@ -17,8 +17,8 @@ use crate::split_name::row_of;
 use crate::{Change, ChangeFault, RowChange};
 use krb_elements::KerberosString;
 use krb_fields::{Name, NameFault, NameRef, is_component, tgs_name};
-use rule_lists::first_holding;
 use principal_rows::{Entry, KeyList, NameMap, Policy, Row};
+use rule_lists::first_holding;
 use std::alloc::{AllocError, Global};
 use std::marker::Model;
 

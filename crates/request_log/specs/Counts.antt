@@ -1,7 +1,7 @@
 -- How many requests came, by their kinds, and how many replies were sent.
 use Rattle.std.specs.Prelude.{◌≡◌, ◌+◌, ◌-◌, ◌^◌, ◌&&◌, ℕ, Bool, true, false, nat_eq, min, List, get_or, set, count_by}
 use Rattle.std.specs.Prelude.{Option, if◌then◌else◌}
-use Rattle.kdc_core.specs.Account.{Account}
+use Rattle.kdc_core.specs.Audit.{AuditRecord}
 use Rattle.request_log.specs.declared.asker.Transport.{Transport as Carrier}
 use Rattle.request_log.specs.declared.asker.Transport.TheVariants.{Udp, Tcp}
 use Rattle.request_log.specs.Kinds.{has_reply, kind_of}
@@ -9,16 +9,16 @@ use Rattle.request_log.specs.Places.{place, same_kind}
 use Rattle.request_log.specs.declared.counts.Counts.{Counts}
 use Rattle.request_log.specs.declared.kind.Kind.{Kind}
 
--- a request: how it came, its account, or that memory ran out, and whether its reply was sent
+-- a request: how it came, its audit record, or that memory ran out, and whether its reply was sent
 pub record Asked : Type 0 where
   pub transport : Carrier
-  pub account : Option Account
+  pub audit : Option AuditRecord
   pub is_sent : Bool
 
 -- ---- what is counted
 
 abbrev pub is_of_kind : Kind → Asked → Bool
-is_of_kind kind asked = same_kind kind (kind_of asked.account)
+is_of_kind kind asked = same_kind kind (kind_of asked.audit)
 
 -- by datagrams, sent and not sent, and then on connections
 abbrev pub reply_place : Carrier → Bool → ℕ
@@ -30,7 +30,8 @@ reply_place Tcp false = 3
 -- whether a request has a reply over this transport that was sent, or one that was not
 abbrev pub is_reply : Carrier → Bool → Asked → Bool
 is_reply transport is_sent asked =
-    has_reply (kind_of asked.account) && nat_eq (reply_place transport is_sent) (reply_place asked.transport asked.is_sent)
+    has_reply (kind_of asked.audit) && nat_eq (reply_place transport is_sent)
+    (reply_place asked.transport asked.is_sent)
 
 -- ---- counts
 

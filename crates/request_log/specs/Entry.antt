@@ -1,4 +1,4 @@
--- The fields of a log entry, by the account of the request.
+-- The fields of a log entry, by the audit record of the request.
 use Rattle.std.specs.Prelude.{ℕ, ℤ, Bool, true, false, List, [], ◌∷◌, ◌++◌, codes, decimal, length, take, nat_lt, unsigned_abs}
 use Rattle.std.specs.Prelude.{Option, Some, None, if◌then◌else◌}
 use Rattle.std.specs.Net.Text.{socket_text}
@@ -22,8 +22,8 @@ use Rattle.tgs_exchange.specs.declared.outcome.TgsOutcome.{TgsOutcome}
 use Rattle.tgs_exchange.specs.declared.outcome.TgsOutcome.TheVariants.{Refused, Issued, Resent, TooBig}
 use Rattle.kdc_replies.specs.declared.granted.Granted.{Granted}
 use Rattle.ticket_times.specs.declared.times.Times.{Times}
-use Rattle.kdc_core.specs.Account.{Account}
-use Rattle.kdc_core.specs.declared.account.Account.TheVariants.{NoRequest, As, Tgs}
+use Rattle.kdc_core.specs.Audit.{AuditRecord}
+use Rattle.kdc_core.specs.declared.audit.AuditRecord.TheVariants.{NoRequest, As, Tgs}
 use Rattle.request_log.specs.Field.{Field, field}
 use Rattle.request_log.specs.Times.{date_text, life_text, valid_seconds}
 use Rattle.request_log.specs.Words.{code_word}
@@ -39,7 +39,7 @@ use Rattle.request_log.specs.declared.field.FieldName.TheVariants.{Flags, Until,
 pub record LogEntry : Type 0 where
   pub at : Moment
   pub asker : Asker
-  pub account : Option Account
+  pub audit : Option AuditRecord
   pub is_sent : Bool
 
 -- ---- values
@@ -140,12 +140,12 @@ abbrev pub names_fields : List ℕ → Option Name → Option Name → List Fiel
 names_fields exchange client service =
     field Exchange exchange ∷ field Client (name_value client) ∷ field Service (name_value service) ∷ []
 
--- by the account, or `unanswered` if memory ran out
-abbrev pub account_fields : Option Account → List Field
-account_fields (Some NoRequest) = field Outcome (codes "none") ∷ []
-account_fields (Some (As client service outcome)) = names_fields (codes "as") client service ++ as_fields outcome
-account_fields (Some (Tgs client service outcome)) = names_fields (codes "tgs") client service ++ tgs_fields outcome
-account_fields None = field Outcome (codes "unanswered") ∷ []
+-- by the audit record, or `unanswered` if memory ran out
+abbrev pub audit_fields : Option AuditRecord → List Field
+audit_fields (Some NoRequest) = field Outcome (codes "none") ∷ []
+audit_fields (Some (As client service outcome)) = names_fields (codes "as") client service ++ as_fields outcome
+audit_fields (Some (Tgs client service outcome)) = names_fields (codes "tgs") client service ++ tgs_fields outcome
+audit_fields None = field Outcome (codes "unanswered") ∷ []
 
 abbrev pub head_fields : ℤ → Asker → List Field
 head_fields sec asker =
@@ -158,7 +158,7 @@ sent_fields false = field Sent (codes "no") ∷ []
 
 -- what stands behind the head
 abbrev pub outcome_fields : LogEntry → List Field
-outcome_fields entry = account_fields entry.account ++ sent_fields entry.is_sent
+outcome_fields entry = audit_fields entry.audit ++ sent_fields entry.is_sent
 
 abbrev pub entry_fields : LogEntry → List Field
 entry_fields entry = head_fields entry.at.sec entry.asker ++ outcome_fields entry

@@ -4,8 +4,8 @@ use Rattle.as_exchange.specs.declared.outcome.AsOutcome.{AsOutcome}
 use Rattle.as_exchange.specs.declared.outcome.AsOutcome.TheVariants.{Refused as AsOutcomeRefused, Issued as AsOutcomeIssued, TooBig as AsOutcomeTooBig}
 use Rattle.tgs_exchange.specs.declared.outcome.TgsOutcome.{TgsOutcome}
 use Rattle.tgs_exchange.specs.declared.outcome.TgsOutcome.TheVariants.{Refused, Issued, Resent, TooBig}
-use Rattle.kdc_core.specs.Account.{Account}
-use Rattle.kdc_core.specs.declared.account.Account.TheVariants.{NoRequest as NothingAsked, As, Tgs}
+use Rattle.kdc_core.specs.Audit.{AuditRecord}
+use Rattle.kdc_core.specs.declared.audit.AuditRecord.TheVariants.{NoRequest as NothingAsked, As, Tgs}
 use Rattle.request_log.specs.declared.kind.Kind.{Kind}
 use Rattle.request_log.specs.declared.kind.Kind.TheVariants.{NoRequest, Unanswered, AsTicket, AsTooBig, AsRefused}
 use Rattle.request_log.specs.declared.kind.Kind.TheVariants.{TgsTicket, TgsTooBig, TgsAgain, TgsRefused}
@@ -21,8 +21,8 @@ tgs_kind (Issued granted) = TgsTicket
 tgs_kind (Resent bears) = TgsAgain bears
 tgs_kind TooBig = TgsTooBig
 
--- by the account of the request, or by that memory ran out
-abbrev pub kind_of : Option Account → Kind
+-- by the audit record of the request, or by that memory ran out
+abbrev pub kind_of : Option AuditRecord → Kind
 kind_of None = Unanswered
 kind_of (Some NothingAsked) = NoRequest
 kind_of (Some (As client service outcome)) = as_kind outcome

@@ -7,7 +7,7 @@ ghost use Rattle.request_log.specs.Kinds.{has_reply};
 use crate::asker::Transport;
 use crate::kind::Kind;
 use crate::places::{KIND_COUNT, place};
-use kdc_core::Account;
+use kdc_core::AuditRecord;
 
 /// How many requests of each kind came, and how many replies were sent over each transport, and not sent. A count stops
 /// at the greatest `u64`.
@@ -29,23 +29,23 @@ impl Counts {
         }
     }
 
-    /// Counts a request that came over a transport, with its account and whether its reply was sent. There is no
-    /// account if memory ran out.
-    pub fn count(&mut self, transport: Transport, account: Option<&Account>, is_sent: bool)
+    /// Counts a request that came over a transport, with its audit record and whether its reply was sent. There is no
+    /// audit record if memory ran out.
+    pub fn count(&mut self, transport: Transport, audit: Option<&AuditRecord>, is_sent: bool)
         // Each count grows by one if it is that of the request, and stays as it is if not.
         ensures one { CountsOne self.old (record {
           transport = transport;
-          account = option_copied account.entry;
+          audit = option_copied audit.entry;
           is_sent = is_sent;
         }) self.new }
         // So the counts are those of all requests that were counted.
         ensures all { (asked : List Asked) → AreCountsOf self.old asked → AreCountsOf self.new (asked ++ record {
           transport = transport;
-          account = option_copied account.entry;
+          audit = option_copied audit.entry;
           is_sent = is_sent;
         } ∷ []) }
     {
-        let kind = Kind::of(account);
+        let kind = Kind::of(audit);
         add_one(&mut self.requests, place(kind));
         if has_reply(kind) {
             add_one(&mut self.replies, reply_place(transport, is_sent));

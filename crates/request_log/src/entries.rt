@@ -1,6 +1,6 @@
 //! The entries of the log.
 ghost use Rattle.std.specs.Prelude.{◌≡◌, ◌++◌, ◌∷◌, [], List, OnOk, option_copied};
-ghost use Rattle.request_log.specs.Entry.{account_fields, carrier, entry_fields, head_fields, names_fields};
+ghost use Rattle.request_log.specs.Entry.{audit_fields, carrier, entry_fields, head_fields, names_fields};
 ghost use Rattle.request_log.specs.Entry.{outcome_fields, sent_fields};
 ghost use Rattle.request_log.specs.Field.{Field, field, with_fields};
 ghost use Rattle.request_log.specs.declared.field.FieldName.TheVariants as names;
@@ -12,7 +12,7 @@ use crate::outcome::{put_as_outcome, put_tgs_outcome};
 use crate::peer::put_peer;
 use crate::times::put_date;
 use crate::values::USUAL_VALUE;
-use kdc_core::Account;
+use kdc_core::AuditRecord;
 use krb_fields::{Moment, Name};
 use std::alloc::{AllocError, Global};
 use std::marker::Model;
@@ -24,8 +24,8 @@ pub struct Entry<'a> {
     pub at: Moment,
     /// Who sent it.
     pub asker: Asker,
-    /// What the KDC made of it. There is no account if memory ran out.
-    pub account: Option<&'a Account>,
+    /// What the KDC made of it. There is no audit record if memory ran out.
+    pub audit: Option<&'a AuditRecord>,
     /// Whether its reply was sent.
     pub is_sent: bool,
 }
@@ -39,7 +39,7 @@ impl<'a> Model for Entry<'a> {
     ghost view = { λ entry. record {
       at = entry.at;
       asker = entry.asker;
-      account = option_copied entry.account;
+      audit = option_copied entry.audit;
       is_sent = entry.is_sent;
     } };
 }
@@ -67,7 +67,7 @@ fn put_outcome<W: FieldWriter>(
     ensures { (fields : List Field) → W.Holds line.old fields
         → OnOk result (W.Holds line.new (with_fields fields (outcome_fields entry.now))) }
 {
-    put_account(line, alloc, value, entry.account)?;
+    put_audit(line, alloc, value, entry.audit)?;
     put_sent(line, alloc, entry.is_sent)
 }
 
@@ -109,20 +109,20 @@ fn put_transport<W: FieldWriter>(
     }
 }
 
-fn put_account<W: FieldWriter>(
+fn put_audit<W: FieldWriter>(
     line: &mut W,
     alloc: Global,
     value: &mut Vec<u8>,
-    account: Option<&Account>,
+    audit: Option<&AuditRecord>,
 ) -> Result<(), AllocError>
     ensures { (fields : List Field) → W.Holds line.old fields
-        → OnOk result (W.Holds line.new (with_fields fields (account_fields (option_copied account.entry)))) }
+        → OnOk result (W.Holds line.new (with_fields fields (audit_fields (option_copied audit.entry)))) }
 {
-    match account {
+    match audit {
         None => line.put_printable(alloc, FieldName::Outcome, b"unanswered"),
-        Some(Account::NoRequest) => line.put_printable(alloc, FieldName::Outcome, b"none"),
+        Some(AuditRecord::NoRequest) => line.put_printable(alloc, FieldName::Outcome, b"none"),
         Some(
-            Account::As {
+            AuditRecord::As {
                 client,
                 service,
                 outcome,
@@ -132,7 +132,7 @@ fn put_account<W: FieldWriter>(
             put_as_outcome(line, alloc, value, outcome)
         }
         Some(
-            Account::Tgs {
+            AuditRecord::Tgs {
                 client,
                 service,
                 outcome,

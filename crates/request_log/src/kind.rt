@@ -2,7 +2,7 @@
 ghost use Rattle.std.specs.Prelude.{◌≡◌, option_copied};
 ghost use Rattle.request_log.specs.Kinds.{as_kind, kind_of, tgs_kind};
 
-use kdc_core::{Account, AsOutcome, AsRefusal, Bears, TgsOutcome, TgsRefusal};
+use kdc_core::{AsOutcome, AsRefusal, AuditRecord, Bears, TgsOutcome, TgsRefusal};
 
 /// What a request was, and what came of it.
 #[derive(Clone, Copy, PartialEq, Eq)]
@@ -28,15 +28,15 @@ pub enum Kind {
 }
 
 impl Kind {
-    /// Returns the kind of the request with this account. There is no account if memory ran out.
-    pub fn of(account: Option<&Account>) -> Kind
-        ensures { result ≡ kind_of (option_copied account.entry) }
+    /// Returns the kind of the request with this audit record. There is no audit record if memory ran out.
+    pub fn of(audit: Option<&AuditRecord>) -> Kind
+        ensures { result ≡ kind_of (option_copied audit.entry) }
     {
-        match account {
+        match audit {
             None => Kind::Unanswered,
-            Some(Account::NoRequest) => Kind::NoRequest,
-            Some(Account::As { outcome, .. }) => as_kind(outcome),
-            Some(Account::Tgs { outcome, .. }) => tgs_kind(outcome),
+            Some(AuditRecord::NoRequest) => Kind::NoRequest,
+            Some(AuditRecord::As { outcome, .. }) => as_kind(outcome),
+            Some(AuditRecord::Tgs { outcome, .. }) => tgs_kind(outcome),
         }
     }
 }

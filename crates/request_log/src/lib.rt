@@ -1,21 +1,21 @@
-//! The KDC's request log: turns the account of a request into a line, and counts requests, as text for Prometheus.
+//! The KDC's request log: turns the audit record of a request into a line, and counts requests, as text for Prometheus.
 //!
 //! ```
 //! let asker = Asker { transport: Transport::Udp, peer: Some(peer) };
-//! let account = answer.account.as_ref(); // of `Kdc::answer` in `kdc_core`
-//! let line = text_line(alloc, &Entry { at, asker, account, is_sent: true })?;
+//! let audit record = answer.audit record.as_ref(); // of `Kdc::answer` in `kdc_core`
+//! let line = text_line(alloc, &Entry { at, asker, audit record, is_sent: true })?;
 //!
 //! let mut counts = Counts::new();
-//! counts.count(Transport::Udp, account, true);
+//! counts.count(Transport::Udp, audit record, true);
 //! counts.push_text(&mut text)?;
 //! ```
 //!
-//! A log entry is a list of fields, built from the account and the sender. A line is those fields as text or as one
-//! JSON object: each field is written straight into it. So it shows what the KDC decided, and nothing parses the
+//! A log entry is a list of fields, built from the audit record and the sender. A line is those fields as text or as
+//! one JSON object: each field is written straight into it. So it shows what the KDC decided, and nothing parses the
 //! request or the reply again.
 //!
-//! Each request is of one kind, by its account: the exchange, the outcome, and the rule that refused it. A count of a
-//! kind is the number of requests of that kind, up to the greatest `u64`. Counting allocates nothing.
+//! Each request is of one kind, by its audit record: the exchange, the outcome, and the rule that refused it. A count
+//! of a kind is the number of requests of that kind, up to the greatest `u64`. Counting allocates nothing.
 //!
 //! It writes no file: `kdc_reports` writes the lines, and adds a server's other numbers to the counts.
 #![tactic(auto)]

@@ -1,4 +1,5 @@
 pub mod Dates
+pub mod LineWords
 pub mod Numbers
 pub mod Settings
 pub mod Spans

@@ -1,6 +1,11 @@
 //! Splits a line into words, as a shell does.
+ghost use Rattle.std.specs.Prelude.{◌≡◌, IfOk, OnOk, Some, chars, map, string_bytes};
+ghost use Rattle.text_fields.specs.LineWords.{after_between, after_double, after_double_escape, after_letter};
+ghost use Rattle.text_fields.specs.LineWords.{after_letters, after_plain, after_single, begun, ended, is_space, is_special};
+ghost use Rattle.text_fields.specs.LineWords.{reading, with_letter, with_word, words_of_line};
 
 use std::alloc::{AllocError, Global};
+use std::mem;
 
 // What is wrong with a line that can't be split.
 
@@ -26,111 +31,190 @@ enum State {
     InComment,
 }
 
+/// A line that was read up to a character.
+#[derive(Drop)]
+struct LineReader {
+    alloc: Global,
+    /// Those that have ended.
+    words: Vec<String>,
+    /// The one that has not.
+    word: String,
+    state: State,
+}
+
 /// Returns the words of a line: none if it is empty or a comment. Spaces and tabs separate words; `'` and `"` enclose
 /// characters of a word, and `\` stands before one; `#` at the start of a word begins a comment. The inner `Err` says
 /// what is wrong with the line: it is not UTF-8, or ends in a backslash or within quotation marks.
 pub fn line_words(
     alloc: Global,
     line: &[u8],
-) -> Result<Result<Vec<String>, &'static str>, AllocError> {
+) -> Result<Result<Vec<String>, &'static str>, AllocError>
+    ensures words { IfOk result (λ read. IfOk read (λ words. words_of_line line.now ≡ Some (map string_bytes words.items))) }
+{
     let Ok(text) = std::str::from_utf8(line) else {
         return Ok(Err(NOT_UTF8));
     };
-    let mut words = Vec::new(alloc);
-    let mut state = State::Between;
-    for letter in text.chars() {
-        state = read_letter(alloc, &mut words, state, letter)?;
-    }
-    match state {
-        State::Between | State::InWord | State::InComment => Ok(Ok(words)),
-        State::InSingle | State::InDouble => Ok(Err(OPEN_QUOTE)),
-        State::Escaped | State::EscapedInDouble => Ok(Err(OPEN_ESCAPE)),
-    }
+    let letters = letters_of(alloc, text)?;
+    let mut reader = LineReader::new(alloc);
+    reader.read_all(&letters)?;
+    reader.end()
 }
 
-/// Reads a character of a line. Returns what the next one is read as.
-fn read_letter(
-    alloc: Global,
-    words: &mut Vec<String>,
-    state: State,
-    letter: char,
-) -> Result<State, AllocError> {
-    match state {
-        State::Between => begin_word(alloc, words, letter),
-        State::InWord => read_plain(words, letter),
-        State::InSingle => read_single(words, letter),
-        State::InDouble => read_double(words, letter),
-        State::Escaped => {
-            push_letter(words, letter)?;
-            Ok(State::InWord)
+/// Returns the characters of a text.
+fn letters_of(alloc: Global, text: &str) -> Result<Vec<char>, AllocError>
+    ensures { IfOk result (λ letters. letters.items ≡ chars text.now) }
+{
+    text.chars().collect(alloc)
+}
+
+impl LineReader {
+    fn new(alloc: Global) -> LineReader
+        ensures { reading result ≡ begun }
+    {
+        LineReader {
+            alloc,
+            words: Vec::new(alloc),
+            word: String::new(alloc),
+            state: State::Between,
         }
-        State::EscapedInDouble => {
-            if !matches!(letter, '"' | '\\' | '$' | '`') {
-                push_letter(words, '\\')?;
+    }
+
+    fn read_all(&mut self, letters: &[char]) -> Result<(), AllocError>
+        ensures { OnOk result (reading self.new ≡ after_letters letters.now (reading self.old)) }
+    {
+        for letter in letters {
+            self.read(*letter)?;
+        }
+        Ok(())
+    }
+
+    /// Reads a character.
+    fn read(&mut self, letter: char) -> Result<(), AllocError>
+        ensures { OnOk result (reading self.new ≡ after_letter letter (reading self.old)) }
+    {
+        match self.state {
+            State::Between => self.read_between(letter),
+            State::InWord => self.read_plain(letter),
+            State::InSingle => self.read_single(letter),
+            State::InDouble => self.read_double(letter),
+            State::Escaped => self.push(letter, State::InWord),
+            State::EscapedInDouble => self.read_escaped(letter),
+            State::InComment => Ok(()),
+        }
+    }
+
+    /// Reads a character behind a space: it begins a word or a comment, or is a space itself.
+    fn read_between(&mut self, letter: char) -> Result<(), AllocError>
+        ensures { OnOk result (reading self.new ≡ after_between letter (reading self.old)) }
+    {
+        if is_space(letter) {
+            return Ok(());
+        }
+        if letter == '#' {
+            self.state = State::InComment;
+            return Ok(());
+        }
+        self.read_plain(letter)
+    }
+
+    /// Reads a character of a word outside quotation marks.
+    fn read_plain(&mut self, letter: char) -> Result<(), AllocError>
+        ensures { OnOk result (reading self.new ≡ after_plain letter (reading self.old)) }
+    {
+        if is_space(letter) {
+            return self.end_word();
+        }
+        match letter {
+            '\'' => self.state = State::InSingle,
+            '"' => self.state = State::InDouble,
+            '\\' => self.state = State::Escaped,
+            _ => return self.push(letter, State::InWord),
+        }
+        Ok(())
+    }
+
+    fn read_single(&mut self, letter: char) -> Result<(), AllocError>
+        ensures { OnOk result (reading self.new ≡ after_single letter (reading self.old)) }
+    {
+        if letter == '\'' {
+            self.state = State::InWord;
+            return Ok(());
+        }
+        self.push(letter, State::InSingle)
+    }
+
+    fn read_double(&mut self, letter: char) -> Result<(), AllocError>
+        ensures { OnOk result (reading self.new ≡ after_double letter (reading self.old)) }
+    {
+        match letter {
+            '"' => self.state = State::InWord,
+            '\\' => self.state = State::EscapedInDouble,
+            _ => return self.push(letter, State::InDouble),
+        }
+        Ok(())
+    }
+
+    /// Reads a character behind a `\` between `"`.
+    fn read_escaped(&mut self, letter: char) -> Result<(), AllocError>
+        ensures { OnOk result (reading self.new ≡ after_double_escape letter (reading self.old)) }
+    {
+        if !is_special(letter) {
+            self.push('\\', State::InDouble)?;
+        }
+        self.push(letter, State::InDouble)
+    }
+
+    /// Adds a character to the word.
+    fn push(&mut self, letter: char, state: State) -> Result<(), AllocError>
+        ensures { OnOk result (reading self.new ≡ with_letter letter state (reading self.old)) }
+    {
+        self.word.push(letter)?;
+        self.state = state;
+        Ok(())
+    }
+
+    /// Ends the word.
+    fn end_word(&mut self) -> Result<(), AllocError>
+        ensures { OnOk result (reading self.new ≡ with_word (reading self.old)) }
+    {
+        let word = mem::replace(&mut self.word, String::new(self.alloc));
+        self.words.push(word)?;
+        self.state = State::Between;
+        Ok(())
+    }
+
+    /// Returns the words of the whole line. The inner `Err` says why it can't end here.
+    fn end(self) -> Result<Result<Vec<String>, &'static str>, AllocError>
+        ensures { IfOk result (λ read. IfOk read (λ words. ended (reading self) ≡ Some (map string_bytes words.items))) }
+    {
+        let LineReader {
+            alloc: _,
+            mut words,
+            word,
+            state,
+        } = self;
+        match state {
+            State::Between | State::InComment => Ok(Ok(words)),
+            State::InWord => {
+                words.push(word)?;
+                Ok(Ok(words))
             }
-            push_letter(words, letter)?;
-            Ok(State::InDouble)
-        }
-        State::InComment => Ok(State::InComment),
-    }
-}
-
-/// Reads a character behind a space: it begins a word or a comment, or is a space itself.
-fn begin_word(alloc: Global, words: &mut Vec<String>, letter: char) -> Result<State, AllocError> {
-    if is_space(letter) {
-        return Ok(State::Between);
-    }
-    if letter == '#' {
-        return Ok(State::InComment);
-    }
-    words.push(String::new(alloc))?;
-    read_plain(words, letter)
-}
-
-/// Reads a character of a word outside quotation marks.
-fn read_plain(words: &mut Vec<String>, letter: char) -> Result<State, AllocError> {
-    if is_space(letter) {
-        return Ok(State::Between);
-    }
-    match letter {
-        '\'' => Ok(State::InSingle),
-        '"' => Ok(State::InDouble),
-        '\\' => Ok(State::Escaped),
-        _ => {
-            push_letter(words, letter)?;
-            Ok(State::InWord)
+            State::InSingle | State::InDouble => Ok(Err(OPEN_QUOTE)),
+            State::Escaped | State::EscapedInDouble => Ok(Err(OPEN_ESCAPE)),
         }
     }
 }
 
-fn read_single(words: &mut Vec<String>, letter: char) -> Result<State, AllocError> {
-    if letter == '\'' {
-        return Ok(State::InWord);
-    }
-    push_letter(words, letter)?;
-    Ok(State::InSingle)
-}
-
-fn read_double(words: &mut Vec<String>, letter: char) -> Result<State, AllocError> {
-    match letter {
-        '"' => Ok(State::InWord),
-        '\\' => Ok(State::EscapedInDouble),
-        _ => {
-            push_letter(words, letter)?;
-            Ok(State::InDouble)
-        }
-    }
-}
-
-/// Adds a character to the last word.
-fn push_letter(words: &mut Vec<String>, letter: char) -> Result<(), AllocError> {
-    match words.last_mut() {
-        Some(word) => word.push(letter),
-        None => Ok(()),
-    }
+/// Checks whether a `\` between `"` stands before this character, and not for itself.
+fn is_special(letter: char) -> bool
+    ensures { result ≡ is_special letter }
+{
+    matches!(letter, '"' | '\\' | '$' | '`')
 }
 
 /// Checks whether a character separates words. A line of a text from another system may end in a carriage return.
-fn is_space(letter: char) -> bool {
+fn is_space(letter: char) -> bool
+    ensures { result ≡ is_space letter }
+{
     matches!(letter, ' ' | '\t' | '\r')
 }

@@ -30,12 +30,12 @@ grant_by v random body p admission = record {
 }
 
 -- the key that the client chose, else the session key of the presented ticket
-abbrev pub reply_key_by : Key → Option Key → PartKey
-reply_key_by session (Some subkey) = record { key = subkey; usage = TgsRepEncPartSubkey; kvno = None }
-reply_key_by session None = record { key = session; usage = TgsRepEncPartSessionKey; kvno = None }
+abbrev pub subkey_or_session_key : Key → Option Key → PartKey
+subkey_or_session_key session (Some subkey) = record { key = subkey; usage = TgsRepEncPartSubkey; kvno = None }
+subkey_or_session_key session None = record { key = session; usage = TgsRepEncPartSessionKey; kvno = None }
 
 abbrev pub reply_key_of : Presented → PartKey
-reply_key_of p = reply_key_by p.session_key p.subkey
+reply_key_of p = subkey_or_session_key p.session_key p.subkey
 
 abbrev pub tgs_rep : TgsView → Moment → List ℕ → ReqBody → Presented → Admission → KdcRep TGS_REP
 tgs_rep v at random body p admission =

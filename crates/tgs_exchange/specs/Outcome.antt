@@ -12,7 +12,7 @@ use Rattle.krb_types.specs.ReqBody.{ReqBody}
 use Rattle.kdc_replies.specs.ErrorReply.{too_big}
 use Rattle.kdc_replies.specs.Incoming.{Incoming}
 use Rattle.kdc_replies.specs.Issue.{Issue}
-use Rattle.kdc_replies.specs.Accounts.{IsErrorWith, WasIssuedTo}
+use Rattle.kdc_replies.specs.Audits.{IsErrorWith, WasIssuedTo}
 use Rattle.kdc_replies.specs.declared.granted.Granted.{Granted}
 use Rattle.ticket_times.specs.Flags.{tgs_flags}
 use Rattle.replay.specs.declared.keep.Bears.{Bears}

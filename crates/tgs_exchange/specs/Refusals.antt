@@ -30,7 +30,7 @@ use Rattle.replay.specs.declared.verdict.Verdict.{Verdict}
 use Rattle.replay.specs.declared.verdict.Verdict.TheVariants.{Fresh, Skew, Repeat, Full as NoPlace}
 use Rattle.encrypted_data.specs.Keys.{key_of}
 use Rattle.tgs_opening.specs.Authenticators.{is_modified, is_other_type}
-use Rattle.tgs_opening.specs.Tickets.{ap_req_in, held_key, tgs_data}
+use Rattle.tgs_opening.specs.Tickets.{value_ap_req, held_key, tgs_data}
 use Rattle.tgs_opening.specs.View.{TicketView}
 use Rattle.tgs_opening.specs.declared.refusal.TgsRefusal.{TgsRefusal}
 use Rattle.tgs_opening.specs.declared.refusal.TgsRefusal.TheVariants as tgs
@@ -187,10 +187,10 @@ abbrev pub verdict_for : TgsView → ℤ → Option Proved → Verdict Kept
 verdict_for v now (Some p) = verdict v.cache now (p.authenticator.ctime, p.authenticator.cusec) v.limits.remembered
 verdict_for v now None = Fresh
 
-abbrev pub times_for : TgsView → ℤ → Received → Option EncTicketPart → Option Times
-times_for v now message (Some part) =
+abbrev pub asked_times : TgsView → ℤ → Received → Option EncTicketPart → Option Times
+asked_times v now message (Some part) =
     times_of v.limits now (ticket_terms part) message.body.value (terms v message.body.value)
-times_for v now message None = None
+asked_times v now message None = None
 
 abbrev pub facts_by : TgsView → ℤ → Received → Option Shown → Option EncTicketPart → Option Key → Option Proved → TgsFacts
 facts_by v now message shown part key proved = record {
@@ -202,20 +202,20 @@ facts_by v now message shown part key proved = record {
   proved = proved;
   verdict = verdict_for v now proved;
   found = terms v message.body.value;
-  times = times_for v now message part;
+  times = asked_times v now message part;
 }
 
 abbrev pub facts_shown : TgsView → ℤ → Received → Option Shown → Option EncTicketPart → Option Key → TgsFacts
 facts_shown v now message shown part key = facts_by v now message shown part key (proved_by shown part key)
 
 -- the facts, given the AP-REQ
-abbrev pub facts_of : TicketView → TgsView → ℤ → Received → Option ApReq → TgsFacts
-facts_of o v now message ap =
+abbrev pub facts_with_ap_req : TicketView → TgsView → ℤ → Received → Option ApReq → TgsFacts
+facts_with_ap_req o v now message ap =
     let shown = shown_in o message ap in
     facts_shown v now message shown (part_shown shown) (key_shown (part_shown shown))
 
 abbrev pub facts : TicketView → TgsView → ℤ → Received → TgsFacts
-facts o v now message = facts_of o v now message (ap_req_in (tgs_data message))
+facts o v now message = facts_with_ap_req o v now message (value_ap_req (tgs_data message))
 
 -- ---- the rule that decides
 

@@ -25,7 +25,7 @@ use Rattle.encrypted_data.specs.Keys.{key_of}
 use Rattle.tgs_opening.specs.Authenticators.{authenticator_rules, subkey_of}
 use Rattle.tgs_opening.specs.Opening.{authenticated, by_authenticated, by_ticket, opened_ticket, presented, presented_as}
 use Rattle.tgs_opening.specs.Refusal.{by_ap, place_of}
-use Rattle.tgs_opening.specs.Tickets.{ap_req_in, ap_req_of, held_key, request_rules, shown_ticket, tgs_data}
+use Rattle.tgs_opening.specs.Tickets.{value_ap_req, ap_req_of, held_key, request_rules, shown_ticket, tgs_data}
 use Rattle.tgs_opening.specs.View.{TicketView}
 use Rattle.tgs_opening.specs.declared.opened.OpenedTicket.{OpenedTicket}
 use Rattle.tgs_opening.specs.declared.presented.Presented.{Presented}
@@ -35,7 +35,8 @@ use Rattle.tgs_opening.specs.declared.rejection.Rejection.{Rejection}
 use Rattle.ticket_times.specs.declared.times.Times.{Times}
 use Rattle.ap_req.specs.Validity.{ticket_terms}
 use Rattle.tgs_exchange.specs.Decision.{by_admission, by_client, by_verdict, decision, verdict_on}
-use Rattle.tgs_exchange.specs.Refusals.{Proved, Shown, TgsFacts, facts_by, facts_of, facts_shown, key_shown, part_shown}
+use Rattle.tgs_exchange.specs.Refusals.{Proved, Shown, TgsFacts, facts_by, facts_with_ap_req, facts_shown, key_shown}
+use Rattle.tgs_exchange.specs.Refusals.{part_shown}
 use Rattle.tgs_exchange.specs.Refusals.{proved_by, refusals, ruling, shown_in}
 use Rattle.tgs_exchange.specs.Rules.{admitted, client_rules, rules_by}
 use Rattle.tgs_exchange.specs.Terms.{admission_of, terms, times_of}
@@ -284,14 +285,15 @@ module _ (v : TgsView) (now : ℤ) (message : Received) where
     abbrev go_ap : ApReq → Option (Decision Kept)
     go_ap ap = by_result of_ap (shown_by (held_key o message.body.value ap.ticket) ap) (go_part ap)
 
-    ap_stage : (found : Option ApReq) → first_holding (refusals v (facts_of o v now message found))
+    ap_stage : (found : Option ApReq) → first_holding (refusals v (facts_with_ap_req o v now message found))
         ≡ by_result Refuses (decided (request_rules message) found tgs.MalformedApReq) go_ap
     ap_stage (Some ap) =
         stage_some Refuses (request_rules message) tgs.MalformedApReq
-        (from_ticket (facts_of o v now message (Some ap))) go_ap ap
+        (from_ticket (facts_with_ap_req o v now message (Some ap))) go_ap ap
         (part_stage ap (held_key o message.body.value ap.ticket) (part_of (held_key o message.body.value ap.ticket) ap.ticket.enc_part))
     ap_stage None =
-        stage_none Refuses (request_rules message) tgs.MalformedApReq (from_ticket (facts_of o v now message None)) go_ap
+        stage_none Refuses (request_rules message) tgs.MalformedApReq
+        (from_ticket (facts_with_ap_req o v now message None)) go_ap
 
     -- ---- the code's stages find the same
 
@@ -338,4 +340,4 @@ module _ (v : TgsView) (now : ℤ) (message : Received) where
 
     -- so the list decides as the stages do
     pub ruled : ruling o v now message ≡ by_presented v now message (presented o message)
-    ruled = ap_stage (ap_req_in (tgs_data message)) ∙ sym (ap_given (ap_req_of message))
+    ruled = ap_stage (value_ap_req (tgs_data message)) ∙ sym (ap_given (ap_req_of message))

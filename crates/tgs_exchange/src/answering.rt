@@ -21,7 +21,7 @@ ghost use Rattle.tgs_exchange.specs.declared.outcome.TgsOutcome.TheVariants as o
 use crate::deciding::decision;
 use crate::decision::Decision;
 use crate::errors::tgs_error;
-use crate::issuing::{granted_of, tgs_rep};
+use crate::issuing::{granted_by, tgs_rep};
 use crate::outcome::TgsOutcome;
 use crate::terms::Admission;
 use crate::view::TgsView;
@@ -299,7 +299,7 @@ fn issued(
     let kept = kept_of(alloc, view, incoming.octets, Bears::Ticket, &reply)?;
     Ok(TgsAnswer {
         reply,
-        outcome: TgsOutcome::Issued(granted_of(body, presented, admission)),
+        outcome: TgsOutcome::Issued(granted_by(body, presented, admission)),
         kept: Some(kept),
     })
 }

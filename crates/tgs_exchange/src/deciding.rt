@@ -8,13 +8,13 @@ ghost use Rattle.tgs_exchange.specs.Rules.{admitted, client_rules};
 
 use crate::decision::Decision;
 use crate::rules::{admitted, client_rules};
-use crate::terms::{Admission, terms_for};
+use crate::terms::{Admission, find_terms};
 use crate::view::TgsView;
 use ap_req::ApRefusal;
 use krb_fields::Moment;
 use krb_types::ReqBodyRef;
-use rule_lists::first_holding;
 use replay::{Kept, Verdict};
+use rule_lists::first_holding;
 use std::alloc::{AllocError, Global};
 use tgs_opening::{Presented, TgsRefusal};
 
@@ -101,7 +101,7 @@ fn fresh<'v>(
     ensures { IfOk result (λ decided.
         decision_copied decided ≡ by_admission (admitted view.now at.sec body.now presented.now)) }
 {
-    let terms = terms_for(alloc, view, body)?;
+    let terms = find_terms(alloc, view, body)?;
     Ok(by_admission(admitted(view, at, body, presented, terms)))
 }
 

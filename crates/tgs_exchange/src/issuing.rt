@@ -14,13 +14,13 @@ ghost use Rattle.ap_req.specs.Validity.{ticket_terms};
 use crate::terms::Admission;
 use crate::view::TgsView;
 use ap_req::ticket_terms;
+use encrypted_data::PartKey;
 use enctypes::KeyUsage;
 use kdc_replies::{Grant, Granted, Incoming, ReplyInputs, session_key, ticket_reply};
 use krb_elements::{KerberosStringRef, Lent, Seq};
 use krb_fields::numbers::{ENC_TGS_REP_PART, TGS_REP};
 use krb_fields::{Flags, Typed};
 use krb_types::ReqBodyRef;
-use encrypted_data::PartKey;
 use std::alloc::{AllocError, Global};
 use tgs_opening::Presented;
 use ticket_times::tgs_flags;
@@ -54,7 +54,7 @@ pub fn tgs_rep(
         random: incoming.random,
         ready: incoming.ready,
     };
-    let grant = grant_of(view, incoming.random, body, presented, admission);
+    let grant = grant_by(view, incoming.random, body, presented, admission);
     ticket_reply::<TGS_REP, ENC_TGS_REP_PART>(
         alloc,
         &grant,
@@ -65,7 +65,7 @@ pub fn tgs_rep(
     )
 }
 
-fn grant_of<'g>(
+fn grant_by<'g>(
     view: &TgsView<'g>,
     random: &[u8; 64],
     body: &ReqBodyRef<'_>,
@@ -114,8 +114,8 @@ fn flags_of(body: &ReqBodyRef<'_>, presented: &Presented, admission: &Admission)
     )
 }
 
-/// Returns the terms that the ticket is issued with, for the account of the request.
-pub fn granted_of(body: &ReqBodyRef<'_>, presented: &Presented, admission: &Admission) -> Granted
+/// Returns the terms that the ticket is issued with, for the audit record of the request.
+pub fn granted_by(body: &ReqBodyRef<'_>, presented: &Presented, admission: &Admission) -> Granted
     ensures { result ≡ granted_by body.now presented.now admission.now }
 {
     let Admission { terms, times } = admission;

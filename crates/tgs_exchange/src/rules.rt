@@ -13,8 +13,8 @@ use ap_req::{ApRefusal, has_ended, has_not_started, ticket_terms};
 use kdc_replies::{denies_tickets, is_disabled, is_expired};
 use krb_fields::{KdcOption, Moment, Name, Second, TicketFlag};
 use krb_types::ReqBodyRef;
-use rule_lists::decide;
 use principal_rows::Row;
+use rule_lists::decide;
 use tgs_opening::{Presented, TgsRefusal, is_named};
 use ticket_times::{TicketTerms, Times, asks, keeps_ticket, starts_too_late};
 

@@ -29,7 +29,7 @@ pub struct Admission {
 }
 
 /// Returns the terms of a request; `None` if the name or a row is absent, or there is no common type.
-pub fn terms_for(
+pub fn find_terms(
     alloc: Global,
     view: &TgsView<'_>,
     body: &ReqBodyRef<'_>,

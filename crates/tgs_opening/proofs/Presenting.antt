@@ -13,7 +13,7 @@ use Rattle.ap_req.specs.Authenticators.{authenticator_of, session_key_of}
 use Rattle.tgs_opening.specs.Authenticators.{subkey_of}
 use Rattle.tgs_opening.specs.Opening.{authenticated}
 use Rattle.tgs_opening.specs.PartLaws.{AreFew, few_data}
-use Rattle.tgs_opening.specs.Tickets.{ap_req_in, ap_req_of, request_rules, tgs_data}
+use Rattle.tgs_opening.specs.Tickets.{value_ap_req, ap_req_of, request_rules, tgs_data}
 use Rattle.tgs_opening.specs.View.{TicketView}
 use Rattle.tgs_opening.specs.declared.opened.OpenedTicket.{OpenedTicket}
 use Rattle.tgs_opening.specs.declared.refusal.TgsRefusal.{TgsRefusal}
@@ -26,9 +26,9 @@ cipher_short : (message : Received) (ap : ApReq) → ap_req_of message ≡ Ok ap
     → length ap.ticket.enc_part.cipher < 2147483648
 cipher_short message ap read few short =
     at (tgs_data message)
-    (decided_found (request_rules message) (ap_req_in (tgs_data message)) MalformedApReq ap read) few short
+    (decided_found (request_rules message) (value_ap_req (tgs_data message)) MalformedApReq ap read) few short
   where
-    at : (o : Option (List ℕ)) → ap_req_in o ≡ Some ap → IfSome o (λ value. length value < 2147483648)
+    at : (o : Option (List ℕ)) → value_ap_req o ≡ Some ap → IfSome o (λ value. length value < 2147483648)
         → IfSome o (λ value. length ap.ticket.enc_part.cipher < length value)
         → length ap.ticket.enc_part.cipher < 2147483648
     at (Some value) e few short = omega (arith, few, short)

@@ -12,7 +12,7 @@ use Rattle.krb_types.specs.EncTicketPart.{EncTicketPart, enc_ticket_part}
 use Rattle.preauth.specs.Keys.{key_named}
 use Rattle.principal_rows.specs.declared.row.Row.{Row}
 use Rattle.encrypted_data.specs.Parts.{opened_as}
-use Rattle.tgs_opening.specs.Tickets.{ap_req_in, is_for_asked, is_for_tgs, tgs_data}
+use Rattle.tgs_opening.specs.Tickets.{value_ap_req, is_for_asked, is_for_tgs, tgs_data}
 use Rattle.tgs_opening.specs.View.{TicketView}
 
 -- The row is that of the service with this name, which is the ticket-granting service; or the requested one, whose row
@@ -26,7 +26,7 @@ IsServiceRow v body service row =
 -- version that the ticket names, decrypts it to this part.
 pub record IsShown (v : TicketView) (message : Received) (part : EncTicketPart) : Type 0 where
   pub ap : ApReq
-  pub presents : ap_req_in (tgs_data message) ≡ Some ap
+  pub presents : value_ap_req (tgs_data message) ≡ Some ap
   pub of_realm : pointwise nat_eq ap.ticket.realm v.realm ≡ true
   pub row : Row
   pub of_service : IsServiceRow v message.body.value ap.ticket.sname row

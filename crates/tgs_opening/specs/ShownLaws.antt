@@ -28,7 +28,8 @@ use Rattle.tgs_opening.specs.Opening.{opened_ticket, presented}
 use Rattle.tgs_opening.specs.OpeningLaws.{ticket_opened}
 use Rattle.tgs_opening.specs.Refusal.{by_ap}
 use Rattle.tgs_opening.specs.Shown.{IsServiceRow, IsShown}
-use Rattle.tgs_opening.specs.Tickets.{ap_req_in, ap_req_of, held_key, holder, if_service, is_for_asked, is_for_tgs, is_ours}
+use Rattle.tgs_opening.specs.Tickets.{value_ap_req, ap_req_of, held_key, holder, if_service, is_for_asked, is_for_tgs}
+use Rattle.tgs_opening.specs.Tickets.{is_ours}
 use Rattle.tgs_opening.specs.Tickets.{request_rules, row_of, shown_ticket, tgs_data}
 use Rattle.tgs_opening.specs.View.{TicketView}
 use Rattle.tgs_opening.specs.declared.opened.OpenedTicket.{OpenedTicket}
@@ -74,7 +75,7 @@ module _ (v : TicketView) (message : Received) where
   row_found service false false t a row e = absurd cc
 
   -- whose key was found
-  key_found : (ap : ApReq) (part : EncTicketPart) → ap_req_in (tgs_data message) ≡ Some ap
+  key_found : (ap : ApReq) (part : EncTicketPart) → value_ap_req (tgs_data message) ≡ Some ap
       → pointwise nat_eq ap.ticket.realm v.realm ≡ true → (found : Option Row)
       → holder v message.body.value ap.ticket ≡ found → (key : Option Key)
       → key_named found ap.ticket.enc_part.etype ap.ticket.enc_part.kvno ≡ key
@@ -105,7 +106,8 @@ module _ (v : TicketView) (message : Received) where
       let ours = and_parts (pointwise nat_eq ap.ticket.realm v.realm) _
       (is_true held.is_for_us (clear_of place_of NotForUs (ticket_rules held ap) clear)) in
       subst (λ (x : OpenedTicket). IsShown v message x.part) (ok_is {R = TgsRefusal} (record { ap = ap; part = part }) o made)
-      (key_found ap part (decided_found (request_rules message) (ap_req_in (tgs_data message)) MalformedApReq ap reads)
+      (key_found ap part (decided_found (request_rules message)
+      (value_ap_req (tgs_data message)) MalformedApReq ap reads)
       ours.0 (holder v message.body.value ap.ticket) refl held.key refl
       (decided_found (ticket_rules held ap) (part_of held ap.ticket.enc_part) TicketNotOpened part found))
 

@@ -42,9 +42,9 @@ use Rattle.tgs_opening.specs.declared.tickets.Addressee.TheVariants.{Tgs, AskedF
 abbrev pub tgs_data : Received → Option (List ℕ)
 tgs_data message = first_of PA_TGS_REQ message.padata
 
-abbrev pub ap_req_in : Option (List ℕ) → Option ApReq
-ap_req_in (Some value) = ok_of (whole ap_req.at value)
-ap_req_in None = None
+abbrev pub value_ap_req : Option (List ℕ) → Option ApReq
+value_ap_req (Some value) = ok_of (whole ap_req.at value)
+value_ap_req None = None
 
 abbrev pub request_rules : Received → List (Rule TgsRefusal)
 request_rules message =
@@ -55,7 +55,7 @@ request_rules message =
 
 -- the AP-REQ in the request (section 5.2.7.1)
 abbrev pub ap_req_of : Received → Result ApReq TgsRefusal
-ap_req_of message = decided (request_rules message) (ap_req_in (tgs_data message)) MalformedApReq
+ap_req_of message = decided (request_rules message) (value_ap_req (tgs_data message)) MalformedApReq
 
 -- ---- the service that the ticket is for
 

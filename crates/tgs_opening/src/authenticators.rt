@@ -7,11 +7,11 @@ ghost use Rattle.tgs_opening.specs.Authenticators.{authenticator_rules, is_modif
 
 use crate::refusal::TgsRefusal;
 use ap_req::{ApRefusal, is_mismatched, subkey_in};
+use encrypted_data::ReadyKeys;
 use enctypes::{Key, KeyUsage};
 use krb_fields::Typed;
 use krb_types::{Authenticator, EncTicketPart};
 use rule_lists::decide;
-use encrypted_data::ReadyKeys;
 
 /// Returns the subkey, after checking that the authenticator matches the ticket and the bytes of the request's body.
 pub fn subkey_of(

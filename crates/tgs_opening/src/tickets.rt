@@ -5,7 +5,7 @@ ghost use Rattle.rule_lists.specs.Optional.{holds_of};
 ghost use Rattle.krb_types.specs.EncTicketPart.{enc_ticket_part};
 ghost use Rattle.encrypted_data.specs.Parts.{IsSpelledWithin};
 ghost use Rattle.ap_req.specs.Tickets.{shown_ticket as shown};
-ghost use Rattle.tgs_opening.specs.Tickets.{addressee, ap_req_in, ap_req_of, held_by, held_key, holds_type};
+ghost use Rattle.tgs_opening.specs.Tickets.{addressee, value_ap_req, ap_req_of, held_by, held_key, holds_type};
 ghost use Rattle.tgs_opening.specs.Tickets.{is_for_asked, is_named, is_ours, request_rules, row_of, tgs_data};
 ghost use Rattle.tgs_opening.specs.Tickets.{if_service, ticket_key};
 
@@ -17,10 +17,10 @@ use krb_elements::OctetsRef;
 use krb_fields::numbers::{PA_TGS_REQ, PVNO, TGS_REQ};
 use krb_fields::{EncryptedDataRef, Name, NameRef};
 use krb_types::{ApReqRef, EncTicketPart, KdcReqRef, ReqBodyRef, TicketRef, read_ap_req};
-use rule_lists::{Attempt, decide};
 use preauth::{first_of, key_by, key_numbered};
 use principal_rows::{Row, Versions};
 use principals::names_tgs;
+use rule_lists::{Attempt, decide};
 use std::alloc::{AllocError, Global};
 use std::cmp::Ordering;
 use ticket_times::keeps_ticket;
@@ -44,7 +44,7 @@ pub fn ap_req_of<'a>(message: &KdcReqRef<'a>) -> Result<ApReqRef<'a>, TgsRefusal
 {
     let value = first_of(PA_TGS_REQ, message.padata.as_ref());
     let rules = request_rules(message, value.is_none());
-    decide(&rules, ap_req_in(value), TgsRefusal::MalformedApReq)
+    decide(&rules, value_ap_req(value), TgsRefusal::MalformedApReq)
 }
 
 fn request_rules(message: &KdcReqRef<'_>, lacks_value: bool) -> [(bool, TgsRefusal); 3]
@@ -62,8 +62,8 @@ fn request_rules(message: &KdcReqRef<'_>, lacks_value: bool) -> [(bool, TgsRefus
 }
 
 /// Reads the AP-REQ from the value of a PA-TGS-REQ.
-fn ap_req_in(value: Option<OctetsRef<'_>>) -> Option<ApReqRef<'_>>
-    ensures value { result ≡ ap_req_in value.entry }
+fn value_ap_req(value: Option<OctetsRef<'_>>) -> Option<ApReqRef<'_>>
+    ensures value { result ≡ value_ap_req value.entry }
     ensures short { IfSome result (λ ap.
         IfSome value.entry (λ octets. length ap.ticket.enc_part.cipher < length octets)) }
 {
@@ -81,14 +81,14 @@ pub fn shown_ticket(
     ensures within { IfOk result (λ found.
         IfOk found (λ part. IsSpelledWithin enc_ticket_part part ap.now.ticket.enc_part.cipher)) }
 {
-    let whom = addressee_of(alloc, view.realm, body, &ap.ticket.sname)?;
+    let whom = find_addressee(alloc, view.realm, body, &ap.ticket.sname)?;
     let is_ours = is_for_us(view, &ap.ticket, whom);
     let held = held_by(is_ours, row_of(view, whom), &ap.ticket.enc_part);
     ap_req::shown_ticket(alloc, Some(view.ready), &held, ap)
 }
 
 /// Returns the addressee of a ticket for this service.
-fn addressee_of(
+fn find_addressee(
     alloc: Global,
     realm: &[u8],
     body: &ReqBodyRef<'_>,

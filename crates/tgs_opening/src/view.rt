@@ -1,6 +1,6 @@
 //! What decrypting a ticket needs beside the request.
-use principal_rows::Row;
 use encrypted_data::ReadyKeys;
+use principal_rows::Row;
 use std::marker::Model;
 
 /// The rows whose keys may have encrypted the ticket that a TGS-REQ presents.

@@ -1,11 +1,11 @@
 //! Tests of encrypted values of messages (`encrypted_data`).
 use crate::cryptography::fixtures::ETYPES;
 use crate::expect::{same, shows};
+use encrypted_data::{ReadyKeys, open_part, seal_part};
 use enctypes::{Etype, Key, KeyUsage, seal};
 use krb_der::KTime;
 use krb_elements::Microseconds;
 use krb_types::PaEncTsEnc;
-use encrypted_data::{ReadyKeys, open_part, seal_part};
 use std::alloc::{AllocError, Global};
 use std::process::Abort;
 

@@ -1,6 +1,7 @@
 //! Tests of preauthentication with timestamps, and of the lockout (`preauth`).
 use crate::expect::{BEGIN, END, JUDGED, are, bytes, mark, same};
 use crate::realm::fixtures::{T, at};
+use encrypted_data::ReadyKeys;
 use enctypes::{Etype, Key};
 use krb_elements::{Octets, SeqRef, read};
 use krb_fields::{Moment, PaDataRef};
@@ -10,7 +11,6 @@ use preauth::{
 };
 use principal_rows::{KeyList, KeyListFault, Limits, Row};
 use replay::Failures;
-use encrypted_data::ReadyKeys;
 use std::alloc::Global;
 use std::process::Abort;
 

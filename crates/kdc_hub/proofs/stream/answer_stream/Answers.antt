@@ -81,42 +81,42 @@ pub returns-in_default-clause-drawn : goal.returns-in_default-clause-drawn
 returns-in_default-clause-drawn g c = IfErr-weaker c.refuse_length.result _ _ (λ f e. stopped_random _ _ _ _ _ _ _ c.loop-request.invariant _ e) c.refuse_length.ensures.draws
 
 pub returns-in-Ok-false-clause-keeps : goal.returns-in-Ok-false-clause-keeps
-returns-in-Ok-false-clause-keeps g c = c.answer_request.ensures.accounts ∙ c.loop-request.invariant.accounts
+returns-in-Ok-false-clause-keeps g c = c.answer_request.ensures.audits ∙ c.loop-request.invariant.audits
 
 pub returns-in-Err-answer_request-clause-keeps : goal.returns-in-Err-answer_request-clause-keeps
-returns-in-Err-answer_request-clause-keeps g c = c.answer_request.ensures.accounts ∙ c.loop-request.invariant.accounts
+returns-in-Err-answer_request-clause-keeps g c = c.answer_request.ensures.audits ∙ c.loop-request.invariant.audits
 
 pub returns-in-Ok-None-clause-keeps : goal.returns-in-Ok-None-clause-keeps
-returns-in-Ok-None-clause-keeps g c = c.loop-request.invariant.accounts
+returns-in-Ok-None-clause-keeps g c = c.loop-request.invariant.audits
 
 pub returns-in-Memory-clause-keeps : goal.returns-in-Memory-clause-keeps
-returns-in-Memory-clause-keeps g c = c.loop-request.invariant.accounts
+returns-in-Memory-clause-keeps g c = c.loop-request.invariant.audits
 
 pub returns-in_default-clause-keeps : goal.returns-in_default-clause-keeps
-returns-in_default-clause-keeps g c = c.loop-request.invariant.accounts
+returns-in_default-clause-keeps g c = c.loop-request.invariant.audits
 
-pub returns-in-Ok-false-clause-accounts : goal.returns-in-Ok-false-clause-accounts
-returns-in-Ok-false-clause-accounts g c =
+pub returns-in-Ok-false-clause-audits : goal.returns-in-Ok-false-clause-audits
+returns-in-Ok-false-clause-audits g c =
     let first = rw c.in-Ok-Some.field-0-is at c.in-Ok-Some.ensures.message in
     all_hold _ _ _ _ _ _ _ c.loop-request.invariant _ _ c.deref.result.now
     (first ∙ ap (λ l. message_then l (handed_out c.next.new.self)) (sym c.deref.ensures.value))
     c.in-Ok-false.ensures.action (sym c.in-Ok-false.field-0-test ∙ c.in-Ok-false.ensures.stays) c.in-Ok-false.ensures.holds
 
-pub returns-in-Ok-None-clause-accounts : goal.returns-in-Ok-None-clause-accounts
-returns-in-Ok-None-clause-accounts g c =
+pub returns-in-Ok-None-clause-audits : goal.returns-in-Ok-None-clause-audits
+returns-in-Ok-None-clause-audits g c =
     rest_holds _ _ _ _ _ _ _ c.loop-request.invariant _ _ (c.in-Ok-None.ensures.rest (ap Ok c.in-Ok-None.field-0-is)) _ [] (sym (append-nil _))
 
-pub returns-in-Err-answer_request-clause-accounts_done : goal.returns-in-Err-answer_request-clause-accounts_done
-returns-in-Err-answer_request-clause-accounts_done g c =
+pub returns-in-Err-answer_request-clause-audits_done : goal.returns-in-Err-answer_request-clause-audits_done
+returns-in-Err-answer_request-clause-audits_done g c =
     done_hold _ _ _ _ _ _ _ c.loop-request.invariant _ (ap (λ v. v.items) c.out_of_memory.ensures.done ∙ c.in-Err-answer_request.ensures.err.0)
 
-pub returns-in-Memory-clause-accounts_done : goal.returns-in-Memory-clause-accounts_done
-returns-in-Memory-clause-accounts_done g c = done_hold _ _ _ _ _ _ _ c.loop-request.invariant _ (ap (λ v. v.items) c.out_of_memory-in-Memory.ensures.done)
+pub returns-in-Memory-clause-audits_done : goal.returns-in-Memory-clause-audits_done
+returns-in-Memory-clause-audits_done g c = done_hold _ _ _ _ _ _ _ c.loop-request.invariant _ (ap (λ v. v.items) c.out_of_memory-in-Memory.ensures.done)
 
-pub returns-in_default-clause-accounts : goal.returns-in_default-clause-accounts
-returns-in_default-clause-accounts g c = IfOk-weaker c.refuse_length.result _ _
+pub returns-in_default-clause-audits : goal.returns-in_default-clause-audits
+returns-in_default-clause-audits g c = IfOk-weaker c.refuse_length.result _ _
     (λ s e. rest_holds _ _ _ _ _ _ _ c.loop-request.invariant _ _ (c.in-Err.ensures.fault c.in_default.not-Memory) s.actions.items _ e) c.refuse_length.ensures.actions
 
-pub returns-in_default-clause-accounts_done : goal.returns-in_default-clause-accounts_done
-returns-in_default-clause-accounts_done g c = IfErr-weaker c.refuse_length.result _ _
+pub returns-in_default-clause-audits_done : goal.returns-in_default-clause-audits_done
+returns-in_default-clause-audits_done g c = IfErr-weaker c.refuse_length.result _ _
     (λ f e. done_hold _ _ _ _ _ _ _ c.loop-request.invariant f.done.items e) c.refuse_length.ensures.done

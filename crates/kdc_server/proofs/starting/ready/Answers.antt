@@ -22,7 +22,7 @@ returns-clause-start g c =
       realm = c.in_ok-files.ensures.realm;
       floor = c.in_ok-files.ensures.floor;
       random = c.in_ok-hub.ensures.random ∙ ap seeded seed.is;
-      accounts = c.in_ok-hub.ensures.accounts;
+      audits = c.in_ok-hub.ensures.audits;
       connections = c.in_ok-hub.ensures.connections;
       count = c.len-row_count.ensures;
     }

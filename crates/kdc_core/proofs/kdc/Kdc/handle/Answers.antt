@@ -3,9 +3,9 @@ use Rattle.kdc_state.specs.State.{cache_of}
 use Rattle.kdc_state.specs.declared.state.State.{State}
 use Rattle.kdc_core.proofs.Promised.{after_either, if_answered, of_reply, on_error, on_reply}
 use Rattle.kdc_core.specs.AgreementLaws.{after_agrees, names_agree, view_agrees}
-use Rattle.kdc_core.specs.Answer.{IsReply, OneTicketTwoKeys, answer, answer_to}
+use Rattle.kdc_core.specs.Answer.{IsReply, OneTicketTwoKeys, answer, incoming_answer}
 use Rattle.kdc_core.specs.Answered.{asked}
-use Rattle.kdc_core.specs.Issued.{IsReplyOf, issued}
+use Rattle.kdc_core.specs.Issued.{IsTicketReply, issued}
 use Rattle.kdc_core.specs.Request.{request_of}
 use Rattle.kdc_core.specs.RequestLaws.{request_is}
 use Rattle.kdc_core.specs.RulingLaws.{is_ruled}
@@ -20,7 +20,7 @@ returns-clause-request c r = request_is c.args.request.now r (λ i. omega (arith
 pub returns-clause-reply : goal.returns-clause-reply
 returns-clause-reply c =
     let q = asked c.args.at c.args.random.now c.args.room c.args.request.now in
-    of_reply _ c.answer.result c.reply_alone.result (λ o. o ≡ (answer_to (view c.args.self.now q.octets) q).reply) c.reply_alone.ensures
+    of_reply _ c.answer.result c.reply_alone.result (λ o. o ≡ (incoming_answer (view c.args.self.now q.octets) q).reply) c.reply_alone.ensures
     (if_answered c.answer.result _ _ c.answer.ensures.answered (λ given a. a.reply))
 
 pub returns-clause-ruled : goal.returns-clause-ruled
@@ -41,7 +41,7 @@ returns-clause-keys c =
 pub returns-clause-issued : goal.returns-clause-issued
 returns-clause-issued c =
     let v = view c.args.self.now c.args.request.now in
-    of_reply _ c.answer.result c.reply_alone.result (λ o. IfSome (issued v c.args.at c.args.random.now (request_of c.args.request.now)) (λ issue. IsReplyOf issue o)) c.reply_alone.ensures
+    of_reply _ c.answer.result c.reply_alone.result (λ o. IfSome (issued v c.args.at c.args.random.now (request_of c.args.request.now)) (λ issue. IsTicketReply issue o)) c.reply_alone.ensures
     (if_answered c.answer.result _ _ c.answer.ensures.answered (λ given a. a.issued))
 
 pub returns-clause-standing : goal.returns-clause-standing

@@ -1,5 +1,5 @@
 use Rattle.std.proofs.Common.{refl, sym, ap, length, ◌∙◌}
-use Rattle.kdc_hub.proofs.Accounting.{none_hold}
+use Rattle.kdc_hub.proofs.Auditing.{none_hold}
 use Rattle.std.specs.Option.{is_some}
 use Rattle.std.specs.FinMap as map
 use Rattle.kdc_hub.specs.Hub.{hub_state}
@@ -41,8 +41,8 @@ returns-clause-step g c =
     c.in-Err.ensures.done c.in-Err.ensures.kdc c.in-Err.ensures.drawn c.answer_stream.ensures.keeps (c.in-Some.ensures.put refl) c.remove-in-Err.ensures in
     (p.0, p.1, c.in-Err.ensures.conn)
 
-pub returns-in_default-clause-accounts : goal.returns-in_default-clause-accounts
-returns-in_default-clause-accounts g c = none_hold _ c.args.timed.at _ _ _ (ap (λ l. length l) c.new.ensures.items)
+pub returns-in_default-clause-audits : goal.returns-in_default-clause-audits
+returns-in_default-clause-audits g c = none_hold _ c.args.timed.at _ _ _ (ap (λ l. length l) c.new.ensures.items)
 
-pub returns-in_default-feed-clause-accounts : goal.returns-in_default-feed-clause-accounts
-returns-in_default-feed-clause-accounts g c = none_hold _ c.args.timed.at _ _ _ (ap (λ l. length l) c.nothing_done.ensures.done)
+pub returns-in_default-feed-clause-audits : goal.returns-in_default-feed-clause-audits
+returns-in_default-feed-clause-audits g c = none_hold _ c.args.timed.at _ _ _ (ap (λ l. length l) c.nothing_done.ensures.done)

@@ -1,12 +1,11 @@
 use Rattle.std.proofs.Common.{◌≡◌, ℕ, ◌<◌, List, ◌++◌, All, get_or, take, drop, length, sym, ap, ◌∙◌, arith}
 use Rattle.std.proofs.lemmas.List.{take_at}
 use Rattle.std.proofs.lemmas.List.Elements.{All-from_get_or}
-use Rattle.enctypes.specs.KeyUsage.{usage_number}
 use Rattle.enctypes.specs.OpenedLaws.{opens_what_was_sealed}
 use Rattle.enctypes.specs.Sealed.{length-seal}
 use Rattle.enctypes.proofs.SealingSteps.{put_together, sealed_is}
 use Rattle.enctypes.specs.Sizes.{mac_len-most}
-use Rattle.enctypes.proofs.ready_key.ReadyKey.seal.Goals as goal
+use Rattle.enctypes.proofs.sealing_key.SealingKey.seal.Goals as goal
 
 octets : (l : List ℕ) → ((i : ℕ) → get_or l i 0 < 256) → All (λ b. b < 256) l
 octets l fits = All-from_get_or (λ b. b < 256) l 0 (λ i lt. fits i)
@@ -24,14 +23,14 @@ returns-clause-value c =
     let len : ℕ = c.extend_from_slice-2.new.self.len in
     let written : take len (sealed ++ behind) ≡ sealed =
     take_at sealed behind len (omega (arith, c.encipher-mac.auto.text, c.deref_mut.ensures.len)) in
-    sealed_is c.args.self.now.key.etype c.args.self.now.key.bytes (usage_number c.args.self.now.usage) confounder text c.deref_mut.result.now sealed c.encipher-mac.result
+    sealed_is c.args.self.now.key.etype c.args.self.now.key.bytes c.args.self.now.usage confounder text c.deref_mut.result.now sealed c.encipher-mac.result
     (take len (sealed ++ behind)) c.bytes.result.now c.extend_from_slice-3.new.self.items plain c.encipher-mac.ensures.value
     c.encipher-mac.ensures.mac written c.bytes.ensures.bytes c.in_ok-extend_from_slice-3.ensures.items
 
 pub returns-clause-len : goal.returns-clause-len
 returns-clause-len c =
     ap length (returns-clause-value c)
-    ∙ length-seal c.args.self.now.key.etype c.args.self.now.key.bytes (usage_number c.args.self.now.usage) c.args.confounder.now c.args.text.now c.told-confounder
+    ∙ length-seal c.args.self.now.key.etype c.args.self.now.key.bytes c.args.self.now.usage c.args.confounder.now c.args.text.now c.told-confounder
 
 pub returns-clause-most : goal.returns-clause-most
 returns-clause-most c = omega (arith, returns-clause-len c, mac_len-most c.args.self.now.key.etype)
@@ -49,6 +48,6 @@ returns-clause-opens c = record {
 
 pub returns-clause-opened : goal.returns-clause-opened
 returns-clause-opened c =
-    let law = opens_what_was_sealed c.args.self.now.key.etype c.args.self.now.key.bytes (usage_number c.args.self.now.usage)
+    let law = opens_what_was_sealed c.args.self.now.key.etype c.args.self.now.key.bytes c.args.self.now.usage
     c.mac_len-mac_len.ensures.valid.octets in
     law.found _ c.args.text.now (returns-clause-opens c)

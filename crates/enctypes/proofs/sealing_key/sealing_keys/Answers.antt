@@ -6,7 +6,7 @@ use Rattle.enctypes.specs.declared.purpose.Purpose.TheVariants.{Encryption, Inte
 use Rattle.enctypes.specs.Derivation.{derived, usage_constant, derived_key, derived_len}
 use Rattle.enctypes.specs.Etype.{key_len}
 use Rattle.enctypes.specs.Sizes.{key_len-cases, derived_len-most, length-derived_key}
-use Rattle.enctypes.proofs.ready_key.sealing_keys.Goals as goal
+use Rattle.enctypes.proofs.sealing_key.sealing_keys.Goals as goal
 
 -- what a call with the usage's constant writes into the front of an array is the derived key
 written : (etype : Etype) (key constant out : List ℕ) (usage len : ℕ) (purpose : Purpose)

@@ -1,13 +1,13 @@
--- The accounts of requests are true, each at the state before its request.
+-- The audit records of requests are true, each at the state before its request.
 use Rattle.std.specs.Prelude.{ℕ, zero, suc, ⊤, List, [], ◌∷◌, length, Option, Some, None, Result, Ok, Err, Vec, IfSome}
 use Rattle.std.specs.FinMap as map
 use Rattle.std.specs.Global.{Global}
 use Rattle.rand_core.specs.Stream.{fill_bytes}
 use Rattle.krb_fields.specs.declared.moment.Moment.{Moment}
-use Rattle.kdc_core.specs.Account.{AccountHolds}
+use Rattle.kdc_core.specs.Audit.{AuditHolds}
 use Rattle.kdc_core.specs.Request.{request_of}
 use Rattle.kdc_core.specs.View.{View, view}
-use Rattle.kdc_core.specs.declared.account.Account.TheVariants.{NoRequest}
+use Rattle.kdc_core.specs.declared.audit.AuditRecord.TheVariants.{NoRequest}
 use Rattle.kdc_hub.specs.declared.event.Action.{Action}
 use Rattle.kdc_hub.specs.declared.event.Event.{Event}
 use Rattle.kdc_hub.specs.declared.event.Event.TheVariants.{Datagram, Opened, Bytes, Closed}
@@ -17,11 +17,11 @@ use Rattle.kdc_hub.specs.Hub.{HubState, datagram_room, messages_in}
 use Rattle.kdc_hub.specs.Issuing.{Issuing, after, reply_of}
 use Rattle.kdc_hub.specs.StreamStep.{stream_room}
 
--- the account in a reply is true of it; without a request there is no reply
+-- the audit record in a reply is true of it; without a request there is no reply
 abbrev pub ReplyHolds : View → Moment → List ℕ → List ℕ → Option Reply → Type 0
 ReplyHolds v at random request (Some reply) =
-    IfSome reply.account (λ account. AccountHolds v at random (request_of request) account (Some reply.message))
-ReplyHolds v at random request None = AccountHolds v at random (request_of request) NoRequest None
+    IfSome reply.audit (λ audit. AuditHolds v at random (request_of request) audit (Some reply.message))
+ReplyHolds v at random request None = AuditHolds v at random (request_of request) NoRequest None
 
 -- after a request without a reply no others are answered
 abbrev pub if_answered : Option Reply → Type 0 → Type 0
@@ -45,6 +45,6 @@ EventHolds hub at (Bytes conn piece) n =
 EventHolds hub at (Closed conn) n = ⊤
 
 -- for those that have an action
-abbrev pub AccountsHold : HubState → Moment → Event → Result (Vec Action Global) HubFault → Type 0
-AccountsHold hub at event (Ok actions) = EventHolds hub at event (length actions.items)
-AccountsHold hub at event (Err fault) = EventHolds hub at event (length fault.done.items)
+abbrev pub AuditsHold : HubState → Moment → Event → Result (Vec Action Global) HubFault → Type 0
+AuditsHold hub at event (Ok actions) = EventHolds hub at event (length actions.items)
+AuditsHold hub at event (Err fault) = EventHolds hub at event (length fault.done.items)

@@ -1,6 +1,6 @@
-//! The answer to a request: the reply, and an account of how the request was handled.
+//! The answer to a request: the reply, and an audit record of how the request was handled.
 ghost use Rattle.std.specs.Prelude.{◌≡◌, IfOk, option_copied, option_map};
-ghost use Rattle.kdc_core.specs.Account.{account_if};
+ghost use Rattle.kdc_core.specs.Audit.{audit_if};
 ghost use Rattle.kdc_core.specs.ReplyIn.{IsReplyIn};
 
 use as_exchange::AsOutcome;
@@ -14,7 +14,7 @@ use tgs_exchange::TgsOutcome;
 ///
 /// `N` is the type of the names that the request gives: borrowed from its bytes ([`NameRef`]), or owned.
 #[derive(Drop)]
-pub enum Account<N = Name> {
+pub enum AuditRecord<N = Name> {
     /// The bytes encode no request.
     NoRequest,
     /// An AS-REQ. A ticket's flag PRE-AUTHENT says whether the client proved its key.
@@ -42,8 +42,8 @@ pub enum Account<N = Name> {
 pub struct Answer {
     /// The bytes of the reply; `None` if the bytes that came in encode no request.
     pub reply: Option<Octets>,
-    /// How the request was handled; `None` if the account was not wanted.
-    pub account: Option<Account>,
+    /// How the request was handled; `None` if the audit record was not wanted.
+    pub audit: Option<AuditRecord>,
     /// A refused request may record one too: if its authenticator was new.
     pub newly_seen: Option<Seen>,
 }
@@ -67,34 +67,34 @@ fn bytes_of(reply: Option<Octets>) -> Option<Vec<u8>>
     }
 }
 
-impl Account<NameRef<'_>> {
+impl AuditRecord<NameRef<'_>> {
     /// Returns a copy with names of its own.
-    fn to_owned(&self, alloc: Global) -> Result<Account, AllocError>
-        ensures { IfOk result (λ account. account ≡ self.now) }
+    fn to_owned(&self, alloc: Global) -> Result<AuditRecord, AllocError>
+        ensures { IfOk result (λ audit. audit ≡ self.now) }
     {
         match self {
-            Account::NoRequest => Ok(Account::NoRequest),
-            Account::As {
+            AuditRecord::NoRequest => Ok(AuditRecord::NoRequest),
+            AuditRecord::As {
                 client,
                 service,
                 outcome,
             } => {
                 let client = owned_name(alloc, client.as_ref())?;
                 let service = owned_name(alloc, service.as_ref())?;
-                Ok(Account::As {
+                Ok(AuditRecord::As {
                     client,
                     service,
                     outcome: *outcome,
                 })
             }
-            Account::Tgs {
+            AuditRecord::Tgs {
                 client,
                 service,
                 outcome,
             } => {
                 let client = copied_name(alloc, client)?;
                 let service = owned_name(alloc, service.as_ref())?;
-                Ok(Account::Tgs {
+                Ok(AuditRecord::Tgs {
                     client,
                     service,
                     outcome: *outcome,
@@ -104,47 +104,47 @@ impl Account<NameRef<'_>> {
     }
 }
 
-/// Returns a copy of the account with names of its own, if it is wanted.
-pub fn account_if(
+/// Returns a copy of the audit record with names of its own, if it is wanted.
+pub fn audit_if(
     alloc: Global,
     is_wanted: bool,
-    account: &Account<NameRef<'_>>,
-) -> Result<Option<Account>, AllocError>
-    ensures { IfOk result (λ owned. owned ≡ account_if is_wanted account.now) }
+    audit: &AuditRecord<NameRef<'_>>,
+) -> Result<Option<AuditRecord>, AllocError>
+    ensures { IfOk result (λ owned. owned ≡ audit_if is_wanted audit.now) }
 {
     if is_wanted {
-        Ok(Some(account.to_owned(alloc)?))
+        Ok(Some(audit.to_owned(alloc)?))
     } else {
         Ok(None)
     }
 }
 
-impl Account {
+impl AuditRecord {
     /// Returns a copy.
-    pub fn copy(&self, alloc: Global) -> Result<Account, AllocError>
-        ensures { IfOk result (λ account. account ≡ self.now) }
+    pub fn copy(&self, alloc: Global) -> Result<AuditRecord, AllocError>
+        ensures { IfOk result (λ audit. audit ≡ self.now) }
     {
         match self {
-            Account::NoRequest => Ok(Account::NoRequest),
-            Account::As {
+            AuditRecord::NoRequest => Ok(AuditRecord::NoRequest),
+            AuditRecord::As {
                 client,
                 service,
                 outcome,
             } => {
                 let (client, service) = copied_names(alloc, client, service)?;
-                Ok(Account::As {
+                Ok(AuditRecord::As {
                     client,
                     service,
                     outcome: *outcome,
                 })
             }
-            Account::Tgs {
+            AuditRecord::Tgs {
                 client,
                 service,
                 outcome,
             } => {
                 let (client, service) = copied_names(alloc, client, service)?;
-                Ok(Account::Tgs {
+                Ok(AuditRecord::Tgs {
                     client,
                     service,
                     outcome: *outcome,

@@ -1,4 +1,4 @@
--- What the account of a request says about the bytes of its reply.
+-- What the audit record of a request says about the bytes of its reply.
 use Rattle.std.specs.Prelude.{◌≡◌, ℕ, List, Option, Some, None}
 use Rattle.krb_fields.specs.Code.{number_of}
 use Rattle.krb_fields.specs.PrincipalName.{Name}

@@ -2,7 +2,7 @@ use Rattle.std.proofs.Common.{rules, ◌≡◌}
 use Rattle.kdc_replies.specs.Grant.{session_key}
 use Rattle.ticket_times.specs.Flags.{tgs_flags}
 use Rattle.ap_req.specs.Validity.{ticket_terms}
-use Rattle.tgs_exchange.proofs.issuing.grant_of.Goals as goal
+use Rattle.tgs_exchange.proofs.issuing.grant_by.Goals as goal
 
 pub returns-clause-value : goal.returns-clause-value
 returns-clause-value c =
