@@ -1,5 +1,5 @@
 -- The effect of a restore.
-use Rattle.std.specs.Prelude.{◌≡◌, ◌≢◌, ◌⊎◌, Bool, false, List, ℕ, Option, Some, None, ⊤}
+use Rattle.std.specs.Prelude.{◌≡◌, ◌≢◌, ◌⊎◌, Bool, true, false, List, ℕ, Option, Some, None, ⊤, bytes_eq}
 use Rattle.principal_rows.specs.Policy.{default_policy}
 use Rattle.principal_rows.specs.declared.policy.Policy.{Policy}
 use Rattle.principals.specs.Database.{Principals}
@@ -23,7 +23,7 @@ HasOrNot world db (Some p) = HoldsDatabase world db p
 -- a database is of the realm of the one that it replaces
 abbrev pub IsOfRealm : Option Principals → Principals → Type 0
 IsOfRealm None new = ⊤
-IsOfRealm (Some old) new = new.realm ≡ old.realm
+IsOfRealm (Some old) new = bytes_eq new.realm old.realm ≡ true
 
 -- the policy of krbtgt/REALM before; without a database it is that of a new realm
 abbrev pub replaced_policy : Option Principals → Policy

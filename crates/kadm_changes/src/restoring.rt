@@ -1,5 +1,5 @@
 //! The command that puts a database from another file in place: a backup, or what another host has sent.
-ghost use Rattle.std.specs.Prelude.{◌≡◌, ◌≢◌, IfOk, IsTrue, OnErr, OnOk};
+ghost use Rattle.std.specs.Prelude.{◌≡◌, ◌≢◌, IfOk, OnErr, OnOk, bytes_eq, true};
 ghost use Rattle.kadm_changes.specs.Realm.{KeepsRealm, tgs_policy};
 ghost use Rattle.kadm_changes.specs.Restoring.{HasOrNot, IsOfRealm, Restored, replaced_policy};
 ghost use Rattle.kadm_changes.specs.Worlds.{HoldsDatabase};
@@ -86,7 +86,10 @@ fn check_memory(cause: ReadFault) -> Result<(), Stop<'static>>
 {
     match cause {
         ReadFault::Memory => Err(Stop::from(AllocError)),
-        _ => Ok(()),
+        ReadFault::NotJson => Ok(()),
+        ReadFault::BadVersion => Ok(()),
+        ReadFault::BadRow => Ok(()),
+        ReadFault::NoTicketGranter => Ok(()),
     }
 }
 
@@ -99,16 +102,23 @@ fn check_same_realm<'p>(
     ensures { OnOk result (IsOfRealm old.now new.now) }
 {
     match old {
-        Some(old) if !has_realm(new, old.realm()) => {
-            Err(Stop::refused_value(Part::Database, from, Reason::OtherRealm))
-        }
-        _ => Ok(()),
+        Some(old) => check_realm_of(old, new, from),
+        None => Ok(()),
     }
+}
+
+fn check_realm_of<'p>(old: &Database, new: &Database, from: &'p str) -> Result<(), Stop<'p>>
+    ensures { OnOk result (bytes_eq new.now.realm old.now.realm ≡ true) }
+{
+    if has_realm(new, old.realm()) {
+        return Ok(());
+    }
+    Err(Stop::refused_value(Part::Database, from, Reason::OtherRealm))
 }
 
 /// Checks whether a database is of this realm.
 fn has_realm(database: &Database, realm: &[u8]) -> bool
-    ensures { IsTrue result → database.now.realm ≡ realm.now }
+    ensures { result ≡ bytes_eq database.now.realm realm.now }
 {
     database.realm() == realm
 }
