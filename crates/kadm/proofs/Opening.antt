@@ -1,5 +1,5 @@
 -- A command without `--whole-realm` leaves a realm as open as it was.
-use Rattle.std.proofs.Common.{◌≡◌, ◌∙◌, ◌⊎◌, ℕ, List, [], ◌∷◌, Bool, true, false, Option, Some, None, Ok, ap, refl, subst, sym, inl, inr}
+use Rattle.std.proofs.Common.{◌≡◌, ◌∙◌, ◌⊎◌, ℕ, List, [], ◌∷◌, Bool, true, false, Option, Some, None, Ok, ap, arith, refl, subst, sym, inl, inr}
 use Rattle.std.specs.Prelude.{bytes_eq, cond, if◌then◌else◌, is_some, option_map, unwrap_or}
 use Rattle.std.specs.FinMap.{empty, get, get-insert}
 use Rattle.std.proofs.lemmas.Slice.Eq.{bytes_eq-Decides}
@@ -18,6 +18,7 @@ use Rattle.command_line.specs.declared.status.Status.{Status}
 use Rattle.command_line.specs.declared.status.Status.TheVariants as statuses
 use Rattle.principal_keys.specs.Keys.{drawn_keys, seeded}
 use Rattle.kadm_changes.specs.Realm.{IsAsOpen, KeepsRealm, StaysOpen, found_policy, text_policy, tgs_policy}
+use Rattle.kadm_changes.specs.Restoring.{HasOrNot, Restored, replaced_policy}
 use Rattle.kadm_changes.specs.Updates.{IsUpdated}
 use Rattle.kadm_changes.specs.Texts.{Text, path_of}
 use Rattle.kadm_changes.specs.Worlds.{HoldsDatabase, IsReadBack, MadeNew, Rewritten, WroteKeytab, with_database}
@@ -115,6 +116,9 @@ put_policy : (db : List ℕ) (held : World) (p : Principals) → IsReadBack p
     → text_policy ((with_file db (compact_text (database_value p)) held).files db) ≡ tgs_policy p
 put_policy db held p back = ap text_policy (there db (compact_text (database_value p)) held) ∙ ap found_policy back
 
+clash : false ≡ true → ⊥
+clash e = cc
+
 absent : (found : Option (List ℕ)) → false ≡ is_some found → found ≡ None
 absent None none = refl
 absent (Some text) none = absurd cc
@@ -163,6 +167,31 @@ keytab_open (Some held) db to after is =
     (λ same. is.free.no_database is.read.0 is.old (ap held.files same ∙ is.read.1) is.read.2)))
     (as_open held.now (text_policy (held.files db))))
 
+-- a realm that is as open as a new one is as open as any
+open_always : (now : ℕ) (p q : Policy) → IsAsOpen now default_policy q → IsAsOpen now p q
+open_always now p q is = record {
+  enabled = λ disabled. absurd (clash (is.enabled disabled));
+  served = λ denied. absurd (clash (sym (is.served denied)));
+  lasting = λ gone. absurd (is.lasting gone);
+  long = λ short. absurd (omega (arith, is.long short));
+}
+
+-- the policy that a database replaces is that of the path, or that of a new realm
+replaced_open : (db : List ℕ) (held : World) (old : Option Principals) (new : Policy) → HasOrNot (Some held) db old
+    → IsAsOpen held.now (replaced_policy old) new → IsAsOpen held.now (text_policy (held.files db)) new
+replaced_open db held None new is opens = open_always held.now (text_policy (held.files db)) new opens
+replaced_open db held (Some p) new is opens =
+    subst (λ policy. IsAsOpen held.now policy new) (sym (read_policy db held p is)) opens
+
+restored_open : (before : Option World) (db from : List ℕ) (after : Option World) → Restored before false db from after
+    → StaysOpen db before after
+restored_open None db from after is = subst (StaysOpen db None) (sym is.written) tt
+restored_open (Some held) db from after is =
+    subst (StaysOpen db (Some held)) (sym is.written)
+    (open_at db held (with_file db (compact_text (database_value is.new)) held) (text_policy (held.files db)) (tgs_policy is.new)
+    refl (put_policy db held is.new is.read_back)
+    (replaced_open db held is.old (tgs_policy is.new) is.replaced (is.kept refl)))
+
 -- ---- command lines
 
 command_open : (before : Option World) (target : Target) (write : WriteCommand) (after : Option World) → target.whole_realm ≡ false
@@ -181,6 +210,9 @@ command_open before target (writes.Keytab to) after without is = keytab_open bef
 command_open before target (writes.Dump from) after without is =
     new_open before target.db.now is.new after is.free
     (subst (λ whole. KeepsRealm whole before default_policy (tgs_policy is.new)) without is.kept) is.read_back is.written
+command_open before target (writes.Restore from) after without is =
+    restored_open before target.db.now from.now after
+    (subst (λ whole. Restored before whole target.db.now from.now after) without is)
 
 tried_open : (before : Option World) (db : Text) (whole : Bool) (after : Option World) → whole ≡ false → Tried before whole db after
     → StaysOpen db before after

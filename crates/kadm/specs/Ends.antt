@@ -5,6 +5,7 @@ use Rattle.file_store.specs.declared.faults.FileCause.{FileCause}
 use Rattle.file_store.specs.declared.faults.FileCause.TheVariants.{LongFile, ShortSeed, Failed}
 use Rattle.kadm_changes.specs.Stops.{IsFailed}
 use Rattle.kadm_changes.specs.Realm.{StaysOpen}
+use Rattle.kadm_changes.specs.Restoring.{Restored}
 use Rattle.kadm_changes.specs.Texts.{Text, path_of}
 use Rattle.kadm.specs.Values.{has_flag, value_of}
 use Rattle.kadm.specs.Words.{Spells, asks_help}
@@ -53,7 +54,8 @@ abbrev pub IsPrinted : Status → PrintCommand → Type 0
 IsPrinted statuses.Done print = Unit {0}
 IsPrinted statuses.Refused (prints.Lint lint) = lint.check ≡ true
 IsPrinted statuses.Refused (prints.List list) = ⊥
-IsPrinted statuses.Refused (prints.Show name) = ⊥
+IsPrinted statuses.Refused (prints.Show show) = ⊥
+IsPrinted statuses.Refused prints.Check = ⊥
 IsPrinted statuses.Usage print = ⊥
 IsPrinted statuses.Failed print = ⊥
 
@@ -68,6 +70,7 @@ CommandLeaves before target (writes.Update update) after =
 CommandLeaves before target (writes.Batch keep_going) after = Batched before target.whole_realm target.db.now after
 CommandLeaves before target (writes.Keytab to) after = WroteKeytab before target.db.now to after
 CommandLeaves before target (writes.Dump from) after = MadeFromDump before target.whole_realm target.db.now from after
+CommandLeaves before target (writes.Restore from) after = Restored before target.whole_realm target.db.now from.now after
 
 abbrev pub IsKindDone : Option World → Target → CommandKind → Option World → Type 0
 IsKindDone before target (Print what) after = after ≡ before

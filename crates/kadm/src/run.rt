@@ -6,6 +6,7 @@ ghost use Rattle.kadm.specs.Words.{asks_help, with_db, with_names};
 
 use crate::commands::{Command, CommandKind, read_args, read_command};
 use crate::escaping::Escaping;
+use crate::hints::explain;
 use crate::outcome::Outcome;
 use crate::printing::run_print;
 use crate::reports::{report, report_unsynced};
@@ -139,7 +140,11 @@ fn asks<'a, W: Write, E: Write>(
             write!(context.out, "{error}")?;
             Ok(true)
         }
-        Err(error) => Err(report_fault(&mut context.errors, error)),
+        Err(error) => {
+            let stop = report_fault(&mut context.errors, error);
+            explain(context.alloc, &mut context.errors, words, error);
+            Err(stop)
+        }
     }
 }
 
@@ -154,7 +159,7 @@ fn run_command<'a, T: Store, W: Write, E: Write>(
     ensures stopped { IfErr result (λ stop. IsCommandStopped (T.world store.old) command.now stop (T.world store.new)) }
 {
     match command.kind {
-        CommandKind::Print(print) => run_print(context, store, command.target.db, print),
+        CommandKind::Print(print) => run_print(context, store, &command.target, print),
         CommandKind::Write(write) => {
             let Outcome { whole, written } = write_files(context, store, &command.target, write)?;
             match written {

@@ -3,5 +3,6 @@ mod Making
 mod Moved
 mod Older
 mod Paths
+mod PutBack
 mod Realms
 mod Users

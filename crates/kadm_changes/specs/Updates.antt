@@ -37,11 +37,11 @@ IsSecretOf world (rows.Password to) pass = IsPasswordOf world (path_of to.passwo
 IsSecretOf world (rows.Random to) pass = ⊤
 IsSecretOf world (rows.Import keytab) pass = ⊤
 
--- the keys of a password, and a password's expiry that is past is cleared
+-- the keys of a password, and the expiry of the old one is cleared
 abbrev pub GivesPassword : Option World → List Etype → List ℕ → Grant → Components → Principals → Principals → Type 0
 GivesPassword world etypes pass grant who p new =
     (given : Principals) × IsGranted grant who (map (password_key pass (default_salt p.realm who)) etypes) p given
-    × IsCleared world who given new
+    × IsCleared who given new
 
 -- keys drawn from a seed: of a file, if one is named, or else of the system
 abbrev pub GivesRandom : Option World → List Etype → Option Text → Grant → Components → Principals → Principals → Type 0

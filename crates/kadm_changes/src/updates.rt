@@ -13,16 +13,18 @@ use crate::denying::is_user;
 use crate::draft::Draft;
 use crate::granting::{Grant, RandomGrant, Recipient, expiring, give_password, give_random};
 use crate::importing::import;
-use crate::note::Note;
+use crate::note::{Note, OldExpiry};
 use crate::passwords::{FoundPassword, PasswordGrant, batch_password, new_password};
 use crate::realm::{check_password, check_realm, report_realm, tgs_policy};
+use crate::set_times::report_times;
 use crate::stop::Stop;
 use crate::target::Target;
-use file_store::{Store, Written};
+use file_store::{Store, Written, read_clock};
 use krb_fields::Name;
 use principals::Database;
 use std::alloc::Global;
 use std::io::Write;
+use text_fields::is_past;
 
 /// How a database is changed.
 #[derive(Clone, Copy)]
@@ -92,7 +94,7 @@ fn update_row<'p, T: Store, W: Write, E: Write>(
     let locked = lock_database(context, store, target)?;
     let database = read_database(context, store, target.db)?;
     let mut draft = Draft { alloc, database };
-    let expired = expiring(&draft.database, &who).is_some();
+    let expired = old_expiry(store, &draft.database, &who);
     let recipient = Recipient {
         who: &who,
         etypes: &target.etypes,
@@ -144,6 +146,7 @@ fn update_rows<'p, T: Store, W: Write, E: Write>(
     if target.whole_realm {
         report_realm(alloc, &mut context.errors, &draft.database);
     }
+    report_times(alloc, &mut context.errors, &draft.database, target);
     Ok(written)
 }
 
@@ -211,7 +214,7 @@ fn row_in_batch<'p, T: Store>(
 {
     let who = Name::from_text(draft.alloc, to.name)?;
     let pass = batch_password(draft.alloc, store, &to.how, found)?;
-    let expired = expiring(&draft.database, &who).is_some();
+    let expired = old_expiry(store, &draft.database, &who);
     let recipient = Recipient {
         who: &who,
         etypes: &target.etypes,
@@ -322,9 +325,27 @@ fn give_row<'p, T: Store>(
     }
 }
 
-/// Returns what an administrator may not expect of a change of a row. `expired` says whether the password had a time at
-/// which it expires and that was past.
-fn note_of(to: &RowArgs<'_>, who: &Name, database: &Database, expired: bool) -> Option<Note> {
+/// Returns when the password of a principal expires, if it does. If the clock fails, that is not past.
+fn old_expiry<T: Store>(store: &mut T, database: &Database, who: &Name) -> Option<OldExpiry>
+    ensures unchanged { T.world store.new ≡ T.world store.old }
+{
+    let Some((_, at)) = expiring(database, who) else {
+        return None;
+    };
+    let is_past = match read_clock(store) {
+        Ok(now) => is_past(at, now),
+        Err(_) => false,
+    };
+    Some(OldExpiry { at, is_past })
+}
+
+/// Returns what an administrator may not expect of a change of a row. `expired` is when the old password expires.
+fn note_of(
+    to: &RowArgs<'_>,
+    who: &Name,
+    database: &Database,
+    expired: Option<OldExpiry>,
+) -> Option<Note> {
     match &to.how {
         RowUpdate::Password(_) => password_note(who, database, expired),
         RowUpdate::Random(random) => random_note(random.grant, who, database),
@@ -333,10 +354,13 @@ fn note_of(to: &RowArgs<'_>, who: &Name, database: &Database, expired: bool) -> 
 }
 
 /// Returns what is to be said of a principal that got the keys of a password.
-fn password_note(who: &Name, database: &Database, expired: bool) -> Option<Note> {
-    let cleared = expired && expiring(database, who).is_none();
+fn password_note(who: &Name, database: &Database, expired: Option<OldExpiry>) -> Option<Note> {
+    let cleared = match expiring(database, who) {
+        Some(_) => None,
+        None => expired,
+    };
     let guessable = database.get(who)?.policy.service;
-    if !cleared && !guessable {
+    if cleared.is_none() && !guessable {
         return None;
     }
     Some(Note::Password { cleared, guessable })
