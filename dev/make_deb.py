@@ -21,12 +21,8 @@ import subprocess
 import sys
 import tempfile
 
-<<<<<<< HEAD
 from c_library import installed
-from install import MARK, PROGRAMS, TOP, Refused, contents, program_in, version, write
-=======
 from install import MARK, NAME, PROGRAMS, TOP, Refused, contents, program_in, program_path, version, write
->>>>>>> 01d3e2767e187bcbc001e54138e1593152dcff37
 
 # Where Debian's zsh looks for the completion of packages, in place of the folder that `install.py` uses.
 FOR_ZSH = ("/usr/share/zsh/site-functions/", "/usr/share/zsh/vendor-completions/")
