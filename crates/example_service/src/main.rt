@@ -5,12 +5,10 @@
 
 use ap_accept::{Accepted, Acceptor, AcceptorOptions, ApFault, ApRefusal, Opening, TicketLabel};
 use command_line::{Status, open_missing_streams, read_words};
-use cred_files::{Keytab, Principal};
+use cred_files::Keytab;
 use file_store::{FileStamp, FileStore, Written, now, sync_folder, write_file};
 use hex::FromHexError;
 use krb_der::KTime;
-use krb_fields::component_to_text;
-use std::alloc::{AllocError, Global};
 use std::io::{BufRead, Error, ErrorKind};
 use std::process::ExitCode;
 use std::random::RandomSource;
@@ -222,26 +220,22 @@ fn answer(rt: &HostRuntime, acceptor: &mut Acceptor, ap_req: &[u8]) -> io::Resul
 /// Prints why an AP-REQ is refused, and which service and key its ticket names. Anyone may have written these.
 fn print_refused(rt: &HostRuntime, refusal: ApRefusal, ap_req: &[u8]) -> io::Result<()> {
     let code = refusal.code().number();
-    let fault = ApFault::from(refusal);
     match TicketLabel::read(rt.alloc(), ap_req) {
-        Ok(label) => {
-            let service = text_of(rt.alloc(), &label.service)?;
-            println!(rt;
-                "refused {code} {fault}: for {service}, key type {}",
-                label.etype
-            )
-        }
-        Err(_) => println!(rt; "refused {code} {fault}"),
+        Ok(label) => println!(rt;
+            "refused {code} {refusal}: for {}, key type {}",
+            label.service, label.etype
+        ),
+        Err(_) => println!(rt; "refused {code} {refusal}"),
     }
 }
 
 /// Prints the client, what the ticket holds, and the AP-REP if the client asked for one.
 fn print_accepted(rt: &HostRuntime, accepted: &Accepted) -> io::Result<()> {
-    let client = text_of(rt.alloc(), &accepted.client)?;
     let service = accepted.service.to_text(rt.alloc())?;
     let ticket = accepted.ticket;
     print!(rt;
-        "accepted {client} for {service} session-key-type {} flags {:08x}",
+        "accepted {} for {service} session-key-type {} flags {:08x}",
+        accepted.client,
         accepted.session_key.etype().number(),
         ticket.flags.bits()
     )?;
@@ -262,12 +256,4 @@ fn print_time(rt: &HostRuntime, word: &str, time: Option<KTime>) -> io::Result<(
         Some(time) => print!(rt; " {word} {}", time.seconds()),
         None => Ok(()),
     }
-}
-
-/// Returns a principal's name as text for people. A service compares names with `Principal::is`.
-fn text_of(alloc: Global, principal: &Principal) -> Result<String, AllocError> {
-    let mut text = principal.name.to_text(alloc)?;
-    text.push('@')?;
-    text.push_str(&component_to_text(alloc, principal.realm.as_slice())?)?;
-    Ok(text)
 }
