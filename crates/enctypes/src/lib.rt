@@ -20,7 +20,7 @@
 //! | [`ReadyKey::seal`], [`ReadyKey::open`] | the same | the same, with a prepared key |
 //! | [`checksum`], [`verify`] | RFC 3961, section 5.4; RFC 8009, section 6 | the HMAC of a text |
 //! | [`ReadyChecksum::verify`] | the same | the same, with a prepared key |
-//! | [`ApplicationUsage::seal`], `open`, `checksum`, `verify` | RFC 4120, section 7.5.1 | the same, for an application |
+//! | [`ApplicationUsage::seal`], `open`, `checksum`, `verify` | RFC 4120, section 7.5.1 | the same, for a usage of an application |
 //!
 //! `open` returns a text exactly if some confounder seals it to this cipher, and no cipher has two texts with one key.
 //! It opens what `seal` returned for the same key and usage. The calls depend on the key's encryption type: [`Suite`]
