@@ -1,6 +1,6 @@
 #!/usr/bin/env python3
 """Makes the completion of `kdcd`, `kadm` and `kclient` for bash and zsh, from the tables of their commands and options
-in the sources. `install.py` installs it.
+in the sources. `install.py` installs it. The principals that it proposes are those that `kadm list` prints.
 
     python3 dev/make_completion.py FOLDER
 
@@ -16,7 +16,7 @@ import typing
 TOP = pathlib.Path(__file__).resolve().parent.parent
 # Where each program has its tables.
 TABLES = {
-    "kadm": [f"kadm/src/{name}.rt" for name in ("commands", "changing", "writing", "printing", "options")],
+    "kadm": [f"kadm/src/{name}.rt" for name in ("commands", "changing", "writing", "restoring", "printing", "options")],
     "kclient": ["kclient/src/options.rt"], "kdcd": ["kdcd/src/args.rt"],
 }
 # The tables of a program whose commands are in several files, in the order of its help.
@@ -26,9 +26,40 @@ PARTS = ("INIT", "CHANGES", "PRINTS", "LATER_CHANGES")
 ADDED = {"kinit": ("KINIT_OPTIONS", "KINIT_FLAGS"), "serve": ("journal_option",)}
 # The words that may stand for a placeholder; `FIELD` has those of a policy besides.
 WORDS = {"FORMAT": "text json", "TYPES": "18,17,20,19 20,19", "VALUE": "true false never"}
+# The program whose names are principals, and its commands that give a principal a new name.
+NAMING, NEWCOMERS = "kadm", ("add", "import")
+# Its command that takes a word alone as a file.
+FILE_ALONE = "check"
+# The source with the commands that take a word alone as a name: the function with that rule, and a command of it.
+ALONE, TAKEN = TOP / "crates/kadm/src/words.rt", re.compile(r'command == "(\w+)"')
 # Where the fields of a policy are, and the texts about them that a table names; and the row of a field there.
 SETTINGS = TOP / "crates/text_fields/src/settings.rt"
 FIELD = re.compile(r'FieldRow::new\("(\w+)", \d+\)')
+# Prints the principals, of the database that the words name or else the environment, in bash. A name may have any
+# character that a shell reads, so no word of it is expanded.
+BASH_NAMES = r"""_kadm_names() {
+    local i name db=()
+    for ((i = 2; i < COMP_CWORD; i++)); do
+        [ "${COMP_WORDS[i]}" != --db ] || db=(--db "${COMP_WORDS[i + 1]}")
+        [ "${db[1]}" != = ] || db=(--db "${COMP_WORDS[i + 2]}")
+    done
+    while read -r name; do
+        name=$(printf %q "${name%% *}")
+        [[ $name != "$word"* ]] || COMPREPLY+=("$name")
+    done < <("${COMP_WORDS[0]}" list "${db[@]}" 2> /dev/null)
+}"""
+# The same in zsh, which quotes what it inserts.
+ZSH_NAMES = r"""_kadm_names() {
+    local -a db names
+    local at=${words[(I)--db]} joined=${words[(R)--db=*]}
+    (( at )) && db=(--db ${(Q)words[at + 1]})
+    [[ -n $joined ]] && db=(--db ${(Q)joined#--db=})
+    names=(${(f)"$(_call_program names $program list ${(q)db} 2> /dev/null | cut -d ' ' -f 1)"})
+    compadd -a names
+}"""
+# What proposes fields of a policy, each with an equals sign, in bash and in zsh.
+BASH_FIELDS = "compopt -o nospace 2>/dev/null; mapfile -t COMPREPLY < <(compgen -S = -W '{}' -- \"$word\")"
+ZSH_FIELDS = "compadd -S = {}"
 # What proposes names of files in bash.
 BASH_FILES = "compopt -o filenames 2>/dev/null; mapfile -t COMPREPLY < <(compgen -f -- \"$word\")"
 HELP, VERSION = ("help", "Prints the options"), ("version", "Prints the version")
@@ -149,13 +180,31 @@ def commands_in(sources):
     return found
 
 
-def bash_values(command, option):
+def names_alone():
+    """The commands of `kadm` that take a word alone as the name of a principal that is there."""
+    body = ALONE.read_text().partition("fn takes_names")[2].partition("\n}\n")[0]
+    found = [command for command in TAKEN.findall(body) if command not in NEWCOMERS]
+    if not found:
+        raise Unreadable(f"{ALONE.name}: no command takes names")
+    return found
+
+
+def has_names(program, command, option):
+    """Whether the value of an option is a principal that is there."""
+    return program == NAMING and option.shape == "NAME" and command not in NEWCOMERS
+
+
+def bash_values(program, command, option):
     """The line of bash that completes the value of an option of a command. It returns false if an option may follow in
     its place."""
     if option.is_optional:
         done = f"[[ $word == -* ]] || {{ {BASH_FILES}; }}"
     elif option.shape == "FILE":
         done = BASH_FILES
+    elif has_names(program, command, option):
+        done = "_kadm_names"
+    elif option.shape == "FIELD=VALUE":
+        done = BASH_FIELDS.format(WORDS["FIELD"])
     elif words := WORDS.get(option.shape):
         done = f"mapfile -t COMPREPLY < <(compgen -W '{words}' -- \"$word\")"
     else:
@@ -168,10 +217,14 @@ def bash(program, commands):
     for command, (_, options) in commands.items():
         for option in options:
             if option.shape:
-                done, pattern = bash_values(command, option)
+                done, pattern = bash_values(program, command, option)
                 values.setdefault(done, []).append(pattern)
+            if option.shape == "FIELD=VALUE":
+                done, _ = bash_values(program, command, option._replace(shape="VALUE"))
+                values.setdefault(done, []).append(f"{command}:*=")
     lines = [
         f"# Completes the commands and options of {program} in bash. Made by dev/make_completion.py.",
+        *([BASH_NAMES] if program == NAMING else ()),
         f"_{program}() {{",
         "    local word=${COMP_WORDS[COMP_CWORD]} before=${COMP_WORDS[COMP_CWORD - 1]} command=${COMP_WORDS[1]}",
         "    COMPREPLY=()",
@@ -179,11 +232,13 @@ def bash(program, commands):
         f"        mapfile -t COMPREPLY < <(compgen -W '{' '.join(commands)} --help --version' -- \"$word\")",
         "        return",
         "    fi",
-        "    # A word such as --db=FILE is three words here.",
+        "    # A word such as --db=FILE, or disabled=true, is three words here.",
         "    if [ \"$word\" = = ]; then",
         "        word=",
+        "        [[ $before == -* ]] || before+==",
         "    elif [ \"$before\" = = ]; then",
         "        before=${COMP_WORDS[COMP_CWORD - 2]}",
+        "        [[ $before == -* ]] || before+==",
         "    fi",
         "    case $command:$before in",
     ]
@@ -194,6 +249,10 @@ def bash(program, commands):
     for command, (_, options) in commands.items():
         words = " ".join(option.word for option in options)
         lines.append(f"        {command}) mapfile -t COMPREPLY < <(compgen -W '{words}' -- \"$word\") ;;")
+    if program == NAMING:
+        lines += ["    esac", "    case $command:$word in", "        *:-*) ;;"]
+        lines.append(f"        {' | '.join(f'{command}:*' for command in names_alone())}) _kadm_names ;;")
+        lines.append(f"        {FILE_ALONE}:*) {BASH_FILES} ;;")
     return "\n".join([*lines, "    esac", "}", f"complete -F _{program} {program}", ""])
 
 
@@ -201,11 +260,15 @@ def zsh_text(text):
     return re.sub(r"([\[\]:])", r"\\\1", text.replace("'", "'\\''"))
 
 
-def zsh_option(option):
+def zsh_option(program, command, option):
     """The specification of an option for `_arguments`."""
     value = ""
     if option.shape == "FILE":
         value = f"{':' * option.is_optional}:FILE:_files"
+    elif has_names(program, command, option):
+        value = ":NAME:_kadm_names"
+    elif option.shape == "FIELD=VALUE":
+        value = f":FIELD=VALUE:{{{ZSH_FIELDS.format(WORDS['FIELD'])}}}"
     elif option.shape:
         words = WORDS.get(option.shape)
         value = f":{zsh_text(option.shape)}:({words})" if words else f":{zsh_text(option.shape)}: "
@@ -216,6 +279,7 @@ def zsh(program, commands):
     lines = [
         f"#compdef {program}",
         f"# Completes the commands and options of {program} in zsh. Made by dev/make_completion.py.",
+        *([ZSH_NAMES] if program == NAMING else ()),
         f"_{program}() {{",
         "    local -a commands",
         "    commands=(",
@@ -226,14 +290,17 @@ def zsh(program, commands):
         f"        compadd -- --{HELP[0]} --{VERSION[0]}",
         "        return",
         "    fi",
-        "    local command=$words[2]",
+        "    local program=$words[1] command=$words[2]",
         "    shift words",
         "    (( CURRENT-- ))",
         "    case $command in",
     ]
     for command, (_, options) in commands.items():
         lines += [f"        {command})", "            _arguments \\"]
-        lines.append(" \\\n".join(f"                {zsh_option(option)}" for option in options))
+        rows = [zsh_option(program, command, option) for option in options]
+        rows += ["'*:NAME:_kadm_names'"] if program == NAMING and command in names_alone() else []
+        rows += ["'*:FILE:_files'"] if program == NAMING and command == FILE_ALONE else []
+        lines.append(" \\\n".join(f"                {row}" for row in rows))
         lines.append("            ;;")
     return "\n".join([*lines, "    esac", "}", f'_{program} "$@"', ""])
 

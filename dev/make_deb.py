@@ -20,9 +20,8 @@ import subprocess
 import sys
 import tempfile
 
-from install import MARK, PROGRAMS, TOP, Refused, contents, program_in, version, write
+from install import MARK, NAME, PROGRAMS, TOP, Refused, contents, program_in, program_path, version, write
 
-NAME = "plovertrunk"
 # Where Debian's zsh looks for the completion of packages, in place of the folder that `install.py` uses.
 FOR_ZSH = ("/usr/share/zsh/site-functions/", "/usr/share/zsh/vendor-completions/")
 CONTROL = """Package: {name}
@@ -41,16 +40,18 @@ Description: Kerberos 5 KDC for one realm, with its tools
  The pages are in /usr/share/doc/{name}.
 """
 PROVED, UNPROVED = "Each function is proved to meet its contract.", "NOTHING IS PROVED OF THESE PROGRAMS."
-# Runs after the files are there. A host without systemd gets the same user and folder by other means.
+# Runs after the files are there. A host without systemd gets the same user and folder by other means. So does a root
+# without /proc, as the one in which an image is made: systemd's tools fail there.
 POSTINST = """#!/bin/sh
 set -e
 [ "$1" = configure ] || exit 0
-if command -v systemd-sysusers > /dev/null; then
+has() { [ -e /proc/self ] && command -v "$1" > /dev/null; }
+if has systemd-sysusers; then
     systemd-sysusers kdcd.conf
 elif ! getent passwd kdcd > /dev/null; then
-    useradd --system --home-dir /nonexistent --no-create-home --shell /usr/sbin/nologin kdcd
+    useradd --system --user-group --home-dir /nonexistent --no-create-home --shell /usr/sbin/nologin kdcd
 fi
-if command -v systemd-tmpfiles > /dev/null; then
+if has systemd-tmpfiles; then
     systemd-tmpfiles --create kdcd.conf
 else
     install -d -o kdcd -g kdcd -m 700 /var/lib/kdcd
@@ -100,7 +101,8 @@ def control(files, said):
     return CONTROL.format(
         name=NAME, version=f"{number}{'~unproved' * is_unproved}",
         size=sum(len(octets) for octets, _ in files.values()) // 1024 + 1, architecture=machine(),
-        libc=least_libc(files[f"/usr/bin/{name}"][0] for name in PROGRAMS), proof=UNPROVED if is_unproved else PROVED
+        libc=least_libc(files[program_path("/usr", name)][0] for name in PROGRAMS),
+        proof=UNPROVED if is_unproved else PROVED
     )
 
 

@@ -20,8 +20,10 @@ VALUES = (
     ("kadm add --db d", "database"), ("kadm add --db = d", "database"), ("kadm add --db =", "database www.keytab"),
     ("kadm keytab --out ", "database www.keytab"), ("kadm policy --field dis", "disabled"),
     ("kadm policy --value t", "true"), ("kadm policy --name d", ""), ("kclient kvno --keytab w", "www.keytab"),
+    ("kadm policy --set dis", "disabled="), ("kadm policy --set disabled = t", "true"),
+    ("kadm policy --set disabled =", "false never true"),
     ("kdcd serve --log-format j", "json"), ("kdcd serve --udp ", ""), ("kadm ad", "add"),
-    ("kclient k", "kinit kvno klist kdestroy"),
+    ("kadm check w", "www.keytab"), ("kadm restore --from w", "www.keytab"), ("kclient k", "kinit kvno klist kdestroy"),
 )
 
 
@@ -71,6 +73,40 @@ def values(trial):
     for line, wanted in VALUES:
         found, said = completed(made, trial.folder, line)
         trial.note(f"what completes {line!r}", said or differs(found, sorted(wanted.split())))
+
+
+# Principals with characters that a shell reads, each as it proposes them.
+PRINCIPALS = {"host/www.a.b": "host/www.a.b", "host/$(id)": r"host/\$\(id\)", r"a\20b": r"a\\20b", "alice": "alice"}
+# Words before the one that is completed, with the principals that are proposed among others.
+NAMED = (
+    ("kadm show --db database --name host/w", ["host/www.a.b"]), ("kadm show --db = database --name al", ["alice"]),
+    ("kadm show --db database al", ["alice"]), ("kadm drop --db database host/", ["host/www.a.b", "host/$(id)"]),
+    ("kadm show --db other --name al", []), ("kadm add --db database --name al", []),
+    ("kadm list --db database al", []), ("kadm policy --db database --value al", []),
+)
+
+
+@test("kadm")
+def principals(trial):
+    """Principals complete names, also those with characters that a shell reads."""
+    made = make(trial)
+    trial.enter("principals")
+    trial.expect("kadm init --db database --realm A.B", 0, "=ok")
+    for name in PRINCIPALS:
+        trial.expect(["kadm", "add", "--db", "database", "--random", f"--name={name}"], 0, "=ok")
+    (trial.folder / "kadm").symlink_to(trial.programs["kadm"])
+    for line, wanted in NAMED:
+        words = ["bash", "-c", COMPLETE, "bash", made / "kadm.bash", "kadm", "./kadm", *line.split(" ")[1:]]
+        ran = subprocess.run(words, capture_output=True, text=True, cwd=trial.folder)
+        trial.note(f"what completes {line!r}", ran.stderr or differs(
+            sorted(ran.stdout.split()), sorted(PRINCIPALS[name] for name in wanted)
+        ))
+    all_shown = "kadm show --db database --name "
+    words = ["bash", "-c", COMPLETE, "bash", made / "kadm.bash", "kadm", "./kadm", *all_shown.split(" ")[1:]]
+    ran = subprocess.run(words, capture_output=True, text=True, cwd=trial.folder)
+    trial.note("what completes an empty name", ran.stderr or differs(
+        sorted(ran.stdout.split()), sorted([*PRINCIPALS.values(), "krbtgt/A.B"])
+    ))
 
 
 def helped(program, *words):

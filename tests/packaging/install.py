@@ -1,18 +1,23 @@
 """`dev/install.py` in a folder: what it installs, that systemd reads the unit and the lines for its user and folder,
-that a running server is replaced, and that an unproved program is refused. The package of `dev/make_deb.py` likewise:
-its files and its fields."""
+that a running server is replaced, that the installed `kadm` hides what is typed, and that an unproved program is
+refused. The package of `dev/make_deb.py` likewise: its files and its fields, and that it is installed in a root without
+/proc."""
 
 import os
+import pathlib
+import re
 import shutil
 import subprocess
 import sys
 
 from harness.programs import TOP
+from harness.terminal import expect_hidden
 from harness.tests import test
 
 # What is installed, below the prefix, with its mode.
 INSTALLED = {
     "bin/kadm": 0o755, "bin/kclient": 0o755, "bin/kdcd": 0o755, "bin/kdcd-push": 0o755,
+    "libexec/plovertrunk/kadm": 0o755, "libexec/plovertrunk/kclient": 0o755, "etc/default/kadm": 0o644,
     "etc/systemd/journald@kdcd.conf": 0o644, "lib/sysusers.d/kdcd.conf": 0o644, "lib/tmpfiles.d/kdcd.conf": 0o644,
     "share/man/man1/kclient.1": 0o644, "share/man/man8/kadm.8": 0o644, "share/man/man8/kdcd.8": 0o644,
     **{f"lib/systemd/system/{unit}": 0o644 for unit in ("kdcd.service", "kdcd-push.path", "kdcd-push.service")},
@@ -91,6 +96,25 @@ def files(trial):
     trial.note("no other file is left", differs(modes(root / "opt/kdc"), INSTALLED))
 
 
+@test("kadm", "kdcd", "kclient", seconds=3)
+def installed_kadm(trial):
+    """The installed kadm hides what is typed, and has the database of its settings, which a new installation leaves."""
+    trial.enter("installed_kadm")
+    words = [*built(trial), "--unproved", trial.folder / "kdc"]
+    trial.expect(words, 0, what="the built programs are installed")
+    settings = trial.folder / "kdc/etc/default/kadm"
+    trial.same("the database of the settings", settings.read_text().splitlines()[-1], "KADM_DB=/var/lib/kdcd/database")
+    settings.write_text("KADM_DB=database\n")
+    trial.expect(words, 0, what="they are installed again")
+    kadm = str(trial.folder / "kdc/bin/kadm")
+    trial.expect([kadm, "init", "--realm", "A.B"], 0, "=ok", what="a realm in the database of the settings")
+    asked = "Password for t@A.B: "
+    expect_hidden(trial, [kadm, "add", "t"], ["secret\n", "secret\n"], 0, f"{asked}\n{asked}\nok\n")
+    trial.expect("kadm list --db database --like t", 0, "t 1 18,17,20,19", what="its row is in that database")
+    kclient = trial.folder / "kdc/bin/kclient"
+    trial.same("the installed kclient", trial.run([kclient, "--version"]).out, trial.run("kclient --version").out)
+
+
 @test("kadm", "kdcd", "kclient")
 def systemd(trial):
     """systemd makes the user and the folder by the installed lines."""
@@ -162,4 +186,60 @@ def package(trial):
     lacking = [name for name in ("postinst", "prerm", "postrm") if name.encode() not in scripts]
     trial.note("its scripts are there", differs(lacking, []))
     kept = subprocess.run(["dpkg-deb", "--info", made, "conffiles"], capture_output=True, text=True).stdout
-    trial.note("what dpkg leaves as an administrator changed it", differs(kept, "/etc/systemd/journald@kdcd.conf\n"))
+    trial.note(
+        "what dpkg leaves as an administrator changed it",
+        differs(sorted(kept.split()), ["/etc/default/kadm", "/etc/systemd/journald@kdcd.conf"])
+    )
+
+
+# What the package's scripts call, and the files that these read.
+CALLED = ("sh", "getent", "useradd", "install", "systemd-sysusers", "systemd-tmpfiles", "systemctl")
+READ = {
+    "passwd": "root:x:0:0:root:/root:/bin/sh\n", "group": "root:x:0:\n", "shadow": "root:*:19000:0:99999:7:::\n",
+    "gshadow": "root:*::\n", "login.defs": "SYS_UID_MAX 999\n", "nsswitch.conf": "passwd: files\ngroup: files\n",
+}
+
+
+def small_root(root):
+    """Makes a root with what the package's scripts call, as far as this machine has it, and nothing else."""
+    for name in filter(shutil.which, CALLED):
+        program = pathlib.Path(shutil.which(name)).resolve()
+        linked = subprocess.run(["ldd", program], capture_output=True, text=True).stdout
+        for each in (pathlib.Path("/usr/bin", name), *map(pathlib.Path, re.findall(r"(/[^\s:]+) \(0x", linked))):
+            place = root / str(each).lstrip("/")
+            place.parent.mkdir(parents=True, exist_ok=True)
+            shutil.copy(program if each.name == name else each.resolve(), place)
+    (root / "bin").symlink_to("usr/bin")
+    for name in ("etc", "var/lib/dpkg/info", "var/lib/dpkg/updates", "dev", "root"):
+        (root / name).mkdir(parents=True, exist_ok=True)
+    for name, text in READ.items():
+        (root / "etc" / name).write_text(text)
+    (root / "var/lib/dpkg/status").touch()
+    (root / "dev/null").touch()
+    return root
+
+
+@test(seconds=3)
+def package_without_proc(trial):
+    """dpkg installs the package in a root without /proc, as where an image is made; the user and the folder are there.
+    """
+    trial.enter("package_without_proc")
+    if os.getuid() or not shutil.which("dpkg-deb") or not shutil.which("useradd"):
+        return trial.leave("the package for Debian in a root of its own: root, dpkg and useradd")
+    programs, root = stand_ins(trial.folder / "programs"), small_root(trial.folder / "root")
+    trial.expect([*PACK, "--out", trial.folder, "--programs", programs], 0, what="the package is made")
+    made = next(trial.folder.glob("plovertrunk_0.9.0_*.deb"))
+    words = ["dpkg", f"--root={root}", "--force-depends", "-i", made]
+    trial.environment["PATH"] = f"/usr/sbin:/sbin:{trial.environment['PATH']}"
+    trial.expect(words, 0, what="dpkg installs it")
+    state = ["dpkg-query", f"--admindir={root}/var/lib/dpkg", "-W", "-f", "${Status}", "plovertrunk"]
+    trial.same("its state", trial.run(state).out, "install ok installed")
+    users = [each for each in (root / "etc/passwd").read_text().splitlines() if each.startswith("kdcd:")]
+    homes = [each.split(":")[5:] for each in users]
+    trial.same("the user kdcd, without home and shell", homes, [["/nonexistent", "/usr/sbin/nologin"]])
+    folder = (root / "var/lib/kdcd").stat()
+    wanted = (0o700, users[0].split(":")[2] if users else "")
+    trial.same("its folder", (folder.st_mode & 0o777, str(folder.st_uid)), wanted)
+    trial.expect(words, 0, what="dpkg installs it once more")
+    trial.expect([*words[:2], "-r", "plovertrunk"], 0, what="dpkg removes it")
+    trial.same("the folder stays", (root / "var/lib/kdcd").is_dir(), True)

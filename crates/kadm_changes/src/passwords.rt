@@ -296,19 +296,7 @@ fn asked_password<'p, T: Store, W: Write, E: Write>(
         return Err(Stop::refused(Part::Name, Reason::EndsRealm(RealmEnd::Guessable)));
     }
     let realm = component_to_text(context.alloc, database.realm())?;
-    if store.is_terminal() {
-        warn_of_echo(&mut context.errors);
-    }
     ask_twice(context.alloc, store, asked.name, &realm)
-}
-
-/// Warns that the terminal shows the password, and says how to hide it. Ignores a failed write.
-fn warn_of_echo<E: Write>(errors: &mut E) {
-    let _ = writeln!(
-        errors,
-        "kadm: the password shows as you type it; run `stty -echo` first to hide it"
-    );
-    let _ = errors.flush();
 }
 
 /// Asks twice at a terminal. Both answers have to be the same.
