@@ -4,6 +4,7 @@ current one, the user is the one that runs this, and the KDC's address is that o
 
 import os
 import re
+import shutil
 import subprocess
 import time
 
@@ -31,8 +32,8 @@ HERE = (
 TRIES, PAUSE = 4, 1.5
 # The first words of lines that are no commands: what a program prints, or the settings of a file.
 PRINTED = ("kdcd: ", "principal ", "krbtgt/", "host/", "[", '{"', "2026-", "Environment=")
-# A command that needs a terminal.
-TYPED = "stty"
+# Programs of examples that a machine may not have.
+MAY_LACK = ("gpg", "age")
 
 
 def blocks(page, title):
@@ -40,7 +41,7 @@ def blocks(page, title):
     section = (DOCS / page).read_text().partition(f"\n## {title}\n")[2].partition("\n## ")[0]
     indented = re.findall(r"(?:^    .*\n(?:\n(?=    ))?)+", section, re.M)
     found = [re.sub(r"^    ", "", block, flags=re.M).strip("\n") for block in indented]
-    return [block for block in found if not block.startswith(PRINTED) and TYPED not in block]
+    return [block for block in found if not block.startswith(PRINTED)]
 
 
 def here(block, address):
@@ -55,6 +56,18 @@ def make_realm(trial):
     for name in ("alice", "bob", "carol"):
         trial.write(f"{name}.password", "a password\n")
     trial.write("krb5.conf", "[libdefaults]\ndefault_realm = EXAMPLE.COM\n")
+    make_backup_keys(trial)
+
+
+def make_backup_keys(trial):
+    """The keys to which a backup is encrypted. The agent of gpg ends with its folder."""
+    (trial.folder / "gnupg").mkdir(mode=0o700)
+    trial.environment["GNUPGHOME"] = str(trial.folder / "gnupg")
+    if shutil.which("gpg"):
+        key = "--batch --quiet --pinentry-mode loopback --passphrase= --quick-generate-key backup@example.com"
+        trial.expect(["gpg", *key.split()], 0, what="a key of gpg")
+    if shutil.which("age"):
+        trial.expect(["sh", "-c", "age-keygen -o backup.key && age-keygen -y backup.key > backup.pub"], 0)
 
 
 def serve(trial, address):
@@ -98,4 +111,9 @@ def commands(trial):
         is_there = any(word in block for block in found)
         trial.note(f"{page}, {title!r}: its blocks", "" if is_there else f"no block has {word!r}")
         for block in found:
-            run_block(trial, page, title, here(block, address))
+            if lacking := [name for name in MAY_LACK if block.startswith(f"{name} ") and not shutil.which(name)]:
+                trial.leave(f"{page}, {title!r}: {lacking[0]} is not on the path")
+            else:
+                run_block(trial, page, title, here(block, address))
+    if shutil.which("gpgconf"):
+        trial.run("gpgconf --kill all")
