@@ -117,11 +117,11 @@ def promised():
 def pairs(cell):
     """The functions and clauses that a cell pairs: `F`, `G`: `c`, `d`; `H`: the clause. What is in parentheses names
     definitions. Also gives the pieces of the cell that are no pair. INVARIANT stands for a type's invariant, and a law
-    of an impl is a word behind `law`."""
+    of an impl, or a ghost field of a struct, is a word behind `law`."""
     found, others = [], []
     for piece in re.sub(r" ?\([^()]*\)", "", cell).split("; "):
         functions, colon, clauses = piece.partition(": ")
-        law = "law " * bool(re.match(r"the laws? ", clauses))
+        law = "law " * bool(re.match(r"the (law|invariant)s? ", clauses))
         named = [law + each for each in re.findall(r"`([^`]+)`", clauses)]
         named += [ONLY] * bool(re.match(ONLY, clauses)) + [INVARIANT] * clauses.startswith(INVARIANT)
         if colon and named:

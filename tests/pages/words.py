@@ -46,14 +46,14 @@ UNITS = (".service", ".path", ".conf", ".sh")
 WIDEST, WIDEST_OF_README = 120, 100
 # How many lines a page has at most, and all together.
 MOST_LINES = {
-    "CHANGELOG.md": 100, "CONTRIBUTING.md": 90, "README.md": 100, "SECURITY.md": 100, "docs/CLIENT.md": 170,
+    "CHANGELOG.md": 102, "CONTRIBUTING.md": 90, "README.md": 100, "SECURITY.md": 100, "docs/CLIENT.md": 170,
     "docs/CLIENT_LIBRARY.md": 125, "docs/DECISIONS.md": 230, "docs/FORMATS.md": 415, "docs/HOSTS.md": 76,
-    "docs/KEYS.md": 60, "docs/MAP.md": 150, "docs/PERFORMANCE.md": 140, "docs/PROMISES.md": 525,
+    "docs/KEYS.md": 60, "docs/MAP.md": 150, "docs/PERFORMANCE.md": 140, "docs/PROMISES.md": 940,
     "docs/PROTOCOL.md": 325, "docs/PROVING.md": 200, "docs/README.md": 50, "docs/REALM.md": 135,
     "docs/REFERENCE.md": 110, "docs/RUNNING.md": 200, "docs/SERVICES.md": 205, "docs/SETUP.md": 115,
     "docs/TROUBLE.md": 95, "docs/USERS.md": 115,
 }
-IN_ALL = 3750
+IN_ALL = 4160
 # Pages that a script makes. They may be as long as it makes them.
 MADE = ("docs/THEOREMS.md",)
 # How many lines a file of Python has at most.
@@ -65,7 +65,7 @@ LINK, PATH = re.compile(r"\]\(([^)#\s]*)(?:#([^)\s]*))?\)"), re.compile(
 # What such a path may be that is made by a build, or stands for others.
 OTHER = re.compile(r"/out(/|$)|\*|\b(NAME|CRATE)\b")
 # The longest row of a table, and how many longer ones a page still has. A number may only fall.
-LONGEST_ROW, LONG_ROWS = 300, {"docs/PROMISES.md": 136}
+LONGEST_ROW, LONG_ROWS = 300, {}
 # How wide lines begin that have to stay: a program prints them as one.
 KEPT = (
     "    accepted u@A.B", "    2026-11-23T22:46:18Z", '    {"time":', "    krbtgt/A.B@A.B from",
