@@ -4,4 +4,5 @@ mod Moved
 mod Older
 mod Paths
 mod Realms
+mod Typing
 mod Users
