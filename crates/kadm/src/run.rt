@@ -44,7 +44,8 @@ pub(crate) fn kadm_run<T: Store, W: Write + Drop, E: Write + Drop>(
     writer: W,
     errors: E,
 ) -> Status
-    ensures ended { IsEnd (with_db (path_of line.entry.db) (with_names (map string_bytes line.entry.args.now))) (T.world store.old) result (T.world store.new) }
+    ensures ended { IsEnd (with_db (path_of line.entry.db) (with_names (map string_bytes line.entry.args.now))) (T.world store.old)
+        (T.input store.old) result (T.world store.new) }
     ensures open { KeepsOpen (with_db (path_of line.entry.db) (with_names (map string_bytes line.entry.args.now))) (T.world store.old) (T.world store.new) }
 {
     let Ok(words) = words_with_db(alloc, line) else {
@@ -109,8 +110,8 @@ fn run_words<'a, T: Store, W: Write, E: Write>(
     store: &mut T,
     words: &'a [&'a str],
 ) -> Result<Status, Stop<'a>>
-    ensures done { IfOk result (λ status. IsEnd (texts words.entry.now) (T.world store.old) status (T.world store.new)) }
-    ensures stopped { IfErr result (λ stop. IsStopped (texts words.entry.now) (T.world store.old) stop (T.world store.new)) }
+    ensures done { IfOk result (λ status. IsEnd (texts words.entry.now) (T.world store.old) (T.input store.old) status (T.world store.new)) }
+    ensures stopped { IfErr result (λ stop. IsStopped (texts words.entry.now) (T.world store.old) (T.input store.old) stop (T.world store.new)) }
 {
     if asks(context, words)? {
         context.out.flush()?;
@@ -155,8 +156,8 @@ fn run_command<'a, T: Store, W: Write, E: Write>(
     store: &mut T,
     command: &Command<'a>,
 ) -> Result<Status, Stop<'a>>
-    ensures done { IfOk result (λ status. IsCommandEnd (T.world store.old) command.now status (T.world store.new)) }
-    ensures stopped { IfErr result (λ stop. IsCommandStopped (T.world store.old) command.now stop (T.world store.new)) }
+    ensures done { IfOk result (λ status. IsCommandEnd (T.world store.old) (T.input store.old) command.now status (T.world store.new)) }
+    ensures stopped { IfErr result (λ stop. IsCommandStopped (T.world store.old) (T.input store.old) command.now stop (T.world store.new)) }
 {
     match command.kind {
         CommandKind::Print(print) => run_print(context, store, &command.target, print),

@@ -176,7 +176,7 @@ pub(crate) fn write_files<'a, T: Store, W: Write, E: Write>(
     target: &Target<'a>,
     write: WriteCommand<'a>,
 ) -> Result<Outcome, Stop<'a>>
-    ensures done { IfOk result (λ end. IsWriteDone (T.world store.old) target.now write.entry end.whole (T.world store.new)) }
+    ensures done { IfOk result (λ end. IsWriteDone (T.world store.old) (T.input store.old) target.now write.entry end.whole (T.world store.new)) }
     ensures unchanged { OnErr result (T.world store.new ≡ T.world store.old) }
 {
     match write {

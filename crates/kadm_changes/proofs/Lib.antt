@@ -5,4 +5,5 @@ mod Older
 mod Paths
 mod PutBack
 mod Realms
+mod Typing
 mod Users

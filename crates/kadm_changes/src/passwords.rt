@@ -3,6 +3,7 @@ ghost use Rattle.std.specs.Prelude.{◌≡◌, IfOk, IfSome};
 ghost use Rattle.kadm_changes.specs.Found.{HasPassword, IsFound, IsFoundIn, IsFoundLine};
 ghost use Rattle.kadm_changes.specs.Updates.{IsPasswordOf, IsSecretOf};
 ghost use Rattle.kadm_changes.specs.Texts.{path_of};
+ghost use Rattle.file_store.specs.Input.{IsTyped, TakesLine, no_input};
 ghost use Rattle.file_store.specs.World.{HasFirstLine};
 
 use crate::context::Context;
@@ -130,7 +131,7 @@ pub(crate) fn new_password<'p, T: Store, W: Write, E: Write>(
     target: &Target<'p>,
     row: &RowArgs<'p>,
 ) -> Result<Vec<u8>, Stop<'p>>
-    ensures given { IfOk result (λ pass. IsSecretOf (T.world store.old) row.now.how pass.items) }
+    ensures given { IfOk result (λ pass. IsSecretOf (T.world store.old) (T.input store.old) row.now.how pass.items) }
     ensures unchanged { T.world store.new ≡ T.world store.old }
 {
     match &row.how {
@@ -168,7 +169,7 @@ fn any_password<'p, T: Store, W: Write, E: Write>(
     asked: Asked<'p>,
     args: PasswordArgs<'p>,
 ) -> Result<Vec<u8>, Stop<'p>>
-    ensures given { IfOk result (λ pass. IsPasswordOf (T.world store.old) (path_of args.entry.file) pass.items) }
+    ensures given { IfOk result (λ pass. IsPasswordOf (T.world store.old) (T.input store.old) (path_of args.entry.file) pass.items) }
     ensures unchanged { T.world store.new ≡ T.world store.old }
 {
     let pass = match args.file {
@@ -187,7 +188,7 @@ pub(crate) fn batch_password<'p, T: Store>(
     found: Option<&FoundPassword>,
 ) -> Result<Vec<u8>, Stop<'p>>
     requires found { IsFoundIn (T.world store.old) found }
-    ensures given { IfOk result (λ pass. IsSecretOf (T.world store.old) how.now pass.items) }
+    ensures given { IfOk result (λ pass. IsSecretOf (T.world store.old) no_input how.now pass.items) }
     ensures unchanged { T.world store.new ≡ T.world store.old }
 {
     match how {
@@ -205,7 +206,7 @@ fn file_password<'p, T: Store>(
     found: Option<&FoundPassword>,
 ) -> Result<Vec<u8>, Stop<'p>>
     requires found { IsFoundIn (T.world store.old) found }
-    ensures given { IfOk result (λ pass. IsPasswordOf (T.world store.old) (path_of args.entry.file) pass.items) }
+    ensures given { IfOk result (λ pass. IsPasswordOf (T.world store.old) no_input (path_of args.entry.file) pass.items) }
     ensures unchanged { T.world store.new ≡ T.world store.old }
 {
     let Some(path) = args.file else {
@@ -289,6 +290,7 @@ fn asked_password<'p, T: Store, W: Write, E: Write>(
     store: &mut T,
     asked: Asked<'p>,
 ) -> Result<Vec<u8>, Stop<'p>>
+    ensures typed { IfOk result (λ pass. IsTyped (T.input store.old) pass.items) }
     ensures unchanged { T.world store.new ≡ T.world store.old }
 {
     let database = read_database(context, store, asked.db)?;
@@ -300,12 +302,14 @@ fn asked_password<'p, T: Store, W: Write, E: Write>(
 }
 
 /// Asks twice at a terminal. Both answers have to be the same.
+#[tactic(auto, using(crate::proofs::Typing::typed_once, crate::proofs::Typing::typed_twice))]
 fn ask_twice<T: Store>(
     alloc: Global,
     store: &mut T,
     name: &str,
     realm: &str,
 ) -> Result<Vec<u8>, Stop<'static>>
+    ensures typed { IfOk result (λ pass. IsTyped (T.input store.old) pass.items) }
     ensures unchanged { T.world store.new ≡ T.world store.old }
 {
     let pass = ask_once(alloc, store, name, realm)?;
@@ -326,6 +330,7 @@ fn ask_once<T: Store>(
     name: &str,
     realm: &str,
 ) -> Result<Vec<u8>, Stop<'static>>
+    ensures line { IfOk result (λ pass. TakesLine (T.input store.old) pass.items (T.input store.new)) }
     ensures unchanged { T.world store.new ≡ T.world store.old }
 {
     match ask_password(alloc, store, name, realm)? {

@@ -1,5 +1,6 @@
 //! The commands that change a database. Each reads it once and writes it once.
 ghost use Rattle.std.specs.Prelude.{◌≡◌, OnOk, OnErr};
+ghost use Rattle.file_store.specs.Input.{no_input};
 ghost use Rattle.kadm_changes.specs.Asking.{all_asked};
 ghost use Rattle.kadm_changes.specs.Found.{IsFoundIn};
 ghost use Rattle.kadm_changes.specs.Realm.{KeepsRealm, MayHaveKeys, tgs_policy};
@@ -65,7 +66,7 @@ pub fn make_update<'p, T: Store, W: Write, E: Write>(
     update: Update<'p>,
 ) -> Result<Written, Stop<'p>>
     ensures done { OnOk result
-        (Updated (T.world store.old) target.now update.entry (T.world store.new)) }
+        (Updated (T.world store.old) (T.input store.old) target.now update.entry (T.world store.new)) }
     ensures unchanged { OnErr result (T.world store.new ≡ T.world store.old) }
 {
     match update {
@@ -85,7 +86,7 @@ fn update_row<'p, T: Store, W: Write, E: Write>(
     to: &RowArgs<'p>,
 ) -> Result<Written, Stop<'p>>
     ensures done { OnOk result (Rewritten (T.world store.old) target.now.db.now
-        (IsRowUpdated (T.world store.old) target.now.whole_realm target.now to.now) (T.world store.new)) }
+        (IsRowUpdated (T.world store.old) (T.input store.old) target.now.whole_realm target.now to.now) (T.world store.new)) }
     ensures unchanged { OnErr result (T.world store.new ≡ T.world store.old) }
 {
     let alloc = context.alloc;
@@ -181,7 +182,7 @@ pub fn update_in_batch<'p, T: Store>(
     found: Option<&FoundPassword>,
 ) -> Result<Option<Note>, Stop<'p>>
     requires found { IsFoundIn (T.world store.old) found }
-    ensures done { OnOk result (IsUpdated (T.world store.old) whole target.now update.entry draft.old.database draft.new.database) }
+    ensures done { OnOk result (IsUpdated (T.world store.old) no_input whole target.now update.entry draft.old.database draft.new.database) }
     ensures unchanged { T.world store.new ≡ T.world store.old }
 {
     match update {
@@ -209,7 +210,7 @@ fn row_in_batch<'p, T: Store>(
     found: Option<&FoundPassword>,
 ) -> Result<Option<Note>, Stop<'p>>
     requires found { IsFoundIn (T.world store.old) found }
-    ensures done { OnOk result (IsRowUpdated (T.world store.old) whole target.now to.now draft.old.database draft.new.database) }
+    ensures done { OnOk result (IsRowUpdated (T.world store.old) no_input whole target.now to.now draft.old.database draft.new.database) }
     ensures unchanged { T.world store.new ≡ T.world store.old }
 {
     let who = Name::from_text(draft.alloc, to.name)?;
