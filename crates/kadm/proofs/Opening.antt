@@ -211,7 +211,7 @@ command_open before input target (writes.Keytab to) after without is = keytab_op
 command_open before input target (writes.Dump from) after without is =
     new_open before target.db.now is.new after is.free
     (subst (λ whole. KeepsRealm whole before default_policy (tgs_policy is.new)) without is.kept) is.read_back is.written
-command_open before target (writes.Restore from) after without is =
+command_open before input target (writes.Restore from) after without is =
     restored_open before target.db.now from.now after
     (subst (λ whole. Restored before whole target.db.now from.now after) without is)
 
