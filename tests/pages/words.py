@@ -53,7 +53,7 @@ MOST_LINES = {
     "docs/REFERENCE.md": 110, "docs/RUNNING.md": 200, "docs/SERVICES.md": 227, "docs/SETUP.md": 115,
     "docs/TROUBLE.md": 95, "docs/USERS.md": 115,
 }
-IN_ALL = 4150
+IN_ALL = 3242
 # Pages that a script makes. They may be as long as it makes them.
 MADE = ("docs/PROMISES.md", "docs/THEOREMS.md")
 # How many lines a file of Python has at most.

@@ -1,5 +1,6 @@
 //! Prepared keys: everything that sealing and opening derive from a key, derived once.
-ghost use Rattle.std.specs.Prelude.{◌≡◌, ◌≤◌, ◌<◌, ◌+◌, ◌↔◌, All, length, option_map, Some, IfOk, IfSome, IfNone, IsTrue};
+ghost use Rattle.std.specs.Prelude.{◌≡◌, ◌≤◌, ◌<◌, ◌+◌, ◌↔◌, All, length};
+ghost use Rattle.std.specs.Prelude.{option_map, Some, IfOk, IfSome, IfNone, IsTrue};
 ghost use Rattle.enctypes.specs.Etype.{mac_len};
 ghost use Rattle.enctypes.specs.KeyUsage.{usage_number};
 ghost use Rattle.enctypes.specs.Sealing.{seal, Opens, OpensNothing, opened};

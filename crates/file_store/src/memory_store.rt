@@ -1,5 +1,6 @@
 //! Files, random bytes and an input in memory, for tests.
-ghost use Rattle.std.specs.Prelude.{◌≡◌, ◌≤◌, ◌∷◌, [], Some, IfErr, IfNone, IfOk, OnOk, OnErr, IfSome, vec_len, option_map, is_some};
+ghost use Rattle.std.specs.Prelude.{◌≡◌, ◌≤◌, ◌∷◌, [], Some, IfErr, IfNone};
+ghost use Rattle.std.specs.Prelude.{IfOk, OnOk, OnErr, IfSome, vec_len, option_map, is_some};
 ghost use Rattle.std.specs.IoError.{error_kind};
 ghost use Rattle.std.specs.declared.io.ErrorKind.TheVariants.{UnexpectedEof};
 ghost use Rattle.file_store.specs.Input.{IsFirstLong, lines_of};
@@ -206,7 +207,8 @@ fn octets_of(file: &StoredFile) -> Option<&[u8]>
 #[tactic(auto, using(crate::proofs::Lines::first_is, crate::proofs::Lines::first_long))]
 fn take_line(alloc: Global, input: &mut Vec<u8>, most: usize) -> io::Result<Option<Vec<u8>>>
     ensures within { IfOk result (λ found. IfSome found (λ octets. vec_len octets ≤ most)) }
-    ensures line { IfOk result (λ found. IfSome found (λ octets. lines_of input.old.items ≡ octets.items ∷ lines_of input.new.items)) }
+    ensures line { IfOk result (λ found. IfSome found (λ octets.
+        lines_of input.old.items ≡ octets.items ∷ lines_of input.new.items)) }
     ensures long { IfOk result (λ found. IfNone found (IsFirstLong (lines_of input.old.items) most)) }
     ensures ended { IfErr result (λ error. error_kind error ≡ UnexpectedEof → lines_of input.old.items ≡ []) }
 {

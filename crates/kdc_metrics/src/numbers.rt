@@ -1,6 +1,7 @@
 //! The text of a server's numbers, for those who watch it.
 ghost use Rattle.std.specs.Prelude.{◌≡◌, ◌++◌, OnOk};
-ghost use Rattle.kdc_metrics.specs.Numbers.{caches_text, database_text, journal_text, numbers_text, served_text, start_text};
+ghost use Rattle.kdc_metrics.specs.Numbers.{caches_text, database_text, journal_text};
+ghost use Rattle.kdc_metrics.specs.Numbers.{numbers_text, served_text, start_text};
 ghost use Rattle.kdc_metrics.specs.Numbers.{version_sample, version_text, withheld_text};
 
 use crate::counts::Counts;

@@ -2,7 +2,8 @@
 ghost use Rattle.std.specs.Prelude.{◌≡◌, ◌∷◌, [], List, Option, IfOk, None, true, false};
 ghost use Rattle.kdc_hub.specs.Wire.{Records};
 ghost use Rattle.kdc_files.specs.Recorded.{IsNew};
-ghost use Rattle.kdc_server.specs.Starting.{HostDid, ReadRows, ReadSeed, Drew, Held, HasNoJournal, ReadJournals, Showed};
+ghost use Rattle.kdc_server.specs.Starting.{HostDid, ReadRows, ReadSeed, Drew};
+ghost use Rattle.kdc_server.specs.Starting.{Held, HasNoJournal, ReadJournals, Showed};
 ghost use Rattle.kdc_server.specs.Starting.{BeganJournal, TookRows};
 
 use crate::sockets::ServerSockets;

@@ -5,7 +5,8 @@ ghost use Rattle.std.specs.Option.{option_copied};
 ghost use Rattle.kdc_hub.specs.Hub.{hub_state};
 ghost use Rattle.kdc_hub.specs.Wire.{Records};
 ghost use Rattle.kdc_files.specs.Recorded.{IsNew};
-ghost use Rattle.kdc_server.specs.Resuming.{AreAt, IsDecided, IsReady, known_before, may_be_first, reading, started_state};
+ghost use Rattle.kdc_server.specs.Resuming.{AreAt, IsDecided, IsReady, known_before};
+ghost use Rattle.kdc_server.specs.Resuming.{may_be_first, reading, started_state};
 ghost use Rattle.kdc_server.specs.Starting.{IsSeed, Showed, chacha20, opened_by, seeded};
 
 use crate::host::Host;

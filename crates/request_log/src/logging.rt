@@ -1,7 +1,8 @@
 //! Logging the requests of a server.
 ghost use Rattle.std.specs.Prelude.{◌≡◌, ◌∷◌, [], Bool, List, Option, option_copied};
 ghost use Rattle.kdc_hub.specs.Wire.{Records, polled};
-ghost use Rattle.request_log.specs.Log.{LogsAll, LogsIf, arrival_after, asker_of, closing_reports, entries_by, source_of};
+ghost use Rattle.request_log.specs.Log.{LogsAll, LogsIf, arrival_after, asker_of};
+ghost use Rattle.request_log.specs.Log.{closing_reports, entries_by, source_of};
 ghost use Rattle.request_log.specs.Log.{entries_of, reports};
 ghost use Rattle.request_log.specs.LogLaws.{log_if_records};
 ghost use Rattle.kdc_files.specs.Recorded.{record_of};

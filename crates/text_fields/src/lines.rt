@@ -1,7 +1,8 @@
 //! Splits a line into words, as a shell does.
 ghost use Rattle.std.specs.Prelude.{◌≡◌, IfOk, OnOk, Some, chars, map, string_bytes};
 ghost use Rattle.text_fields.specs.LineWords.{after_between, after_double, after_double_escape, after_letter};
-ghost use Rattle.text_fields.specs.LineWords.{after_letters, after_plain, after_single, begun, ended, is_space, is_special};
+ghost use Rattle.text_fields.specs.LineWords.{after_letters, after_plain, after_single, begun};
+ghost use Rattle.text_fields.specs.LineWords.{ended, is_space, is_special};
 ghost use Rattle.text_fields.specs.LineWords.{reading, with_letter, with_word, words_of_line};
 
 use std::alloc::{AllocError, Global};
@@ -50,7 +51,8 @@ pub fn line_words(
     line: &[u8],
 ) -> Result<Result<Vec<String>, &'static str>, AllocError>
     // Promise: the words of a line are those of a shell's: a quotation, an escape and a comment as there.
-    ensures words { IfOk result (λ read. IfOk read (λ words. words_of_line line.now ≡ Some (map string_bytes words.items))) }
+    ensures words { IfOk result (λ read. IfOk read (λ words.
+        words_of_line line.now ≡ Some (map string_bytes words.items))) }
 {
     let Ok(text) = std::str::from_utf8(line) else {
         return Ok(Err(NOT_UTF8));
@@ -186,7 +188,8 @@ impl LineReader {
 
     /// Returns the words of the whole line. The inner `Err` says why it can't end here.
     fn end(self) -> Result<Result<Vec<String>, &'static str>, AllocError>
-        ensures { IfOk result (λ read. IfOk read (λ words. ended (reading self) ≡ Some (map string_bytes words.items))) }
+        ensures { IfOk result (λ read. IfOk read (λ words.
+            ended (reading self) ≡ Some (map string_bytes words.items))) }
     {
         let LineReader {
             alloc: _,
