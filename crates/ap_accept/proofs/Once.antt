@@ -15,21 +15,25 @@ use Rattle.replay.specs.declared.verdict.Verdict.{Verdict}
 use Rattle.replay.specs.declared.verdict.Verdict.TheVariants.{Fresh, Skew, Repeat, Full}
 use Rattle.replay.proofs.Settled.{IsSettled, recorded_settles, settled_not_fresh, settled_recorded}
 use Rattle.replay.proofs.Stamps.{stamp_exact, stamp_total}
-use Rattle.ap_accept.specs.Accepts.{Answer, answer_by, cache_for, if_request, recorded_of, recording, request_of, stamp_of}
+use Rattle.ap_accept.specs.Accepts.{Answer, accepts, answer_by, cache_for, if_request, recorded_by, recorded_of, recording, request_of, stamp_of}
 use Rattle.ap_accept.specs.Clients.{floor_for}
+use Rattle.ap_accept.specs.Named.{accepts_keyless, is_for_another}
 use Rattle.ap_accept.specs.Presented.{presented}
 use Rattle.ap_accept.specs.Reply.{asks_reply}
 use Rattle.ap_accept.specs.StageLaws.{recorded_staged, request_staged}
 use Rattle.ap_accept.specs.Stages.{if_presented, refusal_by, seen_by, seen_if, unless_seen}
-use Rattle.ap_accept.specs.Run.{AcceptedOnce, Call, Event, Accept, Replace, Resume, accepted_at, accepted_in, after_call, after_event, is_party, stamp_if}
+use Rattle.ap_accept.specs.Run.{AcceptedOnce, Call, Event, Accept, AcceptFor, Replace, Resume, accepted_at, accepted_in, after_call, after_event, is_party, stamp_if}
 use Rattle.ap_accept.specs.State.{cache_of}
 use Rattle.ap_req.specs.Validity.{ticket_terms}
 use Rattle.ap_accept.specs.Validity.{validity_rules}
+use Rattle.ap_accept.specs.declared.accepted.Accepted.{Accepted}
+use Rattle.ap_accept.specs.declared.fault.ApFault.{ApFault}
 use Rattle.ap_accept.specs.declared.presented.Presented.{Presented}
 use Rattle.ap_req.specs.declared.refusal.ApRefusal.{ApRefusal}
 use Rattle.ap_accept.specs.declared.state.State.{State}
 use Rattle.ap_accept.proofs.Frame.{accepts_keeps, recording_keeps}
 use Rattle.ap_accept.proofs.DroppingExpired.{both, still_settled}
+use Rattle.ap_accept.proofs.Others.{keyless_refuses, kept_keyless}
 
 -- ---- a machine that accepts only what is not settled, and then settles it
 
@@ -127,15 +131,44 @@ module _ (service client : Components) where
       (found_presented state now confounder (asks_reply request) (presented state.keytab request)))
   found_request state now confounder None = tt
 
+  -- ---- a call for the service of a name alone
+
+  -- what is refused settles nothing
+  unfound : (state after : State) (p : Option Presented) (r : Result Accepted ApFault) → ((a : Accepted) → r ≡ Ok a → ⊥) → IfSome (accepted_in service client p r) (Settles state after)
+  unfound state after p (Ok a) no = absurd (no a refl)
+  unfound state after None (Err fault) no = tt
+  unfound state after (Some p) (Err fault) no = neither (is_party service client p)
+    where
+      neither : (b : Bool) → IfSome (if b then None else None) (Settles state after)
+      neither true = tt
+      neither false = tt
+
+  module _ (state : State) (call : Call) where
+    named_stays : (s : Stamp) → IsSettled (cache_of state service client) s tt → (b : Bool)
+        → IsSettled (cache_of (if b then (accepts_keyless state call.at call.confounder call.octets).state else after_call state call) service client) s tt
+    named_stays s held true = subst (λ (next : State). IsSettled (cache_of next service client) s tt) (sym (kept_keyless [] state call.at call.confounder call.octets)) held
+    named_stays s held false = stays_settled state call s held
+
+    named_settles : (b : Bool)
+        → IfSome (accepted_in service client (recorded_by state call.at.sec call.octets)
+        (if b then accepts_keyless state call.at call.confounder call.octets else accepts state call.at call.confounder call.octets).answer)
+        (Settles state (if b then (accepts_keyless state call.at call.confounder call.octets).state else after_call state call))
+    named_settles true =
+        unfound state (accepts_keyless state call.at call.confounder call.octets).state (recorded_by state call.at.sec call.octets)
+        (accepts_keyless state call.at call.confounder call.octets).answer (keyless_refuses [] state call.at call.confounder call.octets)
+    named_settles false = found_request state call.at.sec call.confounder (request_of call.octets)
+
   -- ---- an event
 
   stays_on : (state : State) (event : Event) (s : Stamp) → IsSettled (cache_of state service client) s tt → IsSettled (cache_of (after_event after_call state event) service client) s tt
   stays_on state (Accept call) s held = stays_settled state call s held
+  stays_on state (AcceptFor name call) s held = named_stays state call s held (is_for_another name (request_of call.octets))
   stays_on state (Replace keytab) s held = held
   stays_on state (Resume keytab options) s held = held
 
   settles_on : (state : State) (event : Event) → IfSome (accepted_at service client state event) (Settles state (after_event after_call state event))
   settles_on state (Accept call) = found_request state call.at.sec call.confounder (request_of call.octets)
+  settles_on state (AcceptFor name call) = named_settles state call (is_for_another name (request_of call.octets))
   settles_on state (Replace keytab) = tt
   settles_on state (Resume keytab options) = tt
 

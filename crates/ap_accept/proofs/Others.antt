@@ -123,6 +123,10 @@ module _ (service : Components) (state : State) (at : Moment) (confounder octets
       ≡ staged_if (with_keytab state []) at.sec confounder (request_of octets)
   staged_keyless = accepts_staged (with_keytab state []) at confounder octets
 
+  pub keyless_refuses : (a : Accepted) → (accepts_keyless state at confounder octets).answer ≡ Ok a → ⊥
+  keyless_refuses a e =
+      keyless_answer (request_of octets) a (sym (ap (λ (x : Answer). x.answer) staged_keyless) ∙ e)
+
   abbrev IsIts : Accepted → Type 0
   IsIts a = a.service.components ≡ service
 
@@ -150,8 +154,7 @@ module _ (service : Components) (state : State) (at : Moment) (confounder octets
   by_name : (b : Bool) → is_for_another service (request_of octets) ≡ b → (a : Accepted)
       → (cond b (accepts_keyless state at confounder octets) (accepts state at confounder octets)).answer ≡ Ok a
       → IsIts a
-  by_name true is a e =
-      absurd (keyless_answer (request_of octets) a (sym (ap (λ (x : Answer). x.answer) staged_keyless) ∙ e))
+  by_name true is a e = absurd (keyless_refuses a e)
   by_name false is a e =
       its_own (request_of octets) a is
       (sym (ap (λ (x : Answer). x.answer) (accepts_staged state at confounder octets)) ∙ e)
@@ -161,7 +164,7 @@ module _ (service : Components) (state : State) (at : Moment) (confounder octets
   for_it (Ok a) e = by_name (is_for_another service (request_of octets)) refl a e
   for_it (Err fault) e = tt
 
-  kept_keyless : (accepts_keyless state at confounder octets).state ≡ state
+  pub kept_keyless : (accepts_keyless state at confounder octets).state ≡ state
   kept_keyless =
       ap (λ (s : State). with_keytab s state.keytab)
       (ap (λ (x : Answer). x.state) staged_keyless ∙ keyless_state (request_of octets))

@@ -1,6 +1,6 @@
 -- An acceptor that drops old entries answers as one that doesn't: their caches agree from a second on, and no call
 -- comes before it.
-use Rattle.std.proofs.Common.{◌≡◌, ◌-ℤ◌, ◌≤ℤ◌, Bool, true, false, cond, ℕ, ℤ, pos, List, [], ◌∷◌, Option, Some, None, refl, ap, sym, subst, ◌∙◌, arith}
+use Rattle.std.proofs.Common.{◌≡◌, ◌-ℤ◌, ◌≤ℤ◌, Bool, true, false, cond, if◌then◌else◌, ℕ, ℤ, pos, List, [], ◌∷◌, Option, Some, None, refl, ap, sym, subst, ◌∙◌, arith}
 use Rattle.std.specs.Prelude.{⊤, option_and_then, option_map}
 use Rattle.std.specs.Int.{int_max}
 use Rattle.std.specs.List.{AllByRecursion}
@@ -16,15 +16,17 @@ use Rattle.replay.specs.Stamp.{Stamp}
 use Rattle.ap_accept.specs.Accepts.{accepts, after_recording, answer_by, cache_for, if_request, recorded_of, recording, refused_by, request_of, stamp_of, unless_before}
 use Rattle.ap_accept.specs.Clients.{floor_for, hour}
 use Rattle.ap_accept.specs.Contents.{authenticator_in, contents, entry_in, presented_in, service_of, session_key_in, ticket_in, verdict_in, with_ticket}
+use Rattle.ap_accept.specs.Named.{accepts_for, accepts_keyless, is_for_another}
 use Rattle.ap_accept.specs.Reply.{asks_reply}
 use Rattle.ap_accept.specs.Rules.{first_row, rows}
-use Rattle.ap_accept.specs.Run.{DropsUnseen, Event, Accept, Replace, Resume, IsFrom, Steady, after_call, after_keeping, answers, is_party, keeping, keeping_if}
+use Rattle.ap_accept.specs.Run.{Call, DropsUnseen, Event, Accept, AcceptFor, Replace, Resume, IsFrom, Steady, after_call, after_keeping, after_named, answers, is_party, keeping, keeping_if}
 use Rattle.ap_accept.specs.State.{cache_of, renewed, with_keytab}
 use Rattle.ap_accept.specs.declared.options.AcceptorOptions.{AcceptorOptions}
 use Rattle.ap_accept.specs.declared.presented.Presented.{Presented}
 use Rattle.ap_accept.specs.declared.state.State.{State}
 use Rattle.ap_accept.proofs.Frame.{next_cache, recording_keeps, stored_keeps}
 use Rattle.ap_accept.proofs.DroppingExpired.{as_empty_on}
+use Rattle.ap_accept.proofs.Others.{kept_keyless}
 use Rattle.ap_accept.proofs.Raised.{alike_on, raised, recorded_alike, says_the_same}
 
 -- the same keys and options, and replay caches that agree from this second on
@@ -114,6 +116,7 @@ module _ (second now high : ℤ) (s t : State) (alike : Alike second s t) (le : 
 -- no call comes before the second, with the clock skew
 abbrev Follows : ℤ → Event → Type 0
 Follows second (Accept call) = second ≤ℤ (call.at.sec -ℤ pos skew)
+Follows second (AcceptFor name call) = second ≤ℤ (call.at.sec -ℤ pos skew)
 Follows second (Replace keytab) = ⊤
 Follows second (Resume keytab options) = ⊤
 
@@ -126,6 +129,7 @@ least second now at le steady = grind (arith, ints, clamps)
 follow_on : (second now : ℤ) (events : List Event) → Follow second events → AllByRecursion (IsFrom (now -ℤ pos hour)) events → Follow (int_max second (floor_for now)) events
 follow_on second now [] follow steady = tt
 follow_on second now (Accept call ∷ events) follow steady = (least second now call.at.sec follow.0 steady.0, follow_on second now events follow.1 steady.1)
+follow_on second now (AcceptFor name call ∷ events) follow steady = (least second now call.at.sec follow.0 steady.0, follow_on second now events follow.1 steady.1)
 follow_on second now (Replace keytab ∷ events) follow steady = (tt, follow_on second now events follow.1 steady.1)
 follow_on second now (Resume keytab options ∷ events) follow steady = (tt, follow_on second now events follow.1 steady.1)
 
@@ -143,6 +147,33 @@ alike_with second s t keytab alike = record { keytab = refl; options = alike.opt
 alike_renewed : (second : ℤ) (s t : State) (keytab : List KeytabEntry) (options : AcceptorOptions) → Alike second s t → Alike second (renewed s keytab options) (renewed t keytab options)
 alike_renewed second s t keytab options alike = record { keytab = refl; options = refl; caches = alike.caches }
 
+-- ---- a call for the service of a name alone
+
+module _ (second : ℤ) (s t : State) (call : Call) (alike : Alike second s t) (le : second ≤ℤ (call.at.sec -ℤ pos skew)) where
+  abbrev high : ℤ
+  high = int_max second (floor_for call.at.sec)
+
+  alike_named : (b : Bool) → Alike high
+      (if b then (accepts_keyless s call.at call.confounder call.octets).state else after_call s call)
+      (if b then (accepts_keyless t call.at call.confounder call.octets).state else after_keeping t call)
+  alike_named true =
+      subst (λ (new : State). Alike high new (accepts_keyless t call.at call.confounder call.octets).state)
+      (sym (kept_keyless [] s call.at call.confounder call.octets))
+      (subst (λ (new : State). Alike high s new) (sym (kept_keyless [] t call.at call.confounder call.octets))
+      (still_alike second call.at.sec high s t alike le (max_left second (floor_for call.at.sec)) (max_right second (floor_for call.at.sec))))
+  alike_named false =
+      alike_after second call.at.sec high s t alike le (max_left second (floor_for call.at.sec)) (max_right second (floor_for call.at.sec))
+      call.confounder (request_of call.octets)
+
+  same_named : (b : Bool)
+      → (if b then accepts_keyless s call.at call.confounder call.octets else accepts s call.at call.confounder call.octets).answer
+      ≡ (if b then accepts_keyless t call.at call.confounder call.octets else accepts t call.at call.confounder call.octets).answer
+  same_named true =
+      same_answer second call.at.sec (with_keytab s []) (with_keytab t []) (alike_with second s t [] alike) le call.confounder (request_of call.octets)
+  same_named false = same_answer second call.at.sec s t alike le call.confounder (request_of call.octets)
+
+-- ---- all events
+
 all_same : (second : ℤ) (s t : State) (events : List Event) → Alike second s t → Follow second events → Steady events → answers after_call s events ≡ answers after_keeping t events
 all_same second s t [] alike follow steady = refl
 all_same second s t (Accept call ∷ events) alike follow steady =
@@ -153,6 +184,15 @@ all_same second s t (Accept call ∷ events) alike follow steady =
     let here : (accepts s call.at call.confounder call.octets).answer ≡ (accepts t call.at call.confounder call.octets).answer = same_answer second now s t alike follow.0 call.confounder (request_of call.octets) in
     let later : answers after_call (after_call s call) events ≡ answers after_keeping (after_keeping t call) events =
     all_same high (after_call s call) (after_keeping t call) events next (follow_on second now events follow.1 steady.0) steady.1 in
+    λ i. here i ∷ later i
+all_same second s t (AcceptFor name call ∷ events) alike follow steady =
+    let now : ℤ = call.at.sec in
+    let b : Bool = is_for_another name (request_of call.octets) in
+    let high : ℤ = int_max second (floor_for now) in
+    let next : Alike high (after_named after_call name s call) (after_named after_keeping name t call) = alike_named second s t call alike follow.0 b in
+    let here : (accepts_for name s call.at call.confounder call.octets).answer ≡ (accepts_for name t call.at call.confounder call.octets).answer = same_named second s t call alike follow.0 b in
+    let later : answers after_call (after_named after_call name s call) events ≡ answers after_keeping (after_named after_keeping name t call) events =
+    all_same high (after_named after_call name s call) (after_named after_keeping name t call) events next (follow_on second now events follow.1 steady.0) steady.1 in
     λ i. here i ∷ later i
 all_same second s t (Replace keytab ∷ events) alike follow steady =
     all_same second (with_keytab s keytab) (with_keytab t keytab) events (alike_with second s t keytab alike) follow.1 steady
@@ -168,6 +208,7 @@ first_itself now = omega (arith, ints)
 follow_first : (now : ℤ) (events : List Event) → AllByRecursion (IsFrom (now -ℤ pos hour)) events → Follow (floor_for now) events
 follow_first now [] steady = tt
 follow_first now (Accept call ∷ events) steady = (an_hour_before now call.at.sec steady.0, follow_first now events steady.1)
+follow_first now (AcceptFor name call ∷ events) steady = (an_hour_before now call.at.sec steady.0, follow_first now events steady.1)
 follow_first now (Replace keytab ∷ events) steady = (tt, follow_first now events steady.1)
 follow_first now (Resume keytab options ∷ events) steady = (tt, follow_first now events steady.1)
 
@@ -175,6 +216,9 @@ pub drops_unseen : DropsUnseen
 drops_unseen state [] steady = refl
 drops_unseen state (Accept call ∷ events) steady =
     all_same (floor_for call.at.sec) state state (Accept call ∷ events) (record { keytab = refl; options = refl; caches = λ service client. refl })
+    (first_itself call.at.sec, follow_first call.at.sec events steady.0) steady
+drops_unseen state (AcceptFor name call ∷ events) steady =
+    all_same (floor_for call.at.sec) state state (AcceptFor name call ∷ events) (record { keytab = refl; options = refl; caches = λ service client. refl })
     (first_itself call.at.sec, follow_first call.at.sec events steady.0) steady
 drops_unseen state (Replace keytab ∷ events) steady = drops_unseen (with_keytab state keytab) events steady
 drops_unseen state (Resume keytab options ∷ events) steady = drops_unseen (renewed state keytab options) events steady

@@ -8,8 +8,9 @@ use Rattle.krb_fields.specs.Name.{Components, name_cmp}
 use Rattle.krb_fields.specs.declared.moment.Moment.{Moment}
 use Rattle.replay.specs.Run.{collected, EachOnce}
 use Rattle.replay.specs.Stamp.{Stamp}
-use Rattle.ap_accept.specs.Accepts.{accepts, recorded_by, recording_clients, stamp_of}
+use Rattle.ap_accept.specs.Accepts.{accepts, recorded_by, recording_clients, request_of, stamp_of}
 use Rattle.ap_accept.specs.Clients.{hour}
+use Rattle.ap_accept.specs.Named.{accepts_for, accepts_keyless, is_for_another}
 use Rattle.ap_accept.specs.State.{renewed, with_clients, with_keytab}
 use Rattle.ap_accept.specs.declared.accepted.Accepted.{Accepted}
 use Rattle.ap_accept.specs.declared.fault.ApFault.{ApFault}
@@ -23,19 +24,28 @@ pub record Call : Type 0 where
   pub confounder : List ℕ
   pub octets : List ℕ
 
--- a call; a keytab that replaces the keys; or a later process with a keytab and options, which resumes with what this
--- one saved
+-- a call; a call for the service of a name alone; a keytab that replaces the keys; or a later process with a keytab and
+-- options, which resumes with what this one saved
 pub data Event : Type 0 where
   Accept : Call → Event
+  AcceptFor : Components → Call → Event
   Replace : List KeytabEntry → Event
   Resume : List KeytabEntry → AcceptorOptions → Event
 
 abbrev pub after_call : State → Call → State
 after_call state call = (accepts state call.at call.confounder call.octets).state
 
+-- the state after a call for the service of a name alone, where `after` returns that after a call for each service
+abbrev pub after_named : (State → Call → State) → Components → State → Call → State
+after_named after name state call =
+    if is_for_another name (request_of call.octets)
+    then (accepts_keyless state call.at call.confounder call.octets).state
+    else after state call
+
 -- the state after an event, where `after` returns the state after a call
 abbrev pub after_event : (State → Call → State) → State → Event → State
 after_event after state (Accept call) = after state call
+after_event after state (AcceptFor name call) = after_named after name state call
 after_event after state (Replace keytab) = with_keytab state keytab
 after_event after state (Resume keytab options) = renewed state keytab options
 
@@ -58,13 +68,19 @@ accepted_for service client state call =
     accepted_in service client (recorded_by state call.at.sec call.octets)
     (accepts state call.at call.confounder call.octets).answer
 
+abbrev pub accepted_named : Components → Components → Components → State → Call → Option Stamp
+accepted_named service client name state call =
+    accepted_in service client (recorded_by state call.at.sec call.octets)
+    (accepts_for name state call.at call.confounder call.octets).answer
+
 abbrev pub accepted_at : Components → Components → State → Event → Option Stamp
 accepted_at service client state (Accept call) = accepted_for service client state call
+accepted_at service client state (AcceptFor name call) = accepted_named service client name state call
 accepted_at service client state (Replace keytab) = None
 accepted_at service client state (Resume keytab options) = None
 
--- In every list of calls, at any moments, and with any keytabs that replace the keys and any processes that resume
--- between them, no authenticator is accepted twice for the same ticket realm, service and client. An authenticator is
+-- In every list of calls, for each service or for one, at any moments, and with any keytabs that replace the keys and any
+-- processes that resume between them, no authenticator is accepted twice for the same ticket realm, service and client. An authenticator is
 -- known by its ctime and cusec.
 abbrev pub AcceptedOnce : Type 0
 AcceptedOnce =
@@ -89,12 +105,16 @@ abbrev pub answers : (State → Call → State) → State → List Event → Lis
 answers after state [] = []
 answers after state (Accept call ∷ events) =
     (accepts state call.at call.confounder call.octets).answer ∷ answers after (after state call) events
+answers after state (AcceptFor name call ∷ events) =
+    (accepts_for name state call.at call.confounder call.octets).answer
+    ∷ answers after (after_named after name state call) events
 answers after state (Replace keytab ∷ events) = answers after (with_keytab state keytab) events
 answers after state (Resume keytab options ∷ events) = answers after (renewed state keytab options) events
 
 -- a call is not before this second
 abbrev pub IsFrom : ℤ → Event → Type 0
 IsFrom second (Accept call) = second ≤ℤ call.at.sec
+IsFrom second (AcceptFor name call) = second ≤ℤ call.at.sec
 IsFrom second (Replace keytab) = ⊤
 IsFrom second (Resume keytab options) = ⊤
 
@@ -102,6 +122,7 @@ IsFrom second (Resume keytab options) = ⊤
 abbrev pub Steady : List Event → Type 0
 Steady [] = ⊤
 Steady (Accept call ∷ events) = AllByRecursion (IsFrom (call.at.sec -ℤ pos hour)) events × Steady events
+Steady (AcceptFor name call ∷ events) = AllByRecursion (IsFrom (call.at.sec -ℤ pos hour)) events × Steady events
 Steady (Replace keytab ∷ events) = Steady events
 Steady (Resume keytab options ∷ events) = Steady events
 

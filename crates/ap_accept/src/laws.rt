@@ -6,7 +6,7 @@ ghost use Rattle.ap_accept.specs.Run.{AcceptedOnce, DropsUnseen};
 /// and however often the keys are replaced.
 pub fn accepted_once()
     // Promise: no authenticator is accepted twice for one ticket realm, sname and client, over every list of calls of
-    // one acceptor and at any moments.
+    // one acceptor, `accept` and `accept_for`, and at any moments.
     // Promise: each authenticator is accepted once with any keytabs that replace the acceptor's keys between the calls,
     // and with any processes that resume with what it saved. Any other restart is another acceptor, with
     // `Opening::Restart`.
