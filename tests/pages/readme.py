@@ -115,11 +115,11 @@ def log_in(trial, lines):
 
 
 def expect_example(trial):
-    """The example of a login prints when its ticket ends, in seconds since 1970; with another password why there is
-    none."""
+    """The example of a login prints when its ticket ends, in seconds since 1970, and an AP-REQ; with another password why
+    there is none."""
     ran = trial.run(f"{LOGIN_EXAMPLE} alice host/www.example.com www.keytab", given="a password\n")
-    ends = ran.out.strip()
-    late = ends.isdecimal() and int(ends) > time.time()
+    got = re.fullmatch(r"(\d+)\n6e[0-9a-f]+\n", ran.out)
+    late = got and int(got[1]) > time.time()
     trial.note(f"{LOGIN_EXAMPLE} gets a ticket", ran.fault(0) or f"it prints {ran.out!r}" * (not late))
     ran = trial.run(f"{LOGIN_EXAMPLE} alice host/www.example.com www.keytab", given="another password\n")
     refused = re.fullmatch(r"127\.0\.0\.1:\d+: error 24: .*\n", ran.out)

@@ -1,11 +1,14 @@
 """The example of a login by a password: at the realm's KDC, and at programs in its place that know the password but not
-the key of the service, by which the login is verified. `Made` of the relay makes their replies."""
+the key of the service, by which the login is verified. `Made` of the relay makes their replies. And what it says of the
+reply of a service, the other example."""
 
 import dataclasses
 import re
+import subprocess
 import time
 
-from harness.programs import LOGIN_EXAMPLE
+from harness.checks import differs
+from harness.programs import LOGIN_EXAMPLE, SERVICE_EXAMPLE
 from harness.relay import AS_REQ, Made, Relay
 from harness.tests import test
 from kclient.files import FILES, H, NO_KEY, V, keytab
@@ -43,12 +46,10 @@ TICKETS = {
 
 
 def log_in(trial, what, words, given, wanted):
-    """Logs in. The result has to be this text, or, if that is None, the second in which a ticket ends."""
+    """Logs in. The result has to be this text, or, if that is None, the second in which a ticket ends, and an AP-REQ."""
     ran = trial.run(f"{LOGIN_EXAMPLE} {words}", given=given + "\n")
-    ends = ran.out.strip()
-    is_well = ends.isdecimal() and int(ends) > time.time() if wanted is None else re.fullmatch(
-        f"(?:{wanted})\n", ran.out
-    )
+    got = re.fullmatch(r"(\d+)\n6e[0-9a-f]+\n", ran.out)
+    is_well = got and int(got[1]) > time.time() if wanted is None else re.fullmatch(f"(?:{wanted})\n", ran.out)
     trial.note(what, ran.fault(0 if wanted is None else 1) or f"it prints {ran.out!r}" * (not is_well))
 
 
@@ -94,6 +95,48 @@ def at_the_realms_kdc(trial):
         "v//u: it is not a valid name"
     )
     log_in(trial, "the realm's KDC, and no keytab", "v h nowhere", "password", "nowhere: .*")
+    server.end()
+
+
+class Presenting:
+    """A login that presents its ticket to `h`, and waits for the reply."""
+
+    def __init__(self, trial):
+        pipes = {"stdin": subprocess.PIPE, "stdout": subprocess.PIPE, "text": True}
+        self.process = trial.start([LOGIN_EXAMPLE, "v", "h", "keys"], **pipes)
+        self.process.stdin.write("password\n")
+        self.process.stdin.flush()
+        self.ends, self.ap_req = (self.process.stdout.readline().strip() for _ in range(2))
+
+    def take(self, line):
+        """What it says of this reply, and its status."""
+        said, _ = self.process.communicate(f"{line}\n", timeout=60)
+        return said, self.process.returncode
+
+
+REPLIED, NOT_OPENED = ("the service has replied\n", 0), ("the key does not open the reply\n", 1)
+NO_REPLY = "the octets are no reply\n", 1
+
+
+@test("kadm", "kdcd", LOGIN_EXAMPLE, SERVICE_EXAMPLE)
+def to_a_service(trial):
+    """The example of a login presents its ticket to the example of a service, and takes its reply and no other."""
+    make_realm(trial)
+    server = trial.serve("--first")
+    trial.configure(server.udp)
+    logins = [Presenting(trial) for _ in range(5)]
+    ran = trial.run(f"{SERVICE_EXAMPLE} keys first", given="".join(f"{each.ap_req}\n" for each in logins))
+    replies = re.findall(r"^accepted v@A\.B for h@?\S* .* ap-rep ([0-9a-f]+)$", ran.out, re.M)
+    trial.note("the service accepts each", ran.fault(0) or differs(len(replies), len(logins)))
+    changed = f"{replies[1][:-2]}{int(replies[1][-2:], 16) ^ 1:02x}"
+    for what, login, line, wanted in (
+        ("its reply", logins[0], replies[0], REPLIED),
+        ("its reply with a bit changed", logins[1], changed, NOT_OPENED),
+        ("the reply to another", logins[2], replies[3], NOT_OPENED),
+        ("what it sent itself", logins[3], logins[3].ap_req, NO_REPLY),
+        ("no digits", logins[4], "it is me", NO_REPLY),
+    ):
+        trial.note(what, differs(login.take(line), wanted))
     server.end()
 
 

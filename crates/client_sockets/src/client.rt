@@ -8,13 +8,19 @@ ghost use Rattle.client_login.specs.Verifying.{IsTicketOf};
 ghost use Rattle.krb_fields.specs.Granting.{tgs_name};
 ghost use Rattle.client_files.specs.Configs.{ArePlacesOf, IsNamed};
 ghost use Rattle.client_sockets.specs.Clients.{IsGrantedFor, IsGrantedIn, IsLoggedIn, IsSeeded, IsServiceIn};
+ghost use Rattle.client_sockets.specs.Presenting.{IsPresentedAt};
 
+use crate::presented::{Presented, presented};
 use crate::socket_network::SocketNetwork;
+use client_core::{is_presentable, session_key};
 use client_files::{
     Cause, ClientStore, Config, Defaults, Fault, at_file, at_password, name_of, principal_text,
     read_keytab,
 };
-use client_login::{AnyMessage, KdcClient, Kdcs, Login, LoginFault, Password, Secret, Transports};
+use client_login::{
+    AnyMessage, KdcClient, Kdcs, Login, LoginError, LoginFault, Password, Secret, Transports,
+    draw_confounder,
+};
 use cred_files::{Credential, Keytab, Principal};
 use file_store::{CLOCK, FileCause, FileStore, STANDARD_INPUT, Variable, ask_password, draw_seed};
 use krb_elements::Octets;
@@ -248,12 +254,36 @@ impl<X: AnyMessage + Drop, T: ClientStore + Drop> Client<X, T> {
         }
     }
 
+    /// Makes an AP-REQ that presents a ticket to its service and asks for a reply. The ticket is one that
+    /// [`Client::ticket`] returned. [`Presented::judge`] judges the reply.
+    pub fn present(&mut self, ticket: &Credential) -> Result<Presented, Fault>
+        // Promise (ok, client): **a client presents the ticket that it is handed**, under the ticket's session key, with
+        // a moment of its clock and a confounder that this call drew.
+        ensures ok { IfOk result (λ made. IsPresentedAt (T.world self.old.store) self.old ticket.now made) }
+        ensures client { self.new ≡ record self.old {
+            generator = self.new.generator;
+            store = self.new.store
+        } }
+        ensures world { T.world self.new.store ≡ T.world self.old.store }
+    {
+        let alloc = self.kdc.alloc;
+        let at = clock(alloc, &mut self.store)?;
+        let Some(key) = session_key(ticket) else {
+            return Err(fault_of(alloc, &ticket.service, NOT_PRESENTABLE));
+        };
+        if !is_presentable(ticket) {
+            return Err(fault_of(alloc, &ticket.service, NOT_PRESENTABLE));
+        }
+        let confounder = draw_confounder(&mut self.rng);
+        match presented(alloc, ticket, key, at, &confounder) {
+            Ok(made) => Ok(made),
+            Err(error) => Err(Fault::from(error)),
+        }
+    }
+
     /// Returns the fault for what concerns the client's principal.
     fn fault(&self, cause: Cause) -> Fault {
-        match principal_text(self.kdc.alloc, &self.login.client) {
-            Ok(subject) => Fault::of(subject, cause),
-            Err(error) => Fault::from(error),
-        }
+        fault_of(self.kdc.alloc, &self.login.client, cause)
     }
 
     fn login_fault(&self, fault: LoginFault) -> Fault {
@@ -262,6 +292,16 @@ impl<X: AnyMessage + Drop, T: ClientStore + Drop> Client<X, T> {
             Ok(client) => Fault::of_login(alloc, &self.kdc.kdcs, client.as_str(), fault),
             Err(error) => Fault::from(error),
         }
+    }
+}
+
+const NOT_PRESENTABLE: Cause = Cause::Login(LoginError::NotPresentable);
+
+/// Returns the fault for what concerns a principal.
+fn fault_of(alloc: Global, principal: &Principal, cause: Cause) -> Fault {
+    match principal_text(alloc, principal) {
+        Ok(subject) => Fault::of(subject, cause),
+        Err(error) => Fault::from(error),
     }
 }
 

@@ -1,10 +1,13 @@
 //! `example_login NAME SERVICE KEYTAB`: an example of a program that lets somebody in by a password. It logs in with
 //! the password on the first line of standard input, checks with a keytab of this computer that the KDC is the realm's,
-//! and prints when the ticket of a service ends.
+//! and prints when the ticket of a service ends, and the AP-REQ that presents it. If a second line follows, that is the
+//! service's reply, and it prints whether the service sent it. Messages are hexadecimal digits, as those of
+//! `example_service` are.
 #![tactic(auto)]
 
+use client_core::ClientFault;
 use client_files::Fault;
-use client_sockets::{Client, SystemClient};
+use client_sockets::{Client, Presented, SystemClient};
 use command_line::{Status, open_missing_streams};
 use cred_files::Credential;
 use std::process::ExitCode;
@@ -20,27 +23,29 @@ fn main(rt: HostRuntime) -> io::Result<ExitCode> {
         println!(rt; "usage: example_login NAME SERVICE KEYTAB")?;
         return Ok(ExitCode::from(Status::Usage.code()));
     };
-    match get_ticket(&rt, name.as_str(), service.as_str(), keytab.as_str()) {
-        Ok(ticket) => {
-            println!(rt; "{}", ticket.times.end_time.seconds())?;
-            Ok(ExitCode::SUCCESS)
-        }
+    let status = match get_ticket(&rt, name.as_str(), service.as_str(), keytab.as_str()) {
+        Ok(got) => tell(&rt, &got)?,
         Err(fault) => {
             println!(rt; "{fault}")?;
-            Ok(ExitCode::from(Status::Refused.code()))
+            Status::Refused
         }
-    }
+    };
+    Ok(ExitCode::from(status.code()))
 }
 
-/// Opens a client of a principal, and gets the ticket of a service with it.
-fn get_ticket(
-    rt: &HostRuntime,
-    name: &str,
-    service: &str,
-    keytab: &str,
-) -> Result<Credential, Fault> {
+/// The ticket of a service, and the AP-REQ that presents it.
+#[derive(Drop)]
+struct Got {
+    ticket: Credential,
+    presented: Presented,
+}
+
+/// Opens a client of a principal, gets the ticket of a service with it, and presents that.
+fn get_ticket(rt: &HostRuntime, name: &str, service: &str, keytab: &str) -> Result<Got, Fault> {
     let mut client = Client::open(rt, name)?;
-    verified_ticket(&mut client, service, keytab)
+    let ticket = verified_ticket(&mut client, service, keytab)?;
+    let presented = client.present(&ticket)?;
+    Ok(Got { ticket, presented })
 }
 
 /// Logs in and gets the ticket of a service. It verifies the login before that: the person who typed the password may
@@ -55,4 +60,33 @@ fn verified_ticket(
     client.log_in(&password)?;
     client.verify(&keytab)?;
     client.ticket(service)
+}
+
+/// Prints when the ticket ends, and the AP-REQ. It judges the service's reply, if a line with one follows.
+fn tell(rt: &HostRuntime, got: &Got) -> io::Result<Status> {
+    println!(rt; "{}", got.ticket.times.end_time.seconds())?;
+    let ap_req = hex::encode(rt.alloc(), got.presented.ap_req.as_slice())?;
+    println!(rt; "{ap_req}")?;
+    match rt.stdin().lines(rt.alloc()).next() {
+        Some(line) => judge(rt, &got.presented, line?.as_str()),
+        None => Ok(Status::Done),
+    }
+}
+
+/// Prints whether the service sent this reply.
+fn judge(rt: &HostRuntime, presented: &Presented, line: &str) -> io::Result<Status> {
+    let judged = match hex::decode(rt.alloc(), line.as_bytes()) {
+        Ok(reply) => presented.judge(rt.alloc(), &reply),
+        Err(_) => Err(ClientFault::NotAReply),
+    };
+    match judged {
+        Ok(_) => {
+            println!(rt; "the service has replied")?;
+            Ok(Status::Done)
+        }
+        Err(fault) => {
+            println!(rt; "{fault}")?;
+            Ok(Status::Refused)
+        }
+    }
 }
