@@ -14,6 +14,11 @@ def expect(what, found, wanted):
         raise Differs(f"{what}: {found!r}, and not {wanted!r}")
 
 
+def differs(found, wanted):
+    """The fault of a result that is another one than expected; none if it is that one."""
+    return f"{found!r}, and not {wanted!r}" * (found != wanted)
+
+
 class Notes:
     """Counts the checks that passed and failed, and prints a line for each. Threads may share it."""
 
