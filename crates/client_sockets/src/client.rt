@@ -261,8 +261,8 @@ impl<X: AnyMessage + Drop, T: ClientStore + Drop> Client<X, T> {
         // a moment of its clock and a confounder that this call drew.
         ensures ok { IfOk result (λ made. IsPresentedAt (T.world self.old.store) self.old ticket.now made) }
         ensures client { self.new ≡ record self.old {
-            generator = self.new.generator;
-            store = self.new.store
+          generator = self.new.generator;
+          store = self.new.store;
         } }
         ensures world { T.world self.new.store ≡ T.world self.old.store }
     {

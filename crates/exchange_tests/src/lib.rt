@@ -7,7 +7,7 @@
 //! | `runs` | a server over a host in memory |
 //! | `lines`, `outcome_lines` | the lines of its log; those for each rule and each outcome |
 //! | `client`, `acceptor`, `paths` | a client; a service; the whole path between a KDC and both |
-//! | `logins`, `conf_realms` | what no command line of `kclient` shows of `client_login` and of a `krb5.conf` |
+//! | `clients`, `logins`, `conf_realms` | what no command line of `kclient` shows of a client and of a `krb5.conf` |
 //!
 //! In this folder, `rt test -- WORD` proves the crate and its tests, and runs the tests that have WORD in their names.
 //! To run one unproved, build them at the top with `python3 dev/quick_build.py exchange_tests`, and run
@@ -27,6 +27,8 @@ mod acceptor;
 mod asking;
 #[cfg(test)]
 mod client;
+#[cfg(test)]
+mod clients;
 #[cfg(test)]
 mod conf_realms;
 #[cfg(test)]
