@@ -135,9 +135,9 @@ module _ (service client : Components) where
 
   -- what is refused settles nothing
   unfound : (state after : State) (p : Option Presented) (r : Result Accepted ApFault) → ((a : Accepted) → r ≡ Ok a → ⊥) → IfSome (accepted_in service client p r) (Settles state after)
-  unfound state after p (Ok a) no = absurd (no a refl)
-  unfound state after None (Err fault) no = tt
-  unfound state after (Some p) (Err fault) no = neither (is_party service client p)
+  unfound state after p (Ok a) never = absurd (never a refl)
+  unfound state after None (Err fault) never = tt
+  unfound state after (Some p) (Err fault) never = neither (is_party service client p)
     where
       neither : (b : Bool) → IfSome (if b then None else None) (Settles state after)
       neither true = tt
