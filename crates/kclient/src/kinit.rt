@@ -50,7 +50,10 @@ pub(crate) fn get_first<T: ClientStore, X: AnyMessage>(
 {
     let words = first_words(options)?;
     let mut first = prepare(context, options, defaults, &words)?;
-    let credential = log_in(context, words.secret.source(), &mut first)?;
+    let credential = match log_in(context, words.secret.source(), &mut first) {
+        Ok(credential) => credential,
+        Err(fault) => return Err(words.secret.explained(fault)),
+    };
     write_new(context, first.path.as_str(), &credential)
 }
 

@@ -22,9 +22,6 @@ Without --cache, it uses the file that KRB5CCNAME names, or else /tmp/krb5cc_ an
 --kdc, it takes the default realm, and the realm's KDCs, from the file that KRB5_CONFIG names, or else from
 /etc/krb5.conf.
 
-A password that `kinit` asks for at a terminal shows as you type it. This hides it, and ends so after Ctrl-C too:
-  (trap 'stty echo' EXIT; trap 'exit 130' INT; stty -echo; kclient kinit alice)
-
 `kinit` and `kdestroy` print `ok`, and `kvno` prints the name and the key version of each service. A command that is
 refused prints `refused` with a reason, or with the error code of the KDC, and its status is 1. If a file, a socket,
 the clock or memory failed, it prints `failed`, and its status is 3. A usage error has status 2. Standard error says

@@ -188,6 +188,7 @@ fn print_fault<W: Write, E: Write>(
 fn print_word<W: Write>(out: &mut W, cause: Cause) -> io::Result<Status> {
     match (cause, cause.name()) {
         (Cause::Login(LoginError::Refused(error)), _) => print_refusal(out, &error.code),
+        (Cause::OldKey(LoginError::Refused(error)), _) => print_refusal(out, &error.code),
         (_, Some(name)) => print_refusal(out, &name),
         (_, None) => print_failure(out),
     }

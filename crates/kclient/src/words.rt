@@ -56,6 +56,17 @@ impl<'a> SecretWords<'a> {
             SecretWords::Asked => STANDARD_INPUT,
         }
     }
+
+    /// Returns why a login with this secret got no ticket. A keytab's key may be an old one.
+    pub(crate) fn explained(self, fault: Fault) -> Fault {
+        match self {
+            SecretWords::Keytab(_) => Fault {
+                subject: fault.subject,
+                cause: fault.cause.by_keytab(),
+            },
+            _ => fault,
+        }
+    }
 }
 
 // The text after `error:` if options don't go together, or a value is invalid.
