@@ -123,6 +123,17 @@ impl Fault {
         }
     }
 
+    /// Returns the same fault again.
+    pub fn copy(&self, alloc: Global) -> Fault {
+        match &self.subject {
+            Some(subject) => Fault::new(alloc, subject.as_str(), self.cause),
+            None => Fault {
+                subject: None,
+                cause: self.cause,
+            },
+        }
+    }
+
     /// Returns the fault for a file that could not be read or written, or is refused.
     pub fn of_file(alloc: Global, fault: FileFault<'_>) -> Fault {
         Fault::new(alloc, fault.path, Cause::File(fault.cause))
