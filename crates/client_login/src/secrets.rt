@@ -4,6 +4,7 @@ ghost use Rattle.client_core.specs.Passwords as passwords;
 ghost use Rattle.client_login.specs.Faults.{IsNoKey, IsNoKeytabKey, IsNoPasswordKey, info_for};
 ghost use Rattle.client_login.specs.Infos.{default_info};
 ghost use Rattle.client_login.specs.declared.faults.LoginError.TheVariants as causes;
+ghost use Rattle.client_login.specs.declared.secrets.Secret.TheVariants as secrets;
 ghost use Rattle.client_login.specs.Keys.{IsKeytabKey, IsOwnKey, IsPasswordKey, etypes_for, held_types, is_below};
 ghost use Rattle.client_login.specs.Keys.{is_weak, is_weak_if, key_named, key_numbered, key_typed};
 ghost use Rattle.client_login.specs.Keys.{least_count, next_key, with_held};
@@ -28,6 +29,20 @@ pub enum Secret {
     Password(Password),
     /// A keytab with the client's keys.
     Keytab(Keytab),
+}
+
+impl Secret {
+    /// Returns the secret of a password: the bytes of this text, with the default fewest iterations of each type.
+    pub fn password(alloc: Global, text: &str) -> Result<Secret, AllocError>
+        // Promise: the secret of a password has the bytes of its text, and the default fewest iterations of each type.
+        ensures { IfOk result (λ secret.
+            secret ≡ secrets.Password (record { octets = text.now; least_count = None })) }
+    {
+        Ok(Secret::Password(Password {
+            octets: Octets::from_slice(alloc, text.as_bytes())?,
+            least_count: None,
+        }))
+    }
 }
 
 /// A password, from which a key is derived as the KDC says.
