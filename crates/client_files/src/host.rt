@@ -38,7 +38,9 @@ pub enum FoundConfig {
 impl<'a> Host<'a> {
     /// Reads the `krb5.conf` that the environment names, or else the system's, and asks for the user.
     pub fn read<T: ClientStore>(alloc: Global, store: &mut T, defaults: Defaults<'a>) -> Host<'a>
+        // Promise, as Host::cache_path: **the default cache is ..
         ensures defaults { result.defaults ≡ defaults.entry }
+        // Promise, as read_cache: reading a cache, a ..
         ensures unchanged { T.world store.new ≡ T.world store.old }
     {
         let user = store.user();
@@ -52,6 +54,8 @@ impl<'a> Host<'a> {
     /// Returns the path of the cache: that of `KRB5CCNAME`, or else of the `krb5.conf`, or else the user's own, which
     /// MIT's and Heimdal's clients use too.
     pub fn cache_path(&self, alloc: Global) -> Result<String, Fault>
+        // Promise: **the default cache is that of what was read of the computer**: of `KRB5CCNAME`, else of
+        // `default_ccache_name`, else the user's own; what `%{uid}` stands for is tested.
         ensures { IfOk result (λ path. IsDefaultCache self.now (string_bytes path)) }
     {
         match self.defaults.cache {
@@ -84,6 +88,7 @@ impl<'a> Host<'a> {
 
     /// Returns the `krb5.conf`, or why there is none.
     pub fn config(&self, alloc: Global) -> Result<&Config, Fault>
+        // Promise: a command that needs the `krb5.conf` takes the one that was read.
         ensures { IfOk result (λ config. self.now.config ≡ Read config.now) }
     {
         match &self.config {
@@ -94,6 +99,7 @@ impl<'a> Host<'a> {
 
     /// Returns the `krb5.conf`, if there is one; or why it could not be read.
     pub fn config_if_there(&self, alloc: Global) -> Result<Option<&Config>, Fault>
+        // Promise, as Host::config: a command that needs ..
         ensures { IfOk result (λ config. HasConfig self.now.config config) }
     {
         match &self.config {

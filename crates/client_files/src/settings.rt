@@ -37,6 +37,7 @@ impl Config {
 
     /// Returns the path of the cache that `default_ccache_name` names for a user, or else of the user's own.
     pub fn cache_path(&self, alloc: Global, user: u32) -> Result<String, Fault>
+        // Promise, as Host::cache_path: **the default cache is ..
         ensures { IfOk result (λ path. IsSettingCache user
             (slice_get (library_values (codes "default_ccache_name") self.now) 0) (string_bytes path)) }
     {

@@ -110,7 +110,7 @@ pub(crate) fn destroy<T: ClientStore, X>(
     cache: Option<&str>,
     host: &Host<'_>,
 ) -> Result<Printed, Fault>
-    // Promise (removed, unchanged): `kdestroy` that succeeds removes the file, and a refused one changes none; `klist`
+    // Promise (removed, status, unchanged): `kdestroy` that succeeds removes the file, and a refused one changes none; `klist`
     // changes none.
     ensures removed { OnOk result (Removed (IsCacheNamed (text_of cache.entry) host.now)
         (T.world context.old.store) (T.world context.new.store)) }

@@ -31,6 +31,7 @@ pub(crate) fn command_of<'a>(words: &[&'a str]) -> Option<&'a str>
 /// Returns the value of an option such as `--cache`: the word after it, or what follows it and an equals sign; of
 /// several the first.
 pub(crate) fn value_of<'a>(words: &[&'a str], option: &str) -> Option<&'a str>
+    // Promise, as read_command: the command is the ..
     ensures { option_map (λ value. value.now) result ≡ value_of (texts words.now) option.now }
 {
     let mut rest = words;
@@ -61,6 +62,7 @@ fn value_at<'a>(option: &str, word: &'a str, others: &[&'a str]) -> Option<&'a s
 
 /// Checks whether an option without a value is there.
 pub(crate) fn has_flag(words: &[&str], flag: &str) -> bool
+    // Promise, as read_command: the command is the ..
     ensures { result ≡ has_flag (texts words.now) flag.now }
 {
     let mut rest = words;
@@ -78,6 +80,7 @@ pub(crate) fn has_flag(words: &[&str], flag: &str) -> bool
 
 /// Checks whether the words ask for the help or the version.
 pub(crate) fn asks_help(words: &[&str]) -> bool
+    // Promise, as read_command: the command is the ..
     ensures { result ≡ asks_help (texts words.now) }
 {
     has_flag(words, "help")
