@@ -1,6 +1,7 @@
 #!/usr/bin/env python3
 """Installs `kdcd`, `kadm` and `kclient` with their manual pages, completion for bash and zsh, the units of systemd with
-what they start, and what makes the user `kdcd` and its folder.
+what they start, and what makes the user `kdcd` and its folder. `kadm` and `kclient` are scripts, which hide what is
+typed at a terminal; the programs that they run are in libexec.
 
     python3 dev/install.py [--programs FOLDER] [--root FOLDER] [--unproved] [--library FILE] [PREFIX]
 
@@ -9,9 +10,9 @@ header, `plovertrunk-accept.pc` and the manual page.
 PREFIX is /usr/local, or an absolute path. --root installs below a folder, as to make a package; the installed files
 name no folder of it. The programs are those of the crates, as `rt run` leaves them there, or of FOLDER. An unproved
 program, whose version says so, is refused without --unproved. A file that is there is replaced as a whole, so a server
-may run meanwhile. Only the settings of the server's log, in etc/systemd, stay as they are: an administrator changes
-them. It needs only Python 3, and prints each path that it wrote. The status is 1 if a program is refused or not there,
-or a folder below that of --root is a link; nothing is installed then.
+may run meanwhile. Only the settings in etc, of the server's log and of `kadm`, stay as they are: an administrator
+changes them. It needs only Python 3, and prints each path that it wrote. The status is 1 if a program is refused or not
+there, or a folder below that of --root is a link; nothing is installed then.
 
 Others may write into a folder of PREFIX: Debian's /usr/local belongs to a group. So no link there is followed. A file
 is written under a fresh name and then renamed, which replaces a link. A folder that is a link is refused, wherever it
@@ -31,20 +32,27 @@ from make_completion import Unreadable, made
 
 TOP = pathlib.Path(__file__).resolve().parent.parent
 DOCS = TOP / "docs"
+NAME = "plovertrunk"
 PROGRAMS = ("kdcd", "kadm", "kclient")
+# The programs that ask for passwords, each with a script of docs/ in its place.
+ASKING = ("kadm", "kclient")
 # The units of docs/: the server, and what brings a changed database to other hosts, by the script PUSH.
 UNITS = ("kdcd.service", "kdcd-push.path", "kdcd-push.service")
 PUSH = "kdcd-push"
 # The settings of the server's log, as systemd names them for the namespace `kdcd` of the unit. It reads them in /etc.
 LOG = "journald@kdcd.conf"
-# With these prefixes that is the system's own /etc.
+# The settings of `kadm`: the database of a command that names none.
+DEFAULTS = """# Variables of a shell. The database of a kadm without --db, and without KADM_DB in its environment:
+KADM_DB=/var/lib/kdcd/database
+"""
+# With these prefixes the settings are in the system's own /etc.
 OF_SYSTEM = ("/usr", "/usr/local")
 # Where shells look for the files of `make_completion.py`, below share/.
 COMPLETION = {"{}.bash": "bash-completion/completions/{}", "_{}": "zsh/site-functions/_{}"}
 # What `dev/quick_build.py` adds to the version of a program.
 MARK = "(unproved)"
-# The folder of the programs in the unit, as the repository has it.
-USUAL = "/usr/local/bin/"
+# The prefix in the units and scripts of docs/, and the file of kadm's settings in its script.
+USUAL, DEFAULTS_PATH = "/usr/local/", "/etc/default/kadm"
 # The user that the server runs as, and its folder (sysusers.d, tmpfiles.d of systemd).
 USER = 'u kdcd - "Kerberos KDC" /nonexistent /usr/sbin/nologin\n'
 FOLDER = "d /var/lib/kdcd 0700 kdcd kdcd\n"
@@ -85,7 +93,7 @@ def program_in(folder, name, takes_unproved):
 def contents(folder, prefix, takes_unproved):
     """All that is installed: for each path its bytes and its mode."""
     found = {
-        f"{prefix}/bin/{name}": (program_in(folder, name, takes_unproved).read_bytes(), 0o755) for name in PROGRAMS
+        program_path(prefix, name): (program_in(folder, name, takes_unproved).read_bytes(), 0o755) for name in PROGRAMS
     }
     for page in sorted((DOCS / "man").iterdir()):
         found[f"{prefix}/share/man/man{page.suffix[1:]}/{page.name}"] = page.read_bytes(), 0o644
@@ -96,17 +104,34 @@ def contents(folder, prefix, takes_unproved):
     for name in PROGRAMS:
         for file, place in COMPLETION.items():
             found[f"{prefix}/share/{place.format(name)}"] = completion[file.format(name)].encode(), 0o644
-    placed = lambda name: (DOCS / name).read_text().replace(USUAL, f"{prefix}/bin/")
+    placed = lambda name: placed_text((DOCS / name).read_text(), prefix)
     texts = {f"lib/systemd/system/{unit}": placed(unit) for unit in UNITS}
     texts |= {"lib/sysusers.d/kdcd.conf": USER, "lib/tmpfiles.d/kdcd.conf": FOLDER}
     found |= {f"{prefix}/{name}": (text.encode(), 0o644) for name, text in texts.items()}
-    found[f"{prefix}/bin/{PUSH}"] = placed(f"{PUSH}.sh").encode(), 0o755
-    return found | {log_settings(prefix): ((DOCS / LOG).read_bytes(), 0o644)}
+    for name in (PUSH, *ASKING):
+        found[f"{prefix}/bin/{name}"] = placed(f"{name}.sh").encode(), 0o755
+    return found | {path: (text.encode(), 0o644) for path, text in settings(prefix).items()}
 
 
-def log_settings(prefix):
-    """The path of the settings of the server's log."""
-    return f"{'' if prefix in OF_SYSTEM else prefix}/etc/systemd/{LOG}"
+def program_path(prefix, name):
+    """The path of a program; in place of some there is a script in bin."""
+    return f"{prefix}/libexec/{NAME}/{name}" if name in ASKING else f"{prefix}/bin/{name}"
+
+
+def placed_text(text, prefix):
+    """The text of a unit or script with the paths of this prefix."""
+    return text.replace(USUAL, f"{prefix}/").replace(DEFAULTS_PATH, f"{above_etc(prefix)}{DEFAULTS_PATH}")
+
+
+def above_etc(prefix):
+    """The path of the folder with the `etc` of settings; it is empty for the system's own."""
+    return "" if prefix in OF_SYSTEM else prefix
+
+
+def settings(prefix):
+    """The paths of the settings that stay as an administrator has changed them, with their texts."""
+    above = above_etc(prefix)
+    return {f"{above}/etc/systemd/{LOG}": (DOCS / LOG).read_text(), f"{above}{DEFAULTS_PATH}": DEFAULTS}
 
 
 def enter(folder, name, path):
@@ -193,7 +218,7 @@ def main():
             with folder_of(given.root, path):
                 pass
         for path, (octets, mode) in files.items():
-            if write(given.root, path, octets, mode, stays=path == log_settings(prefix)):
+            if write(given.root, path, octets, mode, stays=path in settings(prefix)):
                 print(given.root / path.lstrip("/"))
     except (Refused, OSError) as fault:
         sys.exit(f"install.py: {fault}")

@@ -16,7 +16,7 @@ import typing
 TOP = pathlib.Path(__file__).resolve().parent.parent
 # Where each program has its tables.
 TABLES = {
-    "kadm": [f"kadm/src/{name}.rt" for name in ("commands", "changing", "writing", "printing", "options")],
+    "kadm": [f"kadm/src/{name}.rt" for name in ("commands", "changing", "writing", "restoring", "printing", "options")],
     "kclient": ["kclient/src/options.rt"], "kdcd": ["kdcd/src/args.rt"],
 }
 # The tables of a program whose commands are in several files, in the order of its help.
@@ -28,6 +28,8 @@ ADDED = {"kinit": ("KINIT_OPTIONS", "KINIT_FLAGS"), "serve": ("journal_option",)
 WORDS = {"FORMAT": "text json", "TYPES": "18,17,20,19 20,19", "VALUE": "true false never"}
 # The program whose names are principals, and its commands that give a principal a new name.
 NAMING, NEWCOMERS = "kadm", ("add", "import")
+# Its command that takes a word alone as a file.
+FILE_ALONE = "check"
 # The source with the commands that take a word alone as a name: the function with that rule, and a command of it.
 ALONE, TAKEN = TOP / "crates/kadm/src/words.rt", re.compile(r'command == "(\w+)"')
 # Where the fields of a policy are, and the texts about them that a table names; and the row of a field there.
@@ -250,6 +252,7 @@ def bash(program, commands):
     if program == NAMING:
         lines += ["    esac", "    case $command:$word in", "        *:-*) ;;"]
         lines.append(f"        {' | '.join(f'{command}:*' for command in names_alone())}) _kadm_names ;;")
+        lines.append(f"        {FILE_ALONE}:*) {BASH_FILES} ;;")
     return "\n".join([*lines, "    esac", "}", f"complete -F _{program} {program}", ""])
 
 
@@ -296,6 +299,7 @@ def zsh(program, commands):
         lines += [f"        {command})", "            _arguments \\"]
         rows = [zsh_option(program, command, option) for option in options]
         rows += ["'*:NAME:_kadm_names'"] if program == NAMING and command in names_alone() else []
+        rows += ["'*:FILE:_files'"] if program == NAMING and command == FILE_ALONE else []
         lines.append(" \\\n".join(f"                {row}" for row in rows))
         lines.append("            ;;")
     return "\n".join([*lines, "    esac", "}", f'_{program} "$@"', ""])

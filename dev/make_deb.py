@@ -22,9 +22,8 @@ import sys
 import tempfile
 
 from c_library import installed
-from install import MARK, PROGRAMS, TOP, Refused, contents, program_in, version, write
+from install import MARK, NAME, PROGRAMS, TOP, Refused, contents, program_in, program_path, version, write
 
-NAME = "plovertrunk"
 # Where Debian's zsh looks for the completion of packages, in place of the folder that `install.py` uses.
 FOR_ZSH = ("/usr/share/zsh/site-functions/", "/usr/share/zsh/vendor-completions/")
 CONTROL = """Package: {name}
@@ -104,7 +103,8 @@ def control(files, said):
     return CONTROL.format(
         name=NAME, version=f"{number}{'~unproved' * is_unproved}",
         size=sum(len(octets) for octets, _ in files.values()) // 1024 + 1, architecture=machine(),
-        libc=least_libc(files[f"/usr/bin/{name}"][0] for name in PROGRAMS), proof=UNPROVED if is_unproved else PROVED
+        libc=least_libc(files[program_path("/usr", name)][0] for name in PROGRAMS),
+        proof=UNPROVED if is_unproved else PROVED
     )
 
 

@@ -13,19 +13,18 @@
 
 # Prints the database, if it is one. kadm renames a new one into place, so the file that is open here stays as it is.
 give='PATH=/usr/local/bin/:$PATH
-cd /var/lib/kdcd && exec < database && kadm list --db /dev/stdin > /dev/null && exec cat'
+cd /var/lib/kdcd && exec < database && kadm check /dev/stdin > /dev/null && exec cat'
 
-# Puts standard input in place, with mode 600 (mktemp), if it is a database, and of the realm of the one that is there:
-# one of the names krbtgt/.. stays. It has no single quote, since it stands between two. If nothing comes, the first
-# host has said why.
+# Puts standard input in place, with mode 600 (mktemp), if it is a database, and of the realm of the one that is there.
+# It has no single quote, since it stands between two. If nothing comes, the first host has said why.
 take='PATH=/usr/local/bin/:$PATH
 cd /var/lib/kdcd && new=$(mktemp .database.XXXXXXXXXX) || exit 1
 trap "rm -f $new" EXIT
 trap "exit 1" HUP INT TERM
-granters() { kadm list --db "$1" | grep -o "^krbtgt/[^ ]*"; }
-cat > "$new" && [ -s "$new" ] && kadm list --db "$new" > /dev/null || exit 1
-old=$(granters database 2> /dev/null)
-[ -z "$old" ] || granters "$new" | grep -qxF "$old" || { echo "it is a database of another realm" >&2; exit 1; }
+realm() { kadm check "$1" | sed -n "s/^realm //p"; }
+cat > "$new" && [ -s "$new" ] && kadm check "$new" > /dev/null || exit 1
+old=$(realm database 2> /dev/null)
+[ -z "$old" ] || [ "$old" = "$(realm "$new")" ] || { echo "it is a database of another realm" >&2; exit 1; }
 sync "$new" && mv -fT "$new" database && sync -f .'
 
 as_kdcd="runuser -u kdcd -- sh -c"

@@ -13,7 +13,7 @@ ADDRESSES = (
     "", "localhost:88", "127.0.0.1", "127.0.0.1:", "127.0.0.1:65536", ":88", "::1:88", "[::1]", "127.1:88", " [::1]:88",
 )
 BAD = {
-    **dict.fromkeys(("db", "seed", "password-file", "out", "keytab", "dump", "stash", "cache"), ("",)),
+    **dict.fromkeys(("db", "seed", "password-file", "out", "keytab", "dump", "stash", "cache", "from"), ("",)),
     **dict.fromkeys(
         ("lock-seconds", "greatest-life", "greatest-renewable"),
         (*NUMBERS, "h", "1w", "1 h", "+1h", "1.5h", "49711d"),
@@ -31,7 +31,7 @@ BAD = {
 }
 GOOD = {
     "db": "database", "realm": REALM, "name": "n", "seed": "seed", "password-file": "pw", "types": "18", "version": "1",
-    "field": "disabled", "value": "true", "out": "kt", "keytab": "kt", "udp": "127.0.0.1:0", "cache": "cc",
+    "field": "disabled", "value": "true", "out": "kt", "keytab": "kt", "from": "database", "udp": "127.0.0.1:0", "cache": "cc",
     "log-format": "text", "journal": "j", "journal-size": "1M",
 }
 # What is behind the name of an option: it is required, may be given more than once, has no value, may have none, or its

@@ -34,3 +34,21 @@ def caches(trial):
     found = [call for call in calls if call in ("fsync", "rename", "fsync_folder")]
     trial.same("what kinit syncs", found, ["fsync", "rename"])
     server.end()
+
+
+@test("kadm", "kdcd", "kclient", seconds=5)
+def configs(trial):
+    """A `krb5.conf` that names the cache, the realm and its KDC is opened once for a command."""
+    trial.realm()
+    server = trial.serve()
+    (trial.folder / "krb5.conf").write_text(
+        f"[libdefaults]\ndefault_realm = {REALM}\ndefault_ccache_name = FILE:cc\n"
+        f"[realms]\n{REALM} = {{\nkdc = {server.udp}\n}}\n"
+    )
+    environment = {**trial.environment, "LD_PRELOAD": fixed_system(), "KRB5_CONFIG": "krb5.conf", "CALLS": "calls"}
+    environment.pop("KRB5CCNAME", None)
+    trial.expect("kclient kinit u --password-file pw", 0, "=ok", env=environment)
+    calls = (trial.folder / "calls").read_text().splitlines()
+    trial.same("how often krb5.conf is opened", sum(call.split()[:2] == ["open", "krb5.conf"] for call in calls), 1)
+    trial.expect("kclient klist --cache cc", 0, f"u@{REALM}", what="the cache that it names")
+    server.end()

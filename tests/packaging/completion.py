@@ -23,7 +23,7 @@ VALUES = (
     ("kadm policy --set dis", "disabled="), ("kadm policy --set disabled = t", "true"),
     ("kadm policy --set disabled =", "false never true"),
     ("kdcd serve --log-format j", "json"), ("kdcd serve --udp ", ""), ("kadm ad", "add"),
-    ("kclient k", "kinit kvno klist kdestroy"),
+    ("kadm check w", "www.keytab"), ("kadm restore --from w", "www.keytab"), ("kclient k", "kinit kvno klist kdestroy"),
 )
 
 

@@ -1,6 +1,7 @@
 """`dev/install.py` in a folder: what it installs, that systemd reads the unit and the lines for its user and folder,
-that a running server is replaced, and that an unproved program is refused. The package of `dev/make_deb.py` likewise:
-its files and its fields, and that it is installed in a root without /proc."""
+that a running server is replaced, that the installed `kadm` hides what is typed, and that an unproved program is
+refused. The package of `dev/make_deb.py` likewise: its files and its fields, and that it is installed in a root without
+/proc."""
 
 import os
 import pathlib
@@ -10,11 +11,13 @@ import subprocess
 import sys
 
 from harness.programs import TOP
+from harness.terminal import expect_hidden
 from harness.tests import test
 
 # What is installed, below the prefix, with its mode.
 INSTALLED = {
     "bin/kadm": 0o755, "bin/kclient": 0o755, "bin/kdcd": 0o755, "bin/kdcd-push": 0o755,
+    "libexec/plovertrunk/kadm": 0o755, "libexec/plovertrunk/kclient": 0o755, "etc/default/kadm": 0o644,
     "etc/systemd/journald@kdcd.conf": 0o644, "lib/sysusers.d/kdcd.conf": 0o644, "lib/tmpfiles.d/kdcd.conf": 0o644,
     "share/man/man1/kclient.1": 0o644, "share/man/man8/kadm.8": 0o644, "share/man/man8/kdcd.8": 0o644,
     **{f"lib/systemd/system/{unit}": 0o644 for unit in ("kdcd.service", "kdcd-push.path", "kdcd-push.service")},
@@ -93,6 +96,25 @@ def files(trial):
     trial.note("no other file is left", differs(modes(root / "opt/kdc"), INSTALLED))
 
 
+@test("kadm", "kdcd", "kclient", seconds=3)
+def installed_kadm(trial):
+    """The installed kadm hides what is typed, and has the database of its settings, which a new installation leaves."""
+    trial.enter("installed_kadm")
+    words = [*built(trial), "--unproved", trial.folder / "kdc"]
+    trial.expect(words, 0, what="the built programs are installed")
+    settings = trial.folder / "kdc/etc/default/kadm"
+    trial.same("the database of the settings", settings.read_text().splitlines()[-1], "KADM_DB=/var/lib/kdcd/database")
+    settings.write_text("KADM_DB=database\n")
+    trial.expect(words, 0, what="they are installed again")
+    kadm = str(trial.folder / "kdc/bin/kadm")
+    trial.expect([kadm, "init", "--realm", "A.B"], 0, "=ok", what="a realm in the database of the settings")
+    asked = "Password for t@A.B: "
+    expect_hidden(trial, [kadm, "add", "t"], ["secret\n", "secret\n"], 0, f"{asked}\n{asked}\nok\n")
+    trial.expect("kadm list --db database --like t", 0, "t 1 18,17,20,19", what="its row is in that database")
+    kclient = trial.folder / "kdc/bin/kclient"
+    trial.same("the installed kclient", trial.run([kclient, "--version"]).out, trial.run("kclient --version").out)
+
+
 @test("kadm", "kdcd", "kclient")
 def systemd(trial):
     """systemd makes the user and the folder by the installed lines."""
@@ -164,7 +186,10 @@ def package(trial):
     lacking = [name for name in ("postinst", "prerm", "postrm") if name.encode() not in scripts]
     trial.note("its scripts are there", differs(lacking, []))
     kept = subprocess.run(["dpkg-deb", "--info", made, "conffiles"], capture_output=True, text=True).stdout
-    trial.note("what dpkg leaves as an administrator changed it", differs(kept, "/etc/systemd/journald@kdcd.conf\n"))
+    trial.note(
+        "what dpkg leaves as an administrator changed it",
+        differs(sorted(kept.split()), ["/etc/default/kadm", "/etc/systemd/journald@kdcd.conf"])
+    )
 
 
 # What the package's scripts call, and the files that these read.

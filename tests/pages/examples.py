@@ -32,8 +32,8 @@ HERE = (
 TRIES, PAUSE = 4, 1.5
 # The first words of lines that are no commands: what a program prints, or the settings of a file.
 PRINTED = ("kdcd: ", "principal ", "krbtgt/", "host/", "[", '{"', "2026-", "Environment=")
-# Programs of examples that a machine may not have, and a command that needs a terminal.
-MAY_LACK, TYPED = ("gpg", "age"), "stty"
+# Programs of examples that a machine may not have.
+MAY_LACK = ("gpg", "age")
 
 
 def blocks(page, title):
@@ -41,7 +41,7 @@ def blocks(page, title):
     section = (DOCS / page).read_text().partition(f"\n## {title}\n")[2].partition("\n## ")[0]
     indented = re.findall(r"(?:^    .*\n(?:\n(?=    ))?)+", section, re.M)
     found = [re.sub(r"^    ", "", block, flags=re.M).strip("\n") for block in indented]
-    return [block for block in found if not block.startswith(PRINTED) and TYPED not in block]
+    return [block for block in found if not block.startswith(PRINTED)]
 
 
 def here(block, address):

@@ -1,3 +1,4 @@
 mod ConfigLaws
 mod HeldCaches
+mod NamedCaches
 mod NewCaches

@@ -3,3 +3,4 @@ pub mod Caches
 pub mod Clocks
 pub mod Configs
 pub mod Holding
+pub mod Hosts

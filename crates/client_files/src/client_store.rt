@@ -10,7 +10,7 @@ use std::alloc::{AllocError, Global};
 use std::fs::File;
 use std::io::{Error, ErrorKind, IsTerminal};
 use std::random::RandomSource;
-use std::rt::{Clock, Files};
+use std::rt::{Clock, Env, Files};
 use std::{fs, io};
 
 /// What a path has.
@@ -58,7 +58,15 @@ pub trait ClientStore: Store {
 
 impl<
     'a,
-    R: Files<File = File> + RandomSource + Clock + Input + Eprint + Alloc + Clone + Drop,
+    R: Files<File = File>
+        + RandomSource
+        + Clock
+        + Input
+        + Eprint
+        + Env
+        + Alloc<A = Global>
+        + Clone
+        + Drop,
 > ClientStore for FileStore<'a, R>
 where
     R::Reader: IsTerminal,

@@ -1,9 +1,10 @@
 //! A `krb5.conf`: its text with the files that it includes, its default realm, and the KDCs of a realm.
-ghost use Rattle.std.specs.Prelude.{◌≡◌, ◌==◌, ◌<◌, ◌^◌, ◌↔◌, IfOk, IfSome, IsSome, map};
+ghost use Rattle.std.specs.Prelude.{◌≡◌, ◌==◌, ◌<◌, ◌^◌, ◌↔◌, IfOk, IfSome, IsSome, map, option_map, slice_get};
 ghost use Rattle.std.specs.Str.Parse.{IsNumeral, digits_value};
 ghost use Rattle.client_files.specs.Configs.{ArePlaces, ArePlacesOf, IsDefaultRealm, IsHostPlace, IsHostText, IsNamed, IsPlace};
 ghost use Rattle.client_files.specs.Configs.{HasPort, IsShownAs};
 ghost use Rattle.krb_fields.specs.NameText.{component_text};
+ghost use Rattle.krb5_conf.specs.Values.{library_values};
 ghost use Rattle.std.specs.List.{after_first, before_first};
 
 use crate::client_store::{ClientStore, PathKind};
@@ -79,30 +80,15 @@ impl Config {
         })
     }
 
-    /// The same, unless there is no such file.
-    pub fn read_if_there<T: ClientStore>(
-        alloc: Global,
-        store: &mut T,
-        defaults: &Defaults<'_>,
-    ) -> Result<Option<Config>, Fault>
-        // Promise, as read_cache: reading a cache, a ..
-        ensures unchanged { T.world store.new ≡ T.world store.old }
-    {
-        let Ok(path) = defaults.config_path() else {
-            return Ok(None);
-        };
-        if let Ok(PathKind::Free) = store.path_kind(path) {
-            return Ok(None);
-        }
-        Ok(Some(Config::read(alloc, store, defaults)?))
-    }
-
     pub(crate) fn path(&self) -> &str {
         self.path.as_str()
     }
 
     /// Returns the first value with this tag in `[libdefaults]`.
-    pub(crate) fn setting(&self, alloc: Global, tag: &str) -> Result<Option<&[u8]>, AllocError> {
+    pub(crate) fn setting(&self, alloc: Global, tag: &str) -> Result<Option<&[u8]>, AllocError>
+        ensures { IfOk result (λ value.
+            option_map (λ octets. octets.now) value ≡ slice_get (library_values tag.now self.now) 0) }
+    {
         let found = library_settings(alloc, &self.text, tag.as_bytes())?;
         Ok(found.first().copied())
     }

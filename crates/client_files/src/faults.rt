@@ -4,7 +4,7 @@ ghost use Rattle.std.specs.Prelude.{◌≡◌, IfOk, Ok};
 use client_login::{KdcPlace, Kdcs, LoginError, LoginFault};
 use cred_files::CredFault;
 use file_store::{FileCause, FileFault};
-use krb_fields::{NameFault, component_to_text};
+use krb_fields::{NameFault, component_to_text, numbers};
 use std::alloc::{AllocError, AllocFailed, Global};
 use std::net::SocketAddr;
 use std::{fmt, io};
@@ -59,6 +59,8 @@ pub enum Cause {
     NotAnAddress,
     /// A login got no ticket.
     Login(LoginError),
+    /// A login with a keytab got no ticket, perhaps because the keytab's key is an old one.
+    OldKey(LoginError),
     /// No KDC replied: the error of the last one, and how many messages got no reply.
     Silent(io::Error, u64),
     /// Memory ran out.
@@ -72,6 +74,24 @@ impl Cause {
             CredFault::Memory => Cause::Memory,
             fault => Cause::Keytab(fault),
         }
+    }
+
+    /// Returns the cause if the client's keys are those of a keytab: a login that fails because of the key is then one
+    /// with an old key.
+    pub fn by_keytab(self) -> Cause {
+        match self {
+            Cause::Login(why) if is_keys(why) => Cause::OldKey(why),
+            cause => cause,
+        }
+    }
+}
+
+/// Checks whether a login got no ticket because of the client's key.
+fn is_keys(why: LoginError) -> bool {
+    match why {
+        LoginError::Refused(error) => error.code == numbers::KDC_ERR_PREAUTH_FAILED,
+        LoginError::CannotOpen => true,
+        _ => false,
     }
 }
 
@@ -99,6 +119,17 @@ impl Fault {
             _ => Fault {
                 subject: Some(subject),
                 cause,
+            },
+        }
+    }
+
+    /// Returns the same fault again.
+    pub fn copy(&self, alloc: Global) -> Fault {
+        match &self.subject {
+            Some(subject) => Fault::new(alloc, subject.as_str(), self.cause),
+            None => Fault {
+                subject: None,
+                cause: self.cause,
             },
         }
     }

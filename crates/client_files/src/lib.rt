@@ -2,7 +2,8 @@
 //!
 //! | call | what it does |
 //! |---|---|
-//! | [`Defaults::cache_path`], [`Defaults::config_path`] | where the files are, by the environment |
+//! | [`Host::read`] | what a client reads of its computer, once: the environment, the user, the `krb5.conf` |
+//! | [`Host::cache_path`], [`Host::config`] | where the cache is; the `krb5.conf` |
 //! | [`Config::read`] | reads a `krb5.conf`, with the files that it includes |
 //! | [`Config::default_realm`], [`Config::kdcs`] | the default realm; where the KDCs of a realm are |
 //! | [`Config::principal`] | the principal that a text such as `alice@EXAMPLE.COM` names |
@@ -13,11 +14,12 @@
 //! | [`Fault::of_login`], [`unknown_hosts`] | the fault for a login without a ticket; hosts that were not asked |
 //!
 //! ```
-//! let config = Config::read(alloc, &mut store, &defaults)?;
+//! let host = Host::read(alloc, &mut store, defaults);
+//! let config = host.config(alloc)?;
 //! let client = config.principal(alloc, "alice@EXAMPLE.COM")?;
 //! let places = config.kdcs(alloc, client.realm.as_slice())?;
 //! // `client_login` gets a ticket from these KDCs.
-//! let path = defaults.cache_path(alloc, &mut store)?;
+//! let path = host.cache_path(alloc)?;
 //! write_new_cache(alloc, &mut store, path.as_str(), &tgt)?;
 //! ```
 //!
@@ -35,6 +37,7 @@ mod environment;
 mod faults;
 mod file_names;
 mod holding;
+mod host;
 mod principals;
 mod settings;
 mod words;
@@ -48,4 +51,5 @@ pub use environment::Defaults;
 pub use faults::{Cause, Fault, at, at_file, at_password, unknown_hosts};
 pub use file_names::{NameOf, path_in};
 pub use holding::{good_credential, granting_ticket};
+pub use host::{FoundConfig, Host};
 pub use principals::{name_of, principal_text};

@@ -1,7 +1,12 @@
 //! What the `[libdefaults]` of a `krb5.conf` say of first tickets, and of the cache.
+ghost use Rattle.std.specs.Prelude.{◌≡◌, IfOk, IfSome, codes, option_map, slice_get, string_bytes};
+ghost use Rattle.client_files.specs.CachePaths.{IsExpanded, IsSettingCache};
+ghost use Rattle.krb5_conf.specs.Values.{library_values};
+
 use crate::configs::Config;
 use crate::faults::{Cause, Fault};
 use crate::file_names::{NameOf, path_in};
+use crate::host::path_of_user;
 use client_login::TicketRequest;
 use std::alloc::{AllocError, Global};
 use text_fields::number_u32;
@@ -30,14 +35,18 @@ impl Config {
         })
     }
 
-    /// Returns the path of the cache that `default_ccache_name` names for a user, if it is there.
-    pub fn cache_path(&self, alloc: Global, user: u32) -> Result<Option<String>, Fault> {
+    /// Returns the path of the cache that `default_ccache_name` names for a user, or else of the user's own.
+    pub fn cache_path(&self, alloc: Global, user: u32) -> Result<String, Fault>
+        // Promise, as Host::cache_path: **the default cache is ..
+        ensures { IfOk result (λ path. IsSettingCache user
+            (slice_get (library_values (codes "default_ccache_name") self.now) 0) (string_bytes path)) }
+    {
         let tag = "default_ccache_name";
         let Some(name) = self.text_of(alloc, tag)? else {
-            return Ok(None);
+            return Ok(path_of_user(alloc, user)?);
         };
         match with_tokens(alloc, path_in(name, NameOf::CacheSetting)?, user)? {
-            Some(path) => Ok(Some(path)),
+            Some(path) => Ok(path),
             None => Err(self.setting_fault(alloc, tag, NO_TOKEN)),
         }
     }
@@ -65,7 +74,10 @@ impl Config {
         }
     }
 
-    fn text_of(&self, alloc: Global, tag: &str) -> Result<Option<&str>, Fault> {
+    fn text_of(&self, alloc: Global, tag: &str) -> Result<Option<&str>, Fault>
+        ensures { IfOk result (λ value.
+            option_map (λ text. text.now) value ≡ slice_get (library_values tag.now self.now) 0) }
+    {
         let Some(octets) = self.setting(alloc, tag)? else {
             return Ok(None);
         };
@@ -167,7 +179,16 @@ fn unit_of(c: char) -> Option<u32> {
 }
 
 /// Returns a path with the text for each `%{..}` in it; `None` if one of them is not known.
-fn with_tokens(alloc: Global, path: &str, user: u32) -> Result<Option<String>, AllocError> {
+fn with_tokens(alloc: Global, path: &str, user: u32) -> Result<Option<String>, AllocError>
+    ensures { IfOk result (λ expanded. IfSome expanded (λ text. IsExpanded path.now (string_bytes text))) }
+{
+    match path.split_once('%') {
+        Some(_) => expanded(alloc, path, user),
+        None => Ok(Some(String::from_str(alloc, path)?)),
+    }
+}
+
+fn expanded(alloc: Global, path: &str, user: u32) -> Result<Option<String>, AllocError> {
     let mut whole = String::new(alloc);
     let mut parts = path.split("%{");
     if let Some(first) = parts.next() {

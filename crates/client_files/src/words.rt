@@ -15,6 +15,7 @@ impl Cause {
             Cause::Cache(fault) => fault.refusal(),
             Cause::Keytab(fault) => fault.refusal(),
             Cause::Login(why) => login_name(why),
+            Cause::OldKey(why) => login_name(why),
             cause => match cause.words() {
                 ("", _) => None,
                 (name, _) => Some(name),
@@ -70,6 +71,7 @@ impl Cause {
             | Cause::Cache(_)
             | Cause::Keytab(_)
             | Cause::Login(_)
+            | Cause::OldKey(_)
             | Cause::Silent(..) => ("", ""),
         }
     }
@@ -120,11 +122,26 @@ impl fmt::Display for Cause {
             Cause::Keytab(fault) => f.write_str(keytab_text(*fault)),
             Cause::Ended(end) => write_end(f, *end),
             Cause::Login(why) => write!(f, "{why}"),
+            Cause::OldKey(why) => write_old_key(f, *why),
             Cause::Silent(error, failures) => {
                 write!(f, "{error} (messages without a reply: {failures})")
             }
             cause => f.write_str(cause.words().1),
         }
+    }
+}
+
+/// Writes why a login with a keytab got no ticket.
+fn write_old_key<W: fmt::Write>(f: &mut fmt::Formatter<W>, why: LoginError) -> fmt::Result {
+    match why {
+        LoginError::Refused(error) => write!(
+            f,
+            "error {}: the preauthentication failed: the keytab's key is an old one, or the clocks differ",
+            error.code
+        ),
+        _ => f.write_str(
+            "the keytab's key does not decrypt the reply: it is an old one, or it is another KDC",
+        ),
     }
 }
 

@@ -14,6 +14,17 @@ use std::process::ExitCode;
 use std::random::RandomSource;
 use std::{fs, io};
 
+const USAGE: &str = "usage: example_service KEYTAB [first] [save FILE]";
+
+/// What each word is, behind the usage.
+const HELP: &str = "\
+Reads AP-REQs from standard input, one on each line in hexadecimal digits, and prints who sent each.
+
+  KEYTAB       the file with the service's keys; a new one is taken while it runs
+  first        the service never ran before, so nobody can send it a request a second time
+  save FILE    saves the replay caches at the end, and goes on with them the next time
+  --help, -h   prints this";
+
 fn main(rt: HostRuntime) -> io::Result<ExitCode> {
     if let Err(fault) = open_missing_streams(&rt) {
         println!(rt; "{fault}")?;
@@ -22,9 +33,21 @@ fn main(rt: HostRuntime) -> io::Result<ExitCode> {
     let Some(args) = read_words(&rt)? else {
         return usage(&rt);
     };
+    if asks_help(args.as_slice()) {
+        println!(rt; "{USAGE}\n\n{HELP}")?;
+        return Ok(ExitCode::SUCCESS);
+    }
     match words_of(args.as_slice()) {
         Some(words) => serve(&rt, &words),
         None => usage(&rt),
+    }
+}
+
+/// Checks whether the only word asks for help.
+fn asks_help(args: &[String]) -> bool {
+    match args {
+        [_, word] => word.as_str() == "--help" || word.as_str() == "-h",
+        _ => false,
     }
 }
 
@@ -56,7 +79,7 @@ fn words_of(args: &[String]) -> Option<Words<'_>> {
 }
 
 fn usage(rt: &HostRuntime) -> io::Result<ExitCode> {
-    println!(rt; "usage: example_service KEYTAB [first] [save FILE]")?;
+    println!(rt; "{USAGE}")?;
     Ok(ExitCode::from(Status::Usage.code()))
 }
 

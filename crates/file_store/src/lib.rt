@@ -19,6 +19,7 @@
 mod counting;
 mod faults;
 mod folders;
+mod hidden_echo;
 mod inputs;
 mod locks;
 mod memory_store;

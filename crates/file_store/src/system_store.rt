@@ -3,6 +3,7 @@ ghost use Rattle.std.specs.Prelude.{◌≤◌, None, IfOk, IfSome, vec_len};
 
 use crate::counting::{counted, counted_write};
 use crate::folders::sync_folder;
+use crate::hidden_echo::end_hidden_line;
 use crate::locks::hold_lock;
 use crate::moment::seconds_since_1970;
 use crate::plain_files::{OWNER_ONLY, RIGHTS, no_file, open_plain, own_user};
@@ -13,7 +14,7 @@ use std::fs::{File, Metadata, OpenFile, OpenOptions, Permissions};
 use std::io::{BufRead, Error, ErrorKind, IsTerminal, Read, Write};
 use std::os::unix::fs::{MetadataExt, OpenOptionsExt, PermissionsExt, fchown};
 use std::random::RandomSource;
-use std::rt::{Clock, Files};
+use std::rt::{Clock, Env, Files};
 use std::time::Duration;
 use std::{fs, io, thread};
 
@@ -289,7 +290,7 @@ fn next_line<B: BufRead + Drop>(alloc: Global, input: B, most: usize) -> io::Res
     Ok(Some(line))
 }
 
-impl<'a, R: Files<File = File> + RandomSource + Input + Eprint> FileStore<'a, R>
+impl<'a, R: Files<File = File> + Input + Eprint + Env + Alloc<A = Global>> FileStore<'a, R>
 where
     R::Reader: IsTerminal,
 {
@@ -301,14 +302,20 @@ where
         ensures { IfOk result (λ found. IfSome found (λ octets. vec_len octets ≤ most)) }
     {
         let input = self.files.reader();
-        if input.is_terminal() {
-            self.files.eprint(question)?;
+        if !input.is_terminal() {
+            return next_line(alloc, input, most);
         }
-        next_line(alloc, input, most)
+        self.files.eprint(question)?;
+        let line = next_line(alloc, input, most);
+        end_hidden_line(self.files)?;
+        line
     }
 }
 
-impl<'a, R: Files<File = File> + RandomSource + Clock + Input + Eprint> Store for FileStore<'a, R>
+impl<
+    'a,
+    R: Files<File = File> + RandomSource + Clock + Input + Eprint + Env + Alloc<A = Global>,
+> Store for FileStore<'a, R>
 where
     R::Reader: IsTerminal,
 {

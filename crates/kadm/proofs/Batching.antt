@@ -2,10 +2,11 @@
 use Rattle.std.proofs.Common.{◌≡◌, ◌∙◌, ◌<◌, ◌≤◌, ◌-◌, ℕ, List, [], ◌∷◌, Bool, true, false, Option, None, Result, Ok, Err, IfNone, IfOk}
 use Rattle.std.proofs.Common.{ap, arith, drop, get_or, length, subst, sym, take, refl, inl, inr}
 use Rattle.std.proofs.lemmas.List.{take_all}
+use Rattle.file_store.specs.Input.{Input}
 use Rattle.file_store.specs.World.{World}
 use Rattle.principals.specs.Database.{Principals}
 use Rattle.kadm.specs.Batches.{IsBatchDone, line_text, line_texts}
-use Rattle.kadm.specs.Lines.{AreDone, AreTried, IsLineDone, IsRun, IsTurn}
+use Rattle.kadm.specs.Lines.{AreDone, AreInput, AreTried, IsLineDone, IsRun, IsTurn}
 use Rattle.kadm_changes.specs.Texts.{Text}
 use Rattle.kadm_changes.specs.Worlds.{HoldsDatabase, IsReadBack, with_database}
 use Rattle.kadm.specs.declared.batch.BatchLine.{BatchLine}
@@ -80,18 +81,21 @@ run_kept (Ok false) world may db keep lines p q is run = (is, run.1)
 run_kept (Err e) world may db keep lines p q is run = tt
 
 -- the database is written after a run
-pub batched : (before asked locked read made after : Option World) (may : Bool) (db path : List ℕ) (keep whole : Bool) (lines : List (List Text)) (p q : Principals)
+pub batched : (before asked locked read made after : Option World) (input : Option Input) (may : Bool) (db path : List ℕ) (keep whole : Bool) (lines : List (List Text)) (p q : Principals)
+    → AreInput input lines
     → asked ≡ before → locked ≡ asked → read ≡ locked → made ≡ read → path ≡ db → HoldsDatabase locked db p
-    → IsRun read may db keep lines p q whole → IsReadBack q → after ≡ with_database path q made → IsBatchDone before may db keep whole after
-batched before asked locked read made after may db path keep true lines p q kept still same stays at holds run reads written = (
+    → IsRun read may db keep lines p q whole → IsReadBack q → after ≡ with_database path q made → IsBatchDone before input may db keep whole after
+batched before asked locked read made after input may db path keep true lines p q given kept still same stays at holds run reads written = (
   lines,
+  given,
   rewritten before asked locked read made after db path (AreDone before may db lines) p q kept still same stays at holds
       (subst (λ world. AreDone world may db lines p q) (same ∙ still ∙ kept) run) reads written,
 )
-batched before asked locked read made after may db path keep false lines p q kept still same stays at holds (keeps, run) reads written = (
+batched before asked locked read made after input may db path keep false lines p q given kept still same stays at holds (keeps, run) reads written = (
   keeps,
   (
     lines,
+    given,
     rewritten before asked locked read made after db path (AreTried before may db lines) p q kept still same stays at holds
         (subst (λ world. AreTried world may db lines p q) (same ∙ still ∙ kept) run) reads written,
   ),

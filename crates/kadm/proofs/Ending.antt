@@ -1,6 +1,7 @@
 -- How a command ends, and how the words end that spell it.
 use Rattle.std.proofs.Common.{◌≡◌, ◌∙◌, List, Bool, true, false, Option, Result, Ok, Err, IfErr, IfOk, ap, subst, sym, inl, inr}
 use Rattle.std.specs.Result.{result_unwrap_or}
+use Rattle.file_store.specs.Input.{Input}
 use Rattle.file_store.specs.World.{World}
 use Rattle.file_store.specs.declared.faults.FileCause.{FileCause}
 use Rattle.file_store.specs.declared.faults.FileCause.TheVariants.{LongFile, ShortSeed, Failed}
@@ -22,75 +23,75 @@ use Rattle.kadm_changes.specs.declared.stop.Stop.TheVariants as stops
 
 -- ---- commands that write
 
-pub batch_write : {E : Type 0} (r : Result Bool E) (before : Option World) (target : Target) (keep : Bool) (after : Option World)
-    → IfOk r (λ whole. IsBatchDone before target.whole_realm target.db.now keep whole after) → IfOk r (λ whole. IsWriteDone before target (writes.Batch keep) whole after)
-batch_write (Ok true) before target keep after done = done
-batch_write (Ok false) before target keep after (keeps, tried) = (ap writes.Batch keeps, tried)
-batch_write (Err e) before target keep after done = tt
+pub batch_write : {E : Type 0} (r : Result Bool E) (before : Option World) (input : Option Input) (target : Target) (keep : Bool) (after : Option World)
+    → IfOk r (λ whole. IsBatchDone before input target.whole_realm target.db.now keep whole after) → IfOk r (λ whole. IsWriteDone before input target (writes.Batch keep) whole after)
+batch_write (Ok true) before input target keep after done = done
+batch_write (Ok false) before input target keep after (keeps, tried) = (ap writes.Batch keeps, tried)
+batch_write (Err e) before input target keep after done = tt
 
 -- ---- commands
 
-pub write_done : (before : Option World) (command : Command) (write : WriteCommand) (after : Option World)
-    → command.kind ≡ kinds.Write write → IsWriteDone before command.target write true after → IsDone before command after
-write_done before command write after is done =
-    subst (λ kind. IsKindDone before command.target kind after) (sym is) done
+pub write_done : (before : Option World) (input : Option Input) (command : Command) (write : WriteCommand) (after : Option World)
+    → command.kind ≡ kinds.Write write → IsWriteDone before input command.target write true after → IsDone before input command after
+write_done before input command write after is done =
+    subst (λ kind. IsKindDone before input command.target kind after) (sym is) done
 
-pub write_tried : (before : Option World) (command : Command) (write : WriteCommand) (after : Option World)
-    → command.kind ≡ kinds.Write write → IsWriteDone before command.target write false after → IsTried before command after
-write_tried before command write after is (keeps, tried) = (is ∙ ap kinds.Write keeps, tried)
+pub write_tried : (before : Option World) (input : Option Input) (command : Command) (write : WriteCommand) (after : Option World)
+    → command.kind ≡ kinds.Write write → IsWriteDone before input command.target write false after → IsTried before input command after
+write_tried before input command write after is (keeps, tried) = (is ∙ ap kinds.Write keeps, tried)
 
-pub write_refused : (before : Option World) (command : Command) (write : WriteCommand) (after : Option World)
-    → command.kind ≡ kinds.Write write → IsWriteDone before command.target write false after
-    → IsCommandEnd before command statuses.Refused after
-write_refused before command write after is tried = inr (write_tried before command write after is tried)
+pub write_refused : (before : Option World) (input : Option Input) (command : Command) (write : WriteCommand) (after : Option World)
+    → command.kind ≡ kinds.Write write → IsWriteDone before input command.target write false after
+    → IsCommandEnd before input command statuses.Refused after
+write_refused before input command write after is tried = inr (write_tried before input command write after is tried)
 
-pub print_end : {E : Type 0} (r : Result Status E) (before : Option World) (command : Command) (print : PrintCommand) (after : Option World)
-    → command.kind ≡ kinds.Print print → after ≡ before → IfOk r (λ status. IsPrinted status print) → IfOk r (λ status. IsCommandEnd before command status after)
-print_end (Ok statuses.Done) before command print after is same printed =
-    subst (λ kind. IsKindDone before command.target kind after) (sym is) same
-print_end (Ok statuses.Refused) before command print after is same printed = inl same
-print_end (Ok statuses.Usage) before command print after is same printed = absurd printed
-print_end (Ok statuses.Failed) before command print after is same printed = absurd printed
-print_end (Err e) before command print after is same printed = tt
+pub print_end : {E : Type 0} (r : Result Status E) (before : Option World) (input : Option Input) (command : Command) (print : PrintCommand) (after : Option World)
+    → command.kind ≡ kinds.Print print → after ≡ before → IfOk r (λ status. IsPrinted status print) → IfOk r (λ status. IsCommandEnd before input command status after)
+print_end (Ok statuses.Done) before input command print after is same printed =
+    subst (λ kind. IsKindDone before input command.target kind after) (sym is) same
+print_end (Ok statuses.Refused) before input command print after is same printed = inl same
+print_end (Ok statuses.Usage) before input command print after is same printed = absurd printed
+print_end (Ok statuses.Failed) before input command print after is same printed = absurd printed
+print_end (Err e) before input command print after is same printed = tt
 
 -- ---- words
 
-pub spelled_end : {E : Type 0} (r : Result Status E) (words : List Text) (before : Option World) (command : Command) (after : Option World)
-    → Spells words command → IfOk r (λ status. IsCommandEnd before command status after) → IfOk r (λ status. IsEnd words before status after)
-spelled_end (Ok statuses.Done) words before command after spelled done = inr (command, spelled, done)
-spelled_end (Ok statuses.Refused) words before command after spelled (inl same) = inl same
-spelled_end (Ok statuses.Refused) words before command after spelled (inr tried) = inr (command, spelled, tried)
-spelled_end (Ok statuses.Usage) words before command after spelled none = absurd none
-spelled_end (Ok statuses.Failed) words before command after spelled (inl done) = inr (inl (command, spelled, done))
-spelled_end (Ok statuses.Failed) words before command after spelled (inr tried) = inr (inr (command, spelled, tried))
-spelled_end (Err e) words before command after spelled done = tt
+pub spelled_end : {E : Type 0} (r : Result Status E) (words : List Text) (before : Option World) (input : Option Input) (command : Command) (after : Option World)
+    → Spells words command → IfOk r (λ status. IsCommandEnd before input command status after) → IfOk r (λ status. IsEnd words before input status after)
+spelled_end (Ok statuses.Done) words before input command after spelled done = inr (command, spelled, done)
+spelled_end (Ok statuses.Refused) words before input command after spelled (inl same) = inl same
+spelled_end (Ok statuses.Refused) words before input command after spelled (inr tried) = inr (command, spelled, tried)
+spelled_end (Ok statuses.Usage) words before input command after spelled none = absurd none
+spelled_end (Ok statuses.Failed) words before input command after spelled (inl done) = inr (inl (command, spelled, done))
+spelled_end (Ok statuses.Failed) words before input command after spelled (inr tried) = inr (inr (command, spelled, tried))
+spelled_end (Err e) words before input command after spelled done = tt
 
-pub spelled_stop : {A : Type 0} (r : Result A Stop) (words : List Text) (before : Option World) (command : Command) (after : Option World)
-    → Spells words command → IfErr r (λ stop. IsCommandStopped before command stop after) → IfErr r (λ stop. IsStopped words before stop after)
-spelled_stop (Ok x) words before command after spelled stopped = tt
-spelled_stop (Err stop) words before command after spelled (inl same) = inl same
-spelled_stop (Err stop) words before command after spelled (inr (failed, done)) = inr (failed, inl (command, spelled, done))
+pub spelled_stop : {A : Type 0} (r : Result A Stop) (words : List Text) (before : Option World) (input : Option Input) (command : Command) (after : Option World)
+    → Spells words command → IfErr r (λ stop. IsCommandStopped before input command stop after) → IfErr r (λ stop. IsStopped words before input stop after)
+spelled_stop (Ok x) words before input command after spelled stopped = tt
+spelled_stop (Err stop) words before input command after spelled (inl same) = inl same
+spelled_stop (Err stop) words before input command after spelled (inr (failed, done)) = inr (failed, inl (command, spelled, done))
 
 -- the output fails after a command
-pub failed_after : (words : List Text) (before : Option World) (status : Status) (stop : Stop) (after : Option World)
-    → IsEnd words before status after → IsFailed stop → IsStopped words before stop after
-failed_after words before statuses.Done stop after (inl (asks, same)) failed = inl same
-failed_after words before statuses.Done stop after (inr done) failed = inr (failed, inl done)
-failed_after words before statuses.Refused stop after (inl same) failed = inl same
-failed_after words before statuses.Refused stop after (inr tried) failed = inr (failed, inr tried)
-failed_after words before statuses.Usage stop after same failed = inl same
-failed_after words before statuses.Failed stop after (inl same) failed = inl same
-failed_after words before statuses.Failed stop after (inr done) failed = inr (failed, done)
+pub failed_after : (words : List Text) (before : Option World) (input : Option Input) (status : Status) (stop : Stop) (after : Option World)
+    → IsEnd words before input status after → IsFailed stop → IsStopped words before input stop after
+failed_after words before input statuses.Done stop after (inl (asks, same)) failed = inl same
+failed_after words before input statuses.Done stop after (inr done) failed = inr (failed, inl done)
+failed_after words before input statuses.Refused stop after (inl same) failed = inl same
+failed_after words before input statuses.Refused stop after (inr tried) failed = inr (failed, inr tried)
+failed_after words before input statuses.Usage stop after same failed = inl same
+failed_after words before input statuses.Failed stop after (inl same) failed = inl same
+failed_after words before input statuses.Failed stop after (inr done) failed = inr (failed, done)
 
 -- whatever the status, the output may fail at the end
-end_failed : (words : List Text) (before : Option World) (status : Status) (after : Option World)
-    → IsEnd words before status after → IsEnd words before statuses.Failed after
-end_failed words before statuses.Done after (inl (asks, same)) = inl same
-end_failed words before statuses.Done after (inr done) = inr (inl done)
-end_failed words before statuses.Refused after (inl same) = inl same
-end_failed words before statuses.Refused after (inr tried) = inr (inr tried)
-end_failed words before statuses.Usage after same = inl same
-end_failed words before statuses.Failed after left = left
+end_failed : (words : List Text) (before : Option World) (input : Option Input) (status : Status) (after : Option World)
+    → IsEnd words before input status after → IsEnd words before input statuses.Failed after
+end_failed words before input statuses.Done after (inl (asks, same)) = inl same
+end_failed words before input statuses.Done after (inr done) = inr (inl done)
+end_failed words before input statuses.Refused after (inl same) = inl same
+end_failed words before input statuses.Refused after (inr tried) = inr (inr tried)
+end_failed words before input statuses.Usage after same = inl same
+end_failed words before input statuses.Failed after left = left
 
 -- every status but `Done`
 abbrev IsOther : Status → Type 0
@@ -118,12 +119,12 @@ other stops.NotInBatch status is = subst IsOther (sym is) tt
 other (stops.Refused refusal) status is = subst IsOther (sym is) tt
 other (stops.File fault) status is = cause_other fault.cause status is
 
-same_end : (words : List Text) (before : Option World) (status : Status) (after : Option World) → IsOther status → after ≡ before
-    → IsEnd words before status after
-same_end words before statuses.Done after is same = absurd is
-same_end words before statuses.Refused after is same = inl same
-same_end words before statuses.Usage after is same = same
-same_end words before statuses.Failed after is same = inl same
+same_end : (words : List Text) (before : Option World) (input : Option Input) (status : Status) (after : Option World) → IsOther status → after ≡ before
+    → IsEnd words before input status after
+same_end words before input statuses.Done after is same = absurd is
+same_end words before input statuses.Refused after is same = inl same
+same_end words before input statuses.Usage after is same = same
+same_end words before input statuses.Failed after is same = inl same
 
 failed_cause : (cause : FileCause) (status : Status) → IsFailure cause → IsFileCauseStatus cause status → status ≡ statuses.Failed
 failed_cause LongFile status failed is = absurd failed
@@ -139,23 +140,23 @@ failed_status (stops.Refused refusal) status failed is = absurd failed
 failed_status (stops.File fault) status failed is = failed_cause fault.cause status failed is
 
 -- a command that stopped early, with the status of what stopped it
-stopped_end : (words : List Text) (before : Option World) (stop : Stop) (status : Status) (after : Option World)
-    → IsStopped words before stop after → IsStatusOf stop status → IsEnd words before status after
-stopped_end words before stop status after (inl same) is = same_end words before status after (other stop status is) same
-stopped_end words before stop status after (inr (failed, done)) is =
-    subst (λ s. IsEnd words before s after) (sym (failed_status stop status failed is)) (inr done)
+stopped_end : (words : List Text) (before : Option World) (input : Option Input) (stop : Stop) (status : Status) (after : Option World)
+    → IsStopped words before input stop after → IsStatusOf stop status → IsEnd words before input status after
+stopped_end words before input stop status after (inl same) is = same_end words before input status after (other stop status is) same
+stopped_end words before input stop status after (inr (failed, done)) is =
+    subst (λ s. IsEnd words before input s after) (sym (failed_status stop status failed is)) (inr done)
 
 -- the report of it fails
-stopped_failed : (words : List Text) (before : Option World) (stop : Stop) (after : Option World)
-    → IsStopped words before stop after → IsEnd words before statuses.Failed after
-stopped_failed words before stop after (inl same) = inl same
-stopped_failed words before stop after (inr (failed, done)) = inr done
+stopped_failed : (words : List Text) (before : Option World) (input : Option Input) (stop : Stop) (after : Option World)
+    → IsStopped words before input stop after → IsEnd words before input statuses.Failed after
+stopped_failed words before input stop after (inl same) = inl same
+stopped_failed words before input stop after (inr (failed, done)) = inr done
 
 -- whatever the output says at the end
-pub ended : {E : Type 0} (end : Result Status Stop) (r : Result Status E) (words : List Text) (before after : Option World)
-    → IfOk end (λ status. IsEnd words before status after) → IfErr end (λ stop. IsStopped words before stop after)
-    → IfOk r (λ status. IsReported end status) → IsEnd words before (result_unwrap_or r statuses.Failed) after
-ended (Ok status) (Ok reported) words before after done stopped is = subst (λ s. IsEnd words before s after) (sym is) done
-ended (Ok status) (Err e) words before after done stopped is = end_failed words before status after done
-ended (Err stop) (Ok reported) words before after done stopped is = stopped_end words before stop reported after stopped is
-ended (Err stop) (Err e) words before after done stopped is = stopped_failed words before stop after stopped
+pub ended : {E : Type 0} (end : Result Status Stop) (r : Result Status E) (words : List Text) (before : Option World) (input : Option Input) (after : Option World)
+    → IfOk end (λ status. IsEnd words before input status after) → IfErr end (λ stop. IsStopped words before input stop after)
+    → IfOk r (λ status. IsReported end status) → IsEnd words before input (result_unwrap_or r statuses.Failed) after
+ended (Ok status) (Ok reported) words before input after done stopped is = subst (λ s. IsEnd words before input s after) (sym is) done
+ended (Ok status) (Err e) words before input after done stopped is = end_failed words before input status after done
+ended (Err stop) (Ok reported) words before input after done stopped is = stopped_end words before input stop reported after stopped is
+ended (Err stop) (Err e) words before input after done stopped is = stopped_failed words before input stop after stopped

@@ -1,6 +1,7 @@
 mod Batching
 mod Ending
 mod Gathering
+mod InputLines
 mod Naming
 mod Opening
 mod Reading

@@ -1,5 +1,5 @@
 -- A command without `--whole-realm` leaves a realm as open as it was.
-use Rattle.std.proofs.Common.{◌≡◌, ◌∙◌, ◌⊎◌, ℕ, List, [], ◌∷◌, Bool, true, false, Option, Some, None, Ok, ap, refl, subst, sym, inl, inr}
+use Rattle.std.proofs.Common.{◌≡◌, ◌∙◌, ◌⊎◌, ℕ, List, [], ◌∷◌, Bool, true, false, Option, Some, None, Ok, ap, arith, refl, subst, sym, inl, inr}
 use Rattle.std.specs.Prelude.{bytes_eq, cond, if◌then◌else◌, is_some, option_map, unwrap_or}
 use Rattle.std.specs.FinMap.{empty, get, get-insert}
 use Rattle.std.proofs.lemmas.Slice.Eq.{bytes_eq-Decides}
@@ -13,11 +13,13 @@ use Rattle.principal_rows.specs.Row.{first_row}
 use Rattle.principal_rows.specs.declared.policy.Policy.{Policy}
 use Rattle.principals.specs.Database.{Principals, first_database}
 use Rattle.principals_text.specs.Written.{database_value}
+use Rattle.file_store.specs.Input.{Input, no_input}
 use Rattle.file_store.specs.World.{IsThere, World, with_file}
 use Rattle.command_line.specs.declared.status.Status.{Status}
 use Rattle.command_line.specs.declared.status.Status.TheVariants as statuses
 use Rattle.principal_keys.specs.Keys.{drawn_keys, seeded}
 use Rattle.kadm_changes.specs.Realm.{IsAsOpen, KeepsRealm, StaysOpen, found_policy, text_policy, tgs_policy}
+use Rattle.kadm_changes.specs.Restoring.{HasOrNot, Restored, replaced_policy}
 use Rattle.kadm_changes.specs.Updates.{IsUpdated}
 use Rattle.kadm_changes.specs.Texts.{Text, path_of}
 use Rattle.kadm_changes.specs.Worlds.{HoldsDatabase, IsReadBack, MadeNew, Rewritten, WroteKeytab, with_database}
@@ -54,15 +56,15 @@ kept_then whole None p q r first second = λ without. tt
 kept_then whole (Some held) p q r first second = λ without. open_then held.now p q r (first without) (second without)
 
 -- a command line of a change
-pub update_kept : (world : Option World) (whole : Bool) (target : Target) (update : Update) (p q : Principals)
-    → IsUpdated world whole target update p q → KeepsRealm whole world (tgs_policy p) (tgs_policy q)
-update_kept world whole target (updates.Row to) p q is = is.changed.2
-update_kept world whole target (updates.Changes how) p q is = is.1
-update_kept world whole target (updates.Migrate users) p q is = is.1
+pub update_kept : (world : Option World) (input : Option Input) (whole : Bool) (target : Target) (update : Update) (p q : Principals)
+    → IsUpdated world input whole target update p q → KeepsRealm whole world (tgs_policy p) (tgs_policy q)
+update_kept world input whole target (updates.Row to) p q is = is.changed.2
+update_kept world input whole target (updates.Changes how) p q is = is.1
+update_kept world input whole target (updates.Migrate users) p q is = is.1
 
 pub line_kept : (world : Option World) (whole : Bool) (db : Text) (line : List Text) (p q : Principals)
     → IsLineDone world whole db line p q → KeepsRealm whole world (tgs_policy p) (tgs_policy q)
-line_kept world whole db line p q (command, spelled, (update, kind, is)) = update_kept world whole command.target update p q is
+line_kept world whole db line p q (command, spelled, (update, kind, is)) = update_kept world no_input whole command.target update p q is
 
 pub lines_kept : (world : Option World) (whole : Bool) (db : Text) (lines : List (List Text)) (p q : Principals)
     → AreDone world whole db lines p q → KeepsRealm whole world (tgs_policy p) (tgs_policy q)
@@ -115,6 +117,9 @@ put_policy : (db : List ℕ) (held : World) (p : Principals) → IsReadBack p
     → text_policy ((with_file db (compact_text (database_value p)) held).files db) ≡ tgs_policy p
 put_policy db held p back = ap text_policy (there db (compact_text (database_value p)) held) ∙ ap found_policy back
 
+clash : false ≡ true → ⊥
+clash e = cc
+
 absent : (found : Option (List ℕ)) → false ≡ is_some found → found ≡ None
 absent None none = refl
 absent (Some text) none = absurd cc
@@ -163,60 +168,88 @@ keytab_open (Some held) db to after is =
     (λ same. is.free.no_database is.read.0 is.old (ap held.files same ∙ is.read.1) is.read.2)))
     (as_open held.now (text_policy (held.files db))))
 
+-- a realm that is as open as a new one is as open as any
+open_always : (now : ℕ) (p q : Policy) → IsAsOpen now default_policy q → IsAsOpen now p q
+open_always now p q is = record {
+  enabled = λ disabled. absurd (clash (is.enabled disabled));
+  served = λ denied. absurd (clash (sym (is.served denied)));
+  lasting = λ gone. absurd (is.lasting gone);
+  long = λ short. absurd (omega (arith, is.long short));
+}
+
+-- the policy that a database replaces is that of the path, or that of a new realm
+replaced_open : (db : List ℕ) (held : World) (old : Option Principals) (new : Policy) → HasOrNot (Some held) db old
+    → IsAsOpen held.now (replaced_policy old) new → IsAsOpen held.now (text_policy (held.files db)) new
+replaced_open db held None new is opens = open_always held.now (text_policy (held.files db)) new opens
+replaced_open db held (Some p) new is opens =
+    subst (λ policy. IsAsOpen held.now policy new) (sym (read_policy db held p is)) opens
+
+restored_open : (before : Option World) (db from : List ℕ) (after : Option World) → Restored before false db from after
+    → StaysOpen db before after
+restored_open None db from after is = subst (StaysOpen db None) (sym is.written) tt
+restored_open (Some held) db from after is =
+    subst (StaysOpen db (Some held)) (sym is.written)
+    (open_at db held (with_file db (compact_text (database_value is.new)) held) (text_policy (held.files db)) (tgs_policy is.new)
+    refl (put_policy db held is.new is.read_back)
+    (replaced_open db held is.old (tgs_policy is.new) is.replaced (is.kept refl)))
+
 -- ---- command lines
 
-command_open : (before : Option World) (target : Target) (write : WriteCommand) (after : Option World) → target.whole_realm ≡ false
-    → CommandLeaves before target write after → StaysOpen target.db.now before after
-command_open before target (writes.Init new) after without (realm, text, is) =
+command_open : (before : Option World) (input : Option Input) (target : Target) (write : WriteCommand) (after : Option World) → target.whole_realm ≡ false
+    → CommandLeaves before input target write after → StaysOpen target.db.now before after
+command_open before input target (writes.Init new) after without (realm, text, is) =
     made_open before target.db.now target.etypes.items realm (path_of new.seed) after is
-command_open before target (writes.Update update) after without is =
-    rewritten_open before target.db.now (IsUpdated before false target update) after
-    (λ p q. update_kept before false target update p q)
-    (subst (λ whole. Rewritten before target.db.now (IsUpdated before whole target update) after) without is)
-command_open before target (writes.Batch keep_going) after without (lines, is) =
+command_open before input target (writes.Update update) after without is =
+    rewritten_open before target.db.now (IsUpdated before input false target update) after
+    (λ p q. update_kept before input false target update p q)
+    (subst (λ whole. Rewritten before target.db.now (IsUpdated before input whole target update) after) without is)
+command_open before input target (writes.Batch keep_going) after without (lines, given, is) =
     rewritten_open before target.db.now (AreDone before false target.db.now lines) after
     (λ p q. lines_kept before false target.db.now lines p q)
     (subst (λ whole. Rewritten before target.db.now (AreDone before whole target.db.now lines) after) without is)
-command_open before target (writes.Keytab to) after without is = keytab_open before target.db.now to after is
-command_open before target (writes.Dump from) after without is =
+command_open before input target (writes.Keytab to) after without is = keytab_open before target.db.now to after is
+command_open before input target (writes.Dump from) after without is =
     new_open before target.db.now is.new after is.free
     (subst (λ whole. KeepsRealm whole before default_policy (tgs_policy is.new)) without is.kept) is.read_back is.written
+command_open before input target (writes.Restore from) after without is =
+    restored_open before target.db.now from.now after
+    (subst (λ whole. Restored before whole target.db.now from.now after) without is)
 
-tried_open : (before : Option World) (db : Text) (whole : Bool) (after : Option World) → whole ≡ false → Tried before whole db after
+tried_open : (before : Option World) (input : Option Input) (db : Text) (whole : Bool) (after : Option World) → whole ≡ false → Tried before input whole db after
     → StaysOpen db before after
-tried_open before db whole after without (lines, is) =
+tried_open before input db whole after without (lines, given, is) =
     rewritten_open before db (AreTried before false db lines) after (λ p q. tries_kept before false db lines p q)
     (subst (λ may. Rewritten before db (AreTried before may db lines) after) without is)
 
-kind_open : (before : Option World) (target : Target) (kind : CommandKind) (after : Option World) → target.whole_realm ≡ false
-    → IsKindDone before target kind after → StaysOpen target.db.now before after
-kind_open before target (kinds.Print what) after without same = same_open target.db.now before after same
-kind_open before target (kinds.Write write) after without is = command_open before target write after without is
+kind_open : (before : Option World) (input : Option Input) (target : Target) (kind : CommandKind) (after : Option World) → target.whole_realm ≡ false
+    → IsKindDone before input target kind after → StaysOpen target.db.now before after
+kind_open before input target (kinds.Print what) after without same = same_open target.db.now before after same
+kind_open before input target (kinds.Write write) after without is = command_open before input target write after without is
 
 some_same : (a b : Text) → Some a ≡ Some b → a ≡ b
 some_same a b same = cc
 
-pub spelled_open : (words : List Text) (before after : Option World) → IsSpelledDone words before after → KeepsOpen words before after
-spelled_open words before after (command, spelled, done) = λ without db is.
+pub spelled_open : (words : List Text) (before : Option World) (input : Option Input) (after : Option World) → IsSpelledDone words before input after → KeepsOpen words before after
+spelled_open words before input after (command, spelled, done) = λ without db is.
     subst (λ path. StaysOpen path before after) (some_same command.target.db.now db (sym spelled.db ∙ is))
-    (kind_open before command.target command.kind after (spelled.whole_realm ∙ without) done)
+    (kind_open before input command.target command.kind after (spelled.whole_realm ∙ without) done)
 
-pub spelled_tried_open : (words : List Text) (before after : Option World) → IsSpelledTried words before after → KeepsOpen words before after
-spelled_tried_open words before after (command, spelled, (kind, tried)) = λ without db is.
+pub spelled_tried_open : (words : List Text) (before : Option World) (input : Option Input) (after : Option World) → IsSpelledTried words before input after → KeepsOpen words before after
+spelled_tried_open words before input after (command, spelled, (kind, tried)) = λ without db is.
     subst (λ path. StaysOpen path before after) (some_same command.target.db.now db (sym spelled.db ∙ is))
-    (tried_open before command.target.db.now command.target.whole_realm after (spelled.whole_realm ∙ without) tried)
+    (tried_open before input command.target.db.now command.target.whole_realm after (spelled.whole_realm ∙ without) tried)
 
 pub unchanged_open : (words : List Text) (before after : Option World) → after ≡ before → KeepsOpen words before after
 unchanged_open words before after same = λ without db is. same_open db before after same
 
 -- whatever the status
-pub end_open : (words : List Text) (before : Option World) (status : Status) (after : Option World) → IsEnd words before status after
+pub end_open : (words : List Text) (before : Option World) (input : Option Input) (status : Status) (after : Option World) → IsEnd words before input status after
     → KeepsOpen words before after
-end_open words before statuses.Done after (inl (asks, same)) = unchanged_open words before after same
-end_open words before statuses.Done after (inr done) = spelled_open words before after done
-end_open words before statuses.Refused after (inl same) = unchanged_open words before after same
-end_open words before statuses.Refused after (inr tried) = spelled_tried_open words before after tried
-end_open words before statuses.Usage after same = unchanged_open words before after same
-end_open words before statuses.Failed after (inl same) = unchanged_open words before after same
-end_open words before statuses.Failed after (inr (inl done)) = spelled_open words before after done
-end_open words before statuses.Failed after (inr (inr tried)) = spelled_tried_open words before after tried
+end_open words before input statuses.Done after (inl (asks, same)) = unchanged_open words before after same
+end_open words before input statuses.Done after (inr done) = spelled_open words before input after done
+end_open words before input statuses.Refused after (inl same) = unchanged_open words before after same
+end_open words before input statuses.Refused after (inr tried) = spelled_tried_open words before input after tried
+end_open words before input statuses.Usage after same = unchanged_open words before after same
+end_open words before input statuses.Failed after (inl same) = unchanged_open words before after same
+end_open words before input statuses.Failed after (inr (inl done)) = spelled_open words before input after done
+end_open words before input statuses.Failed after (inr (inr tried)) = spelled_tried_open words before input after tried

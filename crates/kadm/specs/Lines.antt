@@ -1,6 +1,8 @@
 -- The effect of the lines of a batch, one after another.
-use Rattle.std.specs.Prelude.{◌≡◌, ◌⊎◌, ℕ, Bool, true, false, List, [], ◌∷◌, Option}
+use Rattle.std.specs.Prelude.{◌≡◌, ◌⊎◌, ℕ, Bool, true, false, List, [], ◌∷◌, IfSome, Option, unwrap_or}
+use Rattle.file_store.specs.Input.{Input, no_input}
 use Rattle.file_store.specs.World.{World}
+use Rattle.text_fields.specs.LineWords.{words_of_line}
 use Rattle.principals.specs.Database.{Principals}
 use Rattle.kadm_changes.specs.Updates.{IsUpdated}
 use Rattle.kadm_changes.specs.Texts.{Text}
@@ -13,11 +15,11 @@ use Rattle.kadm.specs.Words.{Spells, in_batch}
 
 -- ---- the database
 
--- the change that was ordered is made
+-- the change that was ordered is made; a line of a batch takes no line of the input
 abbrev pub IsCommandMade : Option World → Bool → Command → Principals → Principals → Type 0
 IsCommandMade world whole command p new =
     (update : Update) × (command.kind ≡ kinds.Write (writes.Update update))
-    × IsUpdated world whole command.target update p new
+    × IsUpdated world no_input whole command.target update p new
 
 -- the change that words spell is made
 abbrev pub IsSpelledMade : Option World → Bool → List Text → Principals → Principals → Type 0
@@ -48,12 +50,34 @@ abbrev pub IsTurn : Option World → Bool → Text → List Text → Bool → Pr
 IsTurn world allowed db line whole p new whole_then =
     (IsLineDone world allowed db line p new × (whole_then ≡ whole)) ⊎ ((new ≡ p) × (whole_then ≡ false))
 
+-- ---- the input
+
+-- the words of a line of the input; an empty line and a comment have none
+abbrev pub input_words : List ℕ → List Text
+input_words line = unwrap_or (words_of_line line) []
+
+-- before the lines of these words, unless there are none
+abbrev pub with_words : List Text → List (List Text) → List (List Text)
+with_words [] lines = lines
+with_words (word ∷ words) lines = (word ∷ words) ∷ lines
+
+-- the lines that have words, in their order
+abbrev pub worded : List (List ℕ) → List (List Text)
+worded [] = []
+worded (line ∷ lines) = with_words (input_words line) (worded lines)
+
+-- the lines of a batch are those of the input: each of them, once, in their order
+abbrev pub AreInput : Option Input → List (List Text) → Type 0
+AreInput input lines = IfSome input (λ held. lines ≡ worded held.lines)
+
 -- ---- the files
 
 -- the changes of all lines of the input, one after another
-abbrev pub Batched : Option World → Bool → List ℕ → Option World → Type 0
-Batched before whole db after = (lines : List (List Text)) × Rewritten before db (AreDone before whole db lines) after
+abbrev pub Batched : Option World → Option Input → Bool → List ℕ → Option World → Type 0
+Batched before input whole db after =
+    (lines : List (List Text)) × AreInput input lines × Rewritten before db (AreDone before whole db lines) after
 
 -- those of some of them
-abbrev pub Tried : Option World → Bool → List ℕ → Option World → Type 0
-Tried before whole db after = (lines : List (List Text)) × Rewritten before db (AreTried before whole db lines) after
+abbrev pub Tried : Option World → Option Input → Bool → List ℕ → Option World → Type 0
+Tried before input whole db after =
+    (lines : List (List Text)) × AreInput input lines × Rewritten before db (AreTried before whole db lines) after

@@ -56,7 +56,7 @@ takes_names command =
 abbrev pub takes_text : Text → Bool
 takes_text word =
     bytes_eq word (codes "--password-file") || (bytes_eq word (codes "--set") || (bytes_eq word (codes "--field")
-    || bytes_eq word (codes "--value")))
+    || (bytes_eq word (codes "--value") || bytes_eq word (codes "--like"))))
 
 abbrev pub takes_value : Text → Bool
 takes_value word =
@@ -83,9 +83,18 @@ abbrev pub named : Bool → List Text → List Text
 named is_value [] = []
 named is_value (word ∷ others) = spelled is_value word ++ named (is_value_next is_value word) others
 
+-- `kadm check FILE` is `kadm check --db FILE`
+abbrev pub with_file : List Text → List Text
+with_file [] = []
+with_file (word ∷ others) = if is_option word then word ∷ others else codes "--db" ∷ word ∷ others
+
+-- the same for a command that takes no names
+abbrev pub behind_check : Text → List Text → List Text
+behind_check command others = if bytes_eq command (codes "check") then with_file others else others
+
 -- `kadm show alice` is `kadm show --name alice`
 abbrev pub behind_names : Text → List Text → List Text
-behind_names command others = if takes_names command then named false others else others
+behind_names command others = if takes_names command then named false others else behind_check command others
 
 abbrev pub with_names : List Text → List Text
 with_names (program ∷ command ∷ others) = program ∷ command ∷ behind_names command others
@@ -112,6 +121,14 @@ abbrev pub sets_some : List Text → Bool
 sets_some words =
     if is_some (value_of words (codes "--field")) then is_some (value_of words (codes "--value"))
     else not (is_some (value_of words (codes "--value"))) && is_some (value_of words (codes "--set"))
+
+-- ---- what is shown
+
+-- there are names or a pattern, and not both
+abbrev pub shows_some : List Text → Bool
+shows_some words =
+    if is_some (value_of words (codes "--name")) then not (is_some (value_of words (codes "--like")))
+    else is_some (value_of words (codes "--like"))
 
 -- ---- the command that words spell
 
@@ -165,6 +182,8 @@ IsWriteSpelled words (writes.Batch keep_going) =
 IsWriteSpelled words (writes.Keytab to) =
     (command_of words ≡ Some (codes "keytab")) × (value_of words (codes "--name") ≡ Some to.name.now)
     × (value_of words (codes "--out") ≡ Some to.out.now) × (to.append ≡ has_flag words (codes "--append"))
+IsWriteSpelled words (writes.Restore from) =
+    (command_of words ≡ Some (codes "restore")) × (value_of words (codes "--from") ≡ Some from.now)
 IsWriteSpelled words (writes.Dump from) =
     (command_of words ≡ Some (codes "import")) × (value_of words (codes "--dump") ≡ Some from.dump.now)
     × (value_of words (codes "--stash") ≡ Some from.stash.now) × (from.skip ≡ has_flag words (codes "--skip"))
@@ -176,8 +195,10 @@ IsPrintSpelled words (prints.List list) =
 IsPrintSpelled words (prints.Lint lint) =
     (command_of words ≡ Some (codes "lint")) × (lint.check ≡ has_flag words (codes "--check"))
     × (lint.json ≡ has_flag words (codes "--json"))
-IsPrintSpelled words (prints.Show name) =
-    (command_of words ≡ Some (codes "show")) × (value_of words (codes "--name") ≡ Some name.now)
+IsPrintSpelled words prints.Check = command_of words ≡ Some (codes "check")
+IsPrintSpelled words (prints.Show show) =
+    (command_of words ≡ Some (codes "show")) × (shows_some words ≡ true)
+    × (path_of show.like ≡ value_of words (codes "--like")) × (show.json ≡ has_flag words (codes "--json"))
 
 abbrev pub IsKindSpelled : List Text → CommandKind → Type 0
 IsKindSpelled words (kinds.Print print) = IsPrintSpelled words print

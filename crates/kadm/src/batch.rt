@@ -1,9 +1,10 @@
 //! Many changes of one database: each line of standard input is a command. The database is read once and written once.
-ghost use Rattle.std.specs.Prelude.{◌≡◌, All, IfNone, IfOk, IfSome, OnErr, OnOk, true};
+ghost use Rattle.std.specs.Prelude.{◌≡◌, ◌++◌, [], All, IfNone, IfOk, IfSome, OnErr, OnOk, true};
+ghost use Rattle.file_store.specs.Input.{HasEnded, TakesLine};
 ghost use Rattle.kadm_changes.specs.Found.{IsFound, IsFoundIn};
 ghost use Rattle.kadm_changes.specs.Texts.{texts};
-ghost use Rattle.kadm.specs.Batches.{IsBatchDone, IsLineRead, line_text, line_texts};
-ghost use Rattle.kadm.specs.Lines.{AreDone, IsLineDone, IsCommandMade, IsRun, IsSpelledMade, IsTurn};
+ghost use Rattle.kadm.specs.Batches.{IsBatchDone, IsLineRead, input_texts, line_text, line_texts};
+ghost use Rattle.kadm.specs.Lines.{AreDone, AreInput, IsLineDone, IsCommandMade, IsRun, IsSpelledMade, IsTurn, input_words, with_words};
 
 use crate::commands::{Command, CommandKind, WHOLE_REALM, read_args, read_command};
 use crate::outcome::Outcome;
@@ -90,7 +91,7 @@ pub(crate) fn run_batch<'p, T: Store, W: Write, E: Write>(
     // Promise (done, unchanged): `batch`: the same, with the changes of all lines one after another, each the change
     // that its words spell for the database of the batch. If one is not done, the file is as it was.
     // Promise: with `--keep-going` each line of a batch is done, or leaves the database as it was.
-    ensures done { IfOk result (λ end. IsBatchDone (T.world store.old) target.now.whole_realm target.now.db.now keep_going end.whole (T.world store.new)) }
+    ensures done { IfOk result (λ end. IsBatchDone (T.world store.old) (T.input store.old) target.now.whole_realm target.now.db.now keep_going end.whole (T.world store.new)) }
     // Promise, as make_update of kadm_changes: a command that ends ..
     ensures unchanged { OnErr result (T.world store.new ≡ T.world store.old) }
 {
@@ -116,11 +117,13 @@ pub(crate) fn run_batch<'p, T: Store, W: Write, E: Write>(
 }
 
 /// Reads the lines to the end of standard input. An empty line and a comment are none.
+#[tactic(auto, using(crate::proofs::InputLines::none_read, crate::proofs::InputLines::read_on, crate::proofs::InputLines::all_read))]
 fn read_lines<T: Store, E: Write>(
     alloc: Global,
     store: &mut T,
     errors: &mut E,
 ) -> Result<Vec<InputLine>, Stop<'static>>
+    ensures read { IfOk result (λ lines. AreInput (T.input store.old) (input_texts lines.items)) }
     ensures unchanged { T.world store.new ≡ T.world store.old }
 {
     let mut lines = Vec::new(alloc);
@@ -137,6 +140,8 @@ fn read_lines<T: Store, E: Write>(
 
 /// Reads the next line. `None` if the input has ended.
 fn next_line<T: Store>(alloc: Global, store: &mut T) -> Result<Option<Vec<u8>>, Stop<'static>>
+    ensures line { IfOk result (λ found. IfSome found (λ line. TakesLine (T.input store.old) line.items (T.input store.new))) }
+    ensures ended { IfOk result (λ found. IfNone found (HasEnded (T.input store.old))) }
     ensures unchanged { T.world store.new ≡ T.world store.old }
 {
     match store.ask(alloc, PROMPT, LONGEST_LINE) {
@@ -151,12 +156,16 @@ fn next_line<T: Store>(alloc: Global, store: &mut T) -> Result<Option<Vec<u8>>, 
 }
 
 /// Adds a line, if it has a command. The inner `Err` says what is wrong with the line.
+#[tactic(auto, using(crate::proofs::InputLines::line_pushed, crate::proofs::InputLines::none_pushed))]
 fn push_line(
     alloc: Global,
     lines: &mut Vec<InputLine>,
     number: usize,
     octets: &[u8],
-) -> Result<Result<(), &'static str>, AllocError> {
+) -> Result<Result<(), &'static str>, AllocError>
+    ensures pushed { IfOk result (λ read. OnOk read
+        (input_texts lines.new.items ≡ input_texts lines.old.items ++ with_words (input_words octets.now) [])) }
+{
     let words = match line_words(alloc, octets)? {
         Ok(words) => words,
         Err(fault) => return Ok(Err(fault)),
@@ -175,6 +184,7 @@ fn with_passwords<T: Store>(
     lines: Vec<InputLine>,
 ) -> Result<Vec<BatchLine>, AllocError>
     ensures read { IfOk result (λ all. All (IsLineRead (T.world store.old)) all.items) }
+    ensures same { IfOk result (λ all. line_texts all.items ≡ input_texts lines.items) }
     ensures unchanged { T.world store.new ≡ T.world store.old }
 {
     let mut all = Vec::new(alloc);

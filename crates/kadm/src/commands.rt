@@ -8,6 +8,7 @@ ghost use Rattle.kadm.specs.Values.{has_flag, value_of, values_of};
 
 use crate::assigning::settings_of;
 use crate::printing::{PrintCommand, print_of, with_prints};
+use crate::restoring::RESTORE_NAME;
 use crate::usage::{CommandFault, NO_COMMAND, required};
 use crate::values::{DB, NAME, has_flag, value_of, values_of};
 use crate::words::command_of;
@@ -115,9 +116,9 @@ fn target_of<'a>(alloc: Global, words: &'a [&'a str]) -> Result<Target<'a>, Comm
     })
 }
 
-/// Returns the mode of a file that the command changes.
+/// Returns the mode of a file that the command changes. A restore keeps it.
 fn mode_of(words: &[&str]) -> NewMode {
-    if has_flag(words, "--keep-mode") {
+    if has_flag(words, "--keep-mode") || command_of(words) == Some(RESTORE_NAME) {
         NewMode::Kept
     } else {
         NewMode::OwnerOnly
@@ -145,7 +146,7 @@ fn read_key_types(alloc: Global, words: &[&str]) -> Result<Option<Vec<Etype>>, A
 fn kind_of<'a>(command: &str, words: &'a [&'a str]) -> Result<CommandKind<'a>, CommandFault<'a>>
     ensures { command_of (texts words.now) ≡ Some command.now → IfOk result (λ kind. IsKindSpelled (texts words.now) kind) }
 {
-    match print_of(command, words) {
+    match print_of(command, words)? {
         Some(print) => Ok(CommandKind::Print(print)),
         None => Ok(CommandKind::Write(write_of(command, words)?)),
     }

@@ -42,6 +42,19 @@ pub(crate) fn print_lint<'p, T: Store, W: Write, E: Write>(
     ensures unchanged { T.world store.new ≡ T.world store.old }
 {
     let database = read_database(context, store, db)?;
+    print_findings_of(context, store, db, &database, lint.json)
+}
+
+/// Prints a line for each thing to check of a database that was read. Returns whether there is a line.
+pub(crate) fn print_findings_of<'p, T: Store, W: Write, E: Write>(
+    context: &mut Context<W, E>,
+    store: &mut T,
+    db: &'p str,
+    database: &Database,
+    json: bool,
+) -> Result<bool, Stop<'p>>
+    ensures unchanged { T.world store.new ≡ T.world store.old }
+{
     let rights = file_rights(store, db)?;
     let now = read_clock(store)?;
     let word = shell_word(context.alloc, db)?;
@@ -50,7 +63,7 @@ pub(crate) fn print_lint<'p, T: Store, W: Write, E: Write>(
         db: &word,
         now,
     };
-    print_findings(context, &place, rights, &database, lint.json)
+    print_findings(context, &place, rights, database, json)
 }
 
 fn print_findings<'p, W: Write, E: Write>(

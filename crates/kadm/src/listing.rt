@@ -5,13 +5,13 @@ use crate::json_lines::{behind_name, json_line};
 use crate::patterns::is_like;
 use file_store::Store;
 use kadm_changes::{Context, Stop, read_database};
-use krb_fields::{Name, Second};
+use krb_fields::Second;
 use principal_rows::{KeyList, Row};
-use principals::{ChangeFault, Database};
+use principals::Database;
 use std::alloc::{AllocError, Global};
 use std::io;
 use std::io::Write;
-use text_fields::{Setting, UtcDate};
+use text_fields::UtcDate;
 
 /// Which principals to list, and what to print of each.
 #[derive(Clone, Copy)]
@@ -20,12 +20,12 @@ pub(crate) struct ListArgs<'a> {
     pub like: Option<&'a str>,
     /// Whether a line has more columns.
     pub long: bool,
-    /// Whether a line is an object of JSON.
+    /// Whether a line is an object of JSON, which has all columns.
     pub json: bool,
 }
 
 /// Prints `NAME VERSION TYPES` for each principal whose name fits, in the order of the names' texts. A long line
-/// continues with `EXPIRES PASSWORD_EXPIRES DISABLED VERSIONS SERVICE`.
+/// continues with `EXPIRES PASSWORD_EXPIRES DISABLED VERSIONS SERVICE`. An object of JSON has all of a row but keys.
 pub(crate) fn print_list<'p, T: Store, W: Write, E: Write>(
     context: &mut Context<W, E>,
     store: &mut T,
@@ -89,7 +89,7 @@ fn line_of(
     list: ListArgs<'_>,
 ) -> Result<Vec<u8>, AllocError> {
     if list.json {
-        return json_line(alloc, name, row, list.long);
+        return json_line(alloc, name, row);
     }
     let current = row.versions.current();
     let types = types_of(alloc, &current.keys)?;
@@ -122,7 +122,7 @@ fn push_time(line: &mut String, time: Option<Second>) -> Result<(), AllocError> 
 }
 
 /// Returns the numbers of the keys' types, joined by commas.
-fn types_of(alloc: Global, keys: &KeyList) -> Result<String, AllocError> {
+pub(crate) fn types_of(alloc: Global, keys: &KeyList) -> Result<String, AllocError> {
     let mut types = String::new(alloc);
     for key in keys.keys() {
         if !types.is_empty() {
@@ -131,38 +131,4 @@ fn types_of(alloc: Global, keys: &KeyList) -> Result<String, AllocError> {
         write!(types, "{}", key.etype().number())?;
     }
     Ok(types)
-}
-
-/// Prints a principal's policy, with one field on each line as `policy` accepts it, and then `version NUMBER TYPES` for
-/// each version, the current one first.
-pub(crate) fn print_row<'p, T: Store, W: Write, E: Write>(
-    context: &mut Context<W, E>,
-    store: &mut T,
-    db: &'p str,
-    name: &str,
-) -> Result<(), Stop<'p>>
-    ensures unchanged { T.world store.new ≡ T.world store.old }
-{
-    let name = Name::from_text(context.alloc, name)?;
-    let database = read_database(context, store, db)?;
-    let Some(row) = database.get(&name) else {
-        return Err(Stop::from(ChangeFault::Absent));
-    };
-    print_policy(row, &mut context.out)?;
-    print_versions(context.alloc, row, &mut context.out)
-}
-
-fn print_policy<W: Write>(row: &Row, out: &mut W) -> io::Result<()> {
-    for setting in Setting::all(row.policy) {
-        writeln!(out, "{setting}")?;
-    }
-    Ok(())
-}
-
-fn print_versions<'p, W: Write>(alloc: Global, row: &Row, out: &mut W) -> Result<(), Stop<'p>> {
-    for version in row.versions.as_slice() {
-        let types = types_of(alloc, &version.keys)?;
-        writeln!(out, "version {} {types}", version.number)?;
-    }
-    Ok(())
 }

@@ -1,18 +1,22 @@
 //! The commands that only print: the row of each, its words and how it is run.
-ghost use Rattle.std.specs.Prelude.{◌≡◌, IfOk, IfSome, Some};
+ghost use Rattle.std.specs.Prelude.{◌≡◌, IfOk, IfSome, Some, codes};
 ghost use Rattle.kadm_changes.specs.Texts.{texts};
-ghost use Rattle.kadm.specs.Words.{IsPrintSpelled, command_of};
+ghost use Rattle.kadm.specs.Words.{IsPrintSpelled, command_of, shows_some};
 ghost use Rattle.kadm.specs.Ends.{IsPrinted};
 ghost use Rattle.kadm.specs.declared.printing.PrintCommand.TheVariants as prints;
 
+use crate::checking::print_check;
 use crate::linting::{LintArgs, print_lint};
-use crate::listing::{ListArgs, print_list, print_row};
-use crate::options::{DATABASE, NAME};
-use crate::values::{has_flag, value_of};
+use crate::listing::{ListArgs, print_list};
+use crate::options::DATABASE;
+use crate::showing::{ShowArgs, print_rows};
+use crate::usage::CommandFault;
+use crate::values::{NAME, has_flag, value_of};
+use crate::words::is_given;
 use clap::Command as Parser;
 use command_line::{FlagRow, OptionRow, Status, SubcommandRow, Times, with_subcommands};
 use file_store::Store;
-use kadm_changes::{Context, Stop};
+use kadm_changes::{Context, Stop, Target};
 use std::alloc::{AllocError, Global};
 use std::convert::AsStr;
 use std::io::Write;
@@ -33,8 +37,14 @@ const PRINTS: &[SubcommandRow] = &[
     },
     SubcommandRow {
         name: "show",
-        about: "Prints a principal's policy, and its key versions with their types",
-        options: &[DATABASE, NAME],
+        about: "Prints the policy of principals, and their key versions with their types",
+        options: &[DATABASE, SHOWN, LIKE],
+        flags: &[JSONS],
+    },
+    SubcommandRow {
+        name: "check",
+        about: "Prints the realm, the number of rows and the version of a database, and the lines of lint; refuses a file that is none",
+        options: &[DATABASE],
         flags: &[],
     },
 ];
@@ -53,8 +63,18 @@ const LONGS: FlagRow = FlagRow {
 
 const JSONS: FlagRow = FlagRow {
     name: "json",
-    help: "Prints each line as a JSON object, with the columns by their names",
+    help: "Prints each principal as a JSON object on a line: its policy and its key versions with their types",
 };
+
+const SHOWN: OptionRow = OptionRow {
+    name: "name",
+    shape: "NAME",
+    help: "A principal's name, without its realm; with more of them, each is shown, or none",
+    times: Times::Any,
+};
+
+/// What follows `error:` if `show` has no principal, or has names and a pattern.
+const NONE_SHOWN: &str = "show takes names, by --name or as plain words, or else --like";
 
 const CHECKS: FlagRow = FlagRow {
     name: "check",
@@ -78,35 +98,64 @@ pub(crate) enum PrintCommand<'a> {
     List(ListArgs<'a>),
     /// A line for each oddity of a principal.
     Lint(LintArgs),
-    Show { name: &'a str },
+    /// Whole rows.
+    Show(ShowArgs<'a>),
+    /// Whether a file is a database.
+    Check,
 }
 
 /// Returns what the command prints. `None` if it is a command that writes.
-pub(crate) fn print_of<'a>(command: &str, words: &'a [&'a str]) -> Option<PrintCommand<'a>>
-    ensures { command_of (texts words.now) ≡ Some command.now → IfSome result (λ print. IsPrintSpelled (texts words.now) print) }
+pub(crate) fn print_of<'a>(
+    command: &str,
+    words: &'a [&'a str],
+) -> Result<Option<PrintCommand<'a>>, CommandFault<'a>>
+    ensures { command_of (texts words.now) ≡ Some command.now
+        → IfOk result (λ found. IfSome found (λ print. IsPrintSpelled (texts words.now) print)) }
 {
     match command {
-        "list" => Some(PrintCommand::List(ListArgs {
+        "list" => Ok(Some(PrintCommand::List(ListArgs {
             like: value_of(words, "--like"),
             long: has_flag(words, "--long"),
             json: has_flag(words, "--json"),
-        })),
-        "lint" => Some(PrintCommand::Lint(LintArgs {
+        }))),
+        "lint" => Ok(Some(PrintCommand::Lint(LintArgs {
             check: has_flag(words, "--check"),
             json: has_flag(words, "--json"),
-        })),
-        "show" => Some(PrintCommand::Show {
-            name: value_of(words, "--name")?,
-        }),
-        _ => None,
+        }))),
+        "show" => Ok(Some(show_args(words)?)),
+        "check" => Ok(Some(PrintCommand::Check)),
+        _ => Ok(None),
     }
+}
+
+/// Returns which rows to show. Fails unless there are either names or a pattern.
+fn show_args<'a>(words: &'a [&'a str]) -> Result<PrintCommand<'a>, CommandFault<'a>>
+    ensures { command_of (texts words.now) ≡ Some (codes "show") → IfOk result (λ print. IsPrintSpelled (texts words.now) print) }
+{
+    if !shows_some(words) {
+        return Err(CommandFault::BadValue(NONE_SHOWN));
+    }
+    Ok(PrintCommand::Show(ShowArgs {
+        like: value_of(words, "--like"),
+        json: has_flag(words, "--json"),
+    }))
+}
+
+/// Checks whether the words have names or a pattern, and not both.
+fn shows_some(words: &[&str]) -> bool
+    ensures { result ≡ shows_some (texts words.now) }
+{
+    if is_given(words, NAME) {
+        return !is_given(words, "--like");
+    }
+    is_given(words, "--like")
 }
 
 /// Runs a command that only prints.
 pub(crate) fn run_print<'a, T: Store, W: Write, E: Write>(
     context: &mut Context<W, E>,
     store: &mut T,
-    db: &'a str,
+    target: &Target<'a>,
     print: PrintCommand<'a>,
 ) -> Result<Status, Stop<'a>>
     // Promise (printed, unchanged): `list`, `lint` and `show` leave all as it was; of these only `lint --check` ends
@@ -116,15 +165,19 @@ pub(crate) fn run_print<'a, T: Store, W: Write, E: Write>(
 {
     match print {
         PrintCommand::List(list) => {
-            print_list(context, store, db, list)?;
+            print_list(context, store, target.db, list)?;
             Ok(Status::Done)
         }
         PrintCommand::Lint(lint) => {
-            let found = print_lint(context, store, db, lint)?;
+            let found = print_lint(context, store, target.db, lint)?;
             Ok(lint_status(lint, found))
         }
-        PrintCommand::Show { name } => {
-            print_row(context, store, db, name)?;
+        PrintCommand::Show(show) => {
+            print_rows(context, store, target, show)?;
+            Ok(Status::Done)
+        }
+        PrintCommand::Check => {
+            print_check(context, store, target.db)?;
             Ok(Status::Done)
         }
     }

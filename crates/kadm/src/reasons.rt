@@ -25,6 +25,7 @@ pub(crate) fn reason_word(reason: Reason) -> &'static str {
         Reason::BadTime => "BadTime",
         Reason::Past => "Past",
         Reason::EndsRealm(_) | Reason::EndedRealm => "Protected",
+        Reason::OtherRealm => "OtherRealm",
         Reason::NoVersion => "Absent",
         Reason::IsDatabase => "IsDatabase",
         Reason::IsLock => "IsLock",
@@ -61,6 +62,9 @@ pub(crate) fn reason_text(reason: Reason) -> &'static str {
         Reason::EndedRealm => {
             "nobody could log in: krbtgt/REALM is disabled, expired or no service, or its tickets \
              last less than 300 seconds; `--whole-realm` takes it as it is"
+        }
+        Reason::OtherRealm => {
+            "it is a database of another realm than the one in place; move that one away first"
         }
         Reason::NoVersion => "it has no keys of this version",
         Reason::IsDatabase => "a lock is beside it, so it may be a database; name another file",

@@ -6,6 +6,7 @@ ghost use Rattle.kadm.specs.Words.{asks_help, with_db, with_names};
 
 use crate::commands::{Command, CommandKind, read_args, read_command};
 use crate::escaping::Escaping;
+use crate::hints::explain;
 use crate::outcome::Outcome;
 use crate::printing::run_print;
 use crate::reports::{report, report_unsynced};
@@ -49,7 +50,8 @@ pub(crate) fn kadm_run<T: Store, W: Write + Drop, E: Write + Drop>(
     // Promise: with `Refused` some lines of a batch may be done, if the words ask for a batch that keeps going.
     // Promise: with `Failed` all may be done, or what such a batch does, if only the printing or the sync of a folder
     // failed.
-    ensures ended { IsEnd (with_db (path_of line.entry.db) (with_names (map string_bytes line.entry.args.now))) (T.world store.old) result (T.world store.new) }
+    ensures ended { IsEnd (with_db (path_of line.entry.db) (with_names (map string_bytes line.entry.args.now))) (T.world store.old)
+        (T.input store.old) result (T.world store.new) }
     // Promise: without `--whole-realm` no command keeps out who could log in, whatever its status, a batch and an
     // import too.
     // Promise: without it, `krbtgt/R` is disabled, no service, expired at the clock's second or limited to tickets of
@@ -118,8 +120,8 @@ fn run_words<'a, T: Store, W: Write, E: Write>(
     store: &mut T,
     words: &'a [&'a str],
 ) -> Result<Status, Stop<'a>>
-    ensures done { IfOk result (λ status. IsEnd (texts words.entry.now) (T.world store.old) status (T.world store.new)) }
-    ensures stopped { IfErr result (λ stop. IsStopped (texts words.entry.now) (T.world store.old) stop (T.world store.new)) }
+    ensures done { IfOk result (λ status. IsEnd (texts words.entry.now) (T.world store.old) (T.input store.old) status (T.world store.new)) }
+    ensures stopped { IfErr result (λ stop. IsStopped (texts words.entry.now) (T.world store.old) (T.input store.old) stop (T.world store.new)) }
 {
     if asks(context, words)? {
         context.out.flush()?;
@@ -149,7 +151,11 @@ fn asks<'a, W: Write, E: Write>(
             write!(context.out, "{error}")?;
             Ok(true)
         }
-        Err(error) => Err(report_fault(&mut context.errors, error)),
+        Err(error) => {
+            let stop = report_fault(&mut context.errors, error);
+            explain(context.alloc, &mut context.errors, words, error);
+            Err(stop)
+        }
     }
 }
 
@@ -160,11 +166,11 @@ fn run_command<'a, T: Store, W: Write, E: Write>(
     store: &mut T,
     command: &Command<'a>,
 ) -> Result<Status, Stop<'a>>
-    ensures done { IfOk result (λ status. IsCommandEnd (T.world store.old) command.now status (T.world store.new)) }
-    ensures stopped { IfErr result (λ stop. IsCommandStopped (T.world store.old) command.now stop (T.world store.new)) }
+    ensures done { IfOk result (λ status. IsCommandEnd (T.world store.old) (T.input store.old) command.now status (T.world store.new)) }
+    ensures stopped { IfErr result (λ stop. IsCommandStopped (T.world store.old) (T.input store.old) command.now stop (T.world store.new)) }
 {
     match command.kind {
-        CommandKind::Print(print) => run_print(context, store, command.target.db, print),
+        CommandKind::Print(print) => run_print(context, store, &command.target, print),
         CommandKind::Write(write) => {
             let Outcome { whole, written } = write_files(context, store, &command.target, write)?;
             match written {

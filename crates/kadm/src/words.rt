@@ -3,7 +3,7 @@ ghost use Rattle.std.specs.Prelude.{◌≡◌, ◌++◌, [], IfOk, OnOk, bytes_e
 ghost use Rattle.std.specs.Prelude.{unwrap_or};
 ghost use Rattle.kadm_changes.specs.Texts.{path_of, texts};
 ghost use Rattle.kadm.specs.Values.{value_of};
-ghost use Rattle.kadm.specs.Words.{asks_help, batch_words, behind_command, behind_names, command_of, in_batch, is_name};
+ghost use Rattle.kadm.specs.Words.{asks_help, batch_words, behind_check, behind_command, behind_names, command_of, in_batch, is_name, with_file};
 ghost use Rattle.kadm.specs.Words.{is_option, is_value_next, lacks_db, named, spelled, takes_names, takes_text, takes_value, with_db, with_names};
 
 use crate::values::{DB, has_flag, value_of};
@@ -47,6 +47,34 @@ fn push_behind<'a>(
 {
     if takes_names(command) {
         return push_named(all, others);
+    }
+    push_checked(all, command, others)
+}
+
+/// Adds the words after a command that takes no names. A word alone after `check` is the file.
+fn push_checked<'a>(
+    all: &mut Vec<&'a str>,
+    command: &str,
+    others: &[&'a str],
+) -> Result<(), AllocError>
+    ensures { OnOk result (texts all.new.items ≡ texts all.old.items ++ behind_check command.now (texts others.now)) }
+{
+    if command == "check" {
+        return push_with_file(all, others);
+    }
+    all.extend_from_slice(others)?;
+    Ok(())
+}
+
+/// Adds the words after `check`, with `--db` before a file that is the first of them.
+fn push_with_file<'a>(all: &mut Vec<&'a str>, others: &[&'a str]) -> Result<(), AllocError>
+    ensures { OnOk result (texts all.new.items ≡ texts all.old.items ++ with_file (texts others.now)) }
+{
+    let [word, ..] = others else {
+        return Ok(());
+    };
+    if !is_option(word) {
+        all.push(DB)?;
     }
     all.extend_from_slice(others)?;
     Ok(())
@@ -134,7 +162,11 @@ fn takes_value(word: &str) -> bool
 fn takes_text(word: &str) -> bool
     ensures { result ≡ takes_text word.now }
 {
-    word == "--password-file" || word == "--set" || word == "--field" || word == "--value"
+    word == "--password-file"
+        || word == "--set"
+        || word == "--field"
+        || word == "--value"
+        || word == "--like"
 }
 
 /// Returns the words with this database after the command, if they name none.

@@ -9,6 +9,7 @@ use crate::changing::{CHANGES, change_of};
 use crate::commands::Command;
 use crate::options::{DATABASE, KEEPS_MODE, NAME};
 use crate::outcome::Outcome;
+use crate::restoring::{RESTORE, restore_args};
 use crate::usage::{CommandFault, NO_COMMAND, required};
 use crate::values::{DB, has_flag, value_of};
 use clap::Command as Parser;
@@ -16,7 +17,7 @@ use command_line::{FlagRow, OptionRow, Status, SubcommandRow, Times, with_subcom
 use file_store::Store;
 use kadm_changes::{
     Context, DumpArgs, InitArgs, KeytabArgs, Stop, Target, Update, import_dump, make_realm,
-    make_update, write_keytab,
+    make_update, restore, write_keytab,
 };
 use std::alloc::{AllocError, Global};
 use std::convert::AsStr;
@@ -44,6 +45,7 @@ const LATER_CHANGES: &[SubcommandRow] = &[
         options: &[DATABASE, NAME, OUT],
         flags: &[APPENDS, KEEPS_MODE],
     },
+    RESTORE,
 ];
 
 const REALM: OptionRow = OptionRow {
@@ -108,6 +110,8 @@ pub(crate) enum WriteCommand<'a> {
     Keytab(KeytabArgs<'a>),
     /// Makes the database of a realm from the dump of MIT's database.
     Dump(DumpArgs<'a>),
+    /// Puts a database from another file in place.
+    Restore { from: &'a str },
 }
 
 /// Returns what to write.
@@ -126,6 +130,7 @@ pub(crate) fn write_of<'a>(
             users_are_no_services: has_flag(words, "--users-are-no-services"),
         })),
         "keytab" => keytab_args(words),
+        "restore" => restore_args(words),
         _ => Err(CommandFault::BadValue(NO_COMMAND)),
     }
 }
@@ -171,7 +176,7 @@ pub(crate) fn write_files<'a, T: Store, W: Write, E: Write>(
     target: &Target<'a>,
     write: WriteCommand<'a>,
 ) -> Result<Outcome, Stop<'a>>
-    ensures done { IfOk result (λ end. IsWriteDone (T.world store.old) target.now write.entry end.whole (T.world store.new)) }
+    ensures done { IfOk result (λ end. IsWriteDone (T.world store.old) (T.input store.old) target.now write.entry end.whole (T.world store.new)) }
     // Promise, as make_update of kadm_changes: a command that ends ..
     ensures unchanged { OnErr result (T.world store.new ≡ T.world store.old) }
 {
@@ -191,6 +196,10 @@ pub(crate) fn write_files<'a, T: Store, W: Write, E: Write>(
         }
         WriteCommand::Dump(from) => {
             let written = import_dump(context, store, target, from)?;
+            Ok(Outcome::whole(written))
+        }
+        WriteCommand::Restore { from } => {
+            let written = restore(context, store, target, from)?;
             Ok(Outcome::whole(written))
         }
     }

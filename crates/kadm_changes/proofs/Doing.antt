@@ -4,6 +4,7 @@ use Rattle.std.proofs.Common.{Err, OnOk, IfSome, MatchResult, flat_map, take, dr
 use Rattle.std.proofs.Common.{refl, inl, inr}
 use Rattle.std.specs.Prelude.{⊤}
 use Rattle.enctypes.specs.declared.etype.Etype.{Etype}
+use Rattle.file_store.specs.Input.{Input}
 use Rattle.file_store.specs.World.{World, with_file}
 use Rattle.cred_files.specs.Keytab.{part_text}
 use Rattle.krb_fields.specs.Name.{Components}
@@ -47,10 +48,10 @@ imports_by (Err fault) p new who versions made refused = tt
 -- ---- changes of a database that was read
 
 -- the change of a row, whose password was read before
-pub row_updated : (before changing : Option World) (whole : Bool) (target : Target) (given : List Etype) (to : RowArgs) (who : Components) (pass octets : List ℕ) (p q : Principals)
-    → changing ≡ before → given ≡ target.etypes.items → octets ≡ pass → IsNameText who to.name.now → IsSecretOf before to.how pass
-    → IsRowKept changing whole given (all_asked target.settings.items) octets to.how who p q → IsRowUpdated before whole target to p q
-row_updated before changing whole target given to who pass octets p q kept types taken spelled secret change = record {
+pub row_updated : (before changing : Option World) (input : Option Input) (whole : Bool) (target : Target) (given : List Etype) (to : RowArgs) (who : Components) (pass octets : List ℕ) (p q : Principals)
+    → changing ≡ before → given ≡ target.etypes.items → octets ≡ pass → IsNameText who to.name.now → IsSecretOf before input to.how pass
+    → IsRowKept changing whole given (all_asked target.settings.items) octets to.how who p q → IsRowUpdated before input whole target to p q
+row_updated before changing input whole target given to who pass octets p q kept types taken spelled secret change = record {
   who = who;
   spelled = spelled;
   pass = pass;

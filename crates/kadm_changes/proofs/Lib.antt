@@ -3,5 +3,7 @@ mod Making
 mod Moved
 mod Older
 mod Paths
+mod PutBack
 mod Realms
+mod Typing
 mod Users

@@ -1,6 +1,6 @@
 -- The effect of the commands on a database.
-use Rattle.std.specs.Prelude.{◌≡◌, ◌⊎◌, ◌+◌, ◌≤ℤ◌, ◌<ℤ◌, ℕ, ℤ, pos, Bool, List, map, take, drop, Option, Some, None, is_some}
-use Rattle.std.specs.Prelude.{⊤, if◌then◌else◌}
+use Rattle.std.specs.Prelude.{◌≡◌, ◌⊎◌, ℕ, ℤ, Bool, true, List, map, take, drop, Option, Some, None, is_some}
+use Rattle.std.specs.Prelude.{if◌then◌else◌}
 use Rattle.std.specs.FinMap.{get, insert}
 use Rattle.enctypes.specs.Key.{ProtocolKey}
 use Rattle.file_store.specs.World.{World, IsNow}
@@ -76,20 +76,11 @@ abbrev pub password_expiry : Option Row → Option ℤ
 password_expiry None = None
 password_expiry (Some row) = row.policy.password_expires
 
--- at the clock's moment the password has expired, or has not
-abbrev pub IsPast : Option World → Option ℤ → Type 0
-IsPast world None = ⊥
-IsPast world (Some expires) = (now : ℕ) × IsNow world now × (expires ≤ℤ pos now)
-
-abbrev pub IsLasting : Option World → Option ℤ → Type 0
-IsLasting world None = ⊤
-IsLasting world (Some expires) = (now : ℕ) × IsNow world now × (pos now <ℤ expires)
-
--- a password's expiry that is past is cleared, and any other is unchanged
-abbrev pub IsCleared : Option World → Components → Principals → Principals → Type 0
-IsCleared world who p new =
-    (IsLasting world (password_expiry (get p.rows who)) × (new ≡ p))
-    ⊎ ((row : Row) × (get p.rows who ≡ Some row) × IsPast world row.policy.password_expires
+-- a password's expiry is cleared, if it has one
+abbrev pub IsCleared : Components → Principals → Principals → Type 0
+IsCleared who p new =
+    ((password_expiry (get p.rows who) ≡ None) × (new ≡ p))
+    ⊎ ((row : Row) × (get p.rows who ≡ Some row) × (is_some row.policy.password_expires ≡ true)
     × Makes p who (row_changes.SetPolicy (record row.policy { password_expires = None })) new)
 
 -- a field with its value; if a time is given as a time span, it counts from the clock's moment

@@ -8,6 +8,7 @@ pub mod Importing
 pub mod Keytabs
 pub mod Owners
 pub mod Realm
+pub mod Restoring
 pub mod Stops
 pub mod Updates
 pub mod Texts

@@ -1,6 +1,7 @@
 -- The effect of the commands that change a database.
 use Rattle.std.specs.Prelude.{◌≡◌, ℕ, Bool, List, ◌∷◌, map, Option, Some, None, ⊤}
 use Rattle.enctypes.specs.declared.etype.Etype.{Etype}
+use Rattle.file_store.specs.Input.{Input, IsTyped}
 use Rattle.file_store.specs.World.{World, HasFirstLine, HasSeed}
 use Rattle.krb_fields.specs.Name.{Components}
 use Rattle.krb_fields.specs.NameText.{IsNameText}
@@ -26,22 +27,22 @@ use Rattle.kadm_changes.specs.declared.updates.Update.TheVariants as updates
 
 -- ---- one row
 
--- a password is the first line of its file, if one is named
-abbrev pub IsPasswordOf : Option World → Option Text → List ℕ → Type 0
-IsPasswordOf world (Some path) pass = HasFirstLine world path pass
-IsPasswordOf world None pass = ⊤
+-- a password is the first line of its file, if one is named, and else what is typed next
+abbrev pub IsPasswordOf : Option World → Option Input → Option Text → List ℕ → Type 0
+IsPasswordOf world input (Some path) pass = HasFirstLine world path pass
+IsPasswordOf world input None pass = IsTyped input pass
 
 -- the password that a change of a row takes, if it takes one
-abbrev pub IsSecretOf : Option World → RowUpdate → List ℕ → Type 0
-IsSecretOf world (rows.Password to) pass = IsPasswordOf world (path_of to.password.file) pass
-IsSecretOf world (rows.Random to) pass = ⊤
-IsSecretOf world (rows.Import keytab) pass = ⊤
+abbrev pub IsSecretOf : Option World → Option Input → RowUpdate → List ℕ → Type 0
+IsSecretOf world input (rows.Password to) pass = IsPasswordOf world input (path_of to.password.file) pass
+IsSecretOf world input (rows.Random to) pass = ⊤
+IsSecretOf world input (rows.Import keytab) pass = ⊤
 
--- the keys of a password, and a password's expiry that is past is cleared
+-- the keys of a password, and the expiry of the old one is cleared
 abbrev pub GivesPassword : Option World → List Etype → List ℕ → Grant → Components → Principals → Principals → Type 0
 GivesPassword world etypes pass grant who p new =
     (given : Principals) × IsGranted grant who (map (password_key pass (default_salt p.realm who)) etypes) p given
-    × IsCleared world who given new
+    × IsCleared who given new
 
 -- keys drawn from a seed: of a file, if one is named, or else of the system
 abbrev pub GivesRandom : Option World → List Etype → Option Text → Grant → Components → Principals → Principals → Type 0
@@ -70,11 +71,11 @@ IsRowKept world whole etypes settings pass how who p new =
     × KeepsRealm whole world (tgs_policy p) (tgs_policy new)
 
 -- the row of the principal that a text names is changed
-pub record IsRowUpdated (world : Option World) (whole : Bool) (target : Target) (to : RowArgs) (p : Principals) (new : Principals) : Type 0 where
+pub record IsRowUpdated (world : Option World) (input : Option Input) (whole : Bool) (target : Target) (to : RowArgs) (p : Principals) (new : Principals) : Type 0 where
   pub who : Components
   pub spelled : IsNameText who to.name.now
   pub pass : List ℕ
-  pub secret : IsSecretOf world to.how pass
+  pub secret : IsSecretOf world input to.how pass
   pub changed : IsRowKept world whole target.etypes.items (all_asked target.settings.items) pass to.how who p new
 
 -- the principals that are named are changed, and krbtgt/REALM stays as open as it was
@@ -87,7 +88,7 @@ abbrev pub IsMigrated : Option World → Bool → Bool → Principals → Princi
 IsMigrated world whole users_are_no_services p new =
     (new ≡ migrated_rows users_are_no_services p) × KeepsRealm whole world (tgs_policy p) (tgs_policy new)
 
-abbrev pub IsUpdated : Option World → Bool → Target → Update → Principals → Principals → Type 0
-IsUpdated world whole target (updates.Row to) p new = IsRowUpdated world whole target to p new
-IsUpdated world whole target (updates.Changes how) p new = AreKept world whole target how p new
-IsUpdated world whole target (updates.Migrate users_are_no_services) p new = IsMigrated world whole users_are_no_services p new
+abbrev pub IsUpdated : Option World → Option Input → Bool → Target → Update → Principals → Principals → Type 0
+IsUpdated world input whole target (updates.Row to) p new = IsRowUpdated world input whole target to p new
+IsUpdated world input whole target (updates.Changes how) p new = AreKept world whole target how p new
+IsUpdated world input whole target (updates.Migrate users_are_no_services) p new = IsMigrated world whole users_are_no_services p new

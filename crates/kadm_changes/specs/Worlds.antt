@@ -9,6 +9,7 @@ use Rattle.principal_rows.specs.Policy.{default_policy}
 use Rattle.principals.specs.Database.{Principals, first_database}
 use Rattle.principals_text.specs.Value.{text_database}
 use Rattle.principals_text.specs.Written.{database_value}
+use Rattle.file_store.specs.Input.{Input}
 use Rattle.file_store.specs.World.{World, with_file, HasSeed, IsRead, IsThere}
 use Rattle.kadm_changes.specs.Dumps.{HasRealm}
 use Rattle.kadm_changes.specs.Keytabs.{IsFreePath, IsKeytabFor}
@@ -56,9 +57,9 @@ pub record Rewritten (before : Option World) (db : List ℕ) (makes : Principals
   pub read_back : IsReadBack new
   pub written : after ≡ with_database db new before
 
-abbrev pub Updated : Option World → Target → Update → Option World → Type 0
-Updated before target update after =
-    Rewritten before target.db.now (IsUpdated before target.whole_realm target update) after
+abbrev pub Updated : Option World → Option Input → Target → Update → Option World → Type 0
+Updated before input target update after =
+    Rewritten before target.db.now (IsUpdated before input target.whole_realm target update) after
 
 -- a keytab of a principal's current keys is written, at a path without a database or a lock, and no other file
 pub record WroteKeytab (before : Option World) (db : List ℕ) (to : KeytabArgs) (after : Option World) : Type 0 where

@@ -86,6 +86,7 @@ pub fn read_database<'p, T: Store, W: Write, E: Write>(
     ensures read { IfOk result (λ database. HoldsDatabase (T.world store.old) db.now database) }
     // Promise, as lock_database: what a command reads, ..
     ensures unchanged { T.world store.new ≡ T.world store.old }
+    ensures kept { T.input store.new ≡ T.input store.old }
 {
     let octets = read_at_most(context.alloc, store, db, LONGEST_TEXT)?;
     match read_bytes(context.alloc, &octets) {

@@ -14,13 +14,12 @@ use crate::denying::deny_service;
 use crate::draft::Draft;
 use crate::stop::Stop;
 use enctypes::Etype;
-use file_store::{Store, read_clock, read_or_draw_seed};
+use file_store::{Store, read_or_draw_seed};
 use krb_fields::{Name, Second};
 use principal_keys::{password_keys, random_keys};
 use principal_rows::{KeyList, KeyVersion, Policy};
 use principals::{ChangeFault, Database, RowChange};
 use std::alloc::{AllocError, Global};
-use text_fields::is_past;
 
 /// The principal that gets keys.
 #[derive(Clone, Copy, PartialEq, Eq)]
@@ -96,7 +95,7 @@ pub(crate) fn give_password<'p, T: Store>(
 {
     let keys = keys_of(draft, to)?;
     give(draft, to.who, keys, grant)?;
-    clear_expiry(store, draft, to.who)
+    Ok(clear_expiry(draft, to.who)?)
 }
 
 /// Gives a principal random keys.
@@ -213,22 +212,18 @@ fn numbers_of(alloc: Global, versions: &[KeyVersion]) -> Result<Vec<u32>, AllocE
     Ok(numbers)
 }
 
-/// Clears a `password_expires` that is past.
-fn clear_expiry<'p, T: Store>(store: &mut T, draft: &mut Draft, who: &Name) -> Result<(), Stop<'p>>
-    ensures cleared { OnOk result (IsCleared (T.world store.old) who.now.components draft.old.database draft.new.database) }
-    ensures unchanged { T.world store.new ≡ T.world store.old }
+/// Clears `password_expires`: it is that of the old password.
+fn clear_expiry(draft: &mut Draft, who: &Name) -> Result<(), ChangeFault>
+    ensures { OnOk result (IsCleared who.now.components draft.old.database draft.new.database) }
 {
-    let Some((policy, expires)) = expiring(&draft.database, who) else {
+    let Some((policy, _)) = expiring(&draft.database, who) else {
         return Ok(());
     };
-    if !is_past(expires, read_clock(store)?) {
-        return Ok(());
-    }
     let policy = Policy {
         password_expires: None,
         ..policy
     };
-    Ok(apply(draft, who, RowChange::SetPolicy(policy))?)
+    apply(draft, who, RowChange::SetPolicy(policy))
 }
 
 /// Returns the policy of a principal whose password expires, and when it does.

@@ -1,15 +1,42 @@
 //! What an administrator may not expect of a change that was made.
 
+use krb_fields::Second;
 use std::io;
 use std::io::Write;
+use text_fields::UtcDate;
+
+/// What is said of a principal with a password for which there are tickets.
+const GUESSABLE: &str = "it is a service: anyone can try passwords on its tickets";
+
+/// When an old password expired, or would have.
+#[derive(Clone, Copy)]
+pub struct OldExpiry {
+    /// The time in its `password_expires`.
+    pub at: Second,
+    /// Whether that was past.
+    pub is_past: bool,
+}
+
+impl OldExpiry {
+    fn write<W: Write>(self, out: &mut W) -> io::Result<()> {
+        if self.is_past {
+            return write!(out, "password_expires was past; it is now never");
+        }
+        write!(
+            out,
+            "password_expires was {}; it is now never",
+            UtcDate(self.at)
+        )
+    }
+}
 
 /// What an administrator may not expect of a change.
 #[derive(Clone, Copy)]
 pub enum Note {
     /// A principal has the keys of a new password.
     Password {
-        /// Whether its `password_expires` was past, and is now never.
-        cleared: bool,
+        /// Its old `password_expires`, if that is now never.
+        cleared: Option<OldExpiry>,
         /// Whether there are tickets for it, on which anyone can try passwords.
         guessable: bool,
     },
@@ -33,18 +60,7 @@ impl Note {
         match self {
             Note::Password { cleared, guessable } => {
                 write!(out, "{name}: ")?;
-                if cleared {
-                    write!(out, "password_expires was past; it is now never")?;
-                }
-                if cleared && guessable {
-                    write!(out, "; ")?;
-                }
-                if guessable {
-                    write!(
-                        out,
-                        "it is a service: anyone can try passwords on its tickets"
-                    )?;
-                }
+                write_password(out, cleared, guessable)?;
                 writeln!(out)
             }
             Note::Added { is_user: true } => {
@@ -64,5 +80,22 @@ impl Note {
                 "{name}: has new keys, version {version}; older versions stay"
             ),
         }
+    }
+}
+
+/// Writes what a new password has done.
+fn write_password<W: Write>(
+    out: &mut W,
+    cleared: Option<OldExpiry>,
+    guessable: bool,
+) -> io::Result<()> {
+    match (cleared, guessable) {
+        (Some(old), false) => old.write(out),
+        (Some(old), true) => {
+            old.write(out)?;
+            write!(out, "; {GUESSABLE}")
+        }
+        (None, true) => write!(out, "{GUESSABLE}"),
+        (None, false) => Ok(()),
     }
 }

@@ -3,6 +3,7 @@ ghost use Rattle.std.specs.Prelude.{◌≡◌, IfOk, IfSome};
 ghost use Rattle.kadm_changes.specs.Found.{HasPassword, IsFound, IsFoundIn, IsFoundLine};
 ghost use Rattle.kadm_changes.specs.Updates.{IsPasswordOf, IsSecretOf};
 ghost use Rattle.kadm_changes.specs.Texts.{path_of};
+ghost use Rattle.file_store.specs.Input.{IsTyped, TakesLine, no_input};
 ghost use Rattle.file_store.specs.World.{HasFirstLine};
 
 use crate::context::Context;
@@ -131,7 +132,7 @@ pub(crate) fn new_password<'p, T: Store, W: Write, E: Write>(
     row: &RowArgs<'p>,
 ) -> Result<Vec<u8>, Stop<'p>>
     // Promise: the password is the first line of its file, if one is named.
-    ensures given { IfOk result (λ pass. IsSecretOf (T.world store.old) row.now.how pass.items) }
+    ensures given { IfOk result (λ pass. IsSecretOf (T.world store.old) (T.input store.old) row.now.how pass.items) }
     // Promise, as lock_database: what a command reads, ..
     ensures unchanged { T.world store.new ≡ T.world store.old }
 {
@@ -170,7 +171,7 @@ fn any_password<'p, T: Store, W: Write, E: Write>(
     asked: Asked<'p>,
     args: PasswordArgs<'p>,
 ) -> Result<Vec<u8>, Stop<'p>>
-    ensures given { IfOk result (λ pass. IsPasswordOf (T.world store.old) (path_of args.entry.file) pass.items) }
+    ensures given { IfOk result (λ pass. IsPasswordOf (T.world store.old) (T.input store.old) (path_of args.entry.file) pass.items) }
     ensures unchanged { T.world store.new ≡ T.world store.old }
 {
     let pass = match args.file {
@@ -190,7 +191,7 @@ pub(crate) fn batch_password<'p, T: Store>(
 ) -> Result<Vec<u8>, Stop<'p>>
     requires found { IsFoundIn (T.world store.old) found }
     // Promise, as new_password: the password is the ..
-    ensures given { IfOk result (λ pass. IsSecretOf (T.world store.old) how.now pass.items) }
+    ensures given { IfOk result (λ pass. IsSecretOf (T.world store.old) no_input how.now pass.items) }
     // Promise, as lock_database: what a command reads, ..
     ensures unchanged { T.world store.new ≡ T.world store.old }
 {
@@ -209,7 +210,7 @@ fn file_password<'p, T: Store>(
     found: Option<&FoundPassword>,
 ) -> Result<Vec<u8>, Stop<'p>>
     requires found { IsFoundIn (T.world store.old) found }
-    ensures given { IfOk result (λ pass. IsPasswordOf (T.world store.old) (path_of args.entry.file) pass.items) }
+    ensures given { IfOk result (λ pass. IsPasswordOf (T.world store.old) no_input (path_of args.entry.file) pass.items) }
     ensures unchanged { T.world store.new ≡ T.world store.old }
 {
     let Some(path) = args.file else {
@@ -293,6 +294,7 @@ fn asked_password<'p, T: Store, W: Write, E: Write>(
     store: &mut T,
     asked: Asked<'p>,
 ) -> Result<Vec<u8>, Stop<'p>>
+    ensures typed { IfOk result (λ pass. IsTyped (T.input store.old) pass.items) }
     ensures unchanged { T.world store.new ≡ T.world store.old }
 {
     let database = read_database(context, store, asked.db)?;
@@ -300,28 +302,18 @@ fn asked_password<'p, T: Store, W: Write, E: Write>(
         return Err(Stop::refused(Part::Name, Reason::EndsRealm(RealmEnd::Guessable)));
     }
     let realm = component_to_text(context.alloc, database.realm())?;
-    if store.is_terminal() {
-        warn_of_echo(&mut context.errors);
-    }
     ask_twice(context.alloc, store, asked.name, &realm)
 }
 
-/// Warns that the terminal shows the password, and says how to hide it. Ignores a failed write.
-fn warn_of_echo<E: Write>(errors: &mut E) {
-    let _ = writeln!(
-        errors,
-        "kadm: the password shows as you type it; run `stty -echo` first to hide it"
-    );
-    let _ = errors.flush();
-}
-
 /// Asks twice at a terminal. Both answers have to be the same.
+#[tactic(auto, using(crate::proofs::Typing::typed_once, crate::proofs::Typing::typed_twice))]
 fn ask_twice<T: Store>(
     alloc: Global,
     store: &mut T,
     name: &str,
     realm: &str,
 ) -> Result<Vec<u8>, Stop<'static>>
+    ensures typed { IfOk result (λ pass. IsTyped (T.input store.old) pass.items) }
     ensures unchanged { T.world store.new ≡ T.world store.old }
 {
     let pass = ask_once(alloc, store, name, realm)?;
@@ -342,6 +334,7 @@ fn ask_once<T: Store>(
     name: &str,
     realm: &str,
 ) -> Result<Vec<u8>, Stop<'static>>
+    ensures line { IfOk result (λ pass. TakesLine (T.input store.old) pass.items (T.input store.new)) }
     ensures unchanged { T.world store.new ≡ T.world store.old }
 {
     match ask_password(alloc, store, name, realm)? {

@@ -84,8 +84,10 @@ pub enum Reason {
     Past,
     /// Nobody in the realm could log in, or anyone could guess the password of the ticket-granting service.
     EndsRealm(RealmEnd),
-    /// Nobody could log in to the realm of a dump.
+    /// Nobody could log in to the realm of a dump, or of a database to restore.
     EndedRealm,
+    /// A database to restore is of another realm than the one that it replaces.
+    OtherRealm,
     /// The principal has no such version.
     NoVersion,
     /// A keytab would replace a database.

@@ -1,5 +1,6 @@
 //! The commands that change a database. Each reads it once and writes it once.
 ghost use Rattle.std.specs.Prelude.{◌≡◌, OnOk, OnErr};
+ghost use Rattle.file_store.specs.Input.{no_input};
 ghost use Rattle.kadm_changes.specs.Asking.{all_asked};
 ghost use Rattle.kadm_changes.specs.Found.{IsFoundIn};
 ghost use Rattle.kadm_changes.specs.Realm.{KeepsRealm, MayHaveKeys, tgs_policy};
@@ -13,16 +14,18 @@ use crate::denying::is_user;
 use crate::draft::Draft;
 use crate::granting::{Grant, RandomGrant, Recipient, expiring, give_password, give_random};
 use crate::importing::import;
-use crate::note::Note;
+use crate::note::{Note, OldExpiry};
 use crate::passwords::{FoundPassword, PasswordGrant, batch_password, new_password};
 use crate::realm::{check_password, check_realm, report_realm, tgs_policy};
+use crate::set_times::report_times;
 use crate::stop::Stop;
 use crate::target::Target;
-use file_store::{Store, Written};
+use file_store::{Store, Written, read_clock};
 use krb_fields::Name;
 use principals::Database;
 use std::alloc::Global;
 use std::io::Write;
+use text_fields::is_past;
 
 /// How a database is changed.
 #[derive(Clone, Copy)]
@@ -68,7 +71,7 @@ pub fn make_update<'p, T: Store, W: Write, E: Write>(
     // Promise, as kadm_run of kadm: without it, `krbtgt/R` is ..
     // Promise: without `--whole-realm` `krbtgt/R` gets no keys of a password.
     ensures done { OnOk result
-        (Updated (T.world store.old) target.now update.entry (T.world store.new)) }
+        (Updated (T.world store.old) (T.input store.old) target.now update.entry (T.world store.new)) }
     // Promise: a command that ends early leaves every path as it was.
     ensures unchanged { OnErr result (T.world store.new ≡ T.world store.old) }
 {
@@ -89,7 +92,7 @@ fn update_row<'p, T: Store, W: Write, E: Write>(
     to: &RowArgs<'p>,
 ) -> Result<Written, Stop<'p>>
     ensures done { OnOk result (Rewritten (T.world store.old) target.now.db.now
-        (IsRowUpdated (T.world store.old) target.now.whole_realm target.now to.now) (T.world store.new)) }
+        (IsRowUpdated (T.world store.old) (T.input store.old) target.now.whole_realm target.now to.now) (T.world store.new)) }
     // Promise, as make_update: a command that ends ..
     ensures unchanged { OnErr result (T.world store.new ≡ T.world store.old) }
 {
@@ -99,7 +102,7 @@ fn update_row<'p, T: Store, W: Write, E: Write>(
     let locked = lock_database(context, store, target)?;
     let database = read_database(context, store, target.db)?;
     let mut draft = Draft { alloc, database };
-    let expired = expiring(&draft.database, &who).is_some();
+    let expired = old_expiry(store, &draft.database, &who);
     let recipient = Recipient {
         who: &who,
         etypes: &target.etypes,
@@ -152,6 +155,7 @@ fn update_rows<'p, T: Store, W: Write, E: Write>(
     if target.whole_realm {
         report_realm(alloc, &mut context.errors, &draft.database);
     }
+    report_times(alloc, &mut context.errors, &draft.database, target);
     Ok(written)
 }
 
@@ -190,7 +194,7 @@ pub fn update_in_batch<'p, T: Store>(
     // Promise, as kadm_run of kadm: without `--whole-realm` no command ..
     // Promise, as kadm_run of kadm: without it, `krbtgt/R` is ..
     // Promise, as make_update: without `--whole-realm` `krbtgt/R` gets ..
-    ensures done { OnOk result (IsUpdated (T.world store.old) whole target.now update.entry draft.old.database draft.new.database) }
+    ensures done { OnOk result (IsUpdated (T.world store.old) no_input whole target.now update.entry draft.old.database draft.new.database) }
     // Promise, as lock_database: what a command reads, ..
     ensures unchanged { T.world store.new ≡ T.world store.old }
 {
@@ -219,12 +223,12 @@ fn row_in_batch<'p, T: Store>(
     found: Option<&FoundPassword>,
 ) -> Result<Option<Note>, Stop<'p>>
     requires found { IsFoundIn (T.world store.old) found }
-    ensures done { OnOk result (IsRowUpdated (T.world store.old) whole target.now to.now draft.old.database draft.new.database) }
+    ensures done { OnOk result (IsRowUpdated (T.world store.old) no_input whole target.now to.now draft.old.database draft.new.database) }
     ensures unchanged { T.world store.new ≡ T.world store.old }
 {
     let who = Name::from_text(draft.alloc, to.name)?;
     let pass = batch_password(draft.alloc, store, &to.how, found)?;
-    let expired = expiring(&draft.database, &who).is_some();
+    let expired = old_expiry(store, &draft.database, &who);
     let recipient = Recipient {
         who: &who,
         etypes: &target.etypes,
@@ -335,9 +339,27 @@ fn give_row<'p, T: Store>(
     }
 }
 
-/// Returns what an administrator may not expect of a change of a row. `expired` says whether the password had a time at
-/// which it expires and that was past.
-fn note_of(to: &RowArgs<'_>, who: &Name, database: &Database, expired: bool) -> Option<Note> {
+/// Returns when the password of a principal expires, if it does. If the clock fails, that is not past.
+fn old_expiry<T: Store>(store: &mut T, database: &Database, who: &Name) -> Option<OldExpiry>
+    ensures unchanged { T.world store.new ≡ T.world store.old }
+{
+    let Some((_, at)) = expiring(database, who) else {
+        return None;
+    };
+    let is_past = match read_clock(store) {
+        Ok(now) => is_past(at, now),
+        Err(_) => false,
+    };
+    Some(OldExpiry { at, is_past })
+}
+
+/// Returns what an administrator may not expect of a change of a row. `expired` is when the old password expires.
+fn note_of(
+    to: &RowArgs<'_>,
+    who: &Name,
+    database: &Database,
+    expired: Option<OldExpiry>,
+) -> Option<Note> {
     match &to.how {
         RowUpdate::Password(_) => password_note(who, database, expired),
         RowUpdate::Random(random) => random_note(random.grant, who, database),
@@ -346,10 +368,13 @@ fn note_of(to: &RowArgs<'_>, who: &Name, database: &Database, expired: bool) -> 
 }
 
 /// Returns what is to be said of a principal that got the keys of a password.
-fn password_note(who: &Name, database: &Database, expired: bool) -> Option<Note> {
-    let cleared = expired && expiring(database, who).is_none();
+fn password_note(who: &Name, database: &Database, expired: Option<OldExpiry>) -> Option<Note> {
+    let cleared = match expiring(database, who) {
+        Some(_) => None,
+        None => expired,
+    };
     let guessable = database.get(who)?.policy.service;
-    if !cleared && !guessable {
+    if cleared.is_none() && !guessable {
         return None;
     }
     Some(Note::Password { cleared, guessable })

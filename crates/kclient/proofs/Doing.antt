@@ -1,7 +1,7 @@
 -- The effect of a command, from the effects of its calls.
 use Rattle.std.proofs.Common.{◌≡◌, ◌∙◌, ℕ, ℤ, List, [], ◌∷◌, ◌++◌, Option, Result, Ok, Err, OnOk, option_map}
-use Rattle.std.proofs.Common.{ap, refl, sym, inl, inr}
-use Rattle.std.specs.Prelude.{◌⊎◌, IfOk, OnErr}
+use Rattle.std.proofs.Common.{ap, refl, subst, sym, inl, inr}
+use Rattle.std.specs.Prelude.{◌⊎◌, IfErr, IfOk, OnErr}
 use Rattle.std.specs.String.{string_bytes}
 use Rattle.std.specs.declared.net.socket_addr.SocketAddr.{SocketAddr}
 use Rattle.std.proofs.lemmas.List.Elements.{All-append, All-cons, All-nil}
@@ -16,8 +16,18 @@ use Rattle.client_login.specs.declared.faults.LoginFault.{LoginFault}
 use Rattle.client_login.specs.declared.kdc_places.KdcPlace.{KdcPlace}
 use Rattle.client_login.specs.declared.secrets.Secret.{Secret}
 use Rattle.kclient.specs.CacheSessions.{Collected}
-use Rattle.kclient.specs.Worlds.{Added, CameFirst, CameFurther, CommandLeaves, Filled, Made, Removed, with_tickets}
+use Rattle.client_login.specs.declared.ticket_requests.Renewal.{Renewal}
+use Rattle.command_line.specs.declared.status.Status.{Status}
+use Rattle.command_line.specs.declared.status.Status.TheVariants.{Done, Refused, Usage, Failed}
+use Rattle.client_files.specs.declared.host.Host.{Host}
+use Rattle.kclient.specs.Ends.{IsCommandEnd, IsKindDone, IsKindTried, IsTried}
+use Rattle.kclient.specs.Words.{IsCacheOf}
+use Rattle.kclient.specs.Worlds.{Added, CameFirst, CameFurther, Filled, Made, Removed, Served, with_tickets}
+use Rattle.kclient.specs.declared.commands.Command.{Command}
+use Rattle.kclient.specs.declared.commands.CommandKind.{CommandKind}
+use Rattle.kclient.specs.declared.commands.CommandKind.TheVariants.{Kinit, Renew, Kvno, Klist, Kdestroy}
 use Rattle.kclient.specs.declared.kvno.CacheSession.{CacheSession}
+use Rattle.kclient.specs.declared.run.Printed.{Printed}
 
 -- ---- the tickets that came
 
@@ -39,22 +49,38 @@ module _ (finds : List ℕ → ℕ → SocketAddr → Type 0) (places : List Kdc
 
 -- ---- a new cache, and one that is removed
 
-pub made : {A E : Type 0} (result : Result A E) (IsReceived : Credential → Type 0) (before came after : Option World)
-    (path : List ℕ) (ticket : Credential)
+pub made : {A E : Type 0} (result : Result A E) (IsReceived : Credential → Type 0) (IsPath : List ℕ → Type 0)
+    (before came after : Option World) (path : List ℕ) (ticket : Credential)
     → OnOk result (after ≡ option_map (with_file path (cache_text (new_cache ticket))) came)
-    → IsReceived ticket → came ≡ before → OnOk result (Made IsReceived before after)
-made (Ok x) IsReceived before came after path ticket written is kept = record {
+    → IsReceived ticket → IsPath path → came ≡ before → OnOk result (Made IsReceived IsPath before after)
+made (Ok x) IsReceived IsPath before came after path ticket written is named kept = record {
   path = path;
+  named = named;
   ticket = ticket;
   came = is;
   written = written ∙ ap (option_map (with_file path (cache_text (new_cache ticket)))) kept;
 }
-made (Err fault) IsReceived before came after path ticket written is kept = tt
+made (Err fault) IsReceived IsPath before came after path ticket written is named kept = tt
 
--- a later call failed, or none
-pub removed : (before read after : Option World) (path : List ℕ) → after ≡ option_map (without_file path) read
-    → read ≡ before → Removed before after
-removed before read after path is kept = record { path = path; removed = is ∙ ap (option_map (without_file path)) kept }
+-- at a path that was known before
+pub made_there : {A E : Type 0} (result : Result A E) (IsReceived : Credential → Type 0) (IsPath : List ℕ → Type 0)
+    (before came after : Option World) (path : List ℕ) → OnOk result (Made IsReceived (λ p. p ≡ path) came after)
+    → IsPath path → came ≡ before → OnOk result (Made IsReceived IsPath before after)
+made_there (Ok x) IsReceived IsPath before came after path is named kept = record {
+  path = is.path;
+  named = subst IsPath (sym is.named) named;
+  ticket = is.ticket;
+  came = is.came;
+  written = is.written ∙ ap (option_map (with_file is.path (cache_text (new_cache is.ticket)))) kept;
+}
+made_there (Err fault) IsReceived IsPath before came after path is named kept = tt
+
+pub removed : {A E : Type 0} (result : Result A E) (IsPath : List ℕ → Type 0) (before read after : Option World)
+    (path : List ℕ) → OnOk result (after ≡ option_map (without_file path) read) → IsPath path → read ≡ before
+    → OnOk result (Removed IsPath before after)
+removed (Ok x) IsPath before read after path is named kept =
+    record { path = path; named = named; removed = is ∙ ap (option_map (without_file path)) kept }
+removed (Err fault) IsPath before read after path is named kept = tt
 
 -- ---- a session
 
@@ -105,15 +131,17 @@ module _ (IsReceived : Credential → Type 0) where
         ∙ ap (λ cache. option_map (with_file (string_bytes first.path) (cache_text cache)) before) is.cache;
   })
 
-  pub unfilled : (before after : Option World) → after ≡ before → (after ≡ before) ⊎ Filled IsReceived before after
-  unfilled before after same = inl same
+  pub unfilled : (IsPath : List ℕ → Type 0) (before after : Option World) → after ≡ before
+      → (after ≡ before) ⊎ Filled IsReceived IsPath before after
+  unfilled IsPath before after same = inl same
 
-  pub filled : (before read after : Option World) (path : List ℕ) (cache : CacheContents)
-      → (after ≡ read) ⊎ Added IsReceived path cache read after → HasCache before path cache → read ≡ before
-      → (after ≡ before) ⊎ Filled IsReceived before after
-  filled before read after path cache (inl same) holds kept = inl (same ∙ kept)
-  filled before read after path cache (inr is) holds kept = inr (record {
+  pub filled : (IsPath : List ℕ → Type 0) (before read after : Option World) (path : List ℕ) (cache : CacheContents)
+      → (after ≡ read) ⊎ Added IsReceived path cache read after → IsPath path → HasCache before path cache → read ≡ before
+      → (after ≡ before) ⊎ Filled IsReceived IsPath before after
+  filled IsPath before read after path cache (inl same) named holds kept = inl (same ∙ kept)
+  filled IsPath before read after path cache (inr is) named holds kept = inr (record {
     path = path;
+    named = named;
     cache = cache;
     held = holds;
     added = record {
@@ -123,6 +151,24 @@ module _ (IsReceived : Credential → Type 0) where
     };
   })
 
+  pub served : {A E : Type 0} (result : Result A E) (IsPath : List ℕ → Type 0) (before read after : Option World)
+      (path : List ℕ) (cache : CacheContents) → (after ≡ read) ⊎ Added IsReceived path cache read after → IsPath path
+      → HasCache before path cache → read ≡ before → OnOk result (Served IsReceived IsPath before after)
+  served (Ok x) IsPath before read after path cache (inl same) named holds kept =
+      record { path = path; named = named; cache = cache; held = holds; left = inl (same ∙ kept) }
+  served (Ok x) IsPath before read after path cache (inr is) named holds kept = record {
+    path = path;
+    named = named;
+    cache = cache;
+    held = holds;
+    left = inr (record {
+      tickets = is.tickets;
+      came = is.came;
+      written = is.written ∙ ap (option_map (with_file path (cache_text (with_tickets is.tickets cache)))) kept;
+    });
+  }
+  served (Err fault) IsPath before read after path cache added named holds kept = tt
+
 pub written_or_kept : {A E : Type 0} (result : Result A E) (before written after : Option World)
     → OnOk result (after ≡ written) → OnErr result (after ≡ before) → (after ≡ before) ⊎ (after ≡ written)
 written_or_kept (Ok x) before written after is kept = inr is
@@ -130,25 +176,59 @@ written_or_kept (Err fault) before written after is kept = inl kept
 
 -- ---- a command
 
-module _ (First Further : Credential → Type 0) (before after : Option World) where
-  pub did_nothing : after ≡ before → CommandLeaves First Further before after
-  did_nothing same = inl same
+module _ (First Further : Credential → Type 0) (command : Command) (host : Host) (before after : Option World) where
+  did : (kind : CommandKind) (status : Status) → command.kind ≡ kind → status ≡ Done
+      → IsKindDone First Further (IsCacheOf command host) kind before after
+      → IsCommandEnd First Further command host before status after
+  did kind status is done left =
+      subst (λ s. IsCommandEnd First Further command host before s after) (sym done)
+      (subst (λ k. IsKindDone First Further (IsCacheOf command host) k before after) (sym is) left)
 
-  pub did_fill : (after ≡ before) ⊎ Filled Further before after → CommandLeaves First Further before after
-  did_fill (inl same) = inl same
-  did_fill (inr is) = inr (inr (inr (inl is)))
+  pub did_make_first : {E : Type 0} (result : Result Printed E) → command.kind ≡ Kinit
+      → OnOk result (Made First (IsCacheOf command host) before after) → IfOk result (λ p. p.status ≡ Done)
+      → IfOk result (λ p. IsCommandEnd First Further command host before p.status after)
+  did_make_first (Ok p) is made done = did Kinit p.status is done made
+  did_make_first (Err fault) is made done = tt
 
-  pub did_make_first : {A E : Type 0} (result : Result A E) → OnOk result (Made First before after)
-      → OnErr result (after ≡ before) → CommandLeaves First Further before after
-  did_make_first (Ok x) is kept = inr (inl is)
-  did_make_first (Err fault) is kept = inl kept
+  pub did_make_further : {E : Type 0} (result : Result Printed E) (again : Renewal) → command.kind ≡ Renew again
+      → OnOk result (Made Further (IsCacheOf command host) before after) → IfOk result (λ p. p.status ≡ Done)
+      → IfOk result (λ p. IsCommandEnd First Further command host before p.status after)
+  did_make_further (Ok p) again is made done = did (Renew again) p.status is done made
+  did_make_further (Err fault) again is made done = tt
 
-  pub did_make_further : {A E : Type 0} (result : Result A E) → OnOk result (Made Further before after)
-      → OnErr result (after ≡ before) → CommandLeaves First Further before after
-  did_make_further (Ok x) is kept = inr (inr (inl is))
-  did_make_further (Err fault) is kept = inl kept
+  pub did_serve : {E : Type 0} (result : Result Printed E) → command.kind ≡ Kvno
+      → OnOk result (Served Further (IsCacheOf command host) before after) → IfOk result (λ p. p.status ≡ Done)
+      → IfOk result (λ p. IsCommandEnd First Further command host before p.status after)
+  did_serve (Ok p) is served done = did Kvno p.status is done served
+  did_serve (Err fault) is served done = tt
 
-  pub did_remove : {A E : Type 0} (result : Result A E) → OnOk result (Removed before after)
-      → OnErr result (after ≡ before) → CommandLeaves First Further before after
-  did_remove (Ok x) is kept = inr (inr (inr (inr is)))
-  did_remove (Err fault) is kept = inl kept
+  pub did_remove : {E : Type 0} (result : Result Printed E) → command.kind ≡ Kdestroy
+      → OnOk result (Removed (IsCacheOf command host) before after) → IfOk result (λ p. p.status ≡ Done)
+      → IfOk result (λ p. IsCommandEnd First Further command host before p.status after)
+  did_remove (Ok p) is removed done = did Kdestroy p.status is done removed
+  did_remove (Err fault) is removed done = tt
+
+  listed : (status : Status) → command.kind ≡ Klist → after ≡ before
+      → IsCommandEnd First Further command host before status after
+  listed Done is same = subst (λ k. IsKindDone First Further (IsCacheOf command host) k before after) (sym is) same
+  listed Refused is same = same
+  listed Usage is same = same
+  listed Failed is same = same
+
+  pub did_list : {E : Type 0} (result : Result Printed E) → command.kind ≡ Klist → after ≡ before
+      → IfOk result (λ p. IsCommandEnd First Further command host before p.status after)
+  did_list (Ok p) is same = listed p.status is same
+  did_list (Err fault) is same = tt
+
+  pub did_stop : {A E : Type 0} (result : Result A E) → OnErr result (after ≡ before)
+      → IfErr result (λ fault. (after ≡ before) ⊎ IsTried Further command host before after)
+  did_stop (Ok x) kept = tt
+  did_stop (Err fault) kept = inl kept
+
+  pub did_stop_filling : {A E : Type 0} (result : Result A E) → command.kind ≡ Kvno
+      → (after ≡ before) ⊎ Filled Further (IsCacheOf command host) before after
+      → IfErr result (λ fault. (after ≡ before) ⊎ IsTried Further command host before after)
+  did_stop_filling (Ok x) is left = tt
+  did_stop_filling (Err fault) is (inl same) = inl same
+  did_stop_filling (Err fault) is (inr filled) =
+      inr (subst (λ k. IsKindTried Further (IsCacheOf command host) k before after) (sym is) filled)

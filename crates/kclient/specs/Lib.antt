@@ -1,2 +1,4 @@
 pub mod CacheSessions
+pub mod Ends
+pub mod Words
 pub mod Worlds

@@ -32,11 +32,13 @@ pub record CameFurther (finds : List ℕ → ℕ → SocketAddr → Type 0) (car
   pub now : ℤ
   pub further : IsFurther (IsExchanged finds places carries answers) granting asked now credential
 
--- ---- the effect of each command, from the world before it to the one after it
+-- ---- the effect of each command, from the world before it to the one after it. `IsPath` says which path it works on
 
--- a path has a new cache of one ticket that came, and every other path is unchanged
-pub record Made (IsReceived : Credential → Type 0) (before after : Option World) : Type 0 where
+-- the path has a new cache of one ticket that came, and every other path is unchanged
+pub record Made (IsReceived : Credential → Type 0) (IsPath : List ℕ → Type 0) (before after : Option World)
+    : Type 0 where
   pub path : List ℕ
+  pub named : IsPath path
   pub ticket : Credential
   pub came : IsReceived ticket
   pub written : after ≡ option_map (with_file path (cache_text (new_cache ticket))) before
@@ -48,25 +50,32 @@ with_tickets (ticket ∷ tickets) cache =
     with_tickets tickets (record cache { credentials = put_first ticket cache.credentials })
 
 -- a path has this cache with tickets that came, and every other path is unchanged
-pub record Added (IsReceived : Credential → Type 0) (path : List ℕ) (cache : CacheContents) (before after : Option World)
-    : Type 0 where
+pub record Added (IsReceived : Credential → Type 0) (path : List ℕ) (cache : CacheContents)
+    (before after : Option World) : Type 0 where
   pub tickets : List Credential
   pub came : All IsReceived tickets
   pub written : after ≡ option_map (with_file path (cache_text (with_tickets tickets cache))) before
 
--- a path has the cache that it had, with tickets that came
-pub record Filled (IsReceived : Credential → Type 0) (before after : Option World) : Type 0 where
+-- the path has the cache that it had, with tickets that came
+pub record Filled (IsReceived : Credential → Type 0) (IsPath : List ℕ → Type 0) (before after : Option World)
+    : Type 0 where
   pub path : List ℕ
+  pub named : IsPath path
   pub cache : CacheContents
   pub held : HasCache before path cache
   pub added : Added IsReceived path cache before after
 
--- a path has no file, and every other path is unchanged
-pub record Removed (before after : Option World) : Type 0 where
+-- the path has a cache, as it was if no ticket came
+pub record Served (IsReceived : Credential → Type 0) (IsPath : List ℕ → Type 0) (before after : Option World)
+    : Type 0 where
   pub path : List ℕ
-  pub removed : after ≡ option_map (without_file path) before
+  pub named : IsPath path
+  pub cache : CacheContents
+  pub held : HasCache before path cache
+  pub left : (after ≡ before) ⊎ Added IsReceived path cache before after
 
--- the world is as it was, or one of these
-abbrev pub CommandLeaves : (First Further : Credential → Type 0) → Option World → Option World → Type 0
-CommandLeaves First Further before after =
-    (after ≡ before) ⊎ (Made First before after ⊎ (Made Further before after ⊎ (Filled Further before after ⊎ Removed before after)))
+-- the path has no file, and every other path is unchanged
+pub record Removed (IsPath : List ℕ → Type 0) (before after : Option World) : Type 0 where
+  pub path : List ℕ
+  pub named : IsPath path
+  pub removed : after ≡ option_map (without_file path) before

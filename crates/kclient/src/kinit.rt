@@ -1,8 +1,10 @@
 //! `kinit`: gets a first ticket, and makes a cache from it.
-ghost use Rattle.std.specs.Prelude.{◌≡◌, IfOk, OnErr, OnOk, option_map};
+ghost use Rattle.std.specs.Prelude.{◌≡◌, IfOk, OnErr, OnOk, option_map, string_bytes};
+ghost use Rattle.command_line.specs.declared.status.Status.TheVariants.{Done};
 ghost use Rattle.cred_files.specs.Cache.{cache_text};
 ghost use Rattle.client_files.specs.Caches.{new_cache};
 ghost use Rattle.file_store.specs.World.{with_file};
+ghost use Rattle.kclient.specs.Words.{IsCacheNamed, text_of};
 ghost use Rattle.kclient.specs.Worlds.{CameFirst, Made};
 
 use crate::context::Context;
@@ -14,8 +16,7 @@ use crate::words::{
 };
 use clap::ArgMatches;
 use client_files::{
-    Cause, ClientStore, Defaults, Fault, at_file, at_password, read_cache, read_keytab,
-    write_new_cache,
+    Cause, ClientStore, Fault, Host, at_file, at_password, read_cache, read_keytab, write_new_cache,
 };
 use client_login::{AnyMessage, Login, Password, Secret, TicketRequest};
 use cred_files::{Credential, Principal};
@@ -39,18 +40,24 @@ struct First {
 #[tactic(auto, using(crate::proofs::Doing::made))]
 pub(crate) fn get_first<T: ClientStore, X: AnyMessage>(
     context: &mut Context<T, X>,
+    cache: Option<&str>,
     options: &ArgMatches<'_>,
-    defaults: &Defaults<'_>,
+    host: &Host<'_>,
 ) -> Result<Printed, Fault>
-    // Promise (made, unchanged): `kinit` that succeeds makes a cache of the first ticket that came, under a key of the
+    // Promise (made, status, unchanged): `kinit` that succeeds makes a cache of the first ticket that came, under a key of the
     // client; a refused one changes no file.
-    ensures made { OnOk result (
-        Made (CameFirst X.finds X.carries X.answers) (T.world context.old.store) (T.world context.new.store)) }
+    ensures made { OnOk result (Made (CameFirst X.finds X.carries X.answers)
+        (IsCacheNamed (text_of cache.entry) host.now) (T.world context.old.store) (T.world context.new.store)) }
+    ensures status { IfOk result (λ printed. printed.status ≡ Done) }
     ensures unchanged { OnErr result (T.world context.new.store ≡ T.world context.old.store) }
 {
     let words = first_words(options)?;
-    let mut first = prepare(context, options, defaults, &words)?;
-    let credential = log_in(context, words.secret.source(), &mut first)?;
+    let path = cache_path(context.alloc, cache, host)?;
+    let mut first = prepare(context, path, options, host, &words)?;
+    let credential = match log_in(context, words.secret.source(), &mut first) {
+        Ok(credential) => credential,
+        Err(fault) => return Err(words.secret.explained(fault)),
+    };
     write_new(context, first.path.as_str(), &credential)
 }
 
@@ -62,6 +69,7 @@ fn log_in<T, X: AnyMessage>(
     first: &mut First,
 ) -> Result<Credential, Fault>
     ensures came { IfOk result (λ ticket. CameFirst X.finds X.carries X.answers ticket) }
+    ensures path { first.new.path ≡ first.old.path }
     ensures store { context.new.store ≡ context.old.store }
 {
     let client = &mut context.client;
@@ -78,15 +86,16 @@ fn log_in<T, X: AnyMessage>(
 
 fn prepare<T: ClientStore, X>(
     context: &mut Context<T, X>,
+    path: String,
     options: &ArgMatches<'_>,
-    defaults: &Defaults<'_>,
+    host: &Host<'_>,
     words: &FirstWords<'_>,
 ) -> Result<First, Fault>
+    ensures path { IfOk result (λ first. first.path ≡ path) }
     ensures unchanged { T.world context.new.store ≡ T.world context.old.store }
 {
-    let path = cache_path(context.alloc, &mut context.store, options, defaults)?;
     use_given_kdcs(context.alloc, &mut context.client.kdcs, options)?;
-    let login = read_login(context, defaults, words, path.as_str())?;
+    let login = read_login(context, host, words, path.as_str())?;
     let secret = read_secret(context.alloc, &mut context.store, words, &login.client)?;
     let rng = generator(context.alloc, &mut context.store, options)?;
     Ok(First {
@@ -105,6 +114,7 @@ pub(crate) fn write_new<T: ClientStore, X>(
 ) -> Result<Printed, Fault>
     ensures written { OnOk result (T.world context.new.store
         ≡ option_map (with_file path.now (cache_text (new_cache credential.now))) (T.world context.old.store)) }
+    ensures status { IfOk result (λ printed. printed.status ≡ Done) }
     ensures unchanged { OnErr result (T.world context.new.store ≡ T.world context.old.store) }
 {
     let printed = Printed::ok(context.alloc)?;
@@ -127,7 +137,7 @@ pub(crate) fn generator<T: ClientStore>(
 /// Reads the names, and finds the realm if no word names it.
 fn read_login<T: ClientStore, X>(
     context: &mut Context<T, X>,
-    defaults: &Defaults<'_>,
+    host: &Host<'_>,
     words: &FirstWords<'_>,
     path: &str,
 ) -> Result<Login, Fault>
@@ -138,19 +148,19 @@ fn read_login<T: ClientStore, X>(
     let service = given_service(alloc, words.service)?;
     let client = match given {
         Some(GivenClient { name, realm }) => {
-            let realm = find_realm(context, defaults, realm)?;
+            let realm = find_realm(context, host, realm)?;
             Principal { realm, name }
         }
-        None => cached_client(context, defaults, path)?,
+        None => cached_client(context, host, path)?,
     };
-    let request = with_configured(words.request, configured_request(context, defaults)?);
+    let request = with_configured(words.request, configured_request(context, host)?);
     login_of(alloc, client, service, request)
 }
 
 /// Returns the client of the cache, and sets the KDCs to those of its realm. Without a cache it is the user's own name.
 fn cached_client<T: ClientStore, X>(
     context: &mut Context<T, X>,
-    defaults: &Defaults<'_>,
+    host: &Host<'_>,
     path: &str,
 ) -> Result<Principal, Fault>
     ensures unchanged { T.world context.new.store ≡ T.world context.old.store }
@@ -158,27 +168,24 @@ fn cached_client<T: ClientStore, X>(
     let cache = match read_cache(context.alloc, &mut context.store, path) {
         Ok(cache) => cache,
         Err(fault) if matches!(fault.cause, Cause::NoCache) => {
-            return own_client(context, defaults);
+            return own_client(context, host);
         }
         Err(fault) => return Err(fault),
     };
     let client = cache.principal().copy(context.alloc)?;
-    use_kdcs_of(context, defaults, client.realm.as_slice())?;
+    use_kdcs_of(context, host, client.realm.as_slice())?;
     Ok(client)
 }
 
 /// Returns the client with the user's own name, in the default realm.
-fn own_client<T: ClientStore, X>(
-    context: &mut Context<T, X>,
-    defaults: &Defaults<'_>,
-) -> Result<Principal, Fault>
-    ensures unchanged { T.world context.new.store ≡ T.world context.old.store }
+fn own_client<T, X>(context: &mut Context<T, X>, host: &Host<'_>) -> Result<Principal, Fault>
+    ensures store { context.new.store ≡ context.old.store }
 {
-    let Variable::Text(user) = defaults.user else {
+    let Variable::Text(user) = host.defaults.user else {
         return Err(Fault::usage(NO_NAME));
     };
     let name = read_name(context.alloc, "LOGNAME", user, user)?;
-    let realm = find_realm(context, defaults, None)?;
+    let realm = find_realm(context, host, None)?;
     Ok(Principal { realm, name })
 }
 

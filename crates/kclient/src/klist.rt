@@ -1,5 +1,7 @@
 //! `klist`: lists a credential cache or a keytab. `kdestroy`: removes a cache.
-ghost use Rattle.std.specs.Prelude.{◌≡◌, OnErr, OnOk};
+ghost use Rattle.std.specs.Prelude.{◌≡◌, IfOk, OnErr, OnOk};
+ghost use Rattle.command_line.specs.declared.status.Status.TheVariants.{Done};
+ghost use Rattle.kclient.specs.Words.{IsCacheNamed, text_of};
 ghost use Rattle.kclient.specs.Worlds.{Removed};
 
 use crate::context::Context;
@@ -9,7 +11,7 @@ use crate::run::Printed;
 use crate::words::keytab_path;
 use clap::ArgMatches;
 use client_files::{
-    Cause, ClientStore, Defaults, Fault, good_credential, read_cache, read_keytab, remove_cache,
+    Cause, ClientStore, Fault, Host, good_credential, read_cache, read_keytab, remove_cache,
 };
 use command_line::Status;
 use krb_fields::{Moment, tgs_name};
@@ -22,15 +24,16 @@ const TWO_FILES: &str = "--cache and --keytab don't go together";
 /// Lists a keytab, or else a cache. It prints no line before all are known, and changes no file.
 pub(crate) fn list<T: ClientStore, X>(
     context: &mut Context<T, X>,
+    cache: Option<&str>,
     options: &ArgMatches<'_>,
-    defaults: &Defaults<'_>,
+    host: &Host<'_>,
 ) -> Result<Printed, Fault>
     // Promise, as destroy: `kdestroy` that succeeds removes ..
     ensures unchanged { T.world context.new.store ≡ T.world context.old.store }
 {
     match keytab_path(options)? {
         Some(path) => list_keytab(context, options, path),
-        None => list_cache(context, options, defaults),
+        None => list_cache(context, cache, options, host),
     }
 }
 
@@ -48,13 +51,14 @@ fn list_keytab<T: ClientStore, X>(
 
 fn list_cache<T: ClientStore, X>(
     context: &mut Context<T, X>,
+    cache: Option<&str>,
     options: &ArgMatches<'_>,
-    defaults: &Defaults<'_>,
+    host: &Host<'_>,
 ) -> Result<Printed, Fault>
     ensures unchanged { T.world context.new.store ≡ T.world context.old.store }
 {
     let alloc = context.alloc;
-    let path = cache_path(alloc, &mut context.store, options, defaults)?;
+    let path = cache_path(alloc, cache, host)?;
     if options.get_flag("s") {
         let at = context.client.at;
         let found = has_good_ticket(alloc, &mut context.store, path.as_str(), at);
@@ -103,15 +107,17 @@ fn status_of(found: &Result<bool, Fault>) -> Status {
 #[tactic(auto, using(crate::proofs::Doing::removed))]
 pub(crate) fn destroy<T: ClientStore, X>(
     context: &mut Context<T, X>,
-    options: &ArgMatches<'_>,
-    defaults: &Defaults<'_>,
+    cache: Option<&str>,
+    host: &Host<'_>,
 ) -> Result<Printed, Fault>
-    // Promise (removed, unchanged): `kdestroy` that succeeds removes the file, and a refused one changes none; `klist`
+    // Promise (removed, status, unchanged): `kdestroy` that succeeds removes the file, and a refused one changes none; `klist`
     // changes none.
-    ensures removed { OnOk result (Removed (T.world context.old.store) (T.world context.new.store)) }
+    ensures removed { OnOk result (Removed (IsCacheNamed (text_of cache.entry) host.now)
+        (T.world context.old.store) (T.world context.new.store)) }
+    ensures status { IfOk result (λ printed. printed.status ≡ Done) }
     ensures unchanged { OnErr result (T.world context.new.store ≡ T.world context.old.store) }
 {
-    let path = cache_path(context.alloc, &mut context.store, options, defaults)?;
+    let path = cache_path(context.alloc, cache, host)?;
     let printed = Printed::ok(context.alloc)?;
     remove_cache(context.alloc, &mut context.store, path.as_str())?;
     Ok(printed)

@@ -1,12 +1,14 @@
 //! `kvno`: gets tickets for services, one after another.
 ghost use Rattle.std.specs.Prelude.{◌≡◌, ◌⊎◌, IfOk, IfSome, OnErr, OnOk, option_map};
 ghost use Rattle.std.specs.String.{string_bytes};
+ghost use Rattle.command_line.specs.declared.status.Status.TheVariants.{Done};
 ghost use Rattle.cred_files.specs.Cache.{cache_text, put_first};
 ghost use Rattle.client_files.specs.Caches.{HasCache};
 ghost use Rattle.client_login.specs.Verifying.{IsTicketOf};
 ghost use Rattle.file_store.specs.World.{with_file};
 ghost use Rattle.kclient.specs.CacheSessions.{Collected};
-ghost use Rattle.kclient.specs.Worlds.{Added, CameFurther, Filled};
+ghost use Rattle.kclient.specs.Words.{IsCacheNamed, text_of};
+ghost use Rattle.kclient.specs.Worlds.{Added, CameFurther, Filled, Served};
 
 use crate::context::Context;
 use crate::kinit::generator;
@@ -15,7 +17,7 @@ use crate::run::Printed;
 use crate::words::{NO_SERVICE, keytab_path, read_name, read_realm};
 use clap::ArgMatches;
 use client_files::{
-    Cause, ClientStore, Defaults, Fault, at, good_credential, granting_ticket, put_credential,
+    Cause, ClientStore, Fault, Host, at, good_credential, granting_ticket, put_credential,
     read_cache, read_keytab, write_cache,
 };
 use client_login::{AnyMessage, LoginError, opened_ticket};
@@ -48,23 +50,28 @@ struct CacheSession {
 
 /// Gets a ticket for each service, unless the cache has one that can be used, and puts it into the cache. It prints the
 /// key versions of the tickets, in the order of the names. A name that ends the command keeps the tickets before it.
-#[tactic(auto, using(crate::proofs::Doing::filled, crate::proofs::Doing::unfilled))]
+#[tactic(auto, using(crate::proofs::Doing::filled, crate::proofs::Doing::unfilled, crate::proofs::Doing::served))]
 pub(crate) fn get_tickets<T: ClientStore, X: AnyMessage>(
     context: &mut Context<T, X>,
+    cache: Option<&str>,
     options: &ArgMatches<'_>,
-    defaults: &Defaults<'_>,
+    host: &Host<'_>,
 ) -> Result<Printed, Fault>
-    // Promise: `kvno`, refused or not, writes nothing, or the user's own cache with the tickets that came.
+    // Promise (world, served, status): `kvno`, refused or not, writes nothing, or the user's own cache with the tickets that came.
     ensures world { (T.world context.new.store ≡ T.world context.old.store)
-        ⊎ Filled (CameFurther X.finds X.carries X.answers) (T.world context.old.store) (T.world context.new.store) }
+        ⊎ Filled (CameFurther X.finds X.carries X.answers) (IsCacheNamed (text_of cache.entry) host.now)
+        (T.world context.old.store) (T.world context.new.store) }
+    ensures served { OnOk result (Served (CameFurther X.finds X.carries X.answers)
+        (IsCacheNamed (text_of cache.entry) host.now) (T.world context.old.store) (T.world context.new.store)) }
+    ensures status { IfOk result (λ printed. printed.status ≡ Done) }
 {
     let names = service_words(context.alloc, options)?;
     let keytab = keytab_path(options)?;
-    let path = cache_path(context.alloc, &mut context.store, options, defaults)?;
+    let path = cache_path(context.alloc, cache, host)?;
     use_given_kdcs(context.alloc, &mut context.client.kdcs, options)?;
     let services = read_services(context, &names)?;
     let mut session = read_session(context, options, path, keytab)?;
-    fill(context, defaults, &mut session, &services)
+    fill(context, host, &mut session, &services)
 }
 
 /// Gets a ticket for each service, until one fails, and writes the cache with those that came. Prints a line for each.
@@ -72,16 +79,17 @@ pub(crate) fn get_tickets<T: ClientStore, X: AnyMessage>(
 #[tactic(auto, using(crate::proofs::Doing::added))]
 fn fill<T: ClientStore, X: AnyMessage>(
     context: &mut Context<T, X>,
-    defaults: &Defaults<'_>,
+    host: &Host<'_>,
     session: &mut CacheSession,
     services: &[Service],
 ) -> Result<Printed, Fault>
     ensures world { (T.world context.new.store ≡ T.world context.old.store)
         ⊎ Added (CameFurther X.finds X.carries X.answers) (string_bytes session.old.path) session.old.cache
         (T.world context.old.store) (T.world context.new.store) }
+    ensures status { IfOk result (λ printed. printed.status ≡ Done) }
 {
     check_realms(context, services, &session.cache)?;
-    let lines = get_each(context, defaults, session, services);
+    let lines = get_each(context, host, session, services);
     let written = write_changed(context.alloc, &mut context.store, session);
     // Why the command ends is what counts, not whether the tickets before can be written.
     let lines = lines?;
@@ -93,7 +101,7 @@ fn fill<T: ClientStore, X: AnyMessage>(
 #[tactic(auto, using(crate::proofs::Doing::collected_none, crate::proofs::Doing::collected_more))]
 fn get_each<T: ClientStore, X: AnyMessage>(
     context: &mut Context<T, X>,
-    defaults: &Defaults<'_>,
+    host: &Host<'_>,
     session: &mut CacheSession,
     services: &[Service],
 ) -> Result<String, Fault>
@@ -102,7 +110,7 @@ fn get_each<T: ClientStore, X: AnyMessage>(
 {
     let mut lines = String::new(context.alloc);
     for service in services {
-        match get_ticket(context, defaults, session, &service.name) {
+        match get_ticket(context, host, session, &service.name) {
             Ok(version) => push_line(&mut lines, service, version, session.checks.is_some())?,
             Err(fault) => return Err(at_name(
                 context,
@@ -123,6 +131,7 @@ fn read_session<T: ClientStore, X>(
 ) -> Result<CacheSession, Fault>
     ensures held { IfOk result (λ session.
         HasCache (T.world context.old.store) (string_bytes session.path) session.cache) }
+    ensures path { IfOk result (λ session. session.path ≡ path) }
     ensures unchanged { T.world context.new.store ≡ T.world context.old.store }
 {
     let cache = read_cache(context.alloc, &mut context.store, path.as_str())?;
@@ -274,7 +283,7 @@ const OPENED: &str = ", keytab entry valid";
 #[tactic(auto, using(crate::proofs::Doing::collected_none, crate::proofs::Doing::collected_one))]
 fn get_ticket<T: ClientStore, X: AnyMessage>(
     context: &mut Context<T, X>,
-    defaults: &Defaults<'_>,
+    host: &Host<'_>,
     session: &mut CacheSession,
     service: &Name,
 ) -> Result<i64, Fault>
@@ -290,11 +299,7 @@ fn get_ticket<T: ClientStore, X: AnyMessage>(
         path,
         credential: unended(alloc, path, &session.cache, context.client.at)?,
     };
-    use_kdcs_of(
-        context,
-        defaults,
-        session.cache.principal().realm.as_slice(),
-    )?;
+    use_kdcs_of(context, host, session.cache.principal().realm.as_slice())?;
     let credential = requested(context, &mut session.rng, &granting, service)?;
     keep(alloc, session, &credential)
 }

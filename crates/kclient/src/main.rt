@@ -2,6 +2,7 @@
 //! lists them.
 #![tactic(auto)]
 
+mod commands;
 mod context;
 mod kinit;
 mod klist;
@@ -10,12 +11,15 @@ mod listing;
 mod options;
 mod places;
 mod renewing;
+mod reports;
 mod run;
+mod values;
 mod words;
 
 use crate::context::Context;
 use crate::run::kclient_run;
-use client_files::Defaults;
+use crate::values::words_of;
+use client_files::{Defaults, Host};
 use client_login::{KdcClient, Kdcs, Transports};
 use client_sockets::SocketNetwork;
 use command_line::{
@@ -28,9 +32,9 @@ use std::env::VarError;
 use std::process::ExitCode;
 use std::{env, fmt, io};
 
-/// Why the command line can't be used.
+/// Why the command line can't be run.
 #[derive(Clone, Copy)]
-enum Fault {
+enum GivenFault {
     /// The null device can't be opened in place of a standard stream.
     Streams(FileFault<'static>),
     /// The clock can't be read, or shows no moment of the years 1970 to 9999.
@@ -41,21 +45,21 @@ enum Fault {
     Memory,
 }
 
-impl fmt::Display for Fault {
+impl fmt::Display for GivenFault {
     fn fmt<W: fmt::Write>(&self, f: &mut fmt::Formatter<W>) -> fmt::Result {
         match self {
-            Fault::Streams(fault) => write!(f, "{fault}"),
-            Fault::Clock(error) => write!(f, "{CLOCK}: {error}"),
-            Fault::Args(error) => write!(f, "cannot read the command line: {error}"),
-            Fault::NotUtf8 => f.write_str(NOT_UTF8),
-            Fault::Memory => f.write_str("out of memory"),
+            GivenFault::Streams(fault) => write!(f, "{fault}"),
+            GivenFault::Clock(error) => write!(f, "{CLOCK}: {error}"),
+            GivenFault::Args(error) => write!(f, "cannot read the command line: {error}"),
+            GivenFault::NotUtf8 => f.write_str(NOT_UTF8),
+            GivenFault::Memory => f.write_str("out of memory"),
         }
     }
 }
 
-impl From<AllocError> for Fault {
-    fn from(_: AllocError) -> Fault {
-        Fault::Memory
+impl From<AllocError> for GivenFault {
+    fn from(_: AllocError) -> GivenFault {
+        GivenFault::Memory
     }
 }
 
@@ -70,18 +74,20 @@ struct Given {
 }
 
 impl Given {
-    fn read(rt: &HostRuntime) -> Result<Given, Fault> {
-        open_missing_streams(rt).map_err(Fault::Streams)?;
+    fn read(rt: &HostRuntime) -> Result<Given, GivenFault> {
+        open_missing_streams(rt).map_err(GivenFault::Streams)?;
         Ok(Given {
-            at: now(rt).map_err(Fault::Clock)?,
-            args: read_words(rt).map_err(Fault::Args)?.ok_or(Fault::NotUtf8)?,
+            at: now(rt).map_err(GivenFault::Clock)?,
+            args: read_words(rt)
+                .map_err(GivenFault::Args)?
+                .ok_or(GivenFault::NotUtf8)?,
             cache: env::var(rt, "KRB5CCNAME"),
             config: env::var(rt, "KRB5_CONFIG"),
             user: env::var(rt, "LOGNAME"),
         })
     }
 
-    fn defaults(&self) -> Result<Defaults<'_>, Fault> {
+    fn defaults(&self) -> Result<Defaults<'_>, GivenFault> {
         Ok(Defaults {
             cache: Variable::new(&self.cache)?,
             config: Variable::new(&self.config)?,
@@ -93,25 +99,30 @@ impl Given {
 fn main(rt: HostRuntime) -> ExitCode {
     let given = match Given::read(&rt) {
         Ok(given) => given,
-        Err(fault) => return ended(&rt, &fault),
+        Err(fault) => return report(&rt, &fault),
     };
     let defaults = match given.defaults() {
         Ok(defaults) => defaults,
-        Err(fault) => return ended(&rt, &fault),
+        Err(fault) => return report(&rt, &fault),
     };
+    let words = match words_of(rt.alloc(), &given.args) {
+        Ok(words) => words,
+        Err(error) => return report(&rt, &GivenFault::from(error)),
+    };
+    let mut store = FileStore::new(&rt);
+    let host = Host::read(rt.alloc(), &mut store, defaults);
     let network = SocketNetwork::for_command(&rt);
     let kdcs = Kdcs::new(network, Vec::new(rt.alloc()), Transports::UdpFirst);
     let client = KdcClient::new(rt.alloc(), kdcs, given.at);
-    let mut context = Context::new(rt.alloc(), FileStore::new(&rt), client);
-    let args = given.args.as_slice();
-    let status = kclient_run(&mut context, args, &defaults, rt.stdout(), rt.stderr());
+    let mut context = Context::new(rt.alloc(), store, client);
+    let status = kclient_run(&mut context, &words, &host, rt.stdout(), rt.stderr());
     ExitCode::from(status.code())
 }
 
-/// Reports why the command line can't be used. If that can't be written, there is nowhere to report it.
-fn ended(rt: &HostRuntime, fault: &Fault) -> ExitCode {
+/// Reports why the command line can't be run. If that can't be written, there is nowhere to report it.
+fn report(rt: &HostRuntime, fault: &GivenFault) -> ExitCode {
     let status = match fault {
-        Fault::NotUtf8 => report_usage(rt, fault).unwrap_or(Status::Usage),
+        GivenFault::NotUtf8 => report_usage(rt, fault).unwrap_or(Status::Usage),
         _ => report_failure(rt, "kclient", fault),
     };
     ExitCode::from(status.code())

@@ -6,7 +6,6 @@ use command_line::{
 };
 use file_store::VERSION;
 use std::alloc::{AllocError, Global};
-use std::convert::AsStr;
 
 const ABOUT: &str = "Gets Kerberos tickets and keeps them in a credential cache";
 
@@ -21,9 +20,6 @@ The same without a krb5.conf, and in another cache:
 Without --cache, it uses the file that KRB5CCNAME names, or else /tmp/krb5cc_ and the user's number. Without --realm or
 --kdc, it takes the default realm, and the realm's KDCs, from the file that KRB5_CONFIG names, or else from
 /etc/krb5.conf.
-
-A password that `kinit` asks for at a terminal shows as you type it. This hides it, and ends so after Ctrl-C too:
-  (trap 'stty echo' EXIT; trap 'exit 130' INT; stty -echo; kclient kinit alice)
 
 `kinit` and `kdestroy` print `ok`, and `kvno` prints the name and the key version of each service. A command that is
 refused prints `refused` with a reason, or with the error code of the KDC, and its status is 1. If a file, a socket,
@@ -211,51 +207,39 @@ const KDESTROY: SubcommandRow = SubcommandRow {
     flags: &[],
 };
 
-/// A command of a command line.
+/// A subcommand of the command line, as the tables have it.
 #[derive(Clone, Copy)]
-pub(crate) enum CommandKind {
+enum Subcommand {
     Kinit,
     Kvno,
     Klist,
     Kdestroy,
 }
 
-impl CommandKind {
+impl Subcommand {
     /// The commands, in the order of the help.
-    const ALL: [CommandKind; 4] = [
-        CommandKind::Kinit,
-        CommandKind::Kvno,
-        CommandKind::Klist,
-        CommandKind::Kdestroy,
+    const ALL: [Subcommand; 4] = [
+        Subcommand::Kinit,
+        Subcommand::Kvno,
+        Subcommand::Klist,
+        Subcommand::Kdestroy,
     ];
-
-    /// Returns the command with this name.
-    pub(crate) fn named(name: &str) -> Option<CommandKind> {
-        for kind in CommandKind::ALL {
-            if kind.words().name == name {
-                return Some(kind);
-            }
-        }
-        None
-    }
 
     /// Returns its name, its help, its options and its flags.
     fn words(self) -> &'static SubcommandRow {
         match self {
-            CommandKind::Kinit => &KINIT,
-            CommandKind::Kvno => &KVNO,
-            CommandKind::Klist => &KLIST,
-            CommandKind::Kdestroy => &KDESTROY,
+            Subcommand::Kinit => &KINIT,
+            Subcommand::Kvno => &KVNO,
+            Subcommand::Klist => &KLIST,
+            Subcommand::Kdestroy => &KDESTROY,
         }
     }
 }
 
-/// Reads the words; the first is the program's name.
-pub(crate) fn read_args<'a, S: AsStr>(
-    alloc: Global,
-    args: &'a [S],
-) -> Result<ArgMatches<'a>, Error> {
-    parser(alloc)?.try_get_matches_from(args)
+/// Parses the command line, whose first word is the program's name. Its values are then where `value_of` finds them:
+/// the parser takes no word that begins with `--` as a value, and no option of one value twice.
+pub(crate) fn read_args<'a>(alloc: Global, words: &'a [&'a str]) -> Result<ArgMatches<'a>, Error> {
+    parser(alloc)?.try_get_matches_from(words)
 }
 
 /// Returns the parser, with all commands.
@@ -265,19 +249,19 @@ fn parser<'a>(alloc: Global) -> Result<Command<'a>, AllocError> {
         .about(ABOUT)
         .after_help(AFTER_HELP)
         .subcommand_required(true);
-    for kind in CommandKind::ALL {
+    for kind in Subcommand::ALL {
         kclient = kclient.subcommand(command(alloc, kind)?)?;
     }
     Ok(kclient)
 }
 
 /// Returns a command with its options, flags and plain words.
-fn command<'a>(alloc: Global, kind: CommandKind) -> Result<Command<'a>, AllocError> {
+fn command<'a>(alloc: Global, kind: Subcommand) -> Result<Command<'a>, AllocError> {
     let command = subcommand(alloc, kind.words())?;
     match kind {
-        CommandKind::Kinit => kinit(alloc, command),
-        CommandKind::Kvno => command.arg(services(alloc)),
-        CommandKind::Klist | CommandKind::Kdestroy => Ok(command),
+        Subcommand::Kinit => kinit(alloc, command),
+        Subcommand::Kvno => command.arg(services(alloc)),
+        Subcommand::Klist | Subcommand::Kdestroy => Ok(command),
     }
 }
 

@@ -1,10 +1,11 @@
 //! Where a command works: its cache, and the KDCs of its realm, from its words or else from the environment.
-ghost use Rattle.std.specs.Prelude.{◌≡◌};
+ghost use Rattle.std.specs.Prelude.{◌≡◌, IfOk, string_bytes};
+ghost use Rattle.kclient.specs.Words.{IsCacheNamed, text_of};
 
 use crate::context::Context;
 use crate::words::word_fault;
 use clap::ArgMatches;
-use client_files::{Cause, ClientStore, Config, Defaults, Fault, NameOf, path_in};
+use client_files::{Cause, Fault, Host, NameOf, path_in};
 use client_login::{KdcPlace, Kdcs, TicketRequest, Transports};
 use cred_files::Credential;
 use krb_elements::KerberosString;
@@ -20,18 +21,17 @@ pub(crate) struct Granting<'a> {
     pub credential: &'a Credential,
 }
 
-/// Returns the path of the cache.
-pub(crate) fn cache_path<T: ClientStore>(
+/// Returns the path of the cache with this name, or else of the default one.
+pub(crate) fn cache_path(
     alloc: Global,
-    store: &mut T,
-    options: &ArgMatches<'_>,
-    defaults: &Defaults<'_>,
+    cache: Option<&str>,
+    host: &Host<'_>,
 ) -> Result<String, Fault>
-    ensures unchanged { T.world store.new ≡ T.world store.old }
+    ensures named { IfOk result (λ path. IsCacheNamed (text_of cache.entry) host.now (string_bytes path)) }
 {
-    match options.get_str("cache") {
+    match cache {
         Some(name) => Ok(String::from_str(alloc, path_in(name, NameOf::Cache)?)?),
-        None => defaults.cache_path(alloc, store),
+        None => host.cache_path(alloc),
     }
 }
 
@@ -63,27 +63,28 @@ fn has_kdcs<T, X>(context: &Context<T, X>) -> bool {
 
 /// Returns the realm that a word names, or the default realm. If no word names a KDC, it sets the KDCs to those of the
 /// realm in the `krb5.conf`.
-pub(crate) fn find_realm<T: ClientStore, X>(
+pub(crate) fn find_realm<T, X>(
     context: &mut Context<T, X>,
-    defaults: &Defaults<'_>,
+    host: &Host<'_>,
     given: Option<KerberosString>,
 ) -> Result<KerberosString, Fault>
-    ensures unchanged { T.world context.new.store ≡ T.world context.old.store }
+    ensures store { context.new.store ≡ context.old.store }
 {
     match given {
         Some(realm) if has_kdcs(context) => Ok(realm),
-        given => configure(context, defaults, given),
+        given => configure(context, host, given),
     }
 }
 
-fn configure<T: ClientStore, X>(
+fn configure<T, X>(
     context: &mut Context<T, X>,
-    defaults: &Defaults<'_>,
+    host: &Host<'_>,
     given: Option<KerberosString>,
 ) -> Result<KerberosString, Fault>
-    ensures unchanged { T.world context.new.store ≡ T.world context.old.store }
+    ensures store { context.new.store ≡ context.old.store }
 {
-    let config = read_config(context, defaults)?;
+    let config = host.config(context.alloc)?;
+    context.note_lines(config.notes())?;
     let realm = match given {
         Some(realm) => realm,
         None => config.default_realm(context.alloc)?,
@@ -94,26 +95,15 @@ fn configure<T: ClientStore, X>(
     Ok(realm)
 }
 
-fn read_config<T: ClientStore, X>(
-    context: &mut Context<T, X>,
-    defaults: &Defaults<'_>,
-) -> Result<Config, Fault>
-    ensures unchanged { T.world context.new.store ≡ T.world context.old.store }
-{
-    let config = Config::read(context.alloc, &mut context.store, defaults)?;
-    context.note_lines(config.notes())?;
-    Ok(config)
-}
-
 /// Returns the first ticket that the `krb5.conf` asks for, if there is one.
-pub(crate) fn configured_request<T: ClientStore, X>(
+pub(crate) fn configured_request<T, X>(
     context: &mut Context<T, X>,
-    defaults: &Defaults<'_>,
+    host: &Host<'_>,
 ) -> Result<TicketRequest, Fault>
-    ensures unchanged { T.world context.new.store ≡ T.world context.old.store }
+    ensures store { context.new.store ≡ context.old.store }
 {
     let alloc = context.alloc;
-    let Some(config) = Config::read_if_there(alloc, &mut context.store, defaults)? else {
+    let Some(config) = host.config_if_there(alloc)? else {
         return Ok(TicketRequest::PLAIN);
     };
     context.note_lines(config.notes())?;
@@ -121,15 +111,16 @@ pub(crate) fn configured_request<T: ClientStore, X>(
 }
 
 /// Sets the KDCs to those of a realm in the `krb5.conf`, if no word names one and that was not done before.
-pub(crate) fn use_kdcs_of<T: ClientStore, X>(
+pub(crate) fn use_kdcs_of<T, X>(
     context: &mut Context<T, X>,
-    defaults: &Defaults<'_>,
+    host: &Host<'_>,
     realm: &[u8],
 ) -> Result<(), Fault>
-    ensures unchanged { T.world context.new.store ≡ T.world context.old.store }
+    ensures store { context.new.store ≡ context.old.store }
 {
     if !has_kdcs(context) {
-        let config = read_config(context, defaults)?;
+        let config = host.config(context.alloc)?;
+        context.note_lines(config.notes())?;
         context.client.kdcs.places = config.kdcs(context.alloc, realm)?;
     }
     Ok(())

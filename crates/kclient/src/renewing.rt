@@ -1,5 +1,7 @@
 //! `kinit --renew` and `kinit --validate`: gets the ticket-granting ticket again (RFC 4120, sections 2.3 and 2.4).
-ghost use Rattle.std.specs.Prelude.{◌≡◌, IfOk, OnErr, OnOk};
+ghost use Rattle.std.specs.Prelude.{◌≡◌, IfOk, OnErr, OnOk, string_bytes};
+ghost use Rattle.command_line.specs.declared.status.Status.TheVariants.{Done};
+ghost use Rattle.kclient.specs.Words.{IsCacheNamed, text_of};
 ghost use Rattle.kclient.specs.Worlds.{CameFurther, Made};
 
 use crate::context::Context;
@@ -7,7 +9,7 @@ use crate::kinit::{generator, write_new};
 use crate::places::{Granting, cache_path, use_given_kdcs, use_kdcs_of};
 use crate::run::Printed;
 use clap::ArgMatches;
-use client_files::{Cause, ClientStore, Defaults, Fault, at, granting_ticket, read_cache};
+use client_files::{Cause, ClientStore, Fault, Host, at, granting_ticket, read_cache};
 use client_login::{AnyMessage, Renewal};
 use cred_files::{Cache, Credential};
 use krb_fields::TicketFlag;
@@ -15,23 +17,27 @@ use rand_chacha::ChaCha20Rng;
 use std::alloc::Global;
 
 /// Gets the cache's ticket-granting ticket again, and writes a new cache with it. After an `Err` no file is changed.
+#[tactic(auto, using(crate::proofs::Doing::made_there))]
 pub(crate) fn renew_ticket<T: ClientStore, X: AnyMessage>(
     context: &mut Context<T, X>,
+    cache: Option<&str>,
     options: &ArgMatches<'_>,
-    defaults: &Defaults<'_>,
+    host: &Host<'_>,
     renewal: Renewal,
 ) -> Result<Printed, Fault>
-    // Promise (made, unchanged): `kinit --renew` and `--validate` make a cache of the ticket that came under the
+    // Promise (made, status, unchanged): `kinit --renew` and `--validate` make a cache of the ticket that came under the
     // session key of the cache's; a refused one changes no file.
-    ensures made { OnOk result (
-        Made (CameFurther X.finds X.carries X.answers) (T.world context.old.store) (T.world context.new.store)) }
+    ensures made { OnOk result (Made (CameFurther X.finds X.carries X.answers)
+        (IsCacheNamed (text_of cache.entry) host.now) (T.world context.old.store) (T.world context.new.store)) }
+    ensures status { IfOk result (λ printed. printed.status ≡ Done) }
     ensures unchanged { OnErr result (T.world context.new.store ≡ T.world context.old.store) }
 {
-    let held = read_held(context, options, defaults)?;
+    let path = cache_path(context.alloc, cache, host)?;
+    let held = read_held(context, path, options)?;
     let mut rng = generator(context.alloc, &mut context.store, options)?;
     let path = held.path.as_str();
     let credential = renewable(context.alloc, path, &held.cache, renewal)?;
-    use_kdcs_of(context, defaults, held.cache.principal().realm.as_slice())?;
+    use_kdcs_of(context, host, held.cache.principal().realm.as_slice())?;
     renew_from(context, &mut rng, &Granting { path, credential }, renewal)
 }
 
@@ -44,13 +50,13 @@ struct HeldCache {
 
 fn read_held<T: ClientStore, X>(
     context: &mut Context<T, X>,
+    path: String,
     options: &ArgMatches<'_>,
-    defaults: &Defaults<'_>,
 ) -> Result<HeldCache, Fault>
+    ensures path { IfOk result (λ held. held.path ≡ path) }
     ensures store { T.world context.new.store ≡ T.world context.old.store }
 {
     let alloc = context.alloc;
-    let path = cache_path(alloc, &mut context.store, options, defaults)?;
     use_given_kdcs(alloc, &mut context.client.kdcs, options)?;
     let cache = read_cache(alloc, &mut context.store, path.as_str())?;
     Ok(HeldCache { path, cache })
@@ -64,8 +70,9 @@ fn renew_from<T: ClientStore, X: AnyMessage>(
     granting: &Granting<'_>,
     renewal: Renewal,
 ) -> Result<Printed, Fault>
-    ensures made { OnOk result (
-        Made (CameFurther X.finds X.carries X.answers) (T.world context.old.store) (T.world context.new.store)) }
+    ensures made { OnOk result (Made (CameFurther X.finds X.carries X.answers) (λ path. path ≡ granting.now.path.now)
+        (T.world context.old.store) (T.world context.new.store)) }
+    ensures status { IfOk result (λ printed. printed.status ≡ Done) }
     ensures unchanged { OnErr result (T.world context.new.store ≡ T.world context.old.store) }
 {
     let credential = renewed(context, rng, granting, renewal)?;

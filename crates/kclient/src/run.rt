@@ -1,40 +1,48 @@
 //! Running one command line: from its words to what is printed.
-ghost use Rattle.std.specs.Prelude.{◌≡◌};
-ghost use Rattle.kclient.specs.Worlds.{CameFirst, CameFurther, CommandLeaves};
+ghost use Rattle.std.specs.Prelude.{◌≡◌, ◌⊎◌, IfErr, IfOk, true};
+ghost use Rattle.command_line.specs.declared.status.Status.TheVariants.{Done};
+ghost use Rattle.kclient.specs.Ends.{IsCommandEnd, IsEnd, IsStopped, IsTried};
+ghost use Rattle.kclient.specs.Words.{asks_help, texts};
+ghost use Rattle.kclient.specs.Worlds.{CameFirst, CameFurther};
 
+use crate::commands::{Command, CommandKind, NO_COMMAND, read_command};
 use crate::context::Context;
 use crate::kinit::get_first;
 use crate::klist::{destroy, list};
 use crate::kvno::get_tickets;
-use crate::options::{CommandKind, read_args};
+use crate::options::read_args;
 use crate::renewing::renew_ticket;
-use crate::words::renewal;
+use crate::reports::{report, report_unwritten};
+use crate::values::asks_help;
+use crate::words::check_renewal;
 use clap::ArgMatches;
 use clap::error::{Error, ErrorKind};
-use client_files::{Cause, ClientStore, Defaults, Fault};
-use client_login::{AnyMessage, LoginError};
-use command_line::{Status, parse_status, print_failure, print_refusal, print_usage_error};
+use client_files::{Cause, ClientStore, Fault, Host};
+use client_login::AnyMessage;
+use command_line::{Status, parse_status};
 use std::alloc::{AllocError, Global};
-use std::convert::AsStr;
-use std::io;
 use std::io::{BufWriter, Write};
 
 /// What a command prints on standard output if no fault ends it, and its status.
 #[derive(Drop)]
 pub(crate) struct Printed {
-    text: String,
-    status: Status,
+    pub text: String,
+    pub status: Status,
 }
 
 impl Printed {
-    pub(crate) fn done(text: String) -> Printed {
+    pub(crate) fn done(text: String) -> Printed
+        ensures { result.status ≡ Done }
+    {
         Printed {
             text,
             status: Status::Done,
         }
     }
 
-    pub(crate) fn ok(alloc: Global) -> Result<Printed, AllocError> {
+    pub(crate) fn ok(alloc: Global) -> Result<Printed, AllocError>
+        ensures { IfOk result (λ printed. printed.status ≡ Done) }
+    {
         Ok(Printed::done(String::from_str(alloc, "ok\n")?))
     }
 
@@ -47,24 +55,27 @@ impl Printed {
 }
 
 /// Runs a command line, whose first word is the program's name, at the context's moment. It writes the result to
-/// `writer`, and explains failures on `errors`. The status is `Refused` because of a word, a file, the KDC or the
-/// client, and `Failed` because of a file, because no KDC replied, or because memory ran out. Unless it is `Done`, the
-/// cache is unchanged, with two exceptions: if only the printing failed, the status is `Failed` and the cache is
-/// written; and of several names, one that fails keeps the tickets of those before it.
-pub fn kclient_run<S: AsStr, T: ClientStore, X: AnyMessage, W: Write + Drop, E: Write + Drop>(
+/// `writer`, and explains failures on `errors`. `Done` means that what the words ask for was done, or that they ask for
+/// help. The status is `Refused` because of a word, a file, the KDC or the client, and `Failed` because of a file,
+/// because no KDC replied, or because memory ran out. Unless it is `Done`, the cache is unchanged, with two exceptions:
+/// if only the printing failed, the status is `Failed` and the cache is written; and of several names, one that fails
+/// keeps the tickets of those before it.
+#[tactic(auto, using(crate::proofs::Ending::failed_first))]
+pub fn kclient_run<T: ClientStore, X: AnyMessage, W: Write + Drop, E: Write + Drop>(
     context: &mut Context<T, X>,
-    args: &[S],
-    defaults: &Defaults<'_>,
+    words: &[&str],
+    host: &Host<'_>,
     writer: W,
     errors: E,
 ) -> Status
-    // The files are as before, or one path has what the command is for.
-    // Promise: **a command leaves the files as before, or one path has exactly what came**; every other path is
-    // unchanged.
-    // Promise: what came is a new cache of the one ticket; or the cache that the path had, with the tickets that came,
-    // each in place of the first one of its service, else at the end; or no file.
-    ensures world { CommandLeaves (CameFirst X.finds X.carries X.answers) (CameFurther X.finds X.carries X.answers)
-        (T.world context.old.store) (T.world context.new.store) }
+    // Promise: **a command line leaves what its words spell**: with status 0 the command that they name is done, in the
+    // cache that they or the computer name, or the help is asked for.
+    // Promise: with another status the files are as before, or `kvno` keeps the tickets before the name that stopped it;
+    // with 3 all may be done, and the printing failed.
+    // Promise: what is done leaves a new cache of the one ticket; or the cache that the path had, with the tickets that
+    // came, each in place of the first one of its service, else at the end; or no file. No other path changes.
+    ensures ended { IsEnd (CameFirst X.finds X.carries X.answers) (CameFurther X.finds X.carries X.answers)
+        (texts words.now) host.now (T.world context.old.store) result (T.world context.new.store) }
 {
     let Ok(mut errors) = BufWriter::new(context.alloc, errors) else {
         return Status::Failed;
@@ -77,22 +88,16 @@ pub fn kclient_run<S: AsStr, T: ClientStore, X: AnyMessage, W: Write + Drop, E: 
         }
     };
     context.begin();
-    let ended = run_command(context, args, defaults);
-    note_hosts(context, &ended);
-    match print(&mut out, &mut errors, context.notes(), &ended) {
-        Ok(status) => status,
-        Err(error) => {
-            report_unwritten(&mut errors, error);
-            Status::Failed
-        }
-    }
+    let end = run_words(context, words, host);
+    note_hosts(context, &end);
+    report(&mut out, &mut errors, context.notes(), &end)
 }
 
 /// Notes the hosts that have no known address, unless the command ended because of them.
-fn note_hosts<T, X>(context: &mut Context<T, X>, ended: &Result<Printed, Fault>)
+fn note_hosts<T, X>(context: &mut Context<T, X>, end: &Result<Printed, Fault>)
     ensures store { context.new.store ≡ context.old.store }
 {
-    match ended {
+    match end {
         Err(
             Fault {
                 cause: Cause::NotAnAddress,
@@ -106,95 +111,78 @@ fn note_hosts<T, X>(context: &mut Context<T, X>, ended: &Result<Printed, Fault>)
     }
 }
 
-#[tactic(auto, using(crate::proofs::Doing::did_make_first, crate::proofs::Doing::did_make_further, crate::proofs::Doing::did_fill, crate::proofs::Doing::did_remove, crate::proofs::Doing::did_nothing))]
-fn run_command<S: AsStr, T: ClientStore, X: AnyMessage>(
+/// Runs the command that the words spell, or returns the help that they ask for.
+#[tactic(auto, using(crate::proofs::Ending::help_end, crate::proofs::Ending::spelled_end, crate::proofs::Ending::spelled_stop, crate::proofs::Ending::stopped_same))]
+fn run_words<T: ClientStore, X: AnyMessage>(
     context: &mut Context<T, X>,
-    args: &[S],
-    defaults: &Defaults<'_>,
+    words: &[&str],
+    host: &Host<'_>,
 ) -> Result<Printed, Fault>
-    ensures world { CommandLeaves (CameFirst X.finds X.carries X.answers) (CameFurther X.finds X.carries X.answers)
-        (T.world context.old.store) (T.world context.new.store) }
+    ensures done { IfOk result (λ printed. IsEnd (CameFirst X.finds X.carries X.answers)
+        (CameFurther X.finds X.carries X.answers) (texts words.now) host.now
+        (T.world context.old.store) printed.status (T.world context.new.store)) }
+    ensures stopped { IfErr result (λ fault. IsStopped (CameFurther X.finds X.carries X.answers)
+        (texts words.now) host.now (T.world context.old.store) (T.world context.new.store)) }
 {
-    let matches = match read_args(context.alloc, args) {
+    let matches = match read_args(context.alloc, words) {
         Ok(matches) => matches,
-        Err(error) => return words_ended(context.alloc, &error),
+        Err(error) => return words_ended(context.alloc, words, &error),
     };
-    let Some((kind, options)) = chosen(&matches) else {
-        return Err(Fault::usage("a command is missing"));
+    let Some((_, options)) = matches.subcommand() else {
+        return Err(Fault::usage(NO_COMMAND));
     };
-    match (kind, renewal(options)?) {
-        (CommandKind::Kinit, Some(renewal)) => renew_ticket(context, options, defaults, renewal),
-        (CommandKind::Kinit, None) => get_first(context, options, defaults),
-        (CommandKind::Kvno, _) => get_tickets(context, options, defaults),
-        (CommandKind::Klist, _) => list(context, options, defaults),
-        (CommandKind::Kdestroy, _) => destroy(context, options, defaults),
+    let command = read_command(words)?;
+    run_command(context, &command, options, host)
+}
+
+/// Runs a command that was read.
+#[tactic(auto, using(crate::proofs::Doing::did_make_first, crate::proofs::Doing::did_make_further, crate::proofs::Doing::did_serve, crate::proofs::Doing::did_remove, crate::proofs::Doing::did_list, crate::proofs::Doing::did_stop, crate::proofs::Doing::did_stop_filling))]
+fn run_command<T: ClientStore, X: AnyMessage>(
+    context: &mut Context<T, X>,
+    command: &Command<'_>,
+    options: &ArgMatches<'_>,
+    host: &Host<'_>,
+) -> Result<Printed, Fault>
+    ensures done { IfOk result (λ printed. IsCommandEnd (CameFirst X.finds X.carries X.answers)
+        (CameFurther X.finds X.carries X.answers) command.now host.now
+        (T.world context.old.store) printed.status (T.world context.new.store)) }
+    ensures stopped { IfErr result (λ fault. (T.world context.new.store ≡ T.world context.old.store)
+        ⊎ IsTried (CameFurther X.finds X.carries X.answers) command.now host.now
+        (T.world context.old.store) (T.world context.new.store)) }
+{
+    let cache = command.cache;
+    match command.kind {
+        CommandKind::Kinit => get_first(context, cache, options, host),
+        CommandKind::Renew(renewal) => {
+            check_renewal(options)?;
+            renew_ticket(context, cache, options, host, renewal)
+        }
+        CommandKind::Kvno => get_tickets(context, cache, options, host),
+        CommandKind::Klist => list(context, cache, options, host),
+        CommandKind::Kdestroy => destroy(context, cache, host),
     }
 }
 
-/// Returns the command that the words give, and its options.
-fn chosen<'m, 'a>(matches: &'m ArgMatches<'a>) -> Option<(CommandKind, &'m ArgMatches<'a>)> {
-    let (name, options) = matches.subcommand()?;
-    Some((CommandKind::named(name)?, options))
-}
-
-/// Returns what is wrong with the words, or the help that they request.
-fn words_ended(alloc: Global, error: &Error) -> Result<Printed, Fault> {
+/// Returns what is wrong with the words, or the help that they ask for.
+fn words_ended(alloc: Global, words: &[&str], error: &Error) -> Result<Printed, Fault>
+    ensures { IfOk result (λ printed. printed.status ≡ Done → asks_help (texts words.now) ≡ true) }
+{
     if error.kind() == ErrorKind::OutOfMemory {
         return Err(Fault::from(AllocError));
     }
+    let text = format!(in alloc; "{error}")?;
     Ok(Printed {
-        text: format!(in alloc; "{error}")?,
-        status: parse_status(error),
+        text,
+        status: status_of_words(words, error),
     })
 }
 
-/// Prints what a command comes to, and returns its status. An error is a failed write.
-fn print<W: Write, E: Write>(
-    out: &mut W,
-    errors: &mut E,
-    notes: &str,
-    ended: &Result<Printed, Fault>,
-) -> io::Result<Status> {
-    write!(errors, "{notes}")?;
-    let status = match ended {
-        Ok(printed) => print_text(out, printed)?,
-        Err(fault) => print_fault(out, errors, fault)?,
-    };
-    out.flush()?;
-    errors.flush()?;
-    Ok(status)
-}
-
-fn print_text<W: Write>(out: &mut W, printed: &Printed) -> io::Result<Status> {
-    write!(out, "{}", printed.text)?;
-    Ok(printed.status)
-}
-
-/// Prints one word of a fault on standard output, and on standard error what it is and what it concerns. A usage error
-/// goes to standard output alone.
-fn print_fault<W: Write, E: Write>(
-    out: &mut W,
-    errors: &mut E,
-    fault: &Fault,
-) -> io::Result<Status> {
-    if matches!(fault.cause, Cause::Usage(_)) {
-        return print_usage_error(out, fault);
+/// Returns the status of words that the parser doesn't take.
+fn status_of_words(words: &[&str], error: &Error) -> Status
+    ensures { result ≡ Done → asks_help (texts words.now) ≡ true }
+{
+    if asks_help(words) {
+        return parse_status(error);
     }
-    let status = print_word(out, fault.cause)?;
-    writeln!(errors, "kclient: {fault}")?;
-    Ok(status)
-}
-
-fn print_word<W: Write>(out: &mut W, cause: Cause) -> io::Result<Status> {
-    match (cause, cause.name()) {
-        (Cause::Login(LoginError::Refused(error)), _) => print_refusal(out, &error.code),
-        (_, Some(name)) => print_refusal(out, &name),
-        (_, None) => print_failure(out),
-    }
-}
-
-/// Reports on standard error that standard output can't be written. If that fails too, there is nowhere to report it.
-fn report_unwritten<E: Write>(errors: &mut E, error: io::Error) {
-    let _ = writeln!(errors, "kclient: standard output: {error}");
-    let _ = errors.flush();
+    Status::Usage
 }

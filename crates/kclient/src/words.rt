@@ -3,7 +3,7 @@ use crate::context::NO_WORD;
 use crate::options::asks_for_first;
 use clap::ArgMatches;
 use client_files::{Cause, Fault, NameOf, path_in};
-use client_login::{Renewal, TicketRequest};
+use client_login::TicketRequest;
 use file_store::STANDARD_INPUT;
 use krb_elements::KerberosString;
 use krb_fields::{Name, component_from_text};
@@ -56,6 +56,17 @@ impl<'a> SecretWords<'a> {
             SecretWords::Asked => STANDARD_INPUT,
         }
     }
+
+    /// Returns why a login with this secret got no ticket. A keytab's key may be an old one.
+    pub(crate) fn explained(self, fault: Fault) -> Fault {
+        match self {
+            SecretWords::Keytab(_) => Fault {
+                subject: fault.subject,
+                cause: fault.cause.by_keytab(),
+            },
+            _ => fault,
+        }
+    }
 }
 
 // The text after `error:` if options don't go together, or a value is invalid.
@@ -82,8 +93,6 @@ pub(crate) const NO_SERVICE: &str =
 
 const TWO_SECRETS: &str = "--password-file and --keytab don't go together";
 
-const TWO_WAYS: &str = "--renew and --validate don't go together";
-
 const NO_FIRST: &str = "\
 --renew and --validate take the ticket of the cache: no option of a first ticket goes with them";
 
@@ -95,18 +104,12 @@ pub(crate) fn keytab_path<'a>(options: &ArgMatches<'a>) -> Result<Option<&'a str
     }
 }
 
-/// Returns what to do with a ticket that the client has; `None` if a first ticket is requested.
-pub(crate) fn renewal(options: &ArgMatches<'_>) -> Result<Option<Renewal>, Fault> {
-    let renewal = match (options.get_flag("renew"), options.get_flag("validate")) {
-        (true, true) => return Err(Fault::usage(TWO_WAYS)),
-        (true, false) => Renewal::Renew,
-        (false, true) => Renewal::Validate,
-        (false, false) => return Ok(None),
-    };
+/// Checks that no option of a first ticket stands beside `--renew` or `--validate`.
+pub(crate) fn check_renewal(options: &ArgMatches<'_>) -> Result<(), Fault> {
     if asks_for_first(options) {
         return Err(Fault::usage(NO_FIRST));
     }
-    Ok(Some(renewal))
+    Ok(())
 }
 
 /// Returns the words for a first ticket.

@@ -9,21 +9,21 @@ use Rattle.kadm.proofs.run.run_words.Goals as goal
 
 pub returns-in_err-status-clause-stopped : goal.returns-in_err-status-clause-stopped
 returns-in_err-status-clause-stopped g c =
-    let stopped : IsStopped (texts c.args.words.now) (g.T.Store.world c.args.store.now) c.in_err-status.field-0.0
+    let stopped : IsStopped (texts c.args.words.now) (g.T.Store.world c.args.store.now) (g.T.Store.input c.args.store.now) c.in_err-status.field-0.0
     (g.T.Store.world c.run_command.new.store)
-    = spelled_stop {A = Status} (Err c.in_err-status.field-0.0) _ _ c.in-Ok.command _ c.in-Ok.ensures c.in_err-status.ensures.stopped in
+    = spelled_stop {A = Status} (Err c.in_err-status.field-0.0) _ _ _ c.in-Ok.command _ c.in-Ok.ensures c.in_err-status.ensures.stopped in
     search rules
 
 pub returns-in_err-flush-2-clause-stopped : goal.returns-in_err-flush-2-clause-stopped
 returns-in_err-flush-2-clause-stopped g c =
-    let ended : IsEnd (texts c.args.words.now) (g.T.Store.world c.args.store.now) c.in_ok-status.status
+    let ended : IsEnd (texts c.args.words.now) (g.T.Store.world c.args.store.now) (g.T.Store.input c.args.store.now) c.in_ok-status.status
     (g.T.Store.world c.run_command.new.store)
-    = spelled_end {E = Stop} (Ok c.in_ok-status.status) _ _ c.in-Ok.command _ c.in-Ok.ensures c.in_ok-status.ensures.done in
-    let stopped : (stop : Stop) → IsFailed stop → IsStopped (texts c.args.words.now) (g.T.Store.world c.args.store.now) stop
+    = spelled_end {E = Stop} (Ok c.in_ok-status.status) _ _ _ c.in-Ok.command _ c.in-Ok.ensures c.in_ok-status.ensures.done in
+    let stopped : (stop : Stop) → IsFailed stop → IsStopped (texts c.args.words.now) (g.T.Store.world c.args.store.now) (g.T.Store.input c.args.store.now) stop
     (g.T.Store.world c.run_command.new.store)
-    = λ stop failed. failed_after _ _ c.in_ok-status.status stop _ ended failed in
+    = λ stop failed. failed_after _ _ _ c.in_ok-status.status stop _ ended failed in
     search rules
 
 pub returns-clause-done : goal.returns-clause-done
 returns-clause-done g c =
-    spelled_end {E = Stop} (Ok c.in_ok-status.status) _ _ c.in-Ok.command _ c.in-Ok.ensures c.in_ok-status.ensures.done
+    spelled_end {E = Stop} (Ok c.in_ok-status.status) _ _ _ c.in-Ok.command _ c.in-Ok.ensures c.in_ok-status.ensures.done

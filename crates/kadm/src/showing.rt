@@ -1,0 +1,167 @@
+//! The command that prints whole rows, without their keys.
+ghost use Rattle.std.specs.Prelude.{◌≡◌};
+
+use crate::json_lines::json_row;
+use crate::listing::types_of;
+use crate::patterns::is_like;
+use file_store::Store;
+use kadm_changes::{Context, Part, Reason, Refusal, Stop, Target, read_database};
+use krb_fields::{Name, NameFault};
+use principal_rows::Row;
+use principals::{ChangeFault, Database};
+use std::alloc::{AllocError, Global};
+use std::io;
+use std::io::Write;
+use text_fields::Setting;
+
+/// Which rows to show, and how. Without a pattern they are those of the names that the command gives.
+#[derive(Clone, Copy)]
+pub(crate) struct ShowArgs<'a> {
+    /// The pattern that the names fit, if there is one.
+    pub like: Option<&'a str>,
+    /// Whether a row is an object of JSON.
+    pub json: bool,
+}
+
+/// Prints each row that is asked for, or none if one of the names has none. Of several rows each begins with `principal
+/// NAME`. Then come its policy, with one field on each line as `policy` accepts it, and `version NUMBER TYPES` for each
+/// version, the current one first.
+pub(crate) fn print_rows<'p, T: Store, W: Write, E: Write>(
+    context: &mut Context<W, E>,
+    store: &mut T,
+    target: &Target<'p>,
+    show: ShowArgs<'_>,
+) -> Result<(), Stop<'p>>
+    ensures unchanged { T.world store.new ≡ T.world store.old }
+{
+    let alloc = context.alloc;
+    for name in &target.names {
+        read_name(alloc, name)?;
+    }
+    let database = read_database(context, store, target.db)?;
+    match show.like {
+        Some(pattern) => print_like(alloc, &mut context.out, &database, pattern, show.json),
+        None => {
+            check_rows(alloc, &database, &target.names)?;
+            print_named(alloc, &mut context.out, &database, &target.names, show.json)
+        }
+    }
+}
+
+/// Reads the text of a name. A refusal has this text.
+fn read_name(alloc: Global, text: &str) -> Result<Name, Stop<'_>> {
+    match Name::from_text(alloc, text) {
+        Ok(name) => Ok(name),
+        Err(NameFault::BadName) => Err(refused(text, Reason::BadName)),
+        Err(NameFault::Memory) => Err(Stop::from(AllocError)),
+    }
+}
+
+/// Returns the refusal of a name.
+fn refused(name: &str, reason: Reason) -> Stop<'_> {
+    Stop::Refused(Refusal {
+        part: Part::Name,
+        value: Some(name),
+        reason,
+    })
+}
+
+/// Refuses the first of these names that has no row.
+fn check_rows<'p>(alloc: Global, database: &Database, names: &[&'p str]) -> Result<(), Stop<'p>> {
+    for name in names {
+        let who = read_name(alloc, name)?;
+        if database.get(&who).is_none() {
+            return Err(refused(name, Reason::Change(ChangeFault::Absent)));
+        }
+    }
+    Ok(())
+}
+
+/// Prints the rows of these names.
+fn print_named<'p, W: Write>(
+    alloc: Global,
+    out: &mut W,
+    database: &Database,
+    names: &[&'p str],
+    json: bool,
+) -> Result<(), Stop<'p>> {
+    for name in names {
+        let who = read_name(alloc, name)?;
+        if let Some(row) = database.get(&who) {
+            print_row(alloc, out, name, row, json, names.len() > 1)?;
+        }
+    }
+    Ok(())
+}
+
+/// Prints the rows whose names fit a pattern, in the order of the names' texts.
+fn print_like<'p, W: Write>(
+    alloc: Global,
+    out: &mut W,
+    database: &Database,
+    pattern: &str,
+    json: bool,
+) -> Result<(), Stop<'p>> {
+    for text in &texts_like(alloc, database, pattern)? {
+        if let Ok(who) = Name::from_text(alloc, text)
+            && let Some(row) = database.get(&who)
+        {
+            print_row(alloc, out, text, row, json, true)?;
+        }
+    }
+    Ok(())
+}
+
+/// Returns the names that fit a pattern, in the order of their texts.
+fn texts_like(
+    alloc: Global,
+    database: &Database,
+    pattern: &str,
+) -> Result<Vec<String>, AllocError> {
+    let mut texts = Vec::new(alloc);
+    for place in 0..database.len() {
+        if let Some((name, _)) = database.at(place) {
+            let text = name.to_text(alloc)?;
+            if is_like(pattern, &text) {
+                texts.push(text)?;
+            }
+        }
+    }
+    texts.sort()?;
+    Ok(texts)
+}
+
+/// Prints a row, as an object of JSON or as lines. With a `title` its name comes before these.
+fn print_row<'p, W: Write>(
+    alloc: Global,
+    out: &mut W,
+    name: &str,
+    row: &Row,
+    json: bool,
+    title: bool,
+) -> Result<(), Stop<'p>> {
+    if json {
+        out.write_all(&json_row(alloc, name, row)?)?;
+        return Ok(writeln!(out)?);
+    }
+    if title {
+        writeln!(out, "principal {name}")?;
+    }
+    print_policy(row, out)?;
+    print_versions(alloc, row, out)
+}
+
+fn print_policy<W: Write>(row: &Row, out: &mut W) -> io::Result<()> {
+    for setting in Setting::all(row.policy) {
+        writeln!(out, "{setting}")?;
+    }
+    Ok(())
+}
+
+fn print_versions<'p, W: Write>(alloc: Global, row: &Row, out: &mut W) -> Result<(), Stop<'p>> {
+    for version in row.versions.as_slice() {
+        let types = types_of(alloc, &version.keys)?;
+        writeln!(out, "version {} {types}", version.number)?;
+    }
+    Ok(())
+}

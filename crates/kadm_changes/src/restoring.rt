@@ -1,0 +1,155 @@
+//! The command that puts a database from another file in place: a backup, or what another host has sent.
+ghost use Rattle.std.specs.Prelude.{◌≡◌, ◌≢◌, IfOk, OnErr, OnOk, bytes_eq, true};
+ghost use Rattle.kadm_changes.specs.Realm.{KeepsRealm, tgs_policy};
+ghost use Rattle.kadm_changes.specs.Restoring.{HasOrNot, IsOfRealm, Restored, replaced_policy};
+ghost use Rattle.kadm_changes.specs.Worlds.{HoldsDatabase};
+
+use crate::context::Context;
+use crate::databases::{lock_database, read_database, write_database};
+use crate::realm::{realm_end, report_realm, tgs_policy};
+use crate::reason::{Part, Reason};
+use crate::stop::Stop;
+use crate::target::Target;
+use file_store::{Store, Written, has_file, read_at_most};
+use principal_rows::Policy;
+use principals::Database;
+use principals_text::{LONGEST_TEXT, ReadFault, read_bytes};
+use std::alloc::{AllocError, Global};
+use std::io::Write;
+
+/// Puts the database of the file `from` in place, in the current version of the text. It has to be of the realm of the
+/// database that it replaces, if that can be read, and no more closed.
+pub fn restore<'p, T: Store, W: Write, E: Write>(
+    context: &mut Context<W, E>,
+    store: &mut T,
+    target: &Target<'p>,
+    from: &'p str,
+) -> Result<Written, Stop<'p>>
+    ensures done { OnOk result (Restored (T.world store.old) target.now.whole_realm target.now.db.now from.now (T.world store.new)) }
+    ensures unchanged { OnErr result (T.world store.new ≡ T.world store.old) }
+{
+    let alloc = context.alloc;
+    let database = read_from(context, store, from)?;
+    let locked = lock_database(context, store, target)?;
+    let old = read_replaced(alloc, store, target.db)?;
+    check_same_realm(&old, &database, from)?;
+    check_open(store, &old, &database, from, target.whole_realm)?;
+    let written = write_database(alloc, store, &locked, &database)?;
+    if target.whole_realm {
+        report_realm(alloc, &mut context.errors, &database);
+    }
+    Ok(written)
+}
+
+/// Reads the database to put in place. A refusal names its file.
+fn read_from<'p, T: Store, W: Write, E: Write>(
+    context: &mut Context<W, E>,
+    store: &mut T,
+    from: &'p str,
+) -> Result<Database, Stop<'p>>
+    ensures read { IfOk result (λ database. HoldsDatabase (T.world store.old) from.now database) }
+    ensures unchanged { T.world store.new ≡ T.world store.old }
+{
+    match read_database(context, store, from) {
+        Ok(database) => Ok(database),
+        Err(stop) => Err(stop.about(Part::Database, from)),
+    }
+}
+
+/// Reads the database that is to be replaced. `None` if there is no file, or if its text is no database: a restore then
+/// mends it.
+fn read_replaced<'p, T: Store>(
+    alloc: Global,
+    store: &mut T,
+    db: &'p str,
+) -> Result<Option<Database>, Stop<'p>>
+    ensures there { IfOk result (λ old. HasOrNot (T.world store.old) db.now old) }
+    ensures unchanged { T.world store.new ≡ T.world store.old }
+{
+    if !has_file(store, db)? {
+        return Ok(None);
+    }
+    let octets = read_at_most(alloc, store, db, LONGEST_TEXT)?;
+    match read_bytes(alloc, &octets) {
+        Ok(database) => Ok(Some(database)),
+        Err(fault) => {
+            let cause = fault.cause;
+            check_memory(cause)?;
+            Ok(None)
+        }
+    }
+}
+
+/// Fails if a text was not read because memory ran out.
+fn check_memory(cause: ReadFault) -> Result<(), Stop<'static>>
+    ensures { OnOk result (cause ≢ ReadFault.Memory) }
+{
+    match cause {
+        ReadFault::Memory => Err(Stop::from(AllocError)),
+        ReadFault::NotJson => Ok(()),
+        ReadFault::BadVersion => Ok(()),
+        ReadFault::BadRow => Ok(()),
+        ReadFault::NoTicketGranter => Ok(()),
+    }
+}
+
+/// Refuses a database of another realm than the one that it replaces.
+fn check_same_realm<'p>(
+    old: &Option<Database>,
+    new: &Database,
+    from: &'p str,
+) -> Result<(), Stop<'p>>
+    ensures { OnOk result (IsOfRealm old.now new.now) }
+{
+    match old {
+        Some(old) => check_realm_of(old, new, from),
+        None => Ok(()),
+    }
+}
+
+fn check_realm_of<'p>(old: &Database, new: &Database, from: &'p str) -> Result<(), Stop<'p>>
+    ensures { OnOk result (bytes_eq new.now.realm old.now.realm ≡ true) }
+{
+    if has_realm(new, old.realm()) {
+        return Ok(());
+    }
+    Err(Stop::refused_value(Part::Database, from, Reason::OtherRealm))
+}
+
+/// Checks whether a database is of this realm.
+fn has_realm(database: &Database, realm: &[u8]) -> bool
+    ensures { result ≡ bytes_eq database.now.realm realm.now }
+{
+    database.realm() == realm
+}
+
+/// Refuses a database in which nobody could log in, if that is not so in the one that it replaces. `whole` allows that.
+fn check_open<'p, T: Store>(
+    store: &mut T,
+    old: &Option<Database>,
+    new: &Database,
+    from: &'p str,
+    whole: bool,
+) -> Result<(), Stop<'p>>
+    ensures kept { OnOk result (KeepsRealm whole (T.world store.old) (replaced_policy old.now) (tgs_policy new.now)) }
+    ensures unchanged { T.world store.new ≡ T.world store.old }
+{
+    if whole {
+        return Ok(());
+    }
+    let end = realm_end(store, policy_of(old), tgs_policy(new))?;
+    match end {
+        Some(_) => Err(Stop::refused_value(Part::Database, from, Reason::EndedRealm)),
+        None => Ok(()),
+    }
+}
+
+/// Returns the policy of `krbtgt/REALM` that a database replaces; without one it is that of a new realm.
+fn policy_of(old: &Option<Database>) -> Policy
+    ensures { result ≡ replaced_policy old.now }
+{
+    match old {
+        Some(database) => tgs_policy(database),
+        None => Policy::default(),
+    }
+}

@@ -1,0 +1,85 @@
+//! The command that the words of a command line spell.
+ghost use Rattle.std.specs.Prelude.{◌≡◌, IfOk, Some, codes};
+ghost use Rattle.kclient.specs.Words.{IsKindSpelled, Spells, command_of, texts};
+
+use crate::values::{CACHE, command_of, has_flag, value_of};
+use client_files::Fault;
+use client_login::Renewal;
+
+/// What a command line asks for.
+#[derive(Clone, Copy)]
+pub(crate) struct Command<'a> {
+    pub kind: CommandKind,
+    /// The name of the cache; absent: the default one.
+    pub cache: Option<&'a str>,
+}
+
+/// What a command does.
+#[derive(Clone, Copy)]
+pub(crate) enum CommandKind {
+    /// Gets a first ticket.
+    Kinit,
+    /// Gets the ticket-granting ticket again.
+    Renew(Renewal),
+    /// Gets tickets for services.
+    Kvno,
+    /// Lists a cache or a keytab.
+    Klist,
+    /// Removes a cache.
+    Kdestroy,
+}
+
+// The text after `error:` if the words spell no command.
+
+pub(crate) const NO_COMMAND: &str = "a command is missing";
+
+const TWO_WAYS: &str = "--renew and --validate don't go together";
+
+/// Returns the command that the words spell.
+pub(crate) fn read_command<'a>(words: &[&'a str]) -> Result<Command<'a>, Fault>
+    // Promise: the command is the second word; the value of an option is the next word, or what follows `=`; behind `--`
+    // there is no option.
+    ensures { IfOk result (λ command. Spells (texts words.now) command) }
+{
+    let Some(name) = command_of(words) else {
+        return Err(Fault::usage(NO_COMMAND));
+    };
+    let kind = kind_of(name, words)?;
+    Ok(Command {
+        kind,
+        cache: value_of(words, CACHE),
+    })
+}
+
+/// Returns what the command with this name does.
+fn kind_of(name: &str, words: &[&str]) -> Result<CommandKind, Fault>
+    ensures { command_of (texts words.now) ≡ Some name.now
+        → IfOk result (λ kind. IsKindSpelled (texts words.now) kind) }
+{
+    if name == "kinit" {
+        return kinit_kind(words);
+    }
+    if name == "kvno" {
+        return Ok(CommandKind::Kvno);
+    }
+    if name == "klist" {
+        return Ok(CommandKind::Klist);
+    }
+    if name == "kdestroy" {
+        return Ok(CommandKind::Kdestroy);
+    }
+    Err(Fault::usage(NO_COMMAND))
+}
+
+/// Returns what `kinit` does.
+fn kinit_kind(words: &[&str]) -> Result<CommandKind, Fault>
+    ensures { command_of (texts words.now) ≡ Some (codes "kinit")
+        → IfOk result (λ kind. IsKindSpelled (texts words.now) kind) }
+{
+    match (has_flag(words, "--renew"), has_flag(words, "--validate")) {
+        (true, true) => Err(Fault::usage(TWO_WAYS)),
+        (true, false) => Ok(CommandKind::Renew(Renewal::Renew)),
+        (false, true) => Ok(CommandKind::Renew(Renewal::Validate)),
+        (false, false) => Ok(CommandKind::Kinit),
+    }
+}
