@@ -1,3 +1,4 @@
 mod Granting
 mod LoggingIn
+mod Presenting
 mod Same

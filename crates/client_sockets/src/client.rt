@@ -10,7 +10,7 @@ ghost use Rattle.client_files.specs.Configs.{ArePlacesOf, IsNamed};
 ghost use Rattle.client_sockets.specs.Clients.{IsGrantedFor, IsGrantedIn, IsLoggedIn, IsSeeded, IsServiceIn};
 ghost use Rattle.client_sockets.specs.Presenting.{IsPresentedAt};
 
-use crate::presented::{Presented, presented};
+use crate::presented::{Presented, make_presented};
 use crate::socket_network::SocketNetwork;
 use client_core::{is_presentable, session_key};
 use client_files::{
@@ -269,13 +269,13 @@ impl<X: AnyMessage + Drop, T: ClientStore + Drop> Client<X, T> {
         let alloc = self.kdc.alloc;
         let at = clock(alloc, &mut self.store)?;
         let Some(key) = session_key(ticket) else {
-            return Err(fault_of(alloc, &ticket.service, NOT_PRESENTABLE));
+            return Err(fault_of(alloc, &ticket.server, NOT_PRESENTABLE));
         };
         if !is_presentable(ticket) {
-            return Err(fault_of(alloc, &ticket.service, NOT_PRESENTABLE));
+            return Err(fault_of(alloc, &ticket.server, NOT_PRESENTABLE));
         }
         let confounder = draw_confounder(&mut self.rng);
-        match presented(alloc, ticket, key, at, &confounder) {
+        match make_presented(alloc, ticket, key, at, &confounder) {
             Ok(made) => Ok(made),
             Err(error) => Err(Fault::from(error)),
         }

@@ -39,7 +39,7 @@ impl Presented {
 }
 
 /// Returns the AP-REQ for a credential's ticket under its session key.
-pub(crate) fn presented(
+pub(crate) fn make_presented(
     alloc: Global,
     credential: &Credential,
     key: Key,
