@@ -1,5 +1,6 @@
 //! The command that prints what an administrator should check.
-ghost use Rattle.std.specs.Prelude.{◌≡◌};
+ghost use Rattle.std.specs.Prelude.{◌≡◌, IfOk};
+ghost use Rattle.kadm.specs.Printed.{HasDatabase};
 
 use crate::json_lines::json_finding;
 use enctypes::Etype;
@@ -33,12 +34,14 @@ pub(crate) struct LintArgs {
 /// Prints a line for each thing to check, with the command that mends it behind a `#`: first those of the file, which
 /// begin with `@database`, as no name does, and then those of principals, in the order of the names' texts. No command
 /// removes a principal or lets one in that can't log in. Returns whether there is a line.
+#[tactic(auto, using(crate::proofs::ReadDatabases::has_database))]
 pub(crate) fn print_lint<'p, T: Store, W: Write, E: Write>(
     context: &mut Context<W, E>,
     store: &mut T,
     db: &'p str,
     lint: LintArgs,
 ) -> Result<bool, Stop<'p>>
+    ensures read { IfOk result (λ found. HasDatabase (T.world store.old) db.now) }
     ensures unchanged { T.world store.new ≡ T.world store.old }
 {
     let database = read_database(context, store, db)?;

@@ -1,5 +1,6 @@
 //! The commands that print the contents of a database, without keys.
-ghost use Rattle.std.specs.Prelude.{◌≡◌};
+ghost use Rattle.std.specs.Prelude.{◌≡◌, OnOk};
+ghost use Rattle.kadm.specs.Printed.{HasDatabase};
 
 use crate::json_lines::{behind_name, json_line};
 use crate::patterns::is_like;
@@ -26,12 +27,14 @@ pub(crate) struct ListArgs<'a> {
 
 /// Prints `NAME VERSION TYPES` for each principal whose name fits, in the order of the names' texts. A long line
 /// continues with `EXPIRES PASSWORD_EXPIRES DISABLED VERSIONS SERVICE`. An object of JSON has all of a row but keys.
+#[tactic(auto, using(crate::proofs::ReadDatabases::has_database))]
 pub(crate) fn print_list<'p, T: Store, W: Write, E: Write>(
     context: &mut Context<W, E>,
     store: &mut T,
     db: &'p str,
     list: ListArgs<'_>,
 ) -> Result<(), Stop<'p>>
+    ensures read { OnOk result (HasDatabase (T.world store.old) db.now) }
     ensures unchanged { T.world store.new ≡ T.world store.old }
 {
     let database = read_database(context, store, db)?;

@@ -1,5 +1,6 @@
 //! The command that prints whole rows, without their keys.
-ghost use Rattle.std.specs.Prelude.{◌≡◌};
+ghost use Rattle.std.specs.Prelude.{◌≡◌, OnOk};
+ghost use Rattle.kadm.specs.Printed.{HasDatabase};
 
 use crate::json_lines::json_row;
 use crate::listing::types_of;
@@ -26,12 +27,14 @@ pub(crate) struct ShowArgs<'a> {
 /// Prints each row that is asked for, or none if one of the names has none. Of several rows each begins with `principal
 /// NAME`. Then come its policy, with one field on each line as `policy` accepts it, and `version NUMBER TYPES` for each
 /// version, the current one first.
+#[tactic(auto, using(crate::proofs::ReadDatabases::has_database))]
 pub(crate) fn print_rows<'p, T: Store, W: Write, E: Write>(
     context: &mut Context<W, E>,
     store: &mut T,
     target: &Target<'p>,
     show: ShowArgs<'_>,
 ) -> Result<(), Stop<'p>>
+    ensures read { OnOk result (HasDatabase (T.world store.old) target.now.db.now) }
     ensures unchanged { T.world store.new ≡ T.world store.old }
 {
     let alloc = context.alloc;
