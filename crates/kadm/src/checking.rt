@@ -18,7 +18,6 @@ const NEWEST_END: &str = "\"version\":3}";
 
 /// Prints `realm REALM`, `rows COUNT` and `version NUMBER`, and then the lines of `lint`. A file that is no database is
 /// refused.
-#[tactic(auto, using(crate::proofs::ReadDatabases::has_database))]
 pub(crate) fn print_check<'p, T: Store, W: Write, E: Write>(
     context: &mut Context<W, E>,
     store: &mut T,

@@ -34,7 +34,6 @@ pub(crate) struct LintArgs {
 /// Prints a line for each thing to check, with the command that mends it behind a `#`: first those of the file, which
 /// begin with `@database`, as no name does, and then those of principals, in the order of the names' texts. No command
 /// removes a principal or lets one in that can't log in. Returns whether there is a line.
-#[tactic(auto, using(crate::proofs::ReadDatabases::has_database))]
 pub(crate) fn print_lint<'p, T: Store, W: Write, E: Write>(
     context: &mut Context<W, E>,
     store: &mut T,

@@ -27,7 +27,6 @@ pub(crate) struct ListArgs<'a> {
 
 /// Prints `NAME VERSION TYPES` for each principal whose name fits, in the order of the names' texts. A long line
 /// continues with `EXPIRES PASSWORD_EXPIRES DISABLED VERSIONS SERVICE`. An object of JSON has all of a row but keys.
-#[tactic(auto, using(crate::proofs::ReadDatabases::has_database))]
 pub(crate) fn print_list<'p, T: Store, W: Write, E: Write>(
     context: &mut Context<W, E>,
     store: &mut T,

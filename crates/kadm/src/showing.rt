@@ -27,7 +27,6 @@ pub(crate) struct ShowArgs<'a> {
 /// Prints each row that is asked for, or none if one of the names has none. Of several rows each begins with `principal
 /// NAME`. Then come its policy, with one field on each line as `policy` accepts it, and `version NUMBER TYPES` for each
 /// version, the current one first.
-#[tactic(auto, using(crate::proofs::ReadDatabases::has_database))]
 pub(crate) fn print_rows<'p, T: Store, W: Write, E: Write>(
     context: &mut Context<W, E>,
     store: &mut T,
