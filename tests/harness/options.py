@@ -31,8 +31,8 @@ BAD = {
 }
 GOOD = {
     "db": "database", "realm": REALM, "name": "n", "seed": "seed", "password-file": "pw", "types": "18", "version": "1",
-    "field": "disabled", "value": "true", "out": "kt", "keytab": "kt", "from": "database", "udp": "127.0.0.1:0", "cache": "cc",
-    "log-format": "text", "journal": "j", "journal-size": "1M",
+    "field": "disabled", "value": "true", "out": "kt", "keytab": "kt", "from": "database", "udp": "127.0.0.1:0",
+    "cache": "cc", "log-format": "text", "journal": "j", "journal-size": "1M",
 }
 # What is behind the name of an option: it is required, may be given more than once, has no value, may have none, or its
 # value is a number.

@@ -7,7 +7,8 @@ use Rattle.file_store.specs.declared.faults.FileCause.{FileCause}
 use Rattle.file_store.specs.declared.faults.FileCause.TheVariants.{LongFile, ShortSeed, Failed}
 use Rattle.kadm.specs.Batches.{IsBatchDone}
 use Rattle.kadm_changes.specs.Stops.{IsFailed, IsFailure}
-use Rattle.kadm.specs.Ends.{IsEnd, IsFileCauseStatus, IsReported, IsCommandEnd, IsCommandStopped, IsStatusOf, IsStopped, IsDone, IsKindDone, IsPrinted, IsTried, IsWriteDone}
+use Rattle.kadm.specs.Ends.{IsEnd, IsFileCauseStatus, IsReported, IsCommandEnd, IsCommandStopped, IsStatusOf, IsStopped, IsDone, IsKindDone, IsTried, IsWriteDone}
+use Rattle.kadm.specs.Printed.{HasDatabase, IsPrinted}
 use Rattle.kadm_changes.specs.Texts.{Text}
 use Rattle.kadm.specs.Words.{Spells}
 use Rattle.kadm_changes.specs.declared.target.Target.{Target}
@@ -46,13 +47,13 @@ pub write_refused : (before : Option World) (input : Option Input) (command : Co
 write_refused before input command write after is tried = inr (write_tried before input command write after is tried)
 
 pub print_end : {E : Type 0} (r : Result Status E) (before : Option World) (input : Option Input) (command : Command) (print : PrintCommand) (after : Option World)
-    → command.kind ≡ kinds.Print print → after ≡ before → IfOk r (λ status. IsPrinted status print) → IfOk r (λ status. IsCommandEnd before input command status after)
-print_end (Ok statuses.Done) before input command print after is same printed =
-    subst (λ kind. IsKindDone before input command.target kind after) (sym is) same
-print_end (Ok statuses.Refused) before input command print after is same printed = inl same
-print_end (Ok statuses.Usage) before input command print after is same printed = absurd printed
-print_end (Ok statuses.Failed) before input command print after is same printed = absurd printed
-print_end (Err e) before input command print after is same printed = tt
+    → command.kind ≡ kinds.Print print → after ≡ before → IfOk r (λ status. HasDatabase before command.target.db.now) → IfOk r (λ status. IsPrinted status print) → IfOk r (λ status. IsCommandEnd before input command status after)
+print_end (Ok statuses.Done) before input command print after is same has printed =
+    subst (λ kind. IsKindDone before input command.target kind after) (sym is) (same, has)
+print_end (Ok statuses.Refused) before input command print after is same has printed = inl same
+print_end (Ok statuses.Usage) before input command print after is same has printed = absurd printed
+print_end (Ok statuses.Failed) before input command print after is same has printed = absurd printed
+print_end (Err e) before input command print after is same has printed = tt
 
 -- ---- words
 

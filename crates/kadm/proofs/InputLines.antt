@@ -1,44 +1,48 @@
 -- The lines of a batch, as they are read from the input.
 use Rattle.std.proofs.Common.{◌≡◌, ◌∙◌, ◌++◌, ◌<◌, ℕ, List, [], ◌∷◌, IfSome, Option, Some, None, ap, arith, length, map, refl, string_bytes, subst, sym}
-use Rattle.std.specs.Prelude.{unwrap_or}
 use Rattle.std.proofs.lemmas.List.{append-nil, append_assoc, map-append}
 use Rattle.file_store.specs.Input.{HasEnded, Input, TakesLine}
 use Rattle.kadm.specs.Batches.{input_text, input_texts, line_text, line_texts}
-use Rattle.kadm.specs.Lines.{AreInput, input_words, with_words, worded}
+use Rattle.kadm.specs.Lines.{AreInput, AreWords, IsLineAdded, with_words}
 use Rattle.text_fields.specs.LineWords.{words_of_line}
 use Rattle.kadm.specs.declared.batch.BatchLine.{BatchLine}
 use Rattle.kadm.specs.declared.batch.InputLine.{InputLine}
 use Rattle.kadm_changes.specs.Texts.{Text}
 
--- the lines of the input are those that were read and those that are left
+-- the lines of the input are those that were read, and what the lines that are left have
 abbrev pub ReadOn : Option Input → List (List Text) → Option Input → Type 0
 ReadOn first so_far now =
-    IfSome first (λ held. (left : List (List ℕ)) × (now ≡ Some (record held { lines = left })) × (so_far ++ worded left ≡ worded held.lines))
+    IfSome first (λ held. (left : List (List ℕ)) × (now ≡ Some (record held { lines = left }))
+    × ((later : List (List Text)) → AreWords left later → AreWords held.lines (so_far ++ later)))
 
 pub none_read : (first : Option Input) → ReadOn first [] first
 none_read None = tt
-none_read (Some held) = (held.lines, refl, refl)
+none_read (Some held) = (held.lines, refl, λ later are. are)
 
 before : (words : List Text) (lines : List (List Text)) → with_words words lines ≡ with_words words [] ++ lines
 before [] lines = refl
 before (word ∷ words) lines = refl
 
 pub read_on : (first now next : Option Input) (so_far more : List (List Text)) (line : List ℕ) → ReadOn first so_far now
-    → TakesLine now line next → more ≡ so_far ++ with_words (input_words line) [] → ReadOn first more next
-read_on None now next so_far more line read taken pushed = tt
-read_on (Some held) now next so_far more line (left, is, whole) taken pushed =
+    → TakesLine now line next → IsLineAdded line so_far more → ReadOn first more next
+read_on None now next so_far more line read taken added = tt
+read_on (Some held) now next so_far more line (left, is, whole) taken (words, split, pushed) =
     let took = subst (λ input. TakesLine input line next) is taken in (
       took.0,
       took.2,
-      ap (λ all. all ++ worded took.0) pushed ∙ append_assoc so_far (with_words (input_words line) []) (worded took.0)
-          ∙ ap (λ rest. so_far ++ rest) (sym (before (input_words line) (worded took.0)) ∙ ap worded (sym took.1)) ∙ whole,
+      λ later are.
+          subst (AreWords held.lines)
+          (ap (λ rest. so_far ++ rest) (before words later) ∙ sym (append_assoc so_far (with_words words []) later)
+          ∙ ap (λ all. all ++ later) (sym pushed))
+          (whole (with_words words later)
+          (subst (λ lines. AreWords lines (with_words words later)) (sym took.1) (words, split, later, are, refl))),
     )
 
 pub all_read : (first now : Option Input) (so_far : List (List Text)) → ReadOn first so_far now → HasEnded now → AreInput first so_far
 all_read None now so_far read ended = tt
 all_read (Some held) now so_far (left, is, whole) ended =
     let none = subst HasEnded is ended in
-    sym (append-nil so_far) ∙ ap (λ rest. so_far ++ worded rest) (sym none) ∙ whole
+    subst (AreWords held.lines) (append-nil so_far) (whole [] (subst (λ lines. AreWords lines []) (sym none) refl))
 
 -- a line is taken from those that are left
 pub moved_on : (all : List (List Text)) (so_far more : List BatchLine) (now next : List InputLine) (line : InputLine) (made : BatchLine)
@@ -63,17 +67,18 @@ worded_one text (word ∷ words) some = refl
 
 -- a line with words is added
 pub line_pushed : (lines more : List InputLine) (line : InputLine) (octets : List ℕ) → words_of_line octets ≡ Some (input_text line)
-    → 0 < length line.words.items → more ≡ lines ++ line ∷ [] → input_texts more ≡ input_texts lines ++ with_words (input_words octets) []
-line_pushed lines more line octets is some pushed =
-    ap input_texts pushed ∙ map-append input_text lines (line ∷ [])
-    ∙ ap (λ added. input_texts lines ++ added)
-    (sym (ap (λ found. with_words (unwrap_or found []) []) is ∙ worded_one string_bytes line.words.items some))
+    → 0 < length line.words.items → more ≡ lines ++ line ∷ [] → IsLineAdded octets (input_texts lines) (input_texts more)
+line_pushed lines more line octets is some pushed = (
+  input_text line,
+  is,
+  ap input_texts pushed ∙ map-append input_text lines (line ∷ [])
+      ∙ ap (λ added. input_texts lines ++ added) (sym (worded_one string_bytes line.words.items some)),
+)
 
 -- one without words is not
 pub none_pushed : {A : Type 0} (text : A → Text) (lines : List InputLine) (words : List A) (octets : List ℕ)
-    → words_of_line octets ≡ Some (map text words) → length words ≡ 0 → input_texts lines ≡ input_texts lines ++ with_words (input_words octets) []
-none_pushed text lines [] octets is none =
-    sym (append-nil (input_texts lines)) ∙ ap (λ found. input_texts lines ++ with_words (unwrap_or found []) []) (sym is)
+    → words_of_line octets ≡ Some (map text words) → length words ≡ 0 → IsLineAdded octets (input_texts lines) (input_texts lines)
+none_pushed text lines [] octets is none = ([], is, sym (append-nil (input_texts lines)))
 none_pushed text lines (word ∷ words) octets is none = absurd (omega (arith, none))
 
 pub nothing_left : {A : Type 0} (items : List A) → length items ≡ 0 → items ≡ []

@@ -4,4 +4,5 @@ mod Gathering
 mod InputLines
 mod Naming
 mod Opening
+mod ReadDatabases
 mod Reading

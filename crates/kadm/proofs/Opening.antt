@@ -223,7 +223,7 @@ tried_open before input db whole after without (lines, given, is) =
 
 kind_open : (before : Option World) (input : Option Input) (target : Target) (kind : CommandKind) (after : Option World) → target.whole_realm ≡ false
     → IsKindDone before input target kind after → StaysOpen target.db.now before after
-kind_open before input target (kinds.Print what) after without same = same_open target.db.now before after same
+kind_open before input target (kinds.Print what) after without (same, has) = same_open target.db.now before after same
 kind_open before input target (kinds.Write write) after without is = command_open before input target write after without is
 
 some_same : (a b : Text) → Some a ≡ Some b → a ≡ b

@@ -1,8 +1,8 @@
 -- Lines of a batch whose passwords were read.
-use Rattle.std.proofs.Common.{◌≡◌, ◌≤◌, ◌-◌, All, IfSome, List, [], ◌∷◌, Option, Some, None, arith, drop, get_or, length, subst, sym, take}
+use Rattle.std.proofs.Common.{◌≡◌, ◌≤◌, ◌-◌, ◌++◌, All, IfSome, List, [], ◌∷◌, Option, Some, None, arith, drop, get_or, length, subst, sym, take}
 use Rattle.std.specs.Borrow.{Bor}
 use Rattle.std.specs.Option.{option_copied}
-use Rattle.std.proofs.lemmas.List.Elements.{All-drop, All-take}
+use Rattle.std.proofs.lemmas.List.Elements.{All-drop, All-push, All-take}
 use Rattle.file_store.specs.World.{World}
 use Rattle.kadm_changes.specs.Found.{IsFound, IsFoundIn}
 use Rattle.kadm_changes.specs.declared.passwords.FoundPassword.{FoundPassword}
@@ -28,3 +28,10 @@ lent world (Some held) read = read
 pub found_in : (world : Option World) (line : BatchLine) (found : Option (Bor FoundPassword)) → option_copied found ≡ line.password
     → IsLineRead world line → IsFoundIn world found
 found_in world line found is read = lent world found (subst (λ held. IfSome held (λ f. IsFound world f)) (sym is) read)
+
+-- a line whose password was read is added to those whose passwords were read
+pub line_added : (now first : Option World) (so_far more : List BatchLine) (made : BatchLine) → now ≡ first → All (IsLineRead first) so_far
+    → IfSome made.password (λ found. IsFound now found) → more ≡ so_far ++ made ∷ [] → All (IsLineRead first) more
+line_added now first so_far more made kept all read pushed =
+    subst (All (IsLineRead first)) (sym pushed)
+    (All-push (IsLineRead first) so_far made all (subst (λ world. IfSome made.password (λ found. IsFound world found)) kept read))

@@ -12,12 +12,11 @@ use Rattle.kadm.specs.Values.{has_flag, value_of}
 use Rattle.kadm.specs.Words.{Spells, asks_help}
 use Rattle.kadm_changes.specs.Worlds.{MadeFromDump, MadeRealm, Updated, WroteKeytab}
 use Rattle.kadm.specs.Lines.{Batched, Tried}
+use Rattle.kadm.specs.Printed.{HasDatabase}
 use Rattle.kadm_changes.specs.declared.target.Target.{Target}
 use Rattle.kadm.specs.declared.commands.Command.{Command}
 use Rattle.kadm.specs.declared.commands.CommandKind.{CommandKind}
 use Rattle.kadm.specs.declared.commands.CommandKind.TheVariants.{Print, Write}
-use Rattle.kadm.specs.declared.printing.PrintCommand.{PrintCommand}
-use Rattle.kadm.specs.declared.printing.PrintCommand.TheVariants as prints
 use Rattle.kadm.specs.declared.writing.WriteCommand.{WriteCommand}
 use Rattle.kadm.specs.declared.writing.WriteCommand.TheVariants as writes
 use Rattle.command_line.specs.declared.status.Status.{Status}
@@ -50,16 +49,6 @@ abbrev pub IsReported : Result Status Stop → Status → Type 0
 IsReported (Ok status) reported = reported ≡ status
 IsReported (Err stop) reported = IsStatusOf stop reported
 
--- the status of a command that prints: only `lint --check` says by it what it found
-abbrev pub IsPrinted : Status → PrintCommand → Type 0
-IsPrinted statuses.Done print = Unit {0}
-IsPrinted statuses.Refused (prints.Lint lint) = lint.check ≡ true
-IsPrinted statuses.Refused (prints.List list) = ⊥
-IsPrinted statuses.Refused (prints.Show show) = ⊥
-IsPrinted statuses.Refused prints.Check = ⊥
-IsPrinted statuses.Usage print = ⊥
-IsPrinted statuses.Failed print = ⊥
-
 -- ---- what is done
 
 -- the effect of each command, from the world before it to the one after it
@@ -74,7 +63,7 @@ CommandLeaves before input target (writes.Dump from) after = MadeFromDump before
 CommandLeaves before input target (writes.Restore from) after = Restored before target.whole_realm target.db.now from.now after
 
 abbrev pub IsKindDone : Option World → Option Input → Target → CommandKind → Option World → Type 0
-IsKindDone before input target (Print what) after = after ≡ before
+IsKindDone before input target (Print what) after = (after ≡ before) × HasDatabase before target.db.now
 IsKindDone before input target (Write write) after = CommandLeaves before input target write after
 
 abbrev pub IsDone : Option World → Option Input → Command → Option World → Type 0

@@ -2,5 +2,6 @@ pub mod Assigning
 pub mod Batches
 pub mod Ends
 pub mod Lines
+pub mod Printed
 pub mod Values
 pub mod Words

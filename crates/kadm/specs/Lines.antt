@@ -1,5 +1,5 @@
 -- The effect of the lines of a batch, one after another.
-use Rattle.std.specs.Prelude.{◌≡◌, ◌⊎◌, ℕ, Bool, true, false, List, [], ◌∷◌, IfSome, Option, unwrap_or}
+use Rattle.std.specs.Prelude.{◌≡◌, ◌⊎◌, ◌++◌, ℕ, Bool, true, false, List, [], ◌∷◌, IfSome, Option, Some}
 use Rattle.file_store.specs.Input.{Input, no_input}
 use Rattle.file_store.specs.World.{World}
 use Rattle.text_fields.specs.LineWords.{words_of_line}
@@ -52,23 +52,25 @@ IsTurn world allowed db line whole p new whole_then =
 
 -- ---- the input
 
--- the words of a line of the input; an empty line and a comment have none
-abbrev pub input_words : List ℕ → List Text
-input_words line = unwrap_or (words_of_line line) []
-
--- before the lines of these words, unless there are none
+-- before the lines of these words, unless there are none: an empty line and a comment have none
 abbrev pub with_words : List Text → List (List Text) → List (List Text)
 with_words [] lines = lines
 with_words (word ∷ words) lines = (word ∷ words) ∷ lines
 
--- the lines that have words, in their order
-abbrev pub worded : List (List ℕ) → List (List Text)
-worded [] = []
-worded (line ∷ lines) = with_words (input_words line) (worded lines)
+-- the words of each line that has any, in their order; every line can be split into words
+abbrev pub AreWords : List (List ℕ) → List (List Text) → Type 0
+AreWords [] worded = worded ≡ []
+AreWords (line ∷ lines) worded =
+    (words : List Text) × (words_of_line line ≡ Some words) × (later : List (List Text)) × AreWords lines later
+    × (worded ≡ with_words words later)
+
+-- these lines with the words of one more line
+abbrev pub IsLineAdded : List ℕ → List (List Text) → List (List Text) → Type 0
+IsLineAdded line old new = (words : List Text) × (words_of_line line ≡ Some words) × (new ≡ old ++ with_words words [])
 
 -- the lines of a batch are those of the input: each of them, once, in their order
 abbrev pub AreInput : Option Input → List (List Text) → Type 0
-AreInput input lines = IfSome input (λ held. lines ≡ worded held.lines)
+AreInput input lines = IfSome input (λ held. AreWords held.lines lines)
 
 -- ---- the files
 

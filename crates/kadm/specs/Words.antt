@@ -33,10 +33,13 @@ abbrev pub behind_command : Text → List Text → List Text
 behind_command db (program ∷ command ∷ others) = program ∷ command ∷ codes "--db" ∷ db ∷ others
 behind_command db words = words
 
+-- the subcommand is `help`
+abbrev pub begins_help : List Text → Bool
+begins_help words = bytes_eq (unwrap_or (command_of words) []) (codes "help")
+
 -- the words name no database, and don't begin with `help`, which takes none
 abbrev pub lacks_db : List Text → Bool
-lacks_db words =
-    not (is_some (value_of words (codes "--db"))) && not (bytes_eq (unwrap_or (command_of words) []) (codes "help"))
+lacks_db words = not (is_some (value_of words (codes "--db"))) && not (begins_help words)
 
 -- the words of a command line; if it names no database, then with the one that the environment names
 abbrev pub with_db : Option Text → List Text → List Text
@@ -111,7 +114,7 @@ in_batch db line = with_names (batch_words db line)
 -- the help or the version is asked for
 abbrev pub asks_help : List Text → Bool
 asks_help words =
-    has_flag words (codes "help") || (has_flag words (codes "--help") || (has_flag words (codes "-h")
+    begins_help words || (has_flag words (codes "--help") || (has_flag words (codes "-h")
     || (has_flag words (codes "--version") || has_flag words (codes "-V"))))
 
 -- ---- the settings of a policy

@@ -1,10 +1,10 @@
 //! Many changes of one database: each line of standard input is a command. The database is read once and written once.
-ghost use Rattle.std.specs.Prelude.{◌≡◌, ◌++◌, [], All, IfNone, IfOk, IfSome, OnErr, OnOk, true};
+ghost use Rattle.std.specs.Prelude.{◌≡◌, All, IfNone, IfOk, IfSome, OnErr, OnOk, true};
 ghost use Rattle.file_store.specs.Input.{HasEnded, TakesLine};
 ghost use Rattle.kadm_changes.specs.Found.{IsFound, IsFoundIn};
 ghost use Rattle.kadm_changes.specs.Texts.{texts};
 ghost use Rattle.kadm.specs.Batches.{IsBatchDone, IsLineRead, input_texts, line_text, line_texts};
-ghost use Rattle.kadm.specs.Lines.{AreDone, AreInput, IsLineDone, IsCommandMade, IsRun, IsSpelledMade, IsTurn, input_words, with_words};
+ghost use Rattle.kadm.specs.Lines.{AreDone, AreInput, IsCommandMade, IsLineAdded, IsLineDone, IsRun, IsSpelledMade, IsTurn};
 
 use crate::commands::{Command, CommandKind, WHOLE_REALM, read_args, read_command};
 use crate::outcome::Outcome;
@@ -123,6 +123,7 @@ fn read_lines<T: Store, E: Write>(
     store: &mut T,
     errors: &mut E,
 ) -> Result<Vec<InputLine>, Stop<'static>>
+    // Promise: the lines of a batch are those of standard input: each of them, once, in their order.
     ensures read { IfOk result (λ lines. AreInput (T.input store.old) (input_texts lines.items)) }
     ensures unchanged { T.world store.new ≡ T.world store.old }
 {
@@ -163,8 +164,9 @@ fn push_line(
     number: usize,
     octets: &[u8],
 ) -> Result<Result<(), &'static str>, AllocError>
+    // Promise: a line that no shell could split into words ends the batch, and none is left out for that.
     ensures pushed { IfOk result (λ read. OnOk read
-        (input_texts lines.new.items ≡ input_texts lines.old.items ++ with_words (input_words octets.now) [])) }
+        (IsLineAdded octets.now (input_texts lines.old.items) (input_texts lines.new.items))) }
 {
     let words = match line_words(alloc, octets)? {
         Ok(words) => words,

@@ -37,7 +37,7 @@ pub(crate) const CHANGES: &[SubcommandRow] = &[
     },
     SubcommandRow {
         name: "passwd",
-        about: "Gives a principal new keys made from a password; clears a `password_expires` that is past",
+        about: "Gives a principal new keys made from a password; clears `password_expires`",
         options: &[DATABASE, NAME, PASSWORD, TYPES],
         flags: &[REPLACES, ANY_PASSWORDS, WHOLE_REALM, KEEPS_MODE],
     },

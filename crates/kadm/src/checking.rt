@@ -1,5 +1,6 @@
 //! The command that says whether a file is a database.
-ghost use Rattle.std.specs.Prelude.{◌≡◌};
+ghost use Rattle.std.specs.Prelude.{◌≡◌, OnOk};
+ghost use Rattle.kadm.specs.Printed.{HasDatabase};
 
 use crate::linting::print_findings_of;
 use file_store::{Store, read_at_most};
@@ -22,6 +23,7 @@ pub(crate) fn print_check<'p, T: Store, W: Write, E: Write>(
     store: &mut T,
     db: &'p str,
 ) -> Result<(), Stop<'p>>
+    ensures read { OnOk result (HasDatabase (T.world store.old) db.now) }
     ensures unchanged { T.world store.new ≡ T.world store.old }
 {
     let database = read_database(context, store, db)?;

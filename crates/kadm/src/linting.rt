@@ -1,5 +1,6 @@
 //! The command that prints what an administrator should check.
-ghost use Rattle.std.specs.Prelude.{◌≡◌};
+ghost use Rattle.std.specs.Prelude.{◌≡◌, IfOk};
+ghost use Rattle.kadm.specs.Printed.{HasDatabase};
 
 use crate::json_lines::json_finding;
 use enctypes::Etype;
@@ -39,6 +40,7 @@ pub(crate) fn print_lint<'p, T: Store, W: Write, E: Write>(
     db: &'p str,
     lint: LintArgs,
 ) -> Result<bool, Stop<'p>>
+    ensures read { IfOk result (λ found. HasDatabase (T.world store.old) db.now) }
     ensures unchanged { T.world store.new ≡ T.world store.old }
 {
     let database = read_database(context, store, db)?;

@@ -1,5 +1,6 @@
 //! The commands that print the contents of a database, without keys.
-ghost use Rattle.std.specs.Prelude.{◌≡◌};
+ghost use Rattle.std.specs.Prelude.{◌≡◌, OnOk};
+ghost use Rattle.kadm.specs.Printed.{HasDatabase};
 
 use crate::json_lines::{behind_name, json_line};
 use crate::patterns::is_like;
@@ -32,6 +33,7 @@ pub(crate) fn print_list<'p, T: Store, W: Write, E: Write>(
     db: &'p str,
     list: ListArgs<'_>,
 ) -> Result<(), Stop<'p>>
+    ensures read { OnOk result (HasDatabase (T.world store.old) db.now) }
     ensures unchanged { T.world store.new ≡ T.world store.old }
 {
     let database = read_database(context, store, db)?;

@@ -2,7 +2,7 @@
 ghost use Rattle.std.specs.Prelude.{◌≡◌, IfOk, IfSome, Some, codes};
 ghost use Rattle.kadm_changes.specs.Texts.{texts};
 ghost use Rattle.kadm.specs.Words.{IsPrintSpelled, command_of, shows_some};
-ghost use Rattle.kadm.specs.Ends.{IsPrinted};
+ghost use Rattle.kadm.specs.Printed.{HasDatabase, IsPrinted};
 ghost use Rattle.kadm.specs.declared.printing.PrintCommand.TheVariants as prints;
 
 use crate::checking::print_check;
@@ -158,8 +158,10 @@ pub(crate) fn run_print<'a, T: Store, W: Write, E: Write>(
     target: &Target<'a>,
     print: PrintCommand<'a>,
 ) -> Result<Status, Stop<'a>>
-    // Promise (printed, unchanged): `list`, `lint` and `show` leave all as it was; of these only `lint --check` ends
-    // with `Refused`.
+    // Promise: `list`, `lint`, `show` and `check` print what they found, with status `Done`, only of a database.
+    ensures read { IfOk result (λ status. HasDatabase (T.world store.old) target.now.db.now) }
+    // Promise (printed, unchanged): these four leave all as it was; a `Refused` that is no refusal comes only from
+    // `lint --check`.
     ensures printed { IfOk result (λ status. IsPrinted status print.entry) }
     ensures unchanged { T.world store.new ≡ T.world store.old }
 {

@@ -50,6 +50,7 @@ pub(crate) fn kadm_run<T: Store, W: Write + Drop, E: Write + Drop>(
     // Promise: with `Refused` some lines of a batch may be done, if the words ask for a batch that keeps going.
     // Promise: with `Failed` all may be done, or what such a batch does, if only the printing or the sync of a folder
     // failed.
+    // Promise: a password that is typed, and the lines of a batch, are the next lines of standard input.
     ensures ended { IsEnd (with_db (path_of line.entry.db) (with_names (map string_bytes line.entry.args.now))) (T.world store.old)
         (T.input store.old) result (T.world store.new) }
     // Promise: without `--whole-realm` no command keeps out who could log in, whatever its status, a batch and an

@@ -1,5 +1,6 @@
 //! The command that prints whole rows, without their keys.
-ghost use Rattle.std.specs.Prelude.{◌≡◌};
+ghost use Rattle.std.specs.Prelude.{◌≡◌, OnOk};
+ghost use Rattle.kadm.specs.Printed.{HasDatabase};
 
 use crate::json_lines::json_row;
 use crate::listing::types_of;
@@ -32,6 +33,7 @@ pub(crate) fn print_rows<'p, T: Store, W: Write, E: Write>(
     target: &Target<'p>,
     show: ShowArgs<'_>,
 ) -> Result<(), Stop<'p>>
+    ensures read { OnOk result (HasDatabase (T.world store.old) target.now.db.now) }
     ensures unchanged { T.world store.new ≡ T.world store.old }
 {
     let alloc = context.alloc;

@@ -1,9 +1,8 @@
 //! The words of a command line.
-ghost use Rattle.std.specs.Prelude.{◌≡◌, ◌++◌, [], IfOk, OnOk, bytes_eq, false, codes, is_some, map, option_map, string_bytes};
-ghost use Rattle.std.specs.Prelude.{unwrap_or};
+ghost use Rattle.std.specs.Prelude.{◌≡◌, ◌++◌, IfOk, OnOk, false, is_some, map, option_map, string_bytes};
 ghost use Rattle.kadm_changes.specs.Texts.{path_of, texts};
 ghost use Rattle.kadm.specs.Values.{value_of};
-ghost use Rattle.kadm.specs.Words.{asks_help, batch_words, behind_check, behind_command, behind_names, command_of, in_batch, is_name, with_file};
+ghost use Rattle.kadm.specs.Words.{asks_help, batch_words, begins_help, behind_check, behind_command, behind_names, command_of, in_batch, is_name, with_file};
 ghost use Rattle.kadm.specs.Words.{is_option, is_value_next, lacks_db, named, spelled, takes_names, takes_text, takes_value, with_db, with_names};
 
 use crate::values::{DB, has_flag, value_of};
@@ -194,7 +193,7 @@ fn lacks_db(words: &[&str]) -> bool
 }
 
 fn begins_help(words: &[&str]) -> bool
-    ensures { result ≡ bytes_eq (unwrap_or (command_of (texts words.now)) []) (codes "help") }
+    ensures { result ≡ begins_help (texts words.now) }
 {
     match command_of(words) {
         Some(command) => command == HELP,
@@ -284,7 +283,7 @@ pub(crate) fn is_given(words: &[&str], option: &str) -> bool
 pub(crate) fn asks_help(words: &[&str]) -> bool
     ensures { result ≡ asks_help (texts words.now) }
 {
-    has_flag(words, "help")
+    begins_help(words)
         || has_flag(words, "--help")
         || has_flag(words, "-h")
         || has_flag(words, "--version")

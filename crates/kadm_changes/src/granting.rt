@@ -87,7 +87,7 @@ pub(crate) fn give_password<'p, T: Store>(
     grant: Grant,
 ) -> Result<(), Stop<'p>>
     // Promise: `passwd` and `add`: keys of the password and the default salt, given as the words say.
-    // Promise: besides, a `password_expires` that is past by the clock is cleared, and any other stays.
+    // Promise: besides, the `password_expires` of the old password is cleared.
     ensures given { OnOk result (GivesPassword (T.world store.old) to.now.etypes.now to.now.pass.now grant to.now.who.now.components
         draft.old.database draft.new.database) }
     // Promise, as lock_database: what a command reads, ..

@@ -132,6 +132,7 @@ pub(crate) fn new_password<'p, T: Store, W: Write, E: Write>(
     row: &RowArgs<'p>,
 ) -> Result<Vec<u8>, Stop<'p>>
     // Promise: the password is the first line of its file, if one is named.
+    // Promise: without a file it is the next line of standard input; at a terminal that line is there twice.
     ensures given { IfOk result (λ pass. IsSecretOf (T.world store.old) (T.input store.old) row.now.how pass.items) }
     // Promise, as lock_database: what a command reads, ..
     ensures unchanged { T.world store.new ≡ T.world store.old }

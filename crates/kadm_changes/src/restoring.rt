@@ -25,7 +25,11 @@ pub fn restore<'p, T: Store, W: Write, E: Write>(
     target: &Target<'p>,
     from: &'p str,
 ) -> Result<Written, Stop<'p>>
+    // Promise: `restore`: the path then has the database that the other file has, which is of the realm of the one
+    // that was there, if there was one.
+    // Promise, as kadm_run of kadm: without `--whole-realm` no command ..
     ensures done { OnOk result (Restored (T.world store.old) target.now.whole_realm target.now.db.now from.now (T.world store.new)) }
+    // Promise, as make_update: a command that ends ..
     ensures unchanged { OnErr result (T.world store.new ≡ T.world store.old) }
 {
     let alloc = context.alloc;

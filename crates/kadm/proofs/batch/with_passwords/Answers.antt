@@ -1,19 +1,16 @@
-use Rattle.std.proofs.Common.{◌≡◌, ◌∙◌, ◌∷◌, [], All, IfSome, ap, arith, length, refl, subst, sym}
-use Rattle.std.proofs.lemmas.List.Elements.{All-push}
+use Rattle.std.proofs.Common.{◌≡◌, ◌∙◌, ◌∷◌, ap, arith, length, refl, sym}
 use Rattle.std.specs.Vec.Iter.{into_iter_items}
-use Rattle.kadm_changes.specs.Found.{IsFound}
-use Rattle.kadm.specs.Batches.{IsLineRead}
 use Rattle.kadm.proofs.InputLines.{all_moved, moved_on, nothing_left}
+use Rattle.kadm.proofs.Reading.{line_added}
 use Rattle.kadm.proofs.batch.with_passwords.Goals as goal
 
 pub loop-line-preserved : goal.loop-line-preserved
 loop-line-preserved g c =
     let at = c.loop-line in
     let steps : into_iter_items at.line-iterator ≡ c.in-Some.line ∷ into_iter_items c.next.new.self = c.in-Some.ensures.steps.0 in
-    let pushed = c.in_ok-push.ensures.ok in (
+    let pushed = c.in_ok-push.ensures.items in (
       c.in_ok-password.ensures.unchanged ∙ at.invariant.0,
-      subst (All (IsLineRead (g.T.Store.world c.args.store.now))) (sym pushed)
-          (All-push _ at.all.items _ at.invariant.1 (subst (λ world. IfSome c.in_ok-password.password (λ found. IsFound world found)) at.invariant.0 c.in_ok-password.ensures.found)),
+      line_added _ _ at.all.items _ _ at.invariant.0 at.invariant.1 c.in_ok-password.ensures.found pushed,
       moved_on _ at.all.items _ _ _ c.in-Some.line _ at.invariant.2 steps pushed refl,
       let was = at.invariant.3 in
           let gone = c.in-Some.ensures.steps.1 in
