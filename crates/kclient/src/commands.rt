@@ -37,8 +37,8 @@ const TWO_WAYS: &str = "--renew and --validate don't go together";
 
 /// Returns the command that the words spell.
 pub(crate) fn read_command<'a>(words: &[&'a str]) -> Result<Command<'a>, Fault>
-    // Promise: the command is the second word; the value of an option is the next word, or what follows `=`; behind `--`
-    // there is no option.
+    // Promise: the command is the second word; the value of an option is the next word, or what follows `=`; behind
+    // `--` there is no option.
     ensures { IfOk result (λ command. Spells (texts words.now) command) }
 {
     let Some(name) = command_of(words) else {

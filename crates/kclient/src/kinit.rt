@@ -44,8 +44,8 @@ pub(crate) fn get_first<T: ClientStore, X: AnyMessage>(
     options: &ArgMatches<'_>,
     host: &Host<'_>,
 ) -> Result<Printed, Fault>
-    // Promise (made, status, unchanged): `kinit` that succeeds makes a cache of the first ticket that came, under a key of the
-    // client; a refused one changes no file.
+    // Promise (made, status, unchanged): `kinit` that succeeds makes a cache of the first ticket that came, under a key
+    // of the client; a refused one changes no file.
     ensures made { OnOk result (Made (CameFirst X.finds X.carries X.answers)
         (IsCacheNamed (text_of cache.entry) host.now) (T.world context.old.store) (T.world context.new.store)) }
     ensures status { IfOk result (λ printed. printed.status ≡ Done) }

@@ -110,8 +110,8 @@ pub(crate) fn destroy<T: ClientStore, X>(
     cache: Option<&str>,
     host: &Host<'_>,
 ) -> Result<Printed, Fault>
-    // Promise (removed, status, unchanged): `kdestroy` that succeeds removes the file, and a refused one changes none; `klist`
-    // changes none.
+    // Promise (removed, status, unchanged): `kdestroy` that succeeds removes the file, and a refused one changes none;
+    // `klist` changes none.
     ensures removed { OnOk result (Removed (IsCacheNamed (text_of cache.entry) host.now)
         (T.world context.old.store) (T.world context.new.store)) }
     ensures status { IfOk result (λ printed. printed.status ≡ Done) }

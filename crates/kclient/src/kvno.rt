@@ -57,7 +57,8 @@ pub(crate) fn get_tickets<T: ClientStore, X: AnyMessage>(
     options: &ArgMatches<'_>,
     host: &Host<'_>,
 ) -> Result<Printed, Fault>
-    // Promise (world, served, status): `kvno`, refused or not, writes nothing, or the user's own cache with the tickets that came.
+    // Promise (world, served, status): `kvno`, refused or not, writes nothing, or the user's own cache with the tickets
+    // that came.
     ensures world { (T.world context.new.store ≡ T.world context.old.store)
         ⊎ Filled (CameFurther X.finds X.carries X.answers) (IsCacheNamed (text_of cache.entry) host.now)
         (T.world context.old.store) (T.world context.new.store) }

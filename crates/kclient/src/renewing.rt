@@ -25,8 +25,8 @@ pub(crate) fn renew_ticket<T: ClientStore, X: AnyMessage>(
     host: &Host<'_>,
     renewal: Renewal,
 ) -> Result<Printed, Fault>
-    // Promise (made, status, unchanged): `kinit --renew` and `--validate` make a cache of the ticket that came under the
-    // session key of the cache's; a refused one changes no file.
+    // Promise (made, status, unchanged): `kinit --renew` and `--validate` make a cache of the ticket that came under
+    // the session key of the cache's; a refused one changes no file.
     ensures made { OnOk result (Made (CameFurther X.finds X.carries X.answers)
         (IsCacheNamed (text_of cache.entry) host.now) (T.world context.old.store) (T.world context.new.store)) }
     ensures status { IfOk result (λ printed. printed.status ≡ Done) }

@@ -70,8 +70,8 @@ pub fn kclient_run<T: ClientStore, X: AnyMessage, W: Write + Drop, E: Write + Dr
 ) -> Status
     // Promise: **a command line leaves what its words spell**: with status 0 the command that they name is done, in the
     // cache that they or the computer name, or the help is asked for.
-    // Promise: with another status the files are as before, or `kvno` keeps the tickets before the name that stopped it;
-    // with 3 all may be done, and the printing failed.
+    // Promise: with another status the files are as before, or `kvno` keeps the tickets before the name that stopped
+    // it; with 3 all may be done, and the printing failed.
     // Promise: what is done leaves a new cache of the one ticket; or the cache that the path had, with the tickets that
     // came, each in place of the first one of its service, else at the end; or no file. No other path changes.
     ensures ended { IsEnd (CameFirst X.finds X.carries X.answers) (CameFurther X.finds X.carries X.answers)
