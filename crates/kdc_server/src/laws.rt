@@ -2,6 +2,7 @@
 ghost use Rattle.kdc_server.specs.Handing.{HandsAllInLife, HandsAllInRounds};
 ghost use Rattle.kdc_server.specs.Journaled.{OneTicketThroughJournals};
 ghost use Rattle.kdc_server.specs.Processes.{OneTicketThroughRestarts};
+ghost use Rattle.kdc_server.specs.Runs.{OneTicketOverRuns, RanIsRun};
 
 use journal::{every_counted_life, every_journal, every_journal_life};
 use kdc_core::any_run;
@@ -53,4 +54,19 @@ pub fn every_journaled_restart()
     every_journal_life();
     every_counted_life();
     every_restart();
+}
+
+/// The same of runs of a server: whatever list of them there is, each over the files of one journal as the run before
+/// left them, sealed or not, no authenticator gets two different tickets. What a run did with these files, and what a
+/// start did that failed, is what [`run_server`](crate::run_server) says of them. A run may end of itself, or be killed
+/// at any moment, and its journal may fail from some call on.
+pub fn every_run()
+    ensures one_ticket { OneTicketOverRuns }
+    ensures ran { RanIsRun }
+{
+    any_run();
+    one_run();
+    every_life();
+    every_journal_life();
+    every_counted_life();
 }
