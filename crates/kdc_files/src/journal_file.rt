@@ -56,11 +56,12 @@ pub fn begun<F: JournalFiles + Drop>(
     len: u64,
     most: u64,
 ) -> Result<JournalFile<F>, Unbegun<F>>
-    // Promise, as start of kdc_server: a server's journal begins ..
     // If the start made this of what is in the files, they hold all that it knows. No seal is left of what another boot
     // could resume with.
+    // Promise, as start of kdc_server: a server's journal begins ..
     ensures began { IfOk result (λ journal. BeginsOver beginning true (F.world files) (state_of F.world journal)) }
     // If it fails, no start forgets what the files held.
+    // Promise, as run_server of kdc_server: a run that fails ..
     ensures failed { IfErr result (λ unbegun. FailsOver beginning (F.world files) (F.world unbegun.files)) }
 {
     let JournalBeginning {

@@ -35,12 +35,14 @@ pub trait JournalWriter {
         ensures handed { Records (handed self.old) (record { at = at; seen = seen.now } ∷ []) (handed self.new) }
         ensures whole { is_whole self.new ≡ is_ok result }
         // What the files held they hold, and this one too if that succeeded.
+        // Promise, as run_server of kdc_server: a run's journal ..
         ensures call { IsCall (Keep seen.now result) (state self.old) (state self.new) };
 
     /// Keeps whatever it could not keep before.
     fn mend(&mut self, alloc: Global, at: Moment) -> Result<(), NotKept>
         ensures handed { Records (handed self.old) [] (handed self.new) }
         ensures whole { is_whole self.new ≡ is_ok result }
+        // Promise, as run_server of kdc_server: a run's journal ..
         ensures call { IsCall (Mend result) (state self.old) (state self.new) };
 }
 
@@ -93,6 +95,7 @@ pub fn keep_for<J: JournalWriter>(
     ensures handed { Records (J.handed journal.old) (handed_by at action.now) (J.handed journal.new) }
     ensures kept { result ≡ is_kept J.is_whole journal.new action.now }
     // Nothing else is asked of it.
+    // Promise, as run_server of kdc_server: a run's journal ..
     ensures asks { AsksFor action.now result (J.state journal.old) (J.state journal.new) }
 {
     match action {

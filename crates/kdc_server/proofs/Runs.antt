@@ -367,7 +367,7 @@ module _ (r : ServerRun) (old new : World) (is : IsServerRun r old new) where
 
   abbrev made_of : State → finmap.FinMap nat_cmp Splitting → HubState
   made_of kdc connections = record {
-    issuing = record { kdc = kdc; random = r.hub.issuing.random; accounts = r.hub.issuing.accounts };
+    issuing = record { kdc = kdc; random = r.hub.issuing.random; audits = r.hub.issuing.audits };
     connections = connections;
   }
 

@@ -143,7 +143,7 @@ module _ (r : ServerRun) (old new : World) (is : IsServerRun r old new) where
     from = from;
     start = beginning_of.start;
     random = r.hub.issuing.random;
-    accounts = r.hub.issuing.accounts;
+    audits = r.hub.issuing.audits;
     periods = r.periods;
   }
 

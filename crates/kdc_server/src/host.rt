@@ -108,6 +108,7 @@ pub trait Host {
         // It removes none.
         ensures kept { IfOk result (λ opened. opened.journals.removed ≡ None) }
         // This is found in the files as they are then. A turn that was cut is finished first, and nothing else is done.
+        // Promise (found, shown, finished), as read_files of journal: **a turn that ..
         ensures found { IfOk result (λ opened. IfSome (world self.new) (AreFound opened.journals.found)) }
         ensures shown { IfOk result (λ opened. IfSome (world self.new) (AreReadOut opened.journals.found)) }
         ensures finished { MayFinish (world self.old) (world self.new) };
@@ -135,11 +136,13 @@ pub trait Host {
         ensures new { IfOk result (λ journal. IsNew (Self.Journal.handed journal)) }
         ensures there { IfOk result (λ journal. Self.Journal.is_there journal ≡ true) }
         // It began over the files as they were.
+        // Promise, as run_server: a run's journal ..
         ensures begins { IfOk result (λ journal.
             BeginsOver beginning true (world self.old) (Self.Journal.state journal)) }
         ensures world { IfOk result (λ journal.
             IfSome (world self.new) (λ w. (Self.Journal.state journal).files ≡ Some w)) }
         // Or it failed to, and this is left.
+        // Promise, as run_server: a run that fails ..
         ensures fails { IfErr result (λ _. FailsOver beginning (world self.old) (world self.new)) };
 
     /// Returns what stands for the journal of a server that has none.
@@ -176,6 +179,7 @@ pub trait Host {
         ensures records { IfOk result (λ rows. Records (recorded self.old) (TookRows ∷ []) (recorded self.new)) }
         ensures new { IfOk result (λ rows. IsNew (Self.Rows.recorded rows)) }
         // They may change.
+        // Promise, as take_rows: **changes are served**: unless ..
         ensures changes { IfOk result (λ rows. Self.Rows.is_fixed rows ≡ false) }
         ensures world { world self.new ≡ world self.old };
 

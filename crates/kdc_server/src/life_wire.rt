@@ -86,7 +86,9 @@ impl<H: Host, B: Begun> Wire for LifeWire<H, B> {
 /// A wire after its life.
 #[derive(Drop)]
 pub(crate) struct Lived<H: Host> {
+    /// The wire.
     pub wire: ServerWire<H>,
+    /// What was counted in its life.
     pub totals: Totals,
 }
 

@@ -83,13 +83,18 @@ pub fn run_server<'a, H: Host>(
         (H.Sockets.recorded ran.server.wire.sockets) (H.Journal.handed ran.server.wire.journal)
         (H.Log.logged ran.server.wire.log) ran.server.wire.came.at ∥₁) }
     // The source that the host handed over is the one that it looks at, to the end.
+    // Promise, as take_rows: **changes are served**: unless ..
     ensures source { IfOk result (λ ran. options.now.is_fixed ≡ false → is_some ran.rows ≡ true) }
     // If it has a journal, that began over the host's files, and was asked what the tally says, and nothing else.
+    // Promise: a run's journal began over the files that were found, is asked for each reply and for nothing else, and
+    // no act with a reply succeeds unless all was kept.
     ensures over { IfOk result (λ ran. is_some (option_copied options.now.journal) ≡ true
         → HasRunOver options.now (H.recorded host.old) (H.recorded host.new) ran.server.news
         (H.Tally.recorded ran.server.wire.tally) (recorded_by_any H.Rows.recorded ran.rows) ran.totals
         (hub_state chacha20 ran.server.hub) (H.world host.old) (H.Journal.state ran.server.wire.journal)) }
     // If it fails, its journal began over these files, or failed to, or nothing was done but to finish a turn.
+    // Promise: a run that fails has its journal's files as they were, with a turn finished that was cut, or as a
+    // journal leaves them that began or failed to.
     ensures failed { IfErr result (λ _. is_some (option_copied options.now.journal) ≡ true
         → HasFailedOver options.now (H.world host.old) (H.world host.new)) }
 {
@@ -236,6 +241,7 @@ fn take_rows<'a, H: Host>(
     ensures took { IfOk result (λ rows.
         Records (H.recorded host.old) (taking options.now.is_fixed) (H.recorded host.new)) }
     ensures there { IfOk result (λ rows. is_some rows ≡ not options.now.is_fixed) }
+    // They may change exactly if they are not fixed.
     ensures changes { IfOk result (λ rows. is_fixed_if H.Rows.is_fixed rows ≡ options.now.is_fixed) }
     ensures world { H.world host.new ≡ H.world host.old }
     ensures new { IfOk result (λ rows. IsNew (recorded_by_any H.Rows.recorded rows)) }
