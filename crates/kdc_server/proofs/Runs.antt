@@ -1,7 +1,7 @@
 -- What the runs of a server did with the files of their journal is what the law of restarts asks of these files.
 use Rattle.std.proofs.Common.{◌≡◌, inl, inr, ℕ, ℤ, pos, ◌-ℤ◌, Bool, true, false, List, [], ◌∷◌, ◌++◌, map, Option, Some, None, Result, Ok, Err, refl, sym, ap, subst, ◌∙◌, append_assoc, if◌then◌else◌}
 use Rattle.std.proofs.Math.Logic.{∥∥₁_elim, ∥∥₁_map, ∥∥₁_prop}
-use Rattle.std.specs.Prelude.{⊤, IfSome, is_some}
+use Rattle.std.specs.Prelude.{◌⊎◌, ⊤, IfSome, is_some}
 use Rattle.std.specs.Coded.{coded_ℕ, coded_list}
 use base.Stored.{Coded-set}
 use Rattle.std.specs.FinMap as finmap
@@ -23,12 +23,11 @@ use Rattle.replay.specs.declared.opening.Opening.{Opening}
 use Rattle.replay.specs.declared.opening.Opening.TheVariants.{First, Restart}
 use Rattle.replay.specs.declared.seen.Resumption.{Resumption}
 use Rattle.replay.specs.declared.seen.Seen.{Seen}
-use Rattle.kdc_state.specs.State.{opened_state}
 use Rattle.kdc_state.specs.declared.state.State.{State}
 use Rattle.kdc_core.specs.NewlySeen as core
 use Rattle.kdc_core.specs.NewlySeen.{Covers}
 use Rattle.kdc_core.specs.Tickets.{RestartsFollow}
-use Rattle.kdc_hub.specs.History.{OneTicketSent, after_turn, after_turns, events_in, seen_by, tickets_sent}
+use Rattle.kdc_hub.specs.History.{after_turn, after_turns, events_in, tickets_sent}
 use Rattle.kdc_hub.specs.Hub.{HubState}
 use Rattle.kdc_hub.specs.Life.{ArePeriods, Period, rounds_in, turns_of}
 use Rattle.kdc_hub.specs.Rounds.{did_in}
@@ -70,7 +69,6 @@ use Rattle.kdc_server.specs.Served.{handed_in, handed_of}
 use Rattle.kdc_server.specs.Starting.{opened_by}
 use Rattle.kdc_server.specs.declared.options.ServeOptions.{ServeOptions}
 use Rattle.kdc_server.proofs.Journaled.{are_processes}
-use Rattle.kdc_server.proofs.Restarts.{one_ticket_covered}
 
 -- ---- the calls of a life
 
@@ -212,7 +210,7 @@ failing_keeps kept all (call ∷ calls) (fails, rest) =
     kept_failed (Err fault) kept all fails = refl
 
 -- all that was handed over
-all_handed : Resumption → List Call → Resumption
+abbrev all_handed : Resumption → List Call → Resumption
 all_handed all [] = all
 all_handed all (call ∷ calls) = all_handed (all_after all call) calls
 
@@ -290,7 +288,7 @@ AreNext s w (n ∷ ns) =
     × AreJournaled n.process.at (after_turn (after_turns s.hub (flat_map turns_of s.periods)) (beginning n.process)) (known_at n.process)
     n.process.periods n.did found ns
 
-with_stage : Stage → List Journaled → List Journaled
+abbrev with_stage : Stage → List Journaled → List Journaled
 with_stage stage [] = []
 with_stage stage (n ∷ ns) = record { process = n.process; did = n.did; before = stage ∷ n.before } ∷ ns
 
@@ -543,7 +541,7 @@ started_covers begins database limits opening (Refuses doubt floor) = begins.res
 -- what is one for each authenticator, if something was chosen, is
 one_from : {A : Type 0} (xs : List (Stamp × List ℕ)) → ∥ A ∥₁ → (A → OneForEach xs) → OneForEach xs
 one_from [] a so = tt
-one_from (x ∷ xs) a so = (each xs (λ h. (so h).0), one_from xs a (λ h. (so h).1))
+one_from {A = A} (x ∷ xs) a so = (each xs (λ h. (so h).0), one_from xs a (λ h. (so h).1))
   where
     each : (ys : List (Stamp × List ℕ)) → (A → AllByRecursion (λ y. y.0 ≡ x.0 → y.1 ≡ x.1) ys) → AllByRecursion (λ y. y.0 ≡ x.0 → y.1 ≡ x.1) ys
     each [] so = tt
@@ -555,7 +553,7 @@ module _ (laws : LivesHold) (counted : ReadIsLater) (begins : core.CanBeResumed)
     → OneForEach (tickets_sent c hub (history periods processes))) where
   pub one_ticket_over_runs : OneTicketOverRuns
   one_ticket_over_runs r w left found is runs sealed are follow c =
-      one_from _ (∥∥₁_elim is.asked ∥∥₁_prop (λ one. ∥∥₁_map (all_asked (since_run r w left is) found runs are) (λ others. (one, others)))) (λ asked.
+      one_from {A = HasAsked is.begun (Some (flat_map did_in (rounds_in r.periods))) r.kept × AllAsked (since_run r w left is) found runs are} _ (∥∥₁_elim is.asked ∥∥₁_prop (λ one. ∥∥₁_map (all_asked (since_run r w left is) found runs are) (λ others. (one, others)))) (λ asked.
       covered (beginning_of r w left is).at r.hub (known_of r w left is) r.periods (servers_in (since_run r w left is) found runs are)
       (subst (λ (k : State). Covers k (known_of r w left is)) (sym is.started.ready.kdc)
       (started_covers begins is.started.ready.rows r.options.limits (opened_by r.options.is_first (beginning_of r w left is).at) (beginning_of r w left is).start))
