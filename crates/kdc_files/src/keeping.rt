@@ -114,7 +114,6 @@ fn keep_reply<J: JournalWriter>(alloc: Global, journal: &mut J, at: Moment, repl
     keep_seen(alloc, journal, at, reply.newly_seen.as_ref())
 }
 
-#[tactic(auto, using(crate::proofs::Calls::asked_keep, crate::proofs::Calls::asked_mend))]
 fn keep_seen<J: JournalWriter>(
     alloc: Global,
     journal: &mut J,
