@@ -12,12 +12,12 @@ pub returns-clause-run : goal.returns-clause-run
 returns-clause-run g c =
     let server = c.in_ok-server.server in
     let begun = hub_state chacha20 server.hub in
-    let ended = hub_state chacha20 c.live.new.hub in
+    let ended = hub_state chacha20 c.live-wire.new.hub in
     let source = c.in_ok-rows.rows in
     let rows = recorded_by_any g.H.Rows.RowSource.recorded source in
-    let rows_after = recorded_by_any g.H.Rows.RowSource.recorded c.live.new.source in
+    let rows_after = recorded_by_any g.H.Rows.RowSource.recorded c.live-wire.new.source in
     let tally = g.H.Tally.Tally.recorded server.wire.tally in
-    let tally_after = g.H.Tally.Tally.recorded c.live.result.wire.tally in
+    let tally_after = g.H.Tally.Tally.recorded c.live-wire.result.wire.tally in
     record {
       hub = begun;
       at = server.wire.came.at;
@@ -31,23 +31,23 @@ returns-clause-run g c =
       tried = c.in_ok-server.ensures.tally;
       looks = c.in_ok-rows.ensures.new;
       life = life_of_option (is_fixed_if g.H.Rows.RowSource.is_fixed source) c.args.options.now.is_fixed (λ is. c.in_ok-rows.ensures.changes ∙ is) tally rows begun _ _ tally_after rows_after ended
-          (subst (λ n. IsLife tally (is_fixed_if g.H.Rows.RowSource.is_fixed source) rows begun (periods_of n) c.live.result.totals tally_after rows_after ended) c.rounds_of-rounds.ensures
-          c.live.ensures.life);
+          (subst (λ n. IsLife tally (is_fixed_if g.H.Rows.RowSource.is_fixed source) rows begun (periods_of n) c.live-wire.result.totals tally_after rows_after ended) c.rounds_of-rounds.ensures
+          c.live-wire.ensures.life);
     }
 
 pub returns-clause-source : goal.returns-clause-source
-returns-clause-source g c = there_if_changing g.H.Rows.RowSource.is_fixed c.in_ok-rows.rows c.live.new.source c.args.options.now.is_fixed c.live.ensures.stays c.in_ok-rows.ensures.changes
+returns-clause-source g c = there_if_changing g.H.Rows.RowSource.is_fixed c.in_ok-rows.rows c.live-wire.new.source c.args.options.now.is_fixed c.live-wire.ensures.stays c.in_ok-rows.ensures.changes
 
 pub returns-clause-over : goal.returns-clause-over
 returns-clause-over g c =
     let server = c.in_ok-server.server in
     let begun = hub_state chacha20 server.hub in
-    let ended = hub_state chacha20 c.live.new.hub in
+    let ended = hub_state chacha20 c.live-wire.new.hub in
     let source = c.in_ok-rows.rows in
     let rows = recorded_by_any g.H.Rows.RowSource.recorded source in
-    let rows_after = recorded_by_any g.H.Rows.RowSource.recorded c.live.new.source in
+    let rows_after = recorded_by_any g.H.Rows.RowSource.recorded c.live-wire.new.source in
     let tally = g.H.Tally.Tally.recorded server.wire.tally in
-    let tally_after = g.H.Tally.Tally.recorded c.live.result.wire.tally in
+    let tally_after = g.H.Tally.Tally.recorded c.live-wire.result.wire.tally in
     λ there.
     let started = c.in_ok-server.ensures.over there in
     record {
@@ -64,10 +64,10 @@ returns-clause-over g c =
         tried = c.in_ok-server.ensures.tally;
         looks = c.in_ok-rows.ensures.new;
         life = life_of_option (is_fixed_if g.H.Rows.RowSource.is_fixed source) c.args.options.now.is_fixed (λ is. c.in_ok-rows.ensures.changes ∙ is) tally rows begun _ _ tally_after rows_after ended
-            (subst (λ n. IsLife tally (is_fixed_if g.H.Rows.RowSource.is_fixed source) rows begun (periods_of n) c.live.result.totals tally_after rows_after ended) c.rounds_of-rounds.ensures
-            c.live.ensures.life);
+            (subst (λ n. IsLife tally (is_fixed_if g.H.Rows.RowSource.is_fixed source) rows begun (periods_of n) c.live-wire.result.totals tally_after rows_after ended) c.rounds_of-rounds.ensures
+            c.live-wire.ensures.life);
       };
       begun = g.H.Journal.JournalWriter.state server.wire.journal;
       begins = started.begins;
-      asked = c.live.ensures.asked;
+      asked = c.live-wire.ensures.asked;
     }

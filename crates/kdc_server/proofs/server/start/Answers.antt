@@ -7,6 +7,7 @@ use Rattle.kdc_files.specs.Keeping.{BeginsOver}
 use Rattle.server_notices.specs.Clocks.{refused_at_start}
 use Rattle.kdc_server.specs.Resuming.{IsReady, began}
 use Rattle.kdc_server.specs.Starting.{chacha20}
+use Rattle.kdc_server.proofs.OnFiles.{failed_to_begin}
 use Rattle.kdc_server.proofs.server.start.Goals as goal
 
 pub returns-clause-start : goal.returns-clause-start
@@ -62,3 +63,12 @@ returns-clause-over g c =
       };
       left_is = subst (λ j. IfSome (g.H.Host.world c.begin_journal.new.host) (λ w. (state j).files ≡ Some w)) (sym c.new.ensures.journal) (c.in-Ok-begin_journal.ensures.world files);
     }
+
+pub returns-in-Err-begin_journal-clause-failed : goal.returns-in-Err-begin_journal-clause-failed
+returns-in-Err-begin_journal-clause-failed g c =
+    let ready = c.in_ok-hub.field-0 in
+    let recorded = g.H.Host.recorded in
+    let world = g.H.Host.world in
+    failed_to_begin c.args.options.now (recorded c.args.host.now) (recorded c.ready.new.host) (hub_state chacha20 ready.hub) ready.beginning ready.row_count
+    (world c.args.host.now) (world c.ready.new.host) (world c.open.new.host) (world c.begin_journal.new.host)
+    c.in_ok-hub.ensures.start c.in_ok-hub.ensures.reads c.open.ensures.world c.in-Err-begin_journal.ensures.fails
