@@ -1,4 +1,5 @@
-use Rattle.std.proofs.Common.{◌∙◌, subst, sym}
+use Rattle.std.proofs.Common.{◌∙◌, Result, Ok, Err, subst, sym}
+use Rattle.std.specs.Prelude.{IfErr}
 use Rattle.kdc_hub.specs.Hub.{hub_state}
 use Rattle.kdc_hub.specs.Life.{IsLife, periods_of}
 use Rattle.kdc_hub.specs.Recorded.{is_fixed_if, recorded_by_any}
@@ -6,6 +7,7 @@ use Rattle.kdc_hub.specs.Wire.{Records}
 use Rattle.kdc_server.specs.Starting.{chacha20}
 use Rattle.kdc_server.specs.Server.{taking}
 use Rattle.kdc_server.proofs.Fixed.{life_of_option, there_if_changing}
+use Rattle.kdc_server.proofs.OnFiles.{began_and_left}
 use Rattle.kdc_server.proofs.server.run_server.Goals as goal
 
 pub returns-clause-run : goal.returns-clause-run
@@ -71,3 +73,17 @@ returns-clause-over g c =
       begins = started.begins;
       asked = c.live-wire.ensures.asked;
     }
+
+-- what holds at any error
+if_failed : {T E P : Type 0} (r : Result T E) → P → IfErr r (λ x. P)
+if_failed (Ok done) p = tt
+if_failed (Err fault) p = p
+
+pub returns-in_err-rows-clause-failed : goal.returns-in_err-rows-clause-failed
+returns-in_err-rows-clause-failed g c =
+    let server = c.in_ok-server.server in
+    let recorded = g.H.Host.recorded in
+    let world = g.H.Host.world in
+    if_failed c.from_residual-in_err-rows.result
+    (began_and_left c.args.options.now (recorded c.args.host.now) (recorded c.start.new.host) (hub_state chacha20 server.hub) server.wire.came.at server.wire.clock.floor server.news
+    (world c.args.host.now) (world c.start.new.host) (world c.take_rows.new.host) (g.H.Journal.JournalWriter.state server.wire.journal) c.in_ok-server.ensures.over c.take_rows.ensures.world)
