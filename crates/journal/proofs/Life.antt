@@ -9,7 +9,7 @@ use Rattle.std.specs.Option.{is_some}
 use Rattle.std.specs.Ordering.{eq_by_cmp}
 use Rattle.std.proofs.lemmas.Bool.{false≢true}
 use Rattle.std.proofs.lemmas.Int.{ints, clamps}
-use Rattle.std.proofs.lemmas.List.{append-nil, take_more}
+use Rattle.std.proofs.lemmas.List.{append-nil}
 use Rattle.std.proofs.lemmas.List.Elements.{All-head, All-tail}
 use Rattle.krb_fields.specs.Name.{Components, name_cmp, name_total}
 use Rattle.krb_fields.specs.Skew.{skew}
@@ -25,18 +25,11 @@ use Rattle.replay.specs.declared.seen.Seen.{Seen}
 use Rattle.journal.proofs.Held.{test_le}
 use Rattle.journal.specs.Appending.{kept_by}
 use Rattle.journal.specs.Decision.{Place, doubt_of, doubt_without, floor_behind, found_floor, goes_on_behind, is_early, next_start, resumption_of, start_by, start_of}
-use Rattle.journal.specs.Finding.{AreFound}
-use Rattle.journal.specs.declared.decision.FoundFiles.{FoundFiles}
 use Rattle.journal.specs.Holding.{IsAbove, IsFound, IsKept, IsSafe, IsStart, known_by}
-use Rattle.replay.specs.Run.{with_any}
-use Rattle.journal.specs.declared.process.Asked.{Asked}
 use Rattle.journal.specs.Life.{AllIsKept, AreCalls, Call, Follows, IsBegun, IsCall, IsKeptIn, IsLater, IsProcess, IsSafeAfter, IsStage, JournalState, KeptIsRefused, LeavesNoSeal, NextBootRefuses, Past, Process, ProcessIsSafe, Serves, Stage, StagesFollow, StartsAreLater, StaysSafe}
-use Rattle.journal.specs.Life.{all_after, kept_by_process, kept_in, past_after, past_after_all, past_of, result_of, seen_asked, seen_in}
+use Rattle.journal.specs.Life.{all_after, kept_by_process, kept_in, past_after, past_after_all, past_of, result_of, seen_in}
 use Rattle.journal.specs.Life.Call.{Keep, Mend}
 use Rattle.journal.specs.Life.Stage.{Ran, Finished, Sealed, Lost}
-use Rattle.journal.specs.Sealing.{HasSealed}
-use Rattle.journal.specs.declared.sealing.SealOutcome.{SealOutcome}
-use Rattle.journal.specs.declared.sealing.SealOutcome.TheVariants as outcomes
 use Rattle.journal.specs.World.{World}
 use Rattle.journal.specs.declared.decision.Doubt.{Doubt}
 use Rattle.journal.specs.declared.decision.Doubt.TheVariants.{Damaged}
@@ -413,111 +406,3 @@ next_boot_refuses w place older (Whole j) beside o n none other = by_doubt (doub
     by_doubt None is =
         let (k, same, either) = seals_hold.needed place older (Whole j) beside (resumption_of place older j) (goes_on_behind place older j) (ap (start_by place older j beside) is) in
         absurd (by_boot k same either)
-
--- ---- what is promised of a seal and of a start
-
-abbrev world_or : World → Option World → World
-world_or w (Some other) = other
-world_or w None = w
-
-one_world : (old new : World) → Some new ≡ Some old → new ≡ old
-one_world old new same = ap (world_or old) same
-
-pub sealing_left : {E : Type 0} (place : Place) (older newer : Found) (result : Result SealOutcome E) (old new : World)
-    → HasSealed place older newer (Some old) result (Some new) → IsStage Sealed old new
-sealing_left place older newer (Ok outcomes.Sealed) old new (check, sealed, left) = (check, left)
-sealing_left place older newer (Ok (outcomes.Doubted doubt)) old new (doubted, same) = (old.seal, one_world old new same)
-sealing_left place older newer (Err fault) old new (check, sealed, inl same) = (old.seal, same)
-sealing_left place older newer (Err fault) old new (check, sealed, inr left) = (check, left)
-
--- one more call is made
-one_more_call : (calls : List Call) (call : Call) (old next new : JournalState) → AreCalls calls old next → IsCall call next new
-    → AreCalls (calls ++ call ∷ []) old new
-one_more_call [] call old next new same step = (new, subst (λ s. IsCall call s new) same step, refl)
-one_more_call (first ∷ calls) call old next new (mid, is, rest) step = (mid, is, one_more_call calls call mid next new rest step)
-
-seen_both : (calls others : List Call) → seen_in (calls ++ others) ≡ seen_in calls ++ seen_in others
-seen_both [] others = refl
-seen_both (Keep seen result ∷ calls) others = ap (λ l. seen ∷ l) (seen_both calls others)
-seen_both (Mend result ∷ calls) others = seen_both calls others
-
-with_any_both : (seen : Option Seen) (others more : List Seen) → with_any seen others ++ more ≡ with_any seen (others ++ more)
-with_any_both None others more = refl
-with_any_both (Some seen) others more = refl
-
-asked_both : (asked others : List Asked) → seen_asked (asked ++ others) ≡ seen_asked asked ++ seen_asked others
-asked_both [] others = refl
-asked_both (one ∷ asked) others =
-    ap (with_any one.seen) (asked_both asked others) ∙ sym (with_any_both one.seen (seen_asked asked) (seen_asked others))
-
--- the calls that were made for what was asked
-abbrev pub AreMade : List Asked → JournalState → JournalState → Type 0
-AreMade asked old new = (calls : List Call) × (seen_in calls ≡ seen_asked asked) × AreCalls calls old new
-
-pub none_made : (s : JournalState) → AreMade [] s s
-none_made s = ([], refl, refl)
-
-pub one_made : (asked more : List Asked) (one : Asked) (old next new : JournalState) → more ≡ asked ++ one ∷ [] → AreMade asked old next
-    → (call : Call) × (seen_in (call ∷ []) ≡ with_any one.seen []) × IsCall call next new → AreMade more old new
-one_made asked more one old next new is (calls, same, are) (call, seen, step) = (
-  calls ++ call ∷ [],
-  seen_both calls (call ∷ []) ∙ ap (λ l. l ++ seen_in (call ∷ [])) same ∙ ap (λ l. seen_asked asked ++ l) seen
-      ∙ sym (asked_both asked (one ∷ [])) ∙ ap seen_asked (sym is),
-  one_more_call calls call old next new are step,
-)
-
-pub made_more : (all : List Asked) (i : ℕ) (one : Asked) → one ≡ get_or all i one → i < length all → (old next new : JournalState)
-    → AreMade (take i all) old next → (call : Call) × (seen_in (call ∷ []) ≡ with_any one.seen []) × IsCall call next new
-    → AreMade (take (i + 1) all) old new
-made_more all i one is lt old next new made step =
-    one_made (take i all) (take (i + 1) all) one old next new (take_more all i one lt ∙ ap (λ (a : Asked). take i all ++ a ∷ []) (sym is)) made step
-
--- ---- a process that is run
-
-pub known_again : (start : Start) (otherwise floor : ℤ) → floor ≡ (known_by otherwise start).floor → floor ≡ (known_by floor start).floor
-known_again (Resumes found check) otherwise floor is = is
-known_again (Refuses doubt lost) otherwise floor is = refl
-
--- a journal began, or failed to, and then made the calls that were asked for
-abbrev pub HasServed : Moment → Found → Start → List Asked → JournalState → JournalState → Type 0
-HasServed at newer start asked first last =
-    (ok : Bool) × (begun : JournalState) × (calls : List Call) × IsBegun at newer start ok first begun × Serves ok calls begun last
-    × (ok ≡ true → seen_in calls ≡ seen_asked asked)
-
-pub process_run : (at : Moment) (floor : ℤ) (newer : Found) (start : Start) (asked : List Asked) (first last : JournalState) (old new : World)
-    → first.files ≡ Some old → first.floor ≡ Some floor → IsStart at floor newer start old → HasServed at newer start asked first last
-    → last.files ≡ Some new
-    → (p : Process) × (p.at ≡ at) × (p.has_begun ≡ true → seen_in p.calls ≡ seen_asked asked) × IsProcess p old new
-process_run at floor newer start asked first last old new found floor_is starts (ok, begun, calls, begins, serves, all) left = (
-  record { at = at; newer = newer; start = start; floor = floor; has_begun = ok; calls = calls },
-  refl,
-  all,
-  record {
-    first = first;
-    begun = begun;
-    last = last;
-    found = found;
-    floor = floor_is;
-    start = starts;
-    begins = begins;
-    serves = serves;
-    left = left;
-  },
-)
-
-pub start_made : (place : Place) (found : FoundFiles) (start : Start) (w : Option World) → IfSome w (AreFound found)
-    → start ≡ start_of place found.older found.newer found.beside
-    → IfSome w (λ w. (floor : ℤ) → floor ≡ (known_by floor start).floor → IsStart place.at floor found.newer start w)
-start_made place found start None are decided = tt
-start_made place found start (Some w) are decided = λ floor is.
-    record {
-      place = place;
-      moment = refl;
-      older = found.older;
-      beside = found.beside;
-      older_found = are.older;
-      newer_found = are.newer;
-      beside_found = are.beside;
-      decided = decided;
-      floor = is;
-    }

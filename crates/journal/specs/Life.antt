@@ -1,12 +1,11 @@
 -- The life of a journal: processes that have its files one after the other, and what no start resumes without after
 -- them.
 use Rattle.std.specs.Prelude.{◌≡◌, ◌⊎◌, ℕ, ℤ, pos, ◌-ℤ◌, ◌≤ℤ◌, ◌<ℤ◌, ⊤, Bool, true, false, List, [], ◌∷◌, ◌++◌, Option, Some, None, Result}
-use Rattle.std.specs.Prelude.{Contains, IfSome, if◌then◌else◌, is_ok}
+use Rattle.std.specs.Prelude.{Contains, IfSome, if◌then◌else◌, is_ok, is_some}
 use Rattle.std.specs.Option.{IsSomeAnd}
 use Rattle.krb_fields.specs.Skew.{skew}
 use Rattle.krb_fields.specs.declared.moment.Moment.{Moment}
 use Rattle.replay.specs.Resumed.{is_spent, resumed_cache, stamp_seen}
-use Rattle.replay.specs.Run.{with_any}
 use Rattle.replay.specs.declared.seen.Resumption.{Resumption}
 use Rattle.replay.specs.declared.seen.Seen.{Seen}
 use Rattle.journal.specs.Appending.{FoundIn, kept_by}
@@ -23,7 +22,6 @@ use Rattle.journal.specs.declared.decision.Start.TheVariants.{Resumes, Refuses}
 use Rattle.journal.specs.declared.journal_file.JournalFile.{JournalFile}
 use Rattle.journal.specs.declared.journal_file.NotKept.{NotKept}
 use Rattle.journal.specs.declared.journal_file.Tail.{Tail}
-use Rattle.journal.specs.declared.process.Asked.{Asked}
 use Rattle.journal.specs.declared.reading.Journal.{Journal}
 
 -- ---- the calls of one process
@@ -70,6 +68,7 @@ all_after all (Mend result) = all
 pub record IsCall (call : Call) (old new : JournalState) : Type 0 where
   pub kept : (low : ℤ) (kept all : Resumption) → IsKeptIn low kept all old
       → IsKeptIn low (kept_by (result_of call) kept (all_after all call)) (all_after all call) new
+  pub whole : IfSome new.files (λ w. is_some new.tail ≡ is_ok (result_of call))
   pub seal : Leaves SameSeal old.files new.files
   pub there : (low : ℤ) (kept all : Resumption) → IsKeptIn low kept all old → (before : Seen)
       → StillThere before old.files new.files
@@ -88,11 +87,6 @@ abbrev pub seen_in : List Call → List Seen
 seen_in [] = []
 seen_in (Keep seen result ∷ calls) = seen ∷ seen_in calls
 seen_in (Mend result ∷ calls) = seen_in calls
-
--- those that a server asks it to keep
-abbrev pub seen_asked : List Asked → List Seen
-seen_asked [] = []
-seen_asked (asked ∷ others) = with_any asked.seen (seen_asked others)
 
 -- ---- one process
 

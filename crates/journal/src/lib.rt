@@ -32,7 +32,6 @@ mod journal_file;
 mod keeping;
 mod laws;
 mod memory_files;
-mod process;
 mod reading;
 mod sealing;
 mod showing;

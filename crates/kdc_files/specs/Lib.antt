@@ -3,3 +3,5 @@ pub mod Journal
 pub mod Recorded
 pub mod InMemory
 pub mod Unrecorded
+pub mod Keeping
+pub mod KeepingLaws

@@ -1,11 +1,11 @@
 //! The journal of a running server.
-ghost use Rattle.std.specs.Prelude.{◌≡◌, ◌-ℤ◌, ℤ, pos, [], ◌∷◌, IfOk, IfSome, true};
+ghost use Rattle.std.specs.Prelude.{◌≡◌, [], ◌∷◌, IfOk, IfErr, true};
 ghost use Rattle.std.specs.Result.{is_ok};
 ghost use Rattle.kdc_hub.specs.Wire.{Records};
-ghost use Rattle.krb_fields.specs.Skew.{skew};
-ghost use Rattle.replay.specs.declared.seen.Resumption.{Resumption};
-ghost use Rattle.journal.specs.Appending.{kept_by};
-ghost use Rattle.journal.specs.Holding.{HasKept, IsStart, is_whole, known_by, with_one};
+ghost use Rattle.journal.specs.Holding.{is_whole};
+ghost use Rattle.journal.specs.Life.{IsCall, state_of};
+ghost use Rattle.journal.specs.Life.Call.{Keep, Mend};
+ghost use Rattle.kdc_files.specs.Keeping.{BeginsOver, FailsOver};
 ghost use Rattle.kdc_files.specs.Unrecorded.{none_handed};
 
 use crate::files::ServerFileCause;
@@ -32,7 +32,19 @@ pub fn begin_journal<'a, F: Files<File = File>, W: Write + Drop>(
     most: u64,
 ) -> Result<FileJournal<'a, F, W>, ServerFileCause> {
     let len = files.len();
-    Ok(begun(alloc, files, beginning, len, most)?)
+    match begun(alloc, files, beginning, len, most) {
+        Ok(journal) => Ok(journal),
+        Err(unbegun) => Err(ServerFileCause::from(unbegun.fault)),
+    }
+}
+
+/// A journal that did not begin.
+#[derive(Drop)]
+pub struct Unbegun<F: JournalFiles> {
+    /// Its files.
+    pub files: F,
+    /// Why it did not begin.
+    pub fault: FilesFault<F::Fault>,
 }
 
 /// Begins the journal of a server, or goes on with what was read of its files. The newer one has `len` octets, and
@@ -43,15 +55,14 @@ pub fn begun<F: JournalFiles + Drop>(
     beginning: JournalBeginning,
     len: u64,
     most: u64,
-) -> Result<JournalFile<F>, FilesFault<F::Fault>>
-    // If the start made this of what is in the files, they hold all that it knows.
+) -> Result<JournalFile<F>, Unbegun<F>>
+    // If the start made this of what is in the files, they hold all that it knows. No seal is left of what another boot
+    // could resume with.
     // Promise, as start of kdc_server: a server's journal begins ..
-    ensures kept { IfOk result (λ journal.
-        IfSome (F.world files) (IsStart beginning.at beginning.floor beginning.journals.found.newer beginning.start)
-        → HasKept F.world (beginning.at.sec -ℤ pos skew) (known_by beginning.floor beginning.start)
-        (known_by beginning.floor beginning.start) journal.files journal.tail journal.floor) }
-    // No seal is left of what another boot could resume with.
-    ensures broken { IfOk result (λ journal. IfSome (F.world journal.files) (λ w. w.seal ≡ [])) }
+    ensures began { IfOk result (λ journal. BeginsOver beginning true (F.world files) (state_of F.world journal)) }
+    // If it fails, no start forgets what the files held.
+    // Promise, as run_server of kdc_server: a run that fails ..
+    ensures failed { IfErr result (λ unbegun. FailsOver beginning (F.world files) (F.world unbegun.files)) }
 {
     let JournalBeginning {
         realm,
@@ -63,7 +74,10 @@ pub fn begun<F: JournalFiles + Drop>(
     let mut journal = JournalFile::new(files, realm, journals.boot, floor, most);
     match journal.start(alloc, at, &start, &journals.found.newer, len) {
         Ok(()) => Ok(journal),
-        Err(fault) => Err(fault),
+        Err(fault) => Err(Unbegun {
+            files: journal.into_files(),
+            fault,
+        }),
     }
 }
 
@@ -75,13 +89,12 @@ impl<F: JournalFiles> JournalWriter for JournalFile<F> {
 
     ghost is_there = { λ _. true };
 
+    ghost state = { state_of F.world };
+
     fn keep(&mut self, alloc: Global, at: Moment, seen: &Seen) -> Result<(), NotKept>
         ensures handed { Records (none_handed self.old) (record { at = at; seen = seen.now } ∷ []) (none_handed self.new) }
         ensures whole { is_whole self.new ≡ is_ok result }
-        ensures kept { (low : ℤ) (kept all : Resumption)
-            → HasKept F.world low kept all self.old.files self.old.tail self.old.floor
-            → HasKept F.world low (kept_by result kept (with_one all seen.now)) (with_one all seen.now)
-            self.new.files self.new.tail self.new.floor }
+        ensures call { IsCall (Keep seen.now result) (state_of F.world self.old) (state_of F.world self.new) }
     {
         JournalFile::keep(self, alloc, at, seen)
     }
@@ -89,9 +102,7 @@ impl<F: JournalFiles> JournalWriter for JournalFile<F> {
     fn mend(&mut self, alloc: Global, at: Moment) -> Result<(), NotKept>
         ensures handed { Records (none_handed self.old) [] (none_handed self.new) }
         ensures whole { is_whole self.new ≡ is_ok result }
-        ensures kept { (low : ℤ) (kept all : Resumption)
-            → HasKept F.world low kept all self.old.files self.old.tail self.old.floor
-            → HasKept F.world low (kept_by result kept all) all self.new.files self.new.tail self.new.floor }
+        ensures call { IsCall (Mend result) (state_of F.world self.old) (state_of F.world self.new) }
     {
         JournalFile::mend(self, alloc, at)
     }

@@ -3,7 +3,10 @@ ghost use Rattle.std.specs.Prelude.{◌≡◌, ◌∷◌, [], Bool, List, Option
 ghost use Rattle.std.specs.Result.{is_ok};
 ghost use Rattle.replay.specs.Run.{with_any};
 ghost use Rattle.kdc_hub.specs.Wire.{Records};
+ghost use Rattle.journal.specs.Life.{IsCall, JournalState};
+ghost use Rattle.journal.specs.Life.Call.{Keep, Mend};
 ghost use Rattle.kdc_files.specs.Journal.{Handed, handed_at, handed_by, is_kept, is_there_if, is_whole_if};
+ghost use Rattle.kdc_files.specs.Keeping.{AsksFor, IsAskedFor, state_if};
 ghost use Rattle.kdc_files.specs.Recorded.{record_of};
 
 use journal::NotKept;
@@ -24,15 +27,23 @@ pub trait JournalWriter {
     // Whether it is a journal, and does not stand for one that is absent.
     ghost is_there: { Self → Bool };
 
+    // What its files hold, if that is recorded, the end of the newer one, and the floor of the next one.
+    ghost state: { Self → JournalState };
+
     /// Keeps an authenticator, and whatever it could not keep before.
     fn keep(&mut self, alloc: Global, at: Moment, seen: &Seen) -> Result<(), NotKept>
         ensures handed { Records (handed self.old) (record { at = at; seen = seen.now } ∷ []) (handed self.new) }
-        ensures whole { is_whole self.new ≡ is_ok result };
+        ensures whole { is_whole self.new ≡ is_ok result }
+        // What the files held they hold, and this one too if that succeeded.
+        // Promise, as run_server of kdc_server: a run's journal ..
+        ensures call { IsCall (Keep seen.now result) (state self.old) (state self.new) };
 
     /// Keeps whatever it could not keep before.
     fn mend(&mut self, alloc: Global, at: Moment) -> Result<(), NotKept>
         ensures handed { Records (handed self.old) [] (handed self.new) }
-        ensures whole { is_whole self.new ≡ is_ok result };
+        ensures whole { is_whole self.new ≡ is_ok result }
+        // Promise, as run_server of kdc_server: a run's journal ..
+        ensures call { IsCall (Mend result) (state self.old) (state self.new) };
 }
 
 /// Without a journal there is nothing to keep.
@@ -43,10 +54,14 @@ impl<J: JournalWriter> JournalWriter for Option<J> {
 
     ghost is_there = { is_there_if J.is_there };
 
+    ghost state = { state_if J.state };
+
+    #[tactic(auto, using(crate::proofs::Calls::nothing_called))]
     fn keep(&mut self, alloc: Global, at: Moment, seen: &Seen) -> Result<(), NotKept>
         ensures handed { Records (record_of J.handed self.old) (record { at = at; seen = seen.now } ∷ [])
             (record_of J.handed self.new) }
         ensures whole { is_whole_if J.is_whole self.new ≡ is_ok result }
+        ensures call { IsCall (Keep seen.now result) (state_if J.state self.old) (state_if J.state self.new) }
         ensures there { is_some self.new ≡ is_some self.old }
     {
         match self {
@@ -55,9 +70,11 @@ impl<J: JournalWriter> JournalWriter for Option<J> {
         }
     }
 
+    #[tactic(auto, using(crate::proofs::Calls::nothing_called))]
     fn mend(&mut self, alloc: Global, at: Moment) -> Result<(), NotKept>
         ensures handed { Records (record_of J.handed self.old) [] (record_of J.handed self.new) }
         ensures whole { is_whole_if J.is_whole self.new ≡ is_ok result }
+        ensures call { IsCall (Mend result) (state_if J.state self.old) (state_if J.state self.new) }
         ensures there { is_some self.new ≡ is_some self.old }
     {
         match self {
@@ -77,6 +94,9 @@ pub fn keep_for<J: JournalWriter>(
 ) -> bool
     ensures handed { Records (J.handed journal.old) (handed_by at action.now) (J.handed journal.new) }
     ensures kept { result ≡ is_kept J.is_whole journal.new action.now }
+    // Nothing else is asked of it.
+    // Promise, as run_server of kdc_server: a run's journal ..
+    ensures asks { AsksFor action.now result (J.state journal.old) (J.state journal.new) }
 {
     match action {
         Action::SendTo { reply, .. } => keep_reply(alloc, journal, at, reply),
@@ -89,6 +109,7 @@ pub fn keep_for<J: JournalWriter>(
 fn keep_reply<J: JournalWriter>(alloc: Global, journal: &mut J, at: Moment, reply: &Reply) -> bool
     ensures handed { Records (J.handed journal.old) (handed_at at (with_any reply.now.newly_seen [])) (J.handed journal.new) }
     ensures whole { result ≡ J.is_whole journal.new }
+    ensures asked { IsAskedFor reply.now.newly_seen result (J.state journal.old) (J.state journal.new) }
 {
     keep_seen(alloc, journal, at, reply.newly_seen.as_ref())
 }
@@ -102,6 +123,7 @@ fn keep_seen<J: JournalWriter>(
     ensures handed { Records (J.handed journal.old) (handed_at at (with_any (option_copied seen.entry) []))
         (J.handed journal.new) }
     ensures whole { result ≡ J.is_whole journal.new }
+    ensures asked { IsAskedFor (option_copied seen.entry) result (J.state journal.old) (J.state journal.new) }
 {
     match seen {
         Some(seen) => journal.keep(alloc, at, seen).is_ok(),

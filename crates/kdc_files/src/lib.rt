@@ -30,7 +30,7 @@ mod rows_file;
 mod sealing;
 
 pub use crate::files::{LeftoverFault, ServerFileCause, read_up_to, read_whole, seed_in};
-pub use crate::journal_file::{FileJournal, begin_journal, begun};
+pub use crate::journal_file::{FileJournal, Unbegun, begin_journal, begun};
 pub use crate::journal_files::{OpenedJournals, open_journals};
 pub use crate::journal_parts::{JournalPart, JournalPaths};
 pub use crate::journal_store::{JournalPlace, SystemJournal};

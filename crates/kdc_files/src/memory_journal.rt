@@ -5,6 +5,7 @@ ghost use Rattle.std.specs.Result.{is_ok};
 ghost use Rattle.kdc_hub.specs.Wire.{Records};
 ghost use Rattle.kdc_files.specs.InMemory.{handed_by, seen_as};
 ghost use Rattle.kdc_files.specs.Journal.{Handed};
+ghost use Rattle.kdc_files.specs.Keeping.{unrecorded_in};
 ghost use Rattle.kdc_files.specs.Recorded.{IsNew};
 
 use crate::keeping::JournalWriter;
@@ -99,11 +100,15 @@ impl JournalWriter for MemoryJournal {
 
     ghost is_there = { λ j. j.is_there };
 
+    ghost state = { unrecorded_in };
+
+    #[tactic(auto, using(crate::proofs::Calls::nothing_called))]
     fn keep(&mut self, alloc: Global, at: Moment, seen: &Seen) -> Result<(), NotKept> {
         self.note(handed_copy(alloc, at, seen));
         self.finish()
     }
 
+    #[tactic(auto, using(crate::proofs::Calls::nothing_called))]
     fn mend(&mut self, _alloc: Global, _at: Moment) -> Result<(), NotKept> {
         self.finish()
     }

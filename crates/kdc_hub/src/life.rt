@@ -73,6 +73,9 @@ pub fn serve_life<W: Wire, S: RowSource, R: Rng, O: Observer<W, R>>(
     // Promise, as take_rows of kdc_server: **changes are served**: unless ..
     ensures life { IsLife (W.recorded wire.old) (S.is_fixed source.old) (S.recorded source.old) (hub_state R.stream hub.old)
         (periods_of rounds) result (W.recorded wire.new) (S.recorded source.new) (hub_state R.stream hub.new) }
+    // A source whose rows may change is not exchanged for one whose rows never do.
+    // Promise, as take_rows of kdc_server: **changes are served**: unless ..
+    ensures stays { S.is_fixed source.new ≡ S.is_fixed source.old }
     ensures counted { IsCounted (W.fault_count wire.old) result.faults (W.fault_count wire.new) }
 {
     one_run();

@@ -10,11 +10,11 @@ use Rattle.kdc_hub.specs.Hub.{HubState}
 use Rattle.kdc_hub.specs.Life.{IsLife, MayFind, Period}
 use Rattle.kdc_hub.specs.Recorded.{is_fixed_if}
 
--- without a source the rows never change
-pub fixed_if : {S : Type 0} (is_fixed : S → Bool) (source : Option S) (option : Bool) → is_some source ≡ not option
-    → option ≡ true → is_fixed_if is_fixed source ≡ true
-fixed_if is_fixed None option there asked = refl
-fixed_if is_fixed (Some source) option there asked = absurd (false≢true (sym (there ∙ ap not asked)))
+-- a source whose rows may change is there
+pub there_if_changing : {S : Type 0} (is_fixed : S → Bool) (before after : Option S) (option : Bool) → is_fixed_if is_fixed after ≡ is_fixed_if is_fixed before
+    → is_fixed_if is_fixed before ≡ option → option ≡ false → is_some after ≡ true
+there_if_changing is_fixed before (Some source) option stays is asked = refl
+there_if_changing is_fixed before None option stays is asked = absurd (false≢true (sym (stays ∙ is ∙ asked)))
 
 module _ (source option : Bool) (fixed : option ≡ true → source ≡ true) where
   all_may_find : (periods : List Period) → AllByRecursion (λ period. MayFind source period.look) periods

@@ -62,7 +62,7 @@ module _ (laws : LivesHold) (counted : ReadIsLater) where
     may_start next (Refuses doubt floor) may = tt
     may_start next (Resumes resumed check) may = finds_all next resumed check may
 
-  are_processes : (at : Moment) (hub : HubState) (r : Resumption) (periods : List Period) (did : OnJournal) (w : World) (ns : List Journaled)
+  pub are_processes : (at : Moment) (hub : HubState) (r : Resumption) (periods : List Period) (did : OnJournal) (w : World) (ns : List Journaled)
       → AreJournaled at hub r periods did w ns → AreProcesses at hub r periods (processes_in ns)
   are_processes at hub r periods did w [] are = are
   are_processes at hub r periods did w (n ∷ ns) (left, found, lived, keeps, through, may, late, opens, rest) = (

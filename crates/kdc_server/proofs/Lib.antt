@@ -4,3 +4,6 @@ mod Fixed
 mod Handings
 mod Restarts
 mod Journaled
+pub mod Asked
+pub mod OnFiles
+mod Runs

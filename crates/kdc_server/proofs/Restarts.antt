@@ -4,18 +4,20 @@ use Rattle.std.specs.Prelude.{⊤}
 use Rattle.std.specs.Int.{int_max}
 use Rattle.std.specs.List.{AllByRecursion, flat_map}
 use Rattle.std.proofs.lemmas.List.{append-nil}
+use Rattle.krb_fields.specs.Name.{Components}
 use Rattle.krb_fields.specs.Skew.{skew}
 use Rattle.krb_fields.specs.declared.moment.Moment.{Moment}
+use Rattle.replay.specs.Run.{OneForEach}
 use Rattle.replay.specs.declared.opening.Opening.TheVariants.{Restart as RestartAt}
 use Rattle.replay.specs.declared.seen.Resumption.{Resumption}
 use Rattle.kdc_state.specs.declared.state.State.{State}
 use Rattle.kdc_core.specs.NewlySeen as core
 use Rattle.kdc_core.specs.NewlySeen.{Covers, opening_resumption, resumption_at}
 use Rattle.kdc_core.specs.Run.{after_event, run}
-use Rattle.kdc_core.specs.Tickets.{ResumesFollow, ResumesWithAll}
+use Rattle.kdc_core.specs.Tickets.{RestartsFollow, ResumesFollow, ResumesWithAll}
 use Rattle.kdc_core.specs.declared.run.Event.{Event as KdcEvent}
 use Rattle.kdc_core.specs.declared.run.Event.TheVariants.{Request, Change, Replace, Tidy, Restart, Reopen, Resume}
-use Rattle.kdc_hub.specs.History.{CanBeResumed, IsOneRun, OneTicketSent, Stepped, Turn, after_turn, after_turns, events_in, turn_events}
+use Rattle.kdc_hub.specs.History.{CanBeResumed, IsOneRun, OneTicketSent, tickets_sent, Stepped, Turn, after_turn, after_turns, events_in, turn_events}
 use Rattle.kdc_hub.specs.Hub.{HubState}
 use Rattle.kdc_hub.specs.Logged.{Entry}
 use Rattle.kdc_hub.specs.Rounds.{entries_of}
@@ -176,6 +178,12 @@ module _ (one_run : (start : HubState) (turns : List Turn) → IsOneRun start tu
       -- a turn alone
       turn_run : (start : HubState) (turn : Turn) → (after_turn start turn).issuing.kdc ≡ run start.issuing.kdc (turn_events start turn)
       turn_run start turn = (one_run start (turn ∷ [])).kdc_is ∙ ap (run start.issuing.kdc) (append-nil (turn_events start turn))
+
+  pub one_ticket_covered : OneTicketSent → (at : Moment) (hub : HubState) (r : Resumption) (periods : List Period) (processes : List Process)
+      → Covers hub.issuing.kdc r → AreProcesses at hub r periods processes → RestartsFollow (events_in hub (history periods processes)) → (c : Components)
+      → OneForEach (tickets_sent c hub (history periods processes))
+  one_ticket_covered tickets at hub r periods processes covers are follow c =
+      tickets hub (history periods processes) follow (all_follow at hub r periods processes covers are) c
 
   pub one_ticket_through_restarts : OneTicketSent → OneTicketThroughRestarts
   one_ticket_through_restarts tickets database limits opening at hub periods processes is processes_are follow c =

@@ -8,4 +8,7 @@ pub mod Resuming
 pub mod Processes
 pub mod Journaled
 pub mod Server
+pub mod Asking
+pub mod OnFiles
+pub mod Runs
 pub mod InMemory

@@ -2,6 +2,7 @@
 ghost use Rattle.kdc_server.specs.Handing.{HandsAllInLife, HandsAllInRounds};
 ghost use Rattle.kdc_server.specs.Journaled.{OneTicketThroughJournals};
 ghost use Rattle.kdc_server.specs.Processes.{OneTicketThroughRestarts};
+ghost use Rattle.kdc_server.specs.Runs.{OneTicketOverRuns, RanIsRun};
 
 use journal::{every_counted_life, every_journal, every_journal_life};
 use kdc_core::any_run;
@@ -53,4 +54,27 @@ pub fn every_journaled_restart()
     every_journal_life();
     every_counted_life();
     every_restart();
+}
+
+/// The same of runs of a server: whatever list of them there is, each over the files of one journal as the run before
+/// left them, sealed or not, no authenticator gets two different tickets. What a run did with these files, and what a
+/// start did that failed, is what [`run_server`](crate::run_server) says of them. A run may end of itself, or be killed
+/// at any moment, and its journal may fail from some call on.
+pub fn every_run()
+    // Promise: **one ticket per authenticator, over runs** of a server with a journal: each served, was killed at any
+    // act, or failed to start, over the files that the one before left, sealed or not.
+    // Promise: these runs ask two things of clocks, since no file tells of them: no start that refuses is before an
+    // earlier request; one that resumes has a floor at most the skew before the last start and each event after it.
+    // Promise: a start among these runs that failed after its journal began asks the same where it would resume; where
+    // it refused, it read the files and its floor is not below that of the last server, or is above all that this kept.
+    // Promise: of these runs only the first may have been started with `--first`.
+    ensures one_ticket { OneTicketOverRuns }
+    // Promise: what `run_server` returned is such a run, with its whole life, if its journal had kept all in the end.
+    ensures ran { RanIsRun }
+{
+    any_run();
+    one_run();
+    every_life();
+    every_journal_life();
+    every_counted_life();
 }

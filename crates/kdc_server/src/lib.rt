@@ -16,6 +16,7 @@
 mod host;
 mod key_places;
 mod laws;
+mod life_wire;
 mod memory_host;
 mod memory_sockets;
 mod options;
@@ -30,7 +31,7 @@ mod starting;
 mod withheld;
 
 pub use crate::host::{Host, StartNews};
-pub use crate::laws::{every_journaled_restart, every_life, every_restart};
+pub use crate::laws::{every_journaled_restart, every_life, every_restart, every_run};
 pub use crate::memory_host::{AlreadyHeld, Given, HostCall, MemoryHost};
 pub use crate::memory_sockets::MemorySockets;
 pub use crate::options::ServeOptions;

@@ -1,5 +1,5 @@
 //! A host in memory.
-ghost use Rattle.std.specs.Prelude.{◌≡◌, ◌∷◌, [], IfOk, Some};
+ghost use Rattle.std.specs.Prelude.{◌≡◌, ◌∷◌, [], IfOk, Some, None};
 ghost use Rattle.std.specs.Option.{option_copied};
 ghost use Rattle.kdc_hub.specs.Wire.{Records};
 ghost use Rattle.kdc_server.specs.InMemory.{did_by, no_journals};
@@ -162,6 +162,8 @@ impl Host for MemoryHost {
 
     ghost recorded = { λ h. seen_as did_by h.calls };
 
+    ghost world = { λ _. None };
+
     fn read_rows(&mut self, alloc: Global) -> Result<Database, ServerFileCause> {
         let Some(rows) = self.rows.take() else {
             return Err(ServerFileCause::from(Error::from(ErrorKind::NotFound)));
@@ -221,6 +223,7 @@ impl Host for MemoryHost {
         Ok(removed)
     }
 
+    #[tactic(auto, using(kdc_files::specs::KeepingLaws::nothing_begun))]
     fn begin_journal(
         &mut self,
         alloc: Global,

@@ -20,6 +20,7 @@ impl<H: Host> Outlets<H> {
     /// Opens those of a host. They have recorded nothing.
     pub fn open(alloc: Global, host: &mut H) -> Result<Outlets<H>, AllocError>
         ensures records { H.recorded host.new ≡ H.recorded host.old }
+        ensures world { H.world host.new ≡ H.world host.old }
         ensures log { IfOk result (λ outlets. IsNew (H.Log.logged outlets.log)) }
         ensures tally { IfOk result (λ outlets. IsNew (H.Tally.recorded outlets.tally)) }
     {

@@ -4,6 +4,7 @@ ghost use Rattle.kdc_metrics.specs.Numbers.{numbers_text};
 ghost use Rattle.kdc_server.specs.Reporter.{due, refused_until, second_of};
 
 use crate::host::Host;
+use crate::life_wire::{Begun, LifeWire};
 use crate::server_wire::ServerWire;
 use file_store::VERSION;
 use kdc_hub::{Hub, Observer, RowsState, Served, ServerView};
@@ -98,8 +99,8 @@ impl<H: Host> Reporter<H> {
     }
 }
 
-impl<H: Host> Observer<ServerWire<H>, ChaCha20Rng> for Reporter<H> {
-    fn see(&mut self, alloc: Global, server: &ServerView<'_, ServerWire<H>, ChaCha20Rng>) {
+impl<H: Host, B: Begun> Observer<LifeWire<H, B>, ChaCha20Rng> for Reporter<H> {
+    fn see(&mut self, alloc: Global, server: &ServerView<'_, LifeWire<H, B>, ChaCha20Rng>) {
         if self.writer.is_none() {
             return;
         }
@@ -108,10 +109,11 @@ impl<H: Host> Observer<ServerWire<H>, ChaCha20Rng> for Reporter<H> {
             return;
         };
         self.reported = Some(at);
-        let Some(counts) = server.wire.log().counts() else {
+        let wire = server.wire.server_wire();
+        let Some(counts) = wire.log().counts() else {
             return;
         };
-        let numbers = self.numbers_of(server.wire, server.rows, server.hub);
+        let numbers = self.numbers_of(wire, server.rows, server.hub);
         self.write(alloc, &numbers, counts);
     }
 }

@@ -2,6 +2,8 @@
 ghost use Rattle.std.specs.Prelude.{◌≡◌, ◌∷◌, [], IfOk, Some, None, true, false, is_some, option_copied};
 ghost use Rattle.kdc_hub.specs.Wire.{Records};
 ghost use Rattle.krb_fields.specs.Moment.{IsSecond};
+ghost use Rattle.journal.specs.Finding.{MayFinish};
+ghost use Rattle.kdc_server.specs.OnFiles.{HasFound};
 ghost use Rattle.kdc_server.specs.Starting.{HasNoJournal, ReadJournals};
 ghost use Rattle.kdc_server.specs.Resuming.{AreAt, IsDecided, are_none, is_there, known_before, may_be_first};
 ghost use Rattle.kdc_server.specs.Resuming.{raised_floor, reading, second_before, started_state, with_removed};
@@ -39,6 +41,10 @@ pub(crate) fn read_journals<'a, H: Host>(
     ensures files { IfOk result (λ opened. is_some opened.files ≡ is_some (option_copied options.now.journal)) }
     ensures found { IfOk result (λ opened. AreAt (option_copied options.now.journal) opened.journals) }
     ensures first { IfOk result (λ opened. may_be_first options.now.is_first opened.journals ≡ true) }
+    ensures reads { IfOk result (λ opened. is_some (option_copied options.now.journal) ≡ true
+        → HasFound opened.journals (H.world host.old) (H.world host.new)) }
+    ensures finished { is_some (option_copied options.now.journal) ≡ true
+        → MayFinish (H.world host.old) (H.world host.new) }
 {
     let opened = match options.journal {
         Some(path) => journals_at(alloc, host, path)?,
@@ -60,6 +66,8 @@ fn journals_at<'a, H: Host>(
         Records (H.recorded host.old) (ReadJournals path.now opened.journals ∷ []) (H.recorded host.new)) }
     ensures files { IfOk result (λ opened. is_some opened.files ≡ true) }
     ensures kept { IfOk result (λ opened. opened.journals.removed ≡ None) }
+    ensures reads { IfOk result (λ opened. HasFound opened.journals (H.world host.old) (H.world host.new)) }
+    ensures finished { MayFinish (H.world host.old) (H.world host.new) }
 {
     match host.read_journals(alloc, path) {
         Ok(opened) => Ok(OpenedJournals {

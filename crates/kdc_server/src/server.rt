@@ -1,8 +1,10 @@
 //! A server: it starts as its options say, and serves.
-ghost use Rattle.std.specs.Prelude.{◌≡◌, ◌++◌, Bool, true, false, not, None, IfOk, is_some, option_copied};
+ghost use Rattle.std.specs.Prelude.{◌≡◌, ◌++◌, Bool, true, false, not, Some, None, IfOk, IfErr, IfSome, is_some, option_copied};
 ghost use Rattle.kdc_hub.specs.Hub.{hub_state};
 ghost use Rattle.kdc_hub.specs.Wire.{Records};
-ghost use Rattle.kdc_hub.specs.Recorded.{recorded_by_any};
+ghost use Rattle.kdc_hub.specs.Recorded.{is_fixed_if, recorded_by_any};
+ghost use Rattle.kdc_files.specs.Keeping.{BeginsOver, FailsOver};
+ghost use Rattle.kdc_server.specs.OnFiles.{HasFailedOver, HasRunOver, IsStartedOver};
 ghost use Rattle.kdc_server.specs.Starting.{chacha20};
 ghost use Rattle.kdc_server.specs.Quiet.{quiet_until};
 ghost use Rattle.kdc_server.specs.Resuming.{began, found_at};
@@ -11,6 +13,7 @@ ghost use Rattle.kdc_server.specs.Served.{Serves};
 ghost use Rattle.kdc_server.specs.Server.{HasRun, IsStarted, rounds_of, taking};
 
 use crate::host::{Host, StartNews};
+use crate::life_wire::{Lived, live};
 use crate::options::ServeOptions;
 use crate::outlets::Outlets;
 use crate::quiet::quiet_until;
@@ -19,11 +22,12 @@ use crate::server_wire::{ServerWire, StartTimes};
 use crate::starting::{ReadyServer, StartFault, ready};
 use journal::Start;
 use kdc_files::{JournalBeginning, ServerFileCause};
-use kdc_hub::{Hub, Totals, serve_life};
+use kdc_hub::{Hub, Totals};
 use krb_fields::Moment;
 use rand_chacha::ChaCha20Rng;
 use server_notices::{JournalFound, refused_at_start};
 use std::alloc::Global;
+use std::marker::Brand;
 
 /// As many rounds as no process serves.
 const ENDLESS: u64 = u64::MAX;
@@ -53,6 +57,7 @@ pub struct Ran<H: Host> {
 }
 
 /// Starts a server as its options say, announces it, and serves its rounds.
+#[tactic(auto, using(crate::proofs::OnFiles::began_and_left))]
 pub fn run_server<'a, H: Host>(
     alloc: Global,
     host: &mut H,
@@ -77,23 +82,42 @@ pub fn run_server<'a, H: Host>(
     ensures served { IfOk result (λ ran. ∥ Serves (H.Tally.recorded ran.server.wire.tally)
         (H.Sockets.recorded ran.server.wire.sockets) (H.Journal.handed ran.server.wire.journal)
         (H.Log.logged ran.server.wire.log) ran.server.wire.came.at ∥₁) }
+    // The source that the host handed over is the one that it looks at, to the end.
+    // Promise, as take_rows: **changes are served**: unless ..
+    ensures source { IfOk result (λ ran. options.now.is_fixed ≡ false → is_some ran.rows ≡ true) }
+    // If it has a journal, that began over the host's files, and was asked what the tally says, and nothing else.
+    // Promise: a run's journal began over the files that were found, is asked for each reply and for nothing else, and
+    // no act with a reply succeeds unless all was kept.
+    ensures over { IfOk result (λ ran. is_some (option_copied options.now.journal) ≡ true
+        → HasRunOver options.now (H.recorded host.old) (H.recorded host.new) ran.server.news
+        (H.Tally.recorded ran.server.wire.tally) (recorded_by_any H.Rows.recorded ran.rows) ran.totals
+        (hub_state chacha20 ran.server.hub) (H.world host.old) (H.Journal.state ran.server.wire.journal)) }
+    // If it fails, its journal began over these files, or failed to, or nothing was done but to finish a turn.
+    // Promise: a run that fails has its journal's files as they were, with a turn finished that was cut, or as a
+    // journal leaves them that began or failed to.
+    ensures failed { IfErr result (λ _. is_some (option_copied options.now.journal) ≡ true
+        → HasFailedOver options.now (H.world host.old) (H.world host.new)) }
 {
-    let mut server = start(alloc, host, options)?;
+    let server = start(alloc, host, options)?;
+    let Server {
+        mut hub,
+        wire,
+        news,
+    } = server;
     let mut rows = take_rows(host, options)?;
-    host.announce(server.news);
+    host.announce(news);
     let rounds = rounds_of(options.rounds);
-    let started = server.wire.came_at();
-    let mut reporter = Reporter::new(host.take_metrics(), started, server.news.refused);
-    let totals = serve_life(
+    let mut reporter = Reporter::new(host.take_metrics(), wire.came_at(), news.refused);
+    let Lived { wire, totals } = live::<Brand, H>(
         alloc,
-        &mut server.wire,
+        wire,
         &mut rows,
-        &mut server.hub,
+        &mut hub,
         rounds,
         &mut reporter,
     );
     Ok(Ran {
-        server,
+        server: Server { hub, wire, news },
         rows,
         totals,
         metrics: reporter.into_writer(),
@@ -101,6 +125,7 @@ pub fn run_server<'a, H: Host>(
 }
 
 /// Starts a server as its options say.
+#[tactic(auto, using(crate::proofs::OnFiles::failed_reading, crate::proofs::OnFiles::failed_then, crate::proofs::OnFiles::failed_to_begin))]
 pub fn start<'a, H: Host>(
     alloc: Global,
     host: &mut H,
@@ -131,6 +156,12 @@ pub fn start<'a, H: Host>(
         H.Journal.is_there server.wire.journal ≡ is_some (option_copied options.now.journal)) }
     ensures log { IfOk result (λ server. IsNew (H.Log.logged server.wire.log)) }
     ensures tally { IfOk result (λ server. IsNew (H.Tally.recorded server.wire.tally)) }
+    ensures over { IfOk result (λ server. is_some (option_copied options.now.journal) ≡ true
+        → IsStartedOver options.now (H.recorded host.old) (H.recorded host.new) (hub_state chacha20 server.hub)
+        server.wire.came.at server.wire.clock.floor server.news (H.world host.old) (H.world host.new)
+        (H.Journal.state server.wire.journal)) }
+    ensures failed { IfErr result (λ _. is_some (option_copied options.now.journal) ≡ true
+        → HasFailedOver options.now (H.world host.old) (H.world host.new)) }
 {
     let ReadyServer {
         hub,
@@ -177,6 +208,11 @@ fn begin_journal<H: Host>(
         Records (H.recorded host.old) (began (is_some files) beginning) (H.recorded host.new)) }
     ensures new { IfOk result (λ journal. IsNew (H.Journal.handed journal)) }
     ensures there { IfOk result (λ journal. H.Journal.is_there journal ≡ is_some files) }
+    ensures begins { IfOk result (λ journal. is_some files ≡ true
+        → BeginsOver beginning true (H.world host.old) (H.Journal.state journal)) }
+    ensures world { IfOk result (λ journal. is_some files ≡ true
+        → IfSome (H.world host.new) (λ w. (H.Journal.state journal).files ≡ Some w)) }
+    ensures fails { IfErr result (λ _. FailsOver beginning (H.world host.old) (H.world host.new)) }
 {
     match files {
         Some(files) => host.begin_journal(alloc, files, beginning),
@@ -205,6 +241,9 @@ fn take_rows<'a, H: Host>(
     ensures took { IfOk result (λ rows.
         Records (H.recorded host.old) (taking options.now.is_fixed) (H.recorded host.new)) }
     ensures there { IfOk result (λ rows. is_some rows ≡ not options.now.is_fixed) }
+    // They may change exactly if they are not fixed.
+    ensures changes { IfOk result (λ rows. is_fixed_if H.Rows.is_fixed rows ≡ options.now.is_fixed) }
+    ensures world { H.world host.new ≡ H.world host.old }
     ensures new { IfOk result (λ rows. IsNew (recorded_by_any H.Rows.recorded rows)) }
 {
     if options.is_fixed {

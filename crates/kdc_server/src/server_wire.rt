@@ -5,6 +5,7 @@ ghost use Rattle.kdc_hub.specs.Wire.{IsCounted, Records, acted, faults_of, polle
 ghost use Rattle.kdc_hub.specs.Rounds.{action_connection};
 ghost use Rattle.server_notices.specs.Clocks.{clock_after};
 ghost use Rattle.kdc_files.specs.Journal.{handed_by, is_kept};
+ghost use Rattle.kdc_files.specs.Keeping.{AsksFor};
 ghost use Rattle.request_log.specs.Log.{LogsAll, arrival_after, entries_of};
 ghost use Rattle.server_notices.specs.Unanswered.{after_act, memory_after};
 ghost use Rattle.kdc_files.specs.Recorded.{IsNew};
@@ -198,6 +199,9 @@ impl<H: Host> Wire for ServerWire<H> {
         // made the KDC remember is handed to the journal, with the moment of the last event, and no other.
         ensures handed { Records (H.Journal.handed self.old.journal) (handed_by self.old.came.at action.now)
             (H.Journal.handed self.new.journal) }
+        // Nothing else is asked of it.
+        ensures asked { AsksFor action.now (is_kept H.Journal.is_whole self.new.journal action.now)
+            (H.Journal.state self.old.journal) (H.Journal.state self.new.journal) }
         // If the journal has kept all, and the start is not quiet about it, the action is done.
         // Promise (sent, withheld), as ServerWire::poll: **no answer depends on ..
         // Promise (sent, withheld): when memory runs out, a request may get no reply because its audit record could not

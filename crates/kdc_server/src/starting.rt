@@ -5,6 +5,8 @@ ghost use Rattle.std.specs.Option.{option_copied};
 ghost use Rattle.kdc_hub.specs.Hub.{hub_state};
 ghost use Rattle.kdc_hub.specs.Wire.{Records};
 ghost use Rattle.kdc_files.specs.Recorded.{IsNew};
+ghost use Rattle.journal.specs.Finding.{MayFinish};
+ghost use Rattle.kdc_server.specs.OnFiles.{HasFound};
 ghost use Rattle.kdc_server.specs.Resuming.{AreAt, IsDecided, IsReady, known_before};
 ghost use Rattle.kdc_server.specs.Resuming.{may_be_first, reading, started_state};
 ghost use Rattle.kdc_server.specs.Starting.{IsSeed, Showed, chacha20, opened_by, seeded};
@@ -113,6 +115,7 @@ pub struct ReadyServer<H: Host> {
 /// Makes a server ready as its options say. It reads the database and the seed, opens its sockets, then reads the
 /// journals, if it is to have one, and only then the clock. So no earlier process appends to a journal after it was
 /// read, or answers a request after the moment of this start.
+#[tactic(auto, using(crate::proofs::OnFiles::untouched_once, crate::proofs::OnFiles::untouched_twice, crate::proofs::OnFiles::untouched_thrice, crate::proofs::OnFiles::finished_behind, crate::proofs::OnFiles::found_behind))]
 pub fn ready<'a, H: Host>(
     alloc: Global,
     host: &mut H,
@@ -122,6 +125,11 @@ pub fn ready<'a, H: Host>(
         (hub_state chacha20 ready.hub) ready.beginning ready.row_count) }
     ensures sockets { IfOk result (λ ready. IsNew (H.Sockets.recorded ready.sockets)) }
     ensures files { IfOk result (λ ready. is_some ready.files ≡ is_some (option_copied options.now.journal)) }
+    // Of the files of its journal it finishes a turn that was cut, and does nothing else to them.
+    ensures reads { IfOk result (λ ready. is_some (option_copied options.now.journal) ≡ true
+        → HasFound ready.beginning.journals (H.world host.old) (H.world host.new)) }
+    ensures finished { is_some (option_copied options.now.journal) ≡ true
+        → MayFinish (H.world host.old) (H.world host.new) }
 {
     let rows = match host.read_rows(alloc) {
         Ok(rows) => rows,
@@ -152,6 +160,7 @@ struct Beginning<F> {
 }
 
 /// Reads the journals, and then the clock. Returns what the journal is to begin with.
+#[tactic(auto, using(crate::proofs::OnFiles::finished_then, crate::proofs::OnFiles::found_then))]
 fn begin<'a, H: Host>(
     alloc: Global,
     host: &mut H,
@@ -169,6 +178,10 @@ fn begin<'a, H: Host>(
     ensures realm { IfOk result (λ begins. begins.journal.realm ≡ rows.now.realm) }
     ensures floor { IfOk result (λ begins. begins.journal.floor
         ≡ (known_before (opened_by options.now.is_first begins.journal.at) begins.journal.start).floor) }
+    ensures reads { IfOk result (λ begins. is_some (option_copied options.now.journal) ≡ true
+        → HasFound begins.journal.journals (H.world host.old) (H.world host.new)) }
+    ensures finished { is_some (option_copied options.now.journal) ≡ true
+        → MayFinish (H.world host.old) (H.world host.new) }
 {
     let OpenedJournals { journals, files } = read_journals(alloc, host, options)?;
     let at = match host.now() {
@@ -224,7 +237,8 @@ fn take_seed<'a, H: Host>(
     host: &mut H,
     path: Option<&'a str>,
 ) -> Result<[u8; 32], StartFault<'a, H::SocketFault>>
-    ensures { IfOk result (λ seed. IsSeed (option_copied path.entry) (H.recorded host.old) (H.recorded host.new) seed) }
+    ensures seed { IfOk result (λ seed. IsSeed (option_copied path.entry) (H.recorded host.old) (H.recorded host.new) seed) }
+    ensures world { H.world host.new ≡ H.world host.old }
 {
     let Some(path) = path else {
         return match host.draw() {
@@ -239,7 +253,8 @@ fn take_seed<'a, H: Host>(
 }
 
 fn read_seed<H: Host>(alloc: Global, host: &mut H, path: &str) -> Result<[u8; 32], ServerFileCause>
-    ensures { IfOk result (λ seed. IsSeed (Some path.now) (H.recorded host.old) (H.recorded host.new) seed) }
+    ensures seed { IfOk result (λ seed. IsSeed (Some path.now) (H.recorded host.old) (H.recorded host.new) seed) }
+    ensures world { H.world host.new ≡ H.world host.old }
 {
     let octets = host.read_seed(alloc, path)?;
     seed_in(&octets)

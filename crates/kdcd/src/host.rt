@@ -99,6 +99,8 @@ impl<'a> Host for SystemHost<'a> {
 
     ghost recorded = { λ _. None };
 
+    ghost world = { λ _. None };
+
     fn read_rows(&mut self, alloc: Global) -> Result<Database, ServerFileCause> {
         let Some(rows) = &mut self.rows else {
             return Err(ServerFileCause::from(Error::from(ErrorKind::NotFound)));
@@ -165,6 +167,7 @@ impl<'a> Host for SystemHost<'a> {
         refuse_journal(alloc, place, leftover(is_first, self.removes_journal))
     }
 
+    #[tactic(auto, using(kdc_files::specs::KeepingLaws::nothing_begun))]
     fn begin_journal(
         &mut self,
         alloc: Global,

@@ -36,5 +36,8 @@ returns-clause-life g c =
     (one_more c.one_run.ensures.goes_on c.one_run.ensures.log _ _ _ _ _ _ _ _ _ _ c.loop.invariant.lived _ _ _ _ _ _
     (same_period _ _ c.loop.invariant.stays _ _ _ _ _ _ _ _ _ _ c.serve_period-last.ensures.period) c.with.result c.with.ensures.events c.with.ensures.faults c.with.ensures.refused).lived)
 
+pub returns-clause-stays : goal.returns-clause-stays
+returns-clause-stays g c = c.serve_period-last.ensures.stays ∙ c.loop.invariant.stays
+
 pub returns-clause-counted : goal.returns-clause-counted
 returns-clause-counted g c = counted_less _ _ _ _ c.with.ensures.faults (counted_on _ _ _ _ _ c.loop.invariant.counted c.serve_period-last.ensures.counted)

@@ -1,4 +1,6 @@
 use Rattle.std.proofs.Math.Logic.{∥∥₁_map}
+use Rattle.std.proofs.Common.{subst}
+use Rattle.kdc_files.specs.Keeping.{AsksFor}
 use Rattle.kdc_hub.specs.Rounds.{action_connection}
 use Rattle.request_log.specs.Log.{entries_of}
 use Rattle.kdc_server.proofs.Serving.{by_act, ends_record, logs_all}
@@ -17,3 +19,8 @@ invariant_of-self g c =
           (λ no. (ends_record g.H.Sockets.Wire.recorded g.H.Sockets.ServerSockets.HangsUp g.met.H.Sockets.ServerSockets.keeps_record old.sockets c.send-outcome.new.sockets (action_connection c.args.action.now) (c.send-outcome.ensures.withheld no).0, (c.send-outcome.ensures.withheld no).1))
           (logs_all logged g.H.Log.LogWriter.Logs g.met.H.Log.LogWriter.records old.log c.log_action.new.log (entries_of old.came c.args.action.now c.is_ok.result) c.log_action.ensures));
     }
+
+pub returns-clause-asked : goal.returns-clause-asked
+returns-clause-asked g c =
+    subst (λ kept. AsksFor c.args.action.now kept (g.H.Journal.JournalWriter.state c.args.self.now.journal) (g.H.Journal.JournalWriter.state c.keep_for-is_kept.new.journal))
+    c.keep_for-is_kept.ensures.kept c.keep_for-is_kept.ensures.asks
