@@ -115,8 +115,8 @@ def log_in(trial, lines):
 
 
 def expect_example(trial):
-    """The example of a login prints when its ticket ends, in seconds since 1970, and an AP-REQ; with another password why
-    there is none."""
+    """The example of a login prints when its ticket ends, in seconds since 1970, and an AP-REQ; with another password
+    why there is none."""
     ran = trial.run(f"{LOGIN_EXAMPLE} alice host/www.example.com www.keytab", given="a password\n")
     got = re.fullmatch(r"(\d+)\n6e[0-9a-f]+\n", ran.out)
     late = got and int(got[1]) > time.time()

@@ -46,7 +46,7 @@ TICKETS = {
 
 
 def log_in(trial, what, words, given, wanted):
-    """Logs in. The result has to be this text, or, if that is None, the second in which a ticket ends, and an AP-REQ."""
+    """Logs in. It has to print this text, or, if that is None, the second in which a ticket ends, and an AP-REQ."""
     ran = trial.run(f"{LOGIN_EXAMPLE} {words}", given=given + "\n")
     got = re.fullmatch(r"(\d+)\n6e[0-9a-f]+\n", ran.out)
     is_well = got and int(got[1]) > time.time() if wanted is None else re.fullmatch(f"(?:{wanted})\n", ran.out)

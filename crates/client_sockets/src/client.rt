@@ -257,8 +257,8 @@ impl<X: AnyMessage + Drop, T: ClientStore + Drop> Client<X, T> {
     /// Makes an AP-REQ that presents a ticket to its service and asks for a reply. The ticket is one that
     /// [`Client::ticket`] returned. [`Presented::judge`] judges the reply.
     pub fn present(&mut self, ticket: &Credential) -> Result<Presented, Fault>
-        // Promise (ok, client): **a client presents the ticket that it is handed**, under the ticket's session key, with
-        // a moment of its clock and a confounder that this call drew.
+        // Promise (ok, client, world): **a client presents the ticket that it is handed**, under the ticket's session
+        // key, with a moment of its clock and a confounder that this call drew. No file changes.
         ensures ok { IfOk result (λ made. IsPresentedAt (T.world self.old.store) self.old ticket.now made) }
         ensures client { self.new ≡ record self.old {
           generator = self.new.generator;

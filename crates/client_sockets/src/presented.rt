@@ -27,8 +27,8 @@ pub struct Presented {
 }
 
 impl Presented {
-    /// Returns what the service says in its reply, an AP-REP, or the first fault. Whoever sent the reply knows the
-    /// session key, which the service alone has from the ticket.
+    /// Returns what the service says in its reply, an AP-REP, or the first fault. The sender of the reply knows the
+    /// session key, which only the service can get from the ticket.
     pub fn judge(&self, alloc: Global, reply: &[u8]) -> Result<EncApRepPart, ClientFault>
         // Promise: a service's reply to a ticket that was presented is taken exactly if its part opens with the
         // ticket's session key to the moment of that AP-REQ.

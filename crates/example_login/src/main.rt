@@ -24,7 +24,7 @@ fn main(rt: HostRuntime) -> io::Result<ExitCode> {
         return Ok(ExitCode::from(Status::Usage.code()));
     };
     let status = match get_ticket(&rt, name.as_str(), service.as_str(), keytab.as_str()) {
-        Ok(got) => tell(&rt, &got)?,
+        Ok(got) => show(&rt, &got)?,
         Err(fault) => {
             println!(rt; "{fault}")?;
             Status::Refused
@@ -63,7 +63,7 @@ fn verified_ticket(
 }
 
 /// Prints when the ticket ends, and the AP-REQ. It judges the service's reply, if a line with one follows.
-fn tell(rt: &HostRuntime, got: &Got) -> io::Result<Status> {
+fn show(rt: &HostRuntime, got: &Got) -> io::Result<Status> {
     println!(rt; "{}", got.ticket.times.end_time.seconds())?;
     let ap_req = hex::encode(rt.alloc(), got.presented.ap_req.as_slice())?;
     println!(rt; "{ap_req}")?;

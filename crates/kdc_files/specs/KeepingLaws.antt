@@ -1,4 +1,4 @@
--- A journal begins, or fails to, over files of which nothing is recorded.
+-- A journal begins, or fails to, over files without a record.
 use Rattle.std.proofs.Common.{Bool, ℤ, Option, None, refl}
 use Rattle.journal.specs.declared.journal_file.Tail.{Tail}
 use Rattle.kdc_files.specs.Keeping.{BeginsOver}
