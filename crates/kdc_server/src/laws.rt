@@ -63,7 +63,7 @@ pub fn every_journaled_restart()
 pub fn every_run()
     // Promise: **one ticket per authenticator, over runs** of a server with a journal: each served, was killed at any
     // act, or failed to start, over the files that the one before left, sealed or not.
-    // Promise: these runs ask two things of clocks, since no file tells of them: no start that refuses is before an
+    // Promise: these runs ask two things of clocks, since no file shows them: no start that refuses is before an
     // earlier request; one that resumes has a floor at most the skew before the last start and each event after it.
     // Promise: a start among these runs that failed after its journal began asks the same where it would resume; where
     // it refused, it read the files and its floor is not below that of the last server, or is above all that this kept.
