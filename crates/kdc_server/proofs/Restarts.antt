@@ -63,7 +63,7 @@ asked_none (event ∷ events) a = (one_none event a.0, asked_none events a.1)
     one_none (Reopen database limits at) a = tt
     one_none (Resume database limits resumption) a = a
 
--- turns with an event each, of which none resumes
+-- turns with an event each; none resumes
 events_both : (hub : HubState) (turns others : List Turn) → events_in hub (turns ++ others) ≡ events_in hub turns ++ events_in (after_turns hub turns) others
 events_both hub [] others = refl
 events_both hub (turn ∷ turns) others =

@@ -1,4 +1,7 @@
 //! The wire of a server in its life.
+//!
+//! `serve_life` says of a wire only what the wire recorded, and what becomes of a journal is in no record. So the
+//! journal with which a life began is a ghost of a type parameter, which `run_server` picks.
 ghost use Rattle.std.specs.Prelude.{◌≡◌};
 ghost use Rattle.journal.specs.Life.{JournalState};
 ghost use Rattle.kdc_files.specs.Keeping.{unrecorded};
