@@ -27,15 +27,21 @@ def put_script(trial, name, folder):
     return str(place)
 
 
+def take_terminal():
+    """Takes standard input as the terminal of the session, and its signals, which a shell's `&` has turned off."""
+    fcntl.ioctl(0, termios.TIOCSCTTY, 0)
+    for number in (signal.SIGINT, signal.SIGQUIT):
+        signal.signal(number, signal.SIG_DFL)
+
+
 class Terminal:
     """A command whose standard streams are a terminal, which can interrupt it."""
 
     def __init__(self, trial, words):
         self.shown = b""
         self.master, slave = pty.openpty()
-        take = lambda: fcntl.ioctl(0, termios.TIOCSCTTY, 0)
         self.process = trial.start(
-            words, stdin=slave, stdout=slave, stderr=slave, start_new_session=True, preexec_fn=take
+            words, stdin=slave, stdout=slave, stderr=slave, start_new_session=True, preexec_fn=take_terminal
         )
         os.close(slave)
 

@@ -26,7 +26,7 @@ SECTIONS = (
 # What stands for another place or user here.
 HERE = (
     ("runuser -u kdcd -- ", ""), ("/var/lib/kdcd/", "./"), ("cd /var/lib/kdcd", "cd ."), ("/root/", "./"),
-    ("chown -h kdcd:kdcd ", "ls "), ("kclient kinit --renew ", "true "),
+    ("chown -h kdcd:kdcd ", "ls "), ("install -o kdcd -m 600 ", "ls "), ("kclient kinit --renew ", "true "),
 )
 # How often a block is tried that needs what the server has not taken yet, and how many seconds lie between.
 TRIES, PAUSE = 4, 1.5
