@@ -8,8 +8,8 @@ use Rattle.sha2.specs.Sha256.{sha256}
 use Rattle.cred_files.specs.Form.{◌>>=◌, part, several}
 use Rattle.cred_files.specs.Format.{signed32, word32}
 use Rattle.cred_files.specs.Wide.{signed64, word64}
-use Rattle.cred_files.specs.declared.fault.Cut.{Cut}
-use Rattle.cred_files.specs.declared.fault.Cut.TheVariants as cuts
+use Rattle.cred_files.specs.declared.fault.TakeError.{TakeError}
+use Rattle.cred_files.specs.declared.fault.TakeError.TheVariants as cuts
 use Rattle.cred_files.specs.declared.keytab_entry.KeytabEntry.{KeytabEntry}
 use Rattle.krb_fields.specs.PrincipalName.{Name}
 use Rattle.principal_rows.specs.NameMap.{pairs}
@@ -18,8 +18,8 @@ use Rattle.replay.specs.Stamp.{Stamp}
 use Rattle.replay.specs.declared.cache.ReplayCache.{ReplayCache}
 use Rattle.ap_accept.specs.Stamps.{cache_with}
 use Rattle.ap_accept.specs.declared.clients.Clients.{Clients}
-use Rattle.ap_accept.specs.declared.fault.ResumeFault.{ResumeFault}
-use Rattle.ap_accept.specs.declared.fault.ResumeFault.TheVariants.{NotSaved, Memory}
+use Rattle.ap_accept.specs.declared.fault.ResumeError.{ResumeError}
+use Rattle.ap_accept.specs.declared.fault.ResumeError.TheVariants.{NotSaved, Memory}
 use Rattle.ap_accept.specs.declared.options.AcceptorOptions.{AcceptorOptions}
 use Rattle.ap_accept.specs.declared.saving.Held.{Held}
 use Rattle.ap_accept.specs.declared.state.State.{State}
@@ -114,16 +114,16 @@ resumed keytab options bytes =
 -- ---- what calls did
 
 -- the bytes are not those of a saved acceptor, or memory ran out
-abbrev pub Fails : {Y : Type 0} → ResumeFault → Option Y → Type 0
+abbrev pub Fails : {Y : Type 0} → ResumeError → Option Y → Type 0
 Fails NotSaved read = read ≡ None
 Fails Memory read = ⊤
 
-abbrev pub resume_fault : Cut → ResumeFault
+abbrev pub resume_fault : TakeError → ResumeError
 resume_fault cuts.End = NotSaved
 resume_fault cuts.Memory = Memory
 
 -- the value is what the bytes hold, unless memory ran out
-abbrev pub IsFound : {X : Type 0} → Result X ResumeFault → Option X → Type 0
+abbrev pub IsFound : {X : Type 0} → Result X ResumeError → Option X → Type 0
 IsFound (Ok x) found = found ≡ Some x
 IsFound (Err fault) found = Fails fault found
 

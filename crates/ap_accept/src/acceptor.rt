@@ -12,7 +12,7 @@ ghost use Rattle.ap_accept.specs.State.{clients_of, cache_of, opened, with_keyta
 
 use crate::accepted::Accepted;
 use crate::accepting::accept;
-use crate::fault::{ApFault, ResumeFault};
+use crate::fault::{ApFault, ResumeError};
 use crate::naming::accept_for;
 use crate::options::AcceptorOptions;
 use crate::state::State;
@@ -76,7 +76,7 @@ impl Acceptor {
         keytab: Keytab,
         options: AcceptorOptions,
         bytes: &[u8],
-    ) -> Result<Acceptor, ResumeFault>
+    ) -> Result<Acceptor, ResumeError>
         // Promise (resumed, fault): from any bytes an acceptor resumes as they say, or fails because they are none of a
         // saved acceptor, or memory ran out.
         ensures resumed { IfOk result (λ acceptor. resumed keytab options bytes.now ≡ Some acceptor) }

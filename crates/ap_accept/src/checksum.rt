@@ -11,7 +11,7 @@ use std::fmt;
 
 /// What is wrong with a checksum.
 #[derive(Clone, Copy, Debug, PartialEq, Eq)]
-pub enum ChecksumFault {
+pub enum ChecksumRefusal {
     /// The authenticator has none.
     Absent,
     /// Its type is not the one for the session key's encryption type.
@@ -20,55 +20,55 @@ pub enum ChecksumFault {
     Modified,
 }
 
-impl ChecksumFault {
+impl ChecksumRefusal {
     /// Returns the code that a service answers with (RFC 4120, section 7.5.9).
     pub fn code(self) -> Code
         // Promise, as Accepted::checksum_fault: what is wrong with ..
         ensures { result ≡ code_of_fault self }
     {
         match self {
-            ChecksumFault::Absent => Code::KrbApErrInappCksum,
-            ChecksumFault::OtherType => Code::KrbApErrInappCksum,
-            ChecksumFault::Modified => Code::KrbApErrModified,
+            ChecksumRefusal::Absent => Code::KrbApErrInappCksum,
+            ChecksumRefusal::OtherType => Code::KrbApErrInappCksum,
+            ChecksumRefusal::Modified => Code::KrbApErrModified,
         }
     }
 }
 
-impl fmt::Display for ChecksumFault {
+impl fmt::Display for ChecksumRefusal {
     fn fmt<W: fmt::Write>(&self, f: &mut fmt::Formatter<W>) -> fmt::Result {
         f.write_str(match self {
-            ChecksumFault::Absent => "the authenticator has no checksum",
-            ChecksumFault::OtherType =>
+            ChecksumRefusal::Absent => "the authenticator has no checksum",
+            ChecksumRefusal::OtherType =>
                 "the checksum's type is not the one for the session key's encryption type",
-            ChecksumFault::Modified => "the checksum is not that of the data",
+            ChecksumRefusal::Modified => "the checksum is not that of the data",
         })
     }
 }
 
-impl Error for ChecksumFault {}
+impl Error for ChecksumRefusal {}
 
 impl Accepted {
     /// Checks the authenticator's checksum over these bytes, by the session key. Returns what is wrong with it, or
     /// `None` if it is theirs.
     ///
     /// GSS-API puts other things into the checksum, under a type of its own (RFC 4121, section 4.1.1): `OtherType`.
-    pub fn checksum_fault(&self, octets: &[u8]) -> Option<ChecksumFault>
+    pub fn checksum_fault(&self, octets: &[u8]) -> Option<ChecksumRefusal>
         // Promise: what is wrong with the authenticator's checksum as one of these bytes, and the code for it.
         ensures { result ≡ checksum_fault self.now.session_key self.now.cksum octets.now }
     {
         match &self.cksum {
             Some(cksum) => first_holding(&checksum_rules(&self.session_key, octets, cksum)),
-            None => Some(ChecksumFault::Absent),
+            None => Some(ChecksumRefusal::Absent),
         }
     }
 }
 
-fn checksum_rules(key: &Key, octets: &[u8], cksum: &Typed) -> [(bool, ChecksumFault); 2]
+fn checksum_rules(key: &Key, octets: &[u8], cksum: &Typed) -> [(bool, ChecksumRefusal); 2]
     ensures { result ≡ checksum_rules key.now octets.now cksum.now }
 {
     [
-        (is_other_type(key, cksum), ChecksumFault::OtherType),
-        (is_modified(key, octets, cksum), ChecksumFault::Modified),
+        (is_other_type(key, cksum), ChecksumRefusal::OtherType),
+        (is_modified(key, octets, cksum), ChecksumRefusal::Modified),
     ]
 }
 

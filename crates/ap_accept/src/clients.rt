@@ -11,7 +11,7 @@ ghost use Rattle.ap_accept.specs.Saved.{clients};
 use crate::client::Client;
 use crate::presented::Presented;
 use crate::saved::{Saved, put_list, put_second, take_list};
-use cred_files::{Cut, Reader};
+use cred_files::{Reader, TakeError};
 use krb_fields::{Moment, Name, SKEW};
 use principal_rows::{NameMap, ValueTest};
 use replay::ReplayCache;
@@ -165,7 +165,7 @@ impl ValueTest<Client> for Lasting {
 impl Saved for Clients {
     ghost at = { clients };
 
-    fn take(alloc: Global, reader: &mut Reader<'_>) -> Result<Clients, Cut> {
+    fn take(alloc: Global, reader: &mut Reader<'_>) -> Result<Clients, TakeError> {
         let floor = reader.read_i64()?;
         let caches = take_list(alloc, reader)?;
         Ok(Clients {

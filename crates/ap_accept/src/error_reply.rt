@@ -30,7 +30,7 @@ impl TicketLabel {
         if !self.is_nameable() {
             return Ok(None);
         }
-        let error = error_of(alloc, self, at, refusal)?;
+        let error = make_error(alloc, self, at, refusal)?;
         Ok(Some(encode_krb_error(alloc, &error)?))
     }
 
@@ -42,7 +42,7 @@ impl TicketLabel {
     }
 }
 
-fn error_of(
+fn make_error(
     alloc: Global,
     label: &TicketLabel,
     at: Moment,

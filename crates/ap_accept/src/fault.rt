@@ -2,10 +2,10 @@
 ghost use Rattle.std.specs.Prelude.{◌≡◌};
 ghost use Rattle.ap_accept.specs.Saved.{resume_fault};
 ghost use Rattle.ap_accept.specs.declared.fault.ApFault.TheVariants.{Refused, Memory};
-ghost use Rattle.ap_accept.specs.declared.fault.ResumeFault.TheVariants as resuming;
+ghost use Rattle.ap_accept.specs.declared.fault.ResumeError.TheVariants as resuming;
 
 use ap_req::ApRefusal;
-use cred_files::Cut;
+use cred_files::TakeError;
 use std::alloc::AllocError;
 use std::error::Error;
 use std::fmt;
@@ -51,40 +51,40 @@ impl From<AllocError> for ApFault {
 
 /// Why an acceptor did not resume.
 #[derive(Clone, Copy, Debug, PartialEq, Eq)]
-pub enum ResumeFault {
+pub enum ResumeError {
     /// The bytes are not those of a saved acceptor, or they are damaged.
     NotSaved,
     /// Memory ran out.
     Memory,
 }
 
-impl fmt::Display for ResumeFault {
+impl fmt::Display for ResumeError {
     fn fmt<W: fmt::Write>(&self, f: &mut fmt::Formatter<W>) -> fmt::Result {
         f.write_str(match self {
-            ResumeFault::NotSaved => "the bytes are not those of a saved acceptor",
-            ResumeFault::Memory => "out of memory",
+            ResumeError::NotSaved => "the bytes are not those of a saved acceptor",
+            ResumeError::Memory => "out of memory",
         })
     }
 }
 
-impl Error for ResumeFault {}
+impl Error for ResumeError {}
 
-impl From<AllocError> for ResumeFault {
+impl From<AllocError> for ResumeError {
     ghost from_gives = { λ _ fault. fault ≡ resuming.Memory };
 
-    fn from(_error: AllocError) -> ResumeFault {
-        ResumeFault::Memory
+    fn from(_error: AllocError) -> ResumeError {
+        ResumeError::Memory
     }
 }
 
 /// The bytes end too early, or memory ran out.
-impl From<Cut> for ResumeFault {
+impl From<TakeError> for ResumeError {
     ghost from_gives = { λ cut fault. fault ≡ resume_fault cut };
 
-    fn from(cut: Cut) -> ResumeFault {
+    fn from(cut: TakeError) -> ResumeError {
         match cut {
-            Cut::End => ResumeFault::NotSaved,
-            Cut::Memory => ResumeFault::Memory,
+            TakeError::End => ResumeError::NotSaved,
+            TakeError::Memory => ResumeError::Memory,
         }
     }
 }

@@ -4,11 +4,11 @@ ghost use Rattle.cred_files.specs.Reading.{Reads};
 ghost use Rattle.ap_accept.specs.Saved.{check_of, held, held_in, mark, marked, resumed, Fails, IsFound, Puts, Saves};
 
 use crate::clients::Clients;
-use crate::fault::ResumeFault;
+use crate::fault::ResumeError;
 use crate::options::AcceptorOptions;
 use crate::saved::{append, put_list, put_second, put_word, take_list};
 use crate::state::State;
-use cred_files::{Cut, Keytab, Reader};
+use cred_files::{Keytab, Reader, TakeError};
 use principal_rows::NameMap;
 use sha2::{Digest, Sha256};
 use std::alloc::{AllocError, Global};
@@ -58,7 +58,7 @@ impl State {
         keytab: Keytab,
         options: AcceptorOptions,
         bytes: &[u8],
-    ) -> Result<State, ResumeFault>
+    ) -> Result<State, ResumeError>
         ensures resumed { IfOk result (λ state. resumed keytab options bytes.now ≡ Some state) }
         ensures fault { IfErr result (λ fault. Fails fault (resumed keytab options bytes.now)) }
     {
@@ -86,30 +86,30 @@ fn joined(alloc: Global, first: &[u8], second: &[u8]) -> Result<Vec<u8>, AllocEr
 
 /// Returns what the bytes of a saved acceptor hold.
 #[tactic(auto, unfolding(crate::specs::Saved::held_in))]
-fn held_in(alloc: Global, bytes: &[u8]) -> Result<Held, ResumeFault>
+fn held_in(alloc: Global, bytes: &[u8]) -> Result<Held, ResumeError>
     ensures { IsFound result (held_in bytes.now) }
 {
     let mut reader = Reader::new(bytes);
     let check = reader.read_part(CHECK)?;
     let text = reader.rest();
     if check != check_of(text).as_slice() {
-        return Err(ResumeFault::NotSaved);
+        return Err(ResumeError::NotSaved);
     }
     marked(alloc, text)
 }
 
-fn marked(alloc: Global, text: &[u8]) -> Result<Held, ResumeFault>
+fn marked(alloc: Global, text: &[u8]) -> Result<Held, ResumeError>
     ensures { IsFound result (marked (held text.now)) }
 {
     let mut reader = Reader::new(text);
     let held = take_held(alloc, &mut reader)?;
     if held.mark != MARK || !reader.is_empty() {
-        return Err(ResumeFault::NotSaved);
+        return Err(ResumeError::NotSaved);
     }
     Ok(held)
 }
 
-fn take_held(alloc: Global, reader: &mut Reader<'_>) -> Result<Held, Cut>
+fn take_held(alloc: Global, reader: &mut Reader<'_>) -> Result<Held, TakeError>
     ensures { Reads result reader.new (held reader.old) }
 {
     let mark = reader.read_u64()?;

@@ -4,14 +4,14 @@ use Rattle.krb_fields.specs.Code as codes
 use Rattle.ap_req.specs.Refusal.{code_of}
 use Rattle.ap_accept.specs.Checksum.{code_of_fault}
 use Rattle.ap_accept.specs.declared.accepted.Accepted.{Accepted}
-use Rattle.ap_accept.specs.declared.checksum.ChecksumFault.{ChecksumFault}
-use Rattle.ap_accept.specs.declared.checksum.ChecksumFault.TheVariants as checksums
+use Rattle.ap_accept.specs.declared.checksum.ChecksumRefusal.{ChecksumRefusal}
+use Rattle.ap_accept.specs.declared.checksum.ChecksumRefusal.TheVariants as checksums
 use Rattle.ap_accept.specs.declared.fault.ApFault.{ApFault}
 use Rattle.ap_accept.specs.declared.fault.ApFault.TheVariants as faults
-use Rattle.ap_accept.specs.declared.fault.ResumeFault.{ResumeFault}
-use Rattle.ap_accept.specs.declared.fault.ResumeFault.TheVariants as resuming
-use Rattle.cred_files.specs.declared.fault.CredFault.{CredFault}
-use Rattle.cred_files.specs.declared.fault.CredFault.TheVariants as files
+use Rattle.ap_accept.specs.declared.fault.ResumeError.{ResumeError}
+use Rattle.ap_accept.specs.declared.fault.ResumeError.TheVariants as resuming
+use Rattle.cred_files.specs.declared.fault.CredError.{CredError}
+use Rattle.cred_files.specs.declared.fault.CredError.TheVariants as files
 use Rattle.ap_accept_c.specs.declared.status.Status.{Status}
 use Rattle.ap_accept_c.specs.declared.status.Status.TheVariants.{Done, NotAnApReq, NoMemory, BadArgument, TooSmall}
 use Rattle.ap_accept_c.specs.declared.status.Status.TheVariants.{BadKeytab, Closed, Absent, BadSaved, Refused}
@@ -42,18 +42,18 @@ status_of_answer (Ok accepted) = Done
 status_of_answer (Err fault) = status_of fault
 
 -- of the authenticator's checksum
-abbrev pub status_of_checksum : Option ChecksumFault → Status
+abbrev pub status_of_checksum : Option ChecksumRefusal → Status
 status_of_checksum None = Done
 status_of_checksum (Some checksums.Absent) = Absent
 status_of_checksum (Some checksums.OtherType) = Failed (code_of_fault checksums.OtherType)
 status_of_checksum (Some checksums.Modified) = Failed (code_of_fault checksums.Modified)
 
-abbrev pub status_of_resuming : ResumeFault → Status
+abbrev pub status_of_resuming : ResumeError → Status
 status_of_resuming resuming.NotSaved = BadSaved
 status_of_resuming resuming.Memory = NoMemory
 
 -- why a keytab could not be read
-abbrev pub status_of_keytab : CredFault → Status
+abbrev pub status_of_keytab : CredError → Status
 status_of_keytab files.Memory = NoMemory
 status_of_keytab files.BadMagic = BadKeytab
 status_of_keytab files.Truncated = BadKeytab

@@ -18,7 +18,7 @@ use crate::part::Part;
 use crate::raw_key::RawKey;
 use crate::service::Service;
 use crate::status::Status;
-use crate::texts::text_of;
+use crate::texts::status_text;
 use ap_accept::Opening;
 use krb_fields::Moment;
 use std::alloc::Global;
@@ -55,7 +55,7 @@ pub struct Outcome {
 }
 
 /// Opens a closed acceptor at the moment that C names, if it names one.
-pub fn open_at(holder: &mut Holder, alloc: Global, keytab: &[u8], start: &Start) -> Status
+pub fn open_service(holder: &mut Holder, alloc: Global, keytab: &[u8], start: &Start) -> Status
     requires { IsHolder holder.old }
     ensures holder { IsHolder holder.new }
     ensures opened { IsOpenAt result holder.old.held.value holder.new.held.value
@@ -201,7 +201,7 @@ pub fn name(holder: &mut Holder, alloc: Global, text: &[u8]) -> Status
 }
 
 /// Accepts the bytes of an AP-REQ at the moment that C names, or returns the reason to refuse it.
-pub fn accept_at(
+pub fn accept_request(
     holder: &mut Holder,
     alloc: Global,
     time: Time,
@@ -337,9 +337,9 @@ pub fn text(holder: &mut Holder, alloc: Global, number: i32, to: &mut [u8]) -> u
     ensures text { IsTextCall result to.old to.new }
 {
     let Some(service) = holder.take(alloc) else {
-        return give_text(text_of(number).as_bytes(), to);
+        return give_text(status_text(number).as_bytes(), to);
     };
-    let text = service.text_of(number);
+    let text = service.status_text(number);
     holder.put(service);
     give_text(text.as_bytes(), to)
 }

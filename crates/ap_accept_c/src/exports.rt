@@ -49,7 +49,7 @@ pub extern "C" fn ap_accept_c_v3_open(
     ensures opened { IsOpenCall result holder.old.held.value holder.new.held.value
         keytab.now start.now.remembered start.now.is_first start.now.time.sec start.now.time.usec }
 {
-    calls::open_at(holder, alloc, keytab, start).number()
+    calls::open_service(holder, alloc, keytab, start).number()
 }
 
 /// Opens a closed acceptor with the bytes of a keytab, to go on with what another one saved.
@@ -134,7 +134,7 @@ pub extern "C" fn ap_accept_c_v3_accept(
     ensures accepted { IsAcceptCall result holder.old.held.value holder.new.held.value
         time.now.sec time.now.usec confounder.now ap_req.now numbers.new }
 {
-    let outcome = calls::accept_at(holder, alloc, *time, confounder, ap_req);
+    let outcome = calls::accept_request(holder, alloc, *time, confounder, ap_req);
     *numbers = outcome.numbers;
     outcome.status.number()
 }

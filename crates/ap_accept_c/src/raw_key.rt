@@ -2,7 +2,7 @@
 ghost use Rattle.std.specs.Prelude.{◌≡◌, ◌≤◌, Some, length, take};
 ghost use Rattle.ap_accept_c.specs.Protection.{key_in};
 
-use encrypted_data::{key_of, type_numbered};
+use encrypted_data::{supported_key, type_numbered};
 use enctypes::Key;
 
 /// The `struct ap_key` of the header.
@@ -31,7 +31,7 @@ impl RawKey {
         ensures { result ≡ key_in self.now.number self.now.octets }
     {
         let etype = type_numbered(self.number)?;
-        key_of(self.number, &self.octets[..etype.key_len()])
+        supported_key(self.number, &self.octets[..etype.key_len()])
     }
 }
 

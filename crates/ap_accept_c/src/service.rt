@@ -12,7 +12,7 @@ use crate::buffers::{Given, give};
 use crate::last::{Last, Refusal};
 use crate::part::Part;
 use crate::status::Status;
-use crate::texts::text_of;
+use crate::texts::status_text;
 use ap_accept::{Accepted, Acceptor, AcceptorOptions, ApFault, Opening, TicketLabel};
 use cred_files::Keytab;
 use krb_fields::{Moment, Name, NameFault};
@@ -112,7 +112,7 @@ impl Service {
     pub fn name(&mut self, alloc: Global, text: &[u8]) -> Status
         ensures { IsNamed result self.old self.new text.now }
     {
-        match name_in(alloc, text) {
+        match parse_name(alloc, text) {
             Ok(only) => {
                 self.only = only;
                 Status::Done
@@ -193,10 +193,10 @@ impl Service {
     }
 
     /// Returns the text for a status number: of a refusal, if it is the last one, that of its rule.
-    pub fn text_of(&self, number: i32) -> &'static str {
+    pub fn status_text(&self, number: i32) -> &'static str {
         match self.last.refusal {
             Some(refusal) if refusal.rule.code().number() == number => refusal.rule.text(),
-            _ => text_of(number),
+            _ => status_text(number),
         }
     }
 }
@@ -212,7 +212,7 @@ fn keytab_in(alloc: Global, octets: &[u8]) -> Result<Keytab, Status>
 }
 
 /// Returns the name that the text spells, or `None` if it is empty.
-fn name_in(alloc: Global, text: &[u8]) -> Result<Option<Name>, Status>
+fn parse_name(alloc: Global, text: &[u8]) -> Result<Option<Name>, Status>
     ensures named { IfOk result (λ name. IsName name text.now) }
     ensures fault { IfErr result (λ status. IsNameFault status text.now) }
 {

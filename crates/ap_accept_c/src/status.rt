@@ -3,8 +3,8 @@ ghost use Rattle.std.specs.Prelude.{◌≡◌};
 ghost use Rattle.ap_accept_c.specs.Status.{number_of, status_of, status_of_checksum, status_of_keytab, status_of_resuming};
 ghost use Rattle.ap_accept_c.specs.declared.status.Status.TheVariants as statuses;
 
-use ap_accept::{ApFault, ApRefusal, ChecksumFault, ResumeFault};
-use cred_files::CredFault;
+use ap_accept::{ApFault, ApRefusal, ChecksumRefusal, ResumeError};
+use cred_files::CredError;
 use krb_fields::Code;
 use std::alloc::AllocError;
 
@@ -67,38 +67,38 @@ impl Status {
     }
 
     /// Returns the status for the authenticator's checksum.
-    pub fn of_checksum_fault(fault: Option<ChecksumFault>) -> Status
+    pub fn of_checksum_fault(fault: Option<ChecksumRefusal>) -> Status
         ensures { result ≡ status_of_checksum fault }
     {
         match fault {
             None => Status::Done,
-            Some(ChecksumFault::Absent) => Status::Absent,
-            Some(ChecksumFault::OtherType) => Status::Failed(ChecksumFault::OtherType.code()),
-            Some(ChecksumFault::Modified) => Status::Failed(ChecksumFault::Modified.code()),
+            Some(ChecksumRefusal::Absent) => Status::Absent,
+            Some(ChecksumRefusal::OtherType) => Status::Failed(ChecksumRefusal::OtherType.code()),
+            Some(ChecksumRefusal::Modified) => Status::Failed(ChecksumRefusal::Modified.code()),
         }
     }
 
     /// Returns the status for an acceptor that did not resume.
-    pub fn of_resume_fault(fault: ResumeFault) -> Status
+    pub fn of_resume_fault(fault: ResumeError) -> Status
         ensures { result ≡ status_of_resuming fault }
     {
         match fault {
-            ResumeFault::NotSaved => Status::BadSaved,
-            ResumeFault::Memory => Status::NoMemory,
+            ResumeError::NotSaved => Status::BadSaved,
+            ResumeError::Memory => Status::NoMemory,
         }
     }
 
     /// Returns the status for a keytab that could not be read.
-    pub fn of_cred_fault(fault: CredFault) -> Status
+    pub fn of_cred_fault(fault: CredError) -> Status
         ensures { result ≡ status_of_keytab fault }
     {
         match fault {
-            CredFault::Memory => Status::NoMemory,
-            CredFault::BadMagic
-            | CredFault::Truncated
-            | CredFault::BadEntry
-            | CredFault::TooLate
-            | CredFault::Absent => Status::BadKeytab,
+            CredError::Memory => Status::NoMemory,
+            CredError::BadMagic
+            | CredError::Truncated
+            | CredError::BadEntry
+            | CredError::TooLate
+            | CredError::Absent => Status::BadKeytab,
         }
     }
 }

@@ -4,7 +4,7 @@ ghost use Rattle.ap_req.specs.Authenticators.{authenticator_in, authenticator_of
 
 use crate::decryption::open_by;
 use crate::refusal::ApRefusal;
-use encrypted_data::{ReadyKeys, key_of};
+use encrypted_data::{ReadyKeys, supported_key};
 use enctypes::{Key, KeyUsage};
 use krb_fields::{EncryptedDataRef, Typed};
 use krb_types::{Authenticator, EncTicketPart};
@@ -14,14 +14,14 @@ use std::cmp::Ordering;
 
 /// Decrypts the authenticator with the session key. The key usage is that of the message with the AP-REQ (RFC 4120,
 /// section 7.5.1).
-pub fn authenticator_of(
+pub fn open_authenticator(
     alloc: Global,
     ready: Option<&ReadyKeys>,
     usage: KeyUsage,
     key: &Key,
     sealed: &EncryptedDataRef<'_>,
 ) -> Attempt<Authenticator, ApRefusal>
-    // Promise, as session_key_of: an AP-REQ's session key ..
+    // Promise, as checked_session_key: an AP-REQ's session key ..
     ensures { IfOk result (λ found. found ≡ authenticator_of usage key.now sealed.now) }
 {
     let found = authenticator_in(alloc, ready, usage, key, sealed)?;
@@ -58,7 +58,7 @@ pub fn subkey_in(subkey: Option<&Typed>) -> Option<Option<Key>>
     ensures { result ≡ subkey_in (option_copied subkey.entry) }
 {
     match subkey {
-        Some(subkey) => Some(Some(key_of(subkey.number, subkey.octets.as_slice())?)),
+        Some(subkey) => Some(Some(supported_key(subkey.number, subkey.octets.as_slice())?)),
         None => Some(None),
     }
 }

@@ -3,9 +3,9 @@
 //! ```
 //! let held = held_in(&keytab, &ap.ticket, &service);
 //! let part = shown_ticket(alloc, None, &held, &ap)??; // AllocError, then ApRefusal
-//! let key = session_key_of(realm, &part)?;
+//! let key = checked_session_key(realm, &part)?;
 //! let usage = KeyUsage::ApReqAuthenticator;
-//! let authenticator = authenticator_of(alloc, None, usage, &key, &ap.authenticator)??;
+//! let authenticator = open_authenticator(alloc, None, usage, &key, &ap.authenticator)??;
 //! let is_other = is_mismatched(&part, &authenticator);
 //! let subkey = subkey_in(authenticator.subkey.as_ref());
 //! let is_over = has_ended(&ticket_terms(&part), at);
@@ -30,10 +30,10 @@ mod tickets;
 mod validity;
 
 pub use authenticated::Authenticated;
-pub use authenticators::{authenticator_of, is_mismatched, subkey_in};
+pub use authenticators::{is_mismatched, open_authenticator, subkey_in};
 pub use held_key::HeldKey;
 pub use keytab_keys::{held_in, keytab_key};
 pub use refusal::ApRefusal;
-pub use session_keys::session_key_of;
+pub use session_keys::checked_session_key;
 pub use tickets::shown_ticket;
 pub use validity::{has_ended, has_not_started, ticket_terms};

@@ -33,7 +33,7 @@ pub fn shown_ticket(
         IfOk found (λ part. IsSpelledWithin enc_ticket_part part ap.now.ticket.enc_part.cipher)) }
 {
     let rules = ticket_rules(held, ap);
-    let part = part_of(alloc, ready, held.key, &ap.ticket.enc_part)?;
+    let part = open_ticket_part(alloc, ready, held.key, &ap.ticket.enc_part)?;
     Ok(decide(&rules, part, ApRefusal::TicketNotOpened))
 }
 
@@ -63,7 +63,7 @@ fn is_other_version(ap: &ApReqRef<'_>) -> bool
 }
 
 /// Decrypts the part with the key, if there is one.
-fn part_of(
+fn open_ticket_part(
     alloc: Global,
     ready: Option<&ReadyKeys>,
     key: Option<&Key>,

@@ -5,7 +5,7 @@ ghost use Rattle.client_core.specs.Sessions.{IsPresentable, is_presentable, sess
 ghost use Rattle.client_core.specs.Sessions as definitions;
 
 use cred_files::Credential;
-use encrypted_data::key_of;
+use encrypted_data::supported_key;
 use enctypes::Key;
 use krb_elements::read;
 use krb_fields::is_component;
@@ -29,7 +29,7 @@ pub fn session_key(credential: &Credential) -> Option<Key>
     // Promise, as Asked::is_askable: whether a request can ..
     ensures { result ≡ session_key credential.now }
 {
-    key_of(
+    supported_key(
         i32::from(credential.key.key_type),
         credential.key.octets.as_slice(),
     )

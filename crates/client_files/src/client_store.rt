@@ -64,7 +64,7 @@ where
     R::Reader: IsTerminal,
 {
     fn path_kind(&mut self, path: &str) -> io::Result<PathKind> {
-        path_kind_of(self.files(), path)
+        find_path_kind(self.files(), path)
     }
 
     fn user(&mut self) -> io::Result<u32> {
@@ -80,11 +80,11 @@ where
     }
 
     fn names_in(&mut self, alloc: Global, path: &str) -> io::Result<Vec<String>> {
-        names_of(alloc, self.files(), path)
+        list_names(alloc, self.files(), path)
     }
 }
 
-fn names_of<R: Files + Alloc + Clone + Drop>(
+fn list_names<R: Files + Alloc + Clone + Drop>(
     alloc: Global,
     files: &R,
     path: &str,
@@ -102,7 +102,7 @@ fn push_name(alloc: Global, names: &mut Vec<String>, name: &str) -> Result<(), A
     Ok(names.push(String::from_str(alloc, name)?)?)
 }
 
-fn path_kind_of(files: &impl Files, path: &str) -> io::Result<PathKind> {
+fn find_path_kind(files: &impl Files, path: &str) -> io::Result<PathKind> {
     let there = match fs::metadata(files, path) {
         Ok(there) => there,
         Err(error) if error.kind() == ErrorKind::NotFound => return Ok(PathKind::Free),

@@ -8,11 +8,11 @@ ghost use Rattle.std.specs.List.{after_first, before_first};
 
 use crate::client_store::{ClientStore, PathKind};
 use crate::environment::Defaults;
-use crate::faults::{Cause, Fault, at_file};
-use crate::principals::{name_of, principal_of};
+use crate::faults::{ClientError, StepError, at_file};
+use crate::principals::{make_principal, parse_name};
 use client_login::KdcPlace;
 use cred_files::Principal;
-use file_store::{FileCause, LONGEST_FILE, read_file};
+use file_store::{FileError, LONGEST_FILE, read_file};
 use krb_elements::KerberosString;
 use krb_fields::{component_to_text, is_component};
 use krb5_conf::{Included, default_realm, kdc_address, kdcs, library_settings};
@@ -57,7 +57,7 @@ impl Config {
         alloc: Global,
         store: &mut T,
         defaults: &Defaults<'_>,
-    ) -> Result<Config, Fault>
+    ) -> Result<Config, ClientError>
         // Promise, as read_cache: reading a cache, a ..
         ensures unchanged { T.world store.new ≡ T.world store.old }
     {
@@ -84,7 +84,7 @@ impl Config {
         alloc: Global,
         store: &mut T,
         defaults: &Defaults<'_>,
-    ) -> Result<Option<Config>, Fault>
+    ) -> Result<Option<Config>, ClientError>
         // Promise, as read_cache: reading a cache, a ..
         ensures unchanged { T.world store.new ≡ T.world store.old }
     {
@@ -113,44 +113,44 @@ impl Config {
     }
 
     /// Returns the default realm.
-    pub fn default_realm(&self, alloc: Global) -> Result<KerberosString, Fault>
+    pub fn default_realm(&self, alloc: Global) -> Result<KerberosString, ClientError>
         // Promise, as Client::over of client_sockets: **a client is the ..
         ensures { IfOk result (λ realm. IsDefaultRealm self.now realm) }
     {
         match default_realm(alloc, &self.text)? {
             Some(realm) if is_component(realm) => Ok(KerberosString::from_slice(alloc, realm)?),
-            Some(_) => Err(Fault::new(alloc, self.path.as_str(), Cause::BadRealm)),
-            None => Err(Fault::new(alloc, self.path.as_str(), Cause::NoRealm)),
+            Some(_) => Err(ClientError::new(alloc, self.path.as_str(), StepError::BadRealm)),
+            None => Err(ClientError::new(alloc, self.path.as_str(), StepError::NoRealm)),
         }
     }
 
     /// Returns the principal that a text names: `alice@EXAMPLE.COM`, or `alice` of the default realm.
-    pub fn principal(&self, alloc: Global, text: &str) -> Result<Principal, Fault>
+    pub fn principal(&self, alloc: Global, text: &str) -> Result<Principal, ClientError>
         // Promise, as Client::over of client_sockets: **a client is the ..
         ensures { IfOk result (λ principal. IsNamed self.now text.now principal) }
     {
         match text.split_once('@') {
-            Some((name, realm)) => principal_of(alloc, text, name, realm),
+            Some((name, realm)) => make_principal(alloc, text, name, realm),
             None => Ok(Principal {
                 realm: self.default_realm(alloc)?,
-                name: name_of(alloc, text)?,
+                name: parse_name(alloc, text)?,
             }),
         }
     }
 
     /// Returns where the KDCs of a realm are, at least one. It looks up no name.
-    pub fn kdcs(&self, alloc: Global, realm: &[u8]) -> Result<Vec<KdcPlace>, Fault>
+    pub fn kdcs(&self, alloc: Global, realm: &[u8]) -> Result<Vec<KdcPlace>, ClientError>
         // Promise, as Client::over of client_sockets: the KDCs that a ..
         ensures { IfOk result (λ places. ArePlacesOf self.now realm.now places.items) }
     {
-        let places = places_of(alloc, &kdcs(alloc, &self.text, realm)?)?;
+        let places = parse_places(alloc, &kdcs(alloc, &self.text, realm)?)?;
         if !places.is_empty() {
             return Ok(places);
         }
         let realm = component_to_text(alloc, realm)?;
         let path = self.path.as_str();
         let subject = format!(in alloc; "{path}: {realm}")?;
-        Err(Fault::of(subject, Cause::NoKdc))
+        Err(ClientError::of(subject, StepError::NoKdc))
     }
 }
 
@@ -158,7 +158,7 @@ fn with_included<T: ClientStore>(
     alloc: Global,
     store: &mut T,
     reading: Reading,
-) -> Result<Reading, Fault>
+) -> Result<Reading, ClientError>
     ensures unchanged { T.world store.new ≡ T.world store.old }
 {
     let Reading { text, notes } = reading;
@@ -183,7 +183,7 @@ fn push_line<T: ClientStore>(
     store: &mut T,
     whole: &mut Reading,
     line: &[u8],
-) -> Result<(), Fault>
+) -> Result<(), ClientError>
     ensures unchanged { T.world store.new ≡ T.world store.old }
 {
     match Included::read(line) {
@@ -196,12 +196,12 @@ fn push_line<T: ClientStore>(
 }
 
 /// Returns the path that a line includes.
-fn included_path(alloc: Global, path: &[u8]) -> Result<&str, Fault> {
+fn included_path(alloc: Global, path: &[u8]) -> Result<&str, ClientError> {
     match str::from_utf8(path) {
         Ok(path) => Ok(path),
         Err(_) => {
             let shown = component_to_text(alloc, path)?;
-            Err(Fault::of(shown, Cause::BadSetting(PATH_NOT_UTF8)))
+            Err(ClientError::of(shown, StepError::BadSetting(PATH_NOT_UTF8)))
         }
     }
 }
@@ -221,10 +221,10 @@ fn note_deeper(alloc: Global, reading: &mut Reading) -> Result<(), AllocError> {
 }
 
 /// Appends a text and a line feed.
-fn push_text(alloc: Global, whole: &mut Reading, text: &[u8]) -> Result<(), Fault> {
+fn push_text(alloc: Global, whole: &mut Reading, text: &[u8]) -> Result<(), ClientError> {
     if whole.text.len() > LONGEST_FILE {
-        let cause = Cause::File(FileCause::LongFile);
-        return Err(Fault::new(alloc, "the krb5.conf with all that it includes", cause));
+        let cause = StepError::File(FileError::LongFile);
+        return Err(ClientError::new(alloc, "the krb5.conf with all that it includes", cause));
     }
     whole.text.extend_from_slice(text)?;
     Ok(whole.text.push(b'\n')?)
@@ -235,12 +235,16 @@ fn push_folder<T: ClientStore>(
     store: &mut T,
     whole: &mut Reading,
     folder: &str,
-) -> Result<(), Fault>
+) -> Result<(), ClientError>
     ensures unchanged { T.world store.new ≡ T.world store.old }
 {
     match store.names_in(alloc, folder) {
         Ok(names) => push_files(alloc, store, whole, folder, &names),
-        Err(error) => Err(Fault::new(alloc, folder, Cause::File(FileCause::Failed(error)))),
+        Err(error) => Err(ClientError::new(
+            alloc,
+            folder,
+            StepError::File(FileError::Failed(error)),
+        )),
     }
 }
 
@@ -250,7 +254,7 @@ fn push_files<T: ClientStore>(
     whole: &mut Reading,
     folder: &str,
     names: &[String],
-) -> Result<(), Fault>
+) -> Result<(), ClientError>
     ensures unchanged { T.world store.new ≡ T.world store.old }
 {
     for name in names {
@@ -277,7 +281,7 @@ fn push_file<T: ClientStore>(
     store: &mut T,
     whole: &mut Reading,
     path: &str,
-) -> Result<(), Fault>
+) -> Result<(), ClientError>
     ensures unchanged { T.world store.new ≡ T.world store.old }
 {
     if let Ok(PathKind::NoFile) = store.path_kind(path) {
@@ -296,18 +300,18 @@ fn push_file<T: ClientStore>(
 const KDC_PORT: u16 = 88;
 
 /// Returns where the KDCs are that texts name.
-fn places_of(alloc: Global, texts: &[&[u8]]) -> Result<Vec<KdcPlace>, AllocError>
+fn parse_places(alloc: Global, texts: &[&[u8]]) -> Result<Vec<KdcPlace>, AllocError>
     ensures { IfOk result (λ places. ArePlaces (map (λ text. text.now) texts.now) places.items) }
 {
     let mut places = Vec::new(alloc);
     for text in texts {
-        places.push(place_of(alloc, text)?)?;
+        places.push(parse_place(alloc, text)?)?;
     }
     Ok(places)
 }
 
 /// Returns where the KDC is that a text names.
-fn place_of(alloc: Global, text: &[u8]) -> Result<KdcPlace, AllocError>
+fn parse_place(alloc: Global, text: &[u8]) -> Result<KdcPlace, AllocError>
     ensures { IfOk result (λ place. IsPlace text.now place) }
 {
     match kdc_address(alloc, text)? {

@@ -4,9 +4,9 @@ ghost use Rattle.client_files.specs.CachePaths.{IsDefaultCache};
 
 use crate::client_store::ClientStore;
 use crate::configs::Config;
-use crate::faults::{Cause, Fault};
-use crate::file_names::{NameOf, path_in};
-use file_store::{FileCause, Variable};
+use crate::faults::{ClientError, StepError};
+use crate::file_names::{NameOf, file_path};
+use file_store::{FileError, Variable};
 use std::alloc::Global;
 use std::io;
 
@@ -33,23 +33,27 @@ const CONFIG_NOT_UTF8: &str = "KRB5_CONFIG, which names the krb5.conf to be read
 impl<'a> Defaults<'a> {
     /// Returns the path of the cache: that of `KRB5CCNAME`, or else of the `krb5.conf`, or else the user's own, which
     /// MIT's and Heimdal's clients use too.
-    pub fn cache_path<T: ClientStore>(&self, alloc: Global, store: &mut T) -> Result<String, Fault>
+    pub fn cache_path<T: ClientStore>(
+        &self,
+        alloc: Global,
+        store: &mut T,
+    ) -> Result<String, ClientError>
         ensures named { IfOk result (λ path. IsDefaultCache self.now.cache (string_bytes path)) }
         // Promise, as read_cache: reading a cache, a ..
         ensures unchanged { T.world store.new ≡ T.world store.old }
     {
         match self.cache {
             Variable::Absent => self.own_path(alloc, store),
-            Variable::NotUtf8 => Err(Fault::usage(CACHE_NOT_UTF8)),
+            Variable::NotUtf8 => Err(ClientError::usage(CACHE_NOT_UTF8)),
             Variable::Text(name) => {
-                let path = path_in(name, NameOf::CacheVariable)?;
+                let path = file_path(name, NameOf::CacheVariable)?;
                 Ok(String::from_str(alloc, path)?)
             }
         }
     }
 
     /// Returns the path of the user's own cache.
-    fn own_path<T: ClientStore>(&self, alloc: Global, store: &mut T) -> Result<String, Fault>
+    fn own_path<T: ClientStore>(&self, alloc: Global, store: &mut T) -> Result<String, ClientError>
         ensures unchanged { T.world store.new ≡ T.world store.old }
     {
         let user = user_number(alloc, store.user())?;
@@ -62,21 +66,21 @@ impl<'a> Defaults<'a> {
     }
 
     /// Returns the path of the `krb5.conf`: that of `KRB5_CONFIG`, or else the system's.
-    pub fn config_path(&self) -> Result<&'a str, Fault> {
+    pub fn config_path(&self) -> Result<&'a str, ClientError> {
         match self.config {
             Variable::Absent => Ok(CONFIG),
-            Variable::NotUtf8 => Err(Fault::usage(CONFIG_NOT_UTF8)),
+            Variable::NotUtf8 => Err(ClientError::usage(CONFIG_NOT_UTF8)),
             Variable::Text(path) => Ok(path),
         }
     }
 }
 
-fn user_number(alloc: Global, user: io::Result<u32>) -> Result<u32, Fault> {
+fn user_number(alloc: Global, user: io::Result<u32>) -> Result<u32, ClientError> {
     match user {
         Ok(user) => Ok(user),
         Err(error) => {
-            let cause = Cause::File(FileCause::Failed(error));
-            Err(Fault::new(alloc, "the number of the user", cause))
+            let cause = StepError::File(FileError::Failed(error));
+            Err(ClientError::new(alloc, "the number of the user", cause))
         }
     }
 }

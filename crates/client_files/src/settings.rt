@@ -1,7 +1,7 @@
 //! What the `[libdefaults]` of a `krb5.conf` say of first tickets, and of the cache.
 use crate::configs::Config;
-use crate::faults::{Cause, Fault};
-use crate::file_names::{NameOf, path_in};
+use crate::faults::{ClientError, StepError};
+use crate::file_names::{NameOf, file_path};
 use client_login::TicketRequest;
 use std::alloc::{AllocError, Global};
 use text_fields::number_u32;
@@ -18,7 +18,7 @@ const NO_TOKEN: &str = "of what stands between %{ and } only uid, euid and TEMP 
 
 impl Config {
     /// Returns the first ticket that it asks for.
-    pub fn ticket_request(&self, alloc: Global) -> Result<TicketRequest, Fault> {
+    pub fn ticket_request(&self, alloc: Global) -> Result<TicketRequest, ClientError> {
         let renew_lifetime = self.seconds(alloc, "renew_lifetime")?;
         Ok(TicketRequest {
             lifetime: self.seconds(alloc, "ticket_lifetime")?,
@@ -31,23 +31,23 @@ impl Config {
     }
 
     /// Returns the path of the cache that `default_ccache_name` names for a user, if it is there.
-    pub fn cache_path(&self, alloc: Global, user: u32) -> Result<Option<String>, Fault> {
+    pub fn cache_path(&self, alloc: Global, user: u32) -> Result<Option<String>, ClientError> {
         let tag = "default_ccache_name";
-        let Some(name) = self.text_of(alloc, tag)? else {
+        let Some(name) = self.setting_text(alloc, tag)? else {
             return Ok(None);
         };
-        match with_tokens(alloc, path_in(name, NameOf::CacheSetting)?, user)? {
+        match with_tokens(alloc, file_path(name, NameOf::CacheSetting)?, user)? {
             Some(path) => Ok(Some(path)),
             None => Err(self.setting_fault(alloc, tag, NO_TOKEN)),
         }
     }
 
     /// Returns the seconds of a setting. Zero counts as absent, as in MIT's library.
-    fn seconds(&self, alloc: Global, tag: &str) -> Result<Option<u32>, Fault> {
-        let Some(text) = self.text_of(alloc, tag)? else {
+    fn seconds(&self, alloc: Global, tag: &str) -> Result<Option<u32>, ClientError> {
+        let Some(text) = self.setting_text(alloc, tag)? else {
             return Ok(None);
         };
-        match seconds_of(text) {
+        match parse_seconds(text) {
             Some(0) => Ok(None),
             Some(seconds) => Ok(Some(seconds)),
             None => Err(self.setting_fault(alloc, tag, NO_TIME)),
@@ -55,17 +55,17 @@ impl Config {
     }
 
     /// Returns whether a setting is true.
-    fn choice(&self, alloc: Global, tag: &str) -> Result<bool, Fault> {
-        let Some(text) = self.text_of(alloc, tag)? else {
+    fn choice(&self, alloc: Global, tag: &str) -> Result<bool, ClientError> {
+        let Some(text) = self.setting_text(alloc, tag)? else {
             return Ok(false);
         };
-        match choice_of(text) {
+        match parse_choice(text) {
             Some(choice) => Ok(choice),
             None => Err(self.setting_fault(alloc, tag, NO_CHOICE)),
         }
     }
 
-    fn text_of(&self, alloc: Global, tag: &str) -> Result<Option<&str>, Fault> {
+    fn setting_text(&self, alloc: Global, tag: &str) -> Result<Option<&str>, ClientError> {
         let Some(octets) = self.setting(alloc, tag)? else {
             return Ok(None);
         };
@@ -75,11 +75,11 @@ impl Config {
         }
     }
 
-    fn setting_fault(&self, alloc: Global, tag: &str, text: &'static str) -> Fault {
+    fn setting_fault(&self, alloc: Global, tag: &str, text: &'static str) -> ClientError {
         let path = self.path();
         match format!(in alloc; "{path}: {tag}") {
-            Ok(subject) => Fault::of(subject, Cause::BadSetting(text)),
-            Err(error) => Fault::from(error),
+            Ok(subject) => ClientError::of(subject, StepError::BadSetting(text)),
+            Err(error) => ClientError::from(error),
         }
     }
 }
@@ -100,7 +100,7 @@ const CHOICES: &[(&str, bool)] = &[
     ("off", false),
 ];
 
-fn choice_of(text: &str) -> Option<bool> {
+fn parse_choice(text: &str) -> Option<bool> {
     for (word, choice) in CHOICES {
         if text.eq_ignore_ascii_case(word) {
             return Some(*choice);
@@ -110,7 +110,7 @@ fn choice_of(text: &str) -> Option<bool> {
 }
 
 /// Reads a time: seconds; hours, minutes and seconds with colons; or numbers with their units.
-fn seconds_of(text: &str) -> Option<u32> {
+fn parse_seconds(text: &str) -> Option<u32> {
     if text.contains(':') {
         return clock_seconds(text);
     }
@@ -146,7 +146,7 @@ fn unit_seconds(text: &str) -> Option<u32> {
             Some(digit) => number = Some(number.unwrap_or(0).checked_mul(10)?.checked_add(digit)?),
             None if c == ' ' && number.is_none() => {}
             None => {
-                total = total.checked_add(number?.checked_mul(unit_of(c)?)?)?;
+                total = total.checked_add(number?.checked_mul(unit_length(c)?)?)?;
                 number = None;
             }
         }
@@ -157,7 +157,7 @@ fn unit_seconds(text: &str) -> Option<u32> {
     }
 }
 
-fn unit_of(c: char) -> Option<u32> {
+fn unit_length(c: char) -> Option<u32> {
     for (unit, seconds) in UNITS {
         if *unit == c {
             return Some(*seconds);

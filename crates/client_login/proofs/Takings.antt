@@ -10,8 +10,8 @@ use Rattle.client_core.specs.declared.sessions.Session.{Session}
 use Rattle.client_core.specs.Taken.{IsTaken}
 use Rattle.client_core.specs.TakenLaws.{taken_is}
 use Rattle.client_core.specs.declared.asked.Asked.{Asked}
-use Rattle.client_core.specs.declared.fault.ClientFault.{ClientFault}
-use Rattle.client_core.specs.declared.fault.ClientFault.TheVariants as found
+use Rattle.client_core.specs.declared.fault.ReplyError.{ReplyError}
+use Rattle.client_core.specs.declared.fault.ReplyError.TheVariants as found
 use Rattle.client_core.specs.declared.fault.Refusal.{Refusal}
 use Rattle.client_core.specs.declared.key_role.KeyRole.{KeyRole}
 use Rattle.client_core.specs.declared.key_role.KeyRole.TheVariants as roles
@@ -29,7 +29,7 @@ use Rattle.client_login.specs.Infos.{info_of_refusal}
 use Rattle.client_login.specs.Places.{IsKdc}
 use Rattle.client_login.specs.Replies.{IsAnswer, IsError, IsExchanged, IsReply, counted, said_of}
 use Rattle.client_login.specs.declared.asking.Reply.{Reply}
-use Rattle.client_login.specs.declared.faults.LoginFault.{LoginFault}
+use Rattle.client_login.specs.declared.faults.TicketError.{TicketError}
 use Rattle.client_login.specs.declared.kdc_places.KdcPlace.{KdcPlace}
 use Rattle.client_login.specs.declared.faults.LoginError.{LoginError}
 use Rattle.client_login.specs.declared.faults.LoginError.TheVariants as says
@@ -133,7 +133,7 @@ pub keyless_first : (secret : Secret) (asked : Asked) (now : ℤ) (octets : List
     → SaysFirst secret asked now why octets
 keyless_first secret asked now octets ticket why none read is =
     keyless secret asked now octets why
-    (subst (λ (fault : ClientFault). IsNoKey secret asked.realm asked.client
+    (subst (λ (fault : ReplyError). IsNoKey secret asked.realm asked.client
     (info_said secret fault (ticket_reply_in 11 octets)) why) (sym none)
     (subst (λ (o : Option (KdcRep 11)). IsNoKey secret asked.realm asked.client
     (info_said secret found.NotAReply o) why) (sym read) is))
@@ -145,14 +145,14 @@ by_refusal : (secret : Secret) (asked : Asked) (now : ℤ) (octets : List ℕ) (
     → SaysFirst secret asked now why octets
 by_refusal secret asked now octets refusal why read is =
     keyless secret asked now octets why
-    (subst (λ (fault : ClientFault). IsNoKey secret asked.realm asked.client
+    (subst (λ (fault : ReplyError). IsNoKey secret asked.realm asked.client
     (info_said secret fault (ticket_reply_in 11 octets)) why) (sym read) is)
 
 pub refused_first : (secret : Secret) (asked : Asked) (now : ℤ) (octets : List ℕ) (refusal : Refusal) (why : LoginError)
     → refusal_in octets ≡ found.Refused refusal → SaysRefused secret asked refusal why
     → SaysFirst secret asked now why octets
 refused_first secret asked now octets refusal (says.Refused error) read is =
-    subst (λ (fault : ClientFault). IsError error fault) (sym read) is
+    subst (λ (fault : ReplyError). IsError error fault) (sym read) is
 refused_first secret asked now octets refusal says.NotAskable read is =
     by_refusal secret asked now octets refusal says.NotAskable read is
 refused_first secret asked now octets refusal says.NotPresentable read is =
@@ -259,7 +259,7 @@ module _ (answers : SocketAddr → List ℕ → List ℕ → Type 0) where
       (record { request = is.request; reply = reply.octets.items; answered = is.answered; says = said })
 
   pub first_blamed : (secret : Secret) (asked : Asked) (now : ℤ) (reply : Reply) {A : Type 0} (found : Result A LoginError)
-      (result : Result A LoginFault) → IsReply answers reply
+      (result : Result A TicketError) → IsReply answers reply
       → IfErr found (λ why. SaysFirst secret asked now why reply.octets.items)
       → IfErr result (λ fault. (found ≡ Err fault.why) × (fault.kdc ≡ named_by fault.why reply.kdc))
       → IfErr result (λ fault. IsFirstFault answers secret asked now fault.why fault.kdc)
@@ -269,7 +269,7 @@ module _ (answers : SocketAddr → List ℕ → List ℕ → Type 0) where
       (subst (λ (found : Result A LoginError). IfErr found (λ why. SaysFirst secret asked now why reply.octets.items)) e.0 said) e.1
 
   pub first_taken : (secret : Secret) (asked : Asked) (now : ℤ) (reply : Reply) (found : Result Credential LoginError)
-      (result : Result Credential LoginFault) → IsReply answers reply
+      (result : Result Credential TicketError) → IsReply answers reply
       → IfOk found (λ credential. TakesFirst secret asked now credential reply.octets.items)
       → IfOk result (λ credential. found ≡ Ok credential)
       → IfOk result (λ credential. IsFirst answers secret asked now credential)
@@ -350,7 +350,7 @@ module _ (answers : SocketAddr → List ℕ → List ℕ → Type 0) where
   further_blames granting asked now key reply (says.Unverified doubt) kdc shared is said e = absurd said
 
   pub further_blamed : (granting : Credential) (asked : Asked) (now : ℤ) (key : Key) (reply : Reply)
-      (found : Result Credential LoginError) (result : Result Credential LoginFault) → session_key granting ≡ Some key
+      (found : Result Credential LoginError) (result : Result Credential TicketError) → session_key granting ≡ Some key
       → IsReply answers reply → IfErr found (λ why. SaysTgs key asked now why reply.octets.items)
       → IfErr result (λ fault. (found ≡ Err fault.why) × (fault.kdc ≡ named_by fault.why reply.kdc))
       → IfErr result (λ fault. IsFurtherFault answers granting asked now fault.why fault.kdc)
@@ -361,7 +361,7 @@ module _ (answers : SocketAddr → List ℕ → List ℕ → Type 0) where
       e.1
 
   pub further_taken : (granting : Credential) (asked : Asked) (now : ℤ) (key : Key) (reply : Reply)
-      (found : Result Credential LoginError) (result : Result Credential LoginFault) → session_key granting ≡ Some key
+      (found : Result Credential LoginError) (result : Result Credential TicketError) → session_key granting ≡ Some key
       → IsReply answers reply
       → IfOk found (λ credential. IsTaken 13 roles.Session asked key now reply.octets.items credential)
       → IfOk result (λ credential. found ≡ Ok credential)
@@ -415,16 +415,16 @@ module _ (answers : SocketAddr → List ℕ → List ℕ → Type 0) where
     request = is.request;
     reply = reply.octets.items;
     answered = is.answered;
-    says = subst (λ (fault : ClientFault). IsError refusal.error fault) (sym (is.read ∙ ap said_of e)) refl;
+    says = subst (λ (fault : ReplyError). IsError refusal.error fault) (sym (is.read ∙ ap said_of e)) refl;
   }
 
-  counts : (b : Bool) (before fault : LoginFault) → IsUnheard answers before.why before.kdc
+  counts : (b : Bool) (before fault : TicketError) → IsUnheard answers before.why before.kdc
       → IsUnheard answers fault.why fault.kdc
       → IsUnheard answers (if b then before else fault).why (if b then before else fault).kdc
   counts true before fault unheard silent = unheard
   counts false before fault unheard silent = silent
 
-  pub counted_unheard : (before fault : LoginFault) → IsUnheard answers before.why before.kdc
+  pub counted_unheard : (before fault : TicketError) → IsUnheard answers before.why before.kdc
       → IsUnheard answers fault.why fault.kdc
       → IsUnheard answers (counted before fault).why (counted before fault).kdc
   counted_unheard before fault unheard silent = counts (is_some before.kdc) before fault unheard silent

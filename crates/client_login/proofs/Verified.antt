@@ -22,8 +22,8 @@ use Rattle.client_login.specs.Faults.{IsFurtherFault}
 use Rattle.client_login.specs.Logins.{IsFurther}
 use Rattle.client_login.specs.Verifying.{IsTicketOf, IsUnverified, IsValidAt, if_of, if_valid, is_of}
 use Rattle.client_login.specs.Verifying.{is_session_key, is_valid, opened, part_by, part_in, part_under, verified}
-use Rattle.client_login.specs.declared.faults.Doubt.{Doubt}
-use Rattle.client_login.specs.declared.faults.Doubt.TheVariants.{NotOpened, NotValid, OtherTicket}
+use Rattle.client_login.specs.declared.faults.VerifyError.{VerifyError}
+use Rattle.client_login.specs.declared.faults.VerifyError.TheVariants.{NotOpened, NotValid, OtherTicket}
 use Rattle.client_login.specs.declared.faults.LoginError.{LoginError}
 use Rattle.client_login.specs.declared.faults.LoginError.TheVariants as says
 
@@ -87,7 +87,7 @@ module _ (keytab : List KeytabEntry) (credential : Credential) (part : EncTicket
   opened_is e = by_ticket (ticket_in credential.ticket) refl e
 
 -- the same for what a call returned
-pub opened_if : (keytab : List KeytabEntry) (credential : Credential) (found : Result EncTicketPart Doubt)
+pub opened_if : (keytab : List KeytabEntry) (credential : Credential) (found : Result EncTicketPart VerifyError)
     → found ≡ opened keytab credential → IfOk found (λ part. IsTicketOf keytab credential)
 opened_if keytab credential (Ok part) e = opened_is keytab credential part (sym e)
 opened_if keytab credential (Err doubt) e = tt
@@ -100,7 +100,7 @@ module _ (keytab : List KeytabEntry) (credential : Credential) (now : ℤ) (part
   by_valid found true opens is e = record { part = found; opens = opens; valid = is }
   by_valid found false opens is e = absurd cc
 
-  by_opened : (r : Result EncTicketPart Doubt) → opened keytab credential ≡ r → if_valid now r ≡ Ok part
+  by_opened : (r : Result EncTicketPart VerifyError) → opened keytab credential ≡ r → if_valid now r ≡ Ok part
       → IsValidAt now keytab credential
   by_opened (Ok found) opens e = by_valid found (is_valid now found) opens refl e
   by_opened (Err doubt) opens e = absurd cc
@@ -123,7 +123,7 @@ module _ (answers : SocketAddr → List ℕ → List ℕ → Type 0) where
       subst (λ (c : Credential). AreSame c.client.realm c.client.name asked.realm asked.client) (sym taken.is) taken.client
 
   pub doubted : (keytab : List KeytabEntry) (granting : Credential) (asked : Asked) (now : ℤ) (credential : Credential)
-      (doubt : Doubt) → IsFurther answers granting asked now credential
+      (doubt : VerifyError) → IsFurther answers granting asked now credential
       → Err doubt ≡ verified keytab now credential
       → IsUnverified answers keytab granting asked now (says.Unverified doubt) None
   doubted keytab granting asked now credential doubt came e =

@@ -6,8 +6,8 @@ use Rattle.client_core.specs.Passwords as passwords
 use Rattle.client_core.specs.Replies.{reads_as, reads_tgs, refusal_in, reply_in, ticket_reply_in}
 use Rattle.client_core.specs.Sessions.{is_presentable, session_key}
 use Rattle.client_core.specs.declared.asked.Asked.{Asked}
-use Rattle.client_core.specs.declared.fault.ClientFault.{ClientFault}
-use Rattle.client_core.specs.declared.fault.ClientFault.TheVariants as found
+use Rattle.client_core.specs.declared.fault.ReplyError.{ReplyError}
+use Rattle.client_core.specs.declared.fault.ReplyError.TheVariants as found
 use Rattle.client_core.specs.declared.fault.Refusal.{Refusal}
 use Rattle.cred_files.specs.declared.credential.Credential.{Credential}
 use Rattle.cred_files.specs.declared.keytab_entry.KeytabEntry.{KeytabEntry}
@@ -51,7 +51,7 @@ info_for (secrets.Password password) reply = info_in_reply reply
 info_for (secrets.Keytab keytab) reply = default_info reply.enc_part.etype
 
 -- the information in these bytes; a KRB-ERROR has it in its e-data
-abbrev pub info_said : Secret → ClientFault → Option (KdcRep AS_REP) → List EtypeInfo2Entry
+abbrev pub info_said : Secret → ReplyError → Option (KdcRep AS_REP) → List EtypeInfo2Entry
 info_said secret (found.Refused refusal) reply = info_of_refusal refusal.e_data
 info_said secret fault (Some reply) = info_for secret reply
 info_said secret fault None = []
@@ -64,7 +64,7 @@ SaysNoKey secret asked why octets =
 -- ---- a rejected reply
 
 -- under a key of the client
-pub record IsRejected (secret : Secret) (asked : Asked) (now : ℤ) (fault : ClientFault) (octets : List ℕ) : Type 0 where
+pub record IsRejected (secret : Secret) (asked : Asked) (now : ℤ) (fault : ReplyError) (octets : List ℕ) : Type 0 where
   pub key : Key
   pub own : IsOwnKey secret asked.realm asked.client key
   pub rejected : reads_as asked key now octets ≡ Err fault
@@ -145,13 +145,13 @@ SaysRefused secret asked refusal why =
     IsNoKey secret asked.realm asked.client (info_of_refusal refusal.e_data) why
 
 -- a reply with a ticket that is rejected
-abbrev pub IsRejection : Result Credential ClientFault → LoginError → Type 0
+abbrev pub IsRejection : Result Credential ReplyError → LoginError → Type 0
 IsRejection judged (says.Mismatch what) = judged ≡ Err (found.Mismatch what)
 IsRejection judged says.CannotOpen = judged ≡ Err found.CannotOpen
 IsRejection judged says.Memory = Unit {0}
 IsRejection judged why = ⊥
 
-abbrev pub IsTgsRejection : Result Credential ClientFault → LoginError → Type 0
+abbrev pub IsTgsRejection : Result Credential ReplyError → LoginError → Type 0
 IsTgsRejection judged (says.Mismatch what) = judged ≡ Err (found.Mismatch what)
 IsTgsRejection judged says.SessionCannotOpen = judged ≡ Err found.CannotOpen
 IsTgsRejection judged says.Memory = Unit {0}

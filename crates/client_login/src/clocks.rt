@@ -3,7 +3,7 @@ ghost use Rattle.std.specs.Prelude.{◌≡◌, ◌-ℤ◌, true, false, IfNone, 
 ghost use Rattle.client_login.specs.Clocks.{IsByClock, IsByError, is_within_skew};
 
 use crate::client::KdcClient;
-use crate::faults::{LoginError, LoginFault};
+use crate::faults::{LoginError, TicketError};
 use krb_fields::{Code, Moment, SKEW};
 
 impl<X> KdcClient<X> {
@@ -13,7 +13,7 @@ impl<X> KdcClient<X> {
     /// and the moment has not been set since.
     ///
     /// Anyone on the path can name any time, so a program should say that it took one.
-    pub fn take_clock(&mut self, fault: LoginFault) -> Option<i64>
+    pub fn take_clock(&mut self, fault: TicketError) -> Option<i64>
         // Promise: a KDC's time is taken only if a login's error names this KDC and is its error 37; by `err` of
         // `log_in` it then answered a request with this error.
         // Promise: after a KDC's time was taken the moment is in the second that the error has.
@@ -51,7 +51,7 @@ fn is_within_skew(ahead: i64) -> bool
 }
 
 /// Returns the moment on the clock of the KDC that the fault names, if that refuses because the clocks differ.
-fn by_clock(fault: LoginFault, at: Moment) -> Option<Moment>
+fn by_clock(fault: TicketError, at: Moment) -> Option<Moment>
     ensures { IfSome result (λ next. IsByClock fault next) }
 {
     if fault.kdc.is_none() {

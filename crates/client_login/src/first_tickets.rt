@@ -3,7 +3,7 @@ ghost use Rattle.std.specs.Prelude.{◌≡◌, ◌<◌, ◌^◌, length, IfErr, 
 ghost use Rattle.client_core.specs.Asked.{IsAskable};
 ghost use Rattle.client_core.specs.Replies as replies;
 ghost use Rattle.client_core.specs.Taken.{AreSame};
-ghost use Rattle.client_core.specs.declared.fault.ClientFault.TheVariants as found;
+ghost use Rattle.client_core.specs.declared.fault.ReplyError.TheVariants as found;
 ghost use Rattle.client_core.specs.declared.key_role.KeyRole.TheVariants as roles;
 ghost use Rattle.krb_types.specs.Ticket as tickets;
 ghost use Rattle.client_login.specs.Draws.{HasDrawn, after_nonce, drawn_nonce};
@@ -17,14 +17,14 @@ ghost use Rattle.client_login.specs.Replies.{IsExchanged, said_of};
 use crate::asking::{Reply, ask};
 use crate::client::KdcClient;
 use crate::draws::draw_nonce;
-use crate::faults::{LoginError, LoginFault, said_by};
+use crate::faults::{LoginError, TicketError, said_by};
 use crate::infos::info_of_refusal;
 use crate::network::Network;
 use crate::replies::Expected;
 use crate::secrets::{Secret, etypes_for, key_of_next_reply, key_of_reply, key_wanted};
 use crate::sending::{ProvingRequest, send};
 use crate::ticket_requests::{Login, first_asked};
-use client_core::{Asked, ClientFault, Refusal, as_request, judge_as_reply, ticket_reply_in};
+use client_core::{Asked, Refusal, ReplyError, as_request, judge_as_reply, ticket_reply_in};
 use cred_files::Credential;
 use enctypes::Key;
 use krb_fields::numbers::AS_REP;
@@ -58,7 +58,7 @@ impl<X: Network> KdcClient<X> {
         rng: &mut R,
         login: &Login,
         secret: &Secret,
-    ) -> Result<Credential, LoginFault>
+    ) -> Result<Credential, TicketError>
         // The network has to take only a request without a timestamp, and requests with one under a key of the client.
         requires { CarriesFirst X.carries secret.now
             (logs_in login.now secret.now self.old.at.sec (drawn_nonce (R.stream rng.old)))
@@ -112,7 +112,7 @@ impl<X: Network> KdcClient<X> {
         let nonce = draw_nonce(rng);
         let etypes = etypes_for(alloc, secret, &login.client)?;
         if etypes.is_empty() {
-            return Err(LoginFault::new(LoginError::NoClientKey));
+            return Err(TicketError::new(LoginError::NoClientKey));
         }
         let asked = first_asked(alloc, login, etypes, self.at, nonce)?;
         let first = FirstRequest {
@@ -129,7 +129,7 @@ fn ask_plainly<X: Network, R: Rng>(
     client: &mut KdcClient<X>,
     rng: &mut R,
     first: &FirstRequest<'_>,
-) -> Result<Credential, LoginFault>
+) -> Result<Credential, TicketError>
     requires { CarriesFirst X.carries first.now.secret.now first.now.asked.now client.old.at (R.stream rng.old) }
     ensures ok { IfOk result (λ credential.
         IsFirst (IsExchanged X.finds client.old.kdcs.places.items X.carries X.answers)
@@ -143,7 +143,7 @@ fn ask_plainly<X: Network, R: Rng>(
     ensures drawn { HasDrawn (R.stream rng.old) (R.stream rng.new) }
 {
     if !first.asked.is_askable() {
-        return Err(LoginFault::new(LoginError::NotAskable));
+        return Err(TicketError::new(LoginError::NotAskable));
     }
     let alloc = client.alloc;
     let request = as_request(alloc, first.asked)?;
@@ -184,7 +184,7 @@ fn ask_with_timestamp<X: Network, R: Rng>(
     client: &mut KdcClient<X>,
     rng: &mut R,
     stamped: &StampedRequest<'_>,
-) -> Result<Credential, LoginFault>
+) -> Result<Credential, TicketError>
     requires askable { IsAskable stamped.now.asked.now }
     requires own { IsOwnKey stamped.now.secret.now stamped.now.asked.now.realm stamped.now.asked.now.client
         stamped.now.key.now }
@@ -282,8 +282,8 @@ fn take(
 {
     match judge_as_reply(alloc, expected.asked, expected.key, expected.at, ticket) {
         Ok(credential) => Ok(credential),
-        Err(ClientFault::Mismatch(what)) => Err(LoginError::Mismatch(what)),
-        Err(ClientFault::CannotOpen) => Err(LoginError::CannotOpen),
+        Err(ReplyError::Mismatch(what)) => Err(LoginError::Mismatch(what)),
+        Err(ReplyError::CannotOpen) => Err(LoginError::CannotOpen),
         // a reply has no other fault
         Err(_) => Err(LoginError::Memory),
     }

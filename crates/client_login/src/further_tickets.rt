@@ -15,13 +15,13 @@ ghost use Rattle.client_login.specs.Replies.{IsExchanged, said_of};
 use crate::asking::Reply;
 use crate::client::KdcClient;
 use crate::draws::draw_nonce;
-use crate::faults::{LoginError, LoginFault, said_by};
+use crate::faults::{LoginError, TicketError, said_by};
 use crate::network::Network;
 use crate::replies::Expected;
 use crate::sending::{ProvingRequest, send};
 use crate::ticket_requests::{FurtherTicket, Renewal, further_asked, renewal_options};
 use client_core::{
-    Asked, ClientFault, is_presentable, judge_tgs_reply, session_key, ticket_reply_in,
+    Asked, ReplyError, is_presentable, judge_tgs_reply, session_key, ticket_reply_in,
 };
 use cred_files::Credential;
 use krb_fields::numbers::TGS_REP;
@@ -45,7 +45,7 @@ impl<X: Network> KdcClient<X> {
         rng: &mut R,
         granting: &Credential,
         service: &Name,
-    ) -> Result<Credential, LoginFault>
+    ) -> Result<Credential, TicketError>
         // The network has to take only requests that present the ticket.
         requires { CarriesPresented X.carries granting.now
             (further_asked 0 granting.now.client service.now (drawn_nonce (R.stream rng.old)))
@@ -104,7 +104,7 @@ impl<X: Network> KdcClient<X> {
         rng: &mut R,
         granting: &Credential,
         renewal: Renewal,
-    ) -> Result<Credential, LoginFault>
+    ) -> Result<Credential, TicketError>
         requires { CarriesPresented X.carries granting.now
             (further_asked (renewal_options renewal granting.now.flags) granting.now.client granting.now.server.name
             (drawn_nonce (R.stream rng.old)))
@@ -161,7 +161,7 @@ fn ask_with_ticket<X: Network, R: Rng>(
     client: &mut KdcClient<X>,
     rng: &mut R,
     further: &FurtherRequest<'_>,
-) -> Result<Credential, LoginFault>
+) -> Result<Credential, TicketError>
     requires { CarriesPresented X.carries further.now.granting.now further.now.asked.now client.old.at
         (R.stream rng.old) }
     ensures ok { IfOk result (λ credential.
@@ -176,13 +176,13 @@ fn ask_with_ticket<X: Network, R: Rng>(
     ensures drawn { HasDrawn (R.stream rng.old) (R.stream rng.new) }
 {
     let Some(key) = session_key(further.granting) else {
-        return Err(LoginFault::new(LoginError::NotPresentable));
+        return Err(TicketError::new(LoginError::NotPresentable));
     };
     if !is_presentable(further.granting) {
-        return Err(LoginFault::new(LoginError::NotPresentable));
+        return Err(TicketError::new(LoginError::NotPresentable));
     }
     if !further.asked.is_askable() {
-        return Err(LoginFault::new(LoginError::NotAskable));
+        return Err(TicketError::new(LoginError::NotAskable));
     }
     let expected = Expected {
         asked: further.asked,
@@ -241,8 +241,8 @@ fn take(
         ticket,
     ) {
         Ok(credential) => Ok(credential),
-        Err(ClientFault::Mismatch(what)) => Err(LoginError::Mismatch(what)),
-        Err(ClientFault::CannotOpen) => Err(LoginError::SessionCannotOpen),
+        Err(ReplyError::Mismatch(what)) => Err(LoginError::Mismatch(what)),
+        Err(ReplyError::CannotOpen) => Err(LoginError::SessionCannotOpen),
         // a reply has no other fault
         Err(_) => Err(LoginError::Memory),
     }

@@ -12,7 +12,7 @@ ghost use Rattle.client_login.specs.Keys.{least_count, next_key, with_held};
 use crate::faults::LoginError;
 use crate::infos::info_in_reply;
 use crate::ticket_requests::offered;
-use client_core::{Asked, ClientFault, EtypeInfo2, count_of, entry_of, password_key};
+use client_core::{Asked, EtypeInfo2, ReplyError, iteration_count, password_key, usable_entry};
 use cred_files::{Keytab, Principal};
 use encrypted_data::type_numbered;
 use enctypes::{Etype, Key};
@@ -206,8 +206,8 @@ fn made_key(
     let octets = password.octets.as_slice();
     match password_key(alloc, octets, asked.realm.as_slice(), &asked.client, info) {
         Ok(key) => Ok(key),
-        Err(ClientFault::CannotOpen) => Err(LoginError::NoKnownType),
-        Err(ClientFault::CountTooLarge) => Err(LoginError::CountTooLarge),
+        Err(ReplyError::CannotOpen) => Err(LoginError::NoKnownType),
+        Err(ReplyError::CountTooLarge) => Err(LoginError::CountTooLarge),
         // a password gives no other fault
         Err(_) => Err(LoginError::Memory),
     }
@@ -217,7 +217,7 @@ fn made_key(
 fn is_weak(least: Option<u32>, info: &[EtypeInfo2Entry]) -> bool
     ensures { result ≡ is_weak least info.now }
 {
-    match entry_of(info) {
+    match usable_entry(info) {
         Some(entry) => is_weak_entry(least, entry),
         None => false,
     }
@@ -227,7 +227,10 @@ fn is_weak_entry(least: Option<u32>, entry: &EtypeInfo2Entry) -> bool
     ensures { result ≡ is_weak_if least (Some entry.now) }
 {
     match type_numbered(entry.etype) {
-        Some(etype) => is_below(least_count(least, etype), count_of(etype, &entry.s2kparams)),
+        Some(etype) => is_below(
+            least_count(least, etype),
+            iteration_count(etype, &entry.s2kparams),
+        ),
         None => false,
     }
 }

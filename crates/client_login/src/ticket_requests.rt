@@ -211,7 +211,7 @@ fn from(request: &TicketRequest, at: Moment) -> Option<KTime>
 fn till(request: &TicketRequest, at: Moment) -> KTime
     ensures { result ≡ till_of at.sec request.now }
 {
-    till_by(at, request.start.unwrap_or(0), request.lifetime)
+    end_after(at, request.start.unwrap_or(0), request.lifetime)
 }
 
 /// Returns until when the ticket is to be renewable.
@@ -219,14 +219,14 @@ fn rtime(request: &TicketRequest, at: Moment) -> Option<KTime>
     ensures { result ≡ rtime_of at.sec request.now }
 {
     if request.renewable {
-        Some(till_by(at, request.start.unwrap_or(0), request.renew_lifetime))
+        Some(end_after(at, request.start.unwrap_or(0), request.renew_lifetime))
     } else {
         None
     }
 }
 
 /// Returns the time this long after the start, in seconds; the start of 1970 requests no bound.
-fn till_by(at: Moment, start: u32, life: Option<u32>) -> KTime
+fn end_after(at: Moment, start: u32, life: Option<u32>) -> KTime
     ensures { result ≡ till_by at.sec start life }
 {
     match life {

@@ -13,7 +13,7 @@ ghost use Rattle.client_login.specs.Verifying.{IsTicketOf, IsUnverified, IsValid
 ghost use Rattle.client_login.specs.Verifying.{is_valid, opened, part_by, part_in, part_under, verified};
 
 use crate::client::KdcClient;
-use crate::faults::{Doubt, LoginError, LoginFault};
+use crate::faults::{LoginError, TicketError, VerifyError};
 use crate::network::Network;
 use ap_req::{has_ended, has_not_started, keytab_key, ticket_terms};
 use cred_files::{Credential, Keytab, Principal, SessionKey};
@@ -41,7 +41,7 @@ impl<X: Network> KdcClient<X> {
         granting: &Credential,
         service: &Name,
         keytab: &Keytab,
-    ) -> Result<Credential, LoginFault>
+    ) -> Result<Credential, TicketError>
         requires { CarriesPresented X.carries granting.now
             (further_asked 0 granting.now.client service.now (drawn_nonce (R.stream rng.old)))
             self.old.at (after_nonce (R.stream rng.old)) }
@@ -84,7 +84,7 @@ impl<X: Network> KdcClient<X> {
         let credential = self.service_ticket(rng, granting, service)?;
         match verified_ticket(self.alloc, keytab, &credential, at)? {
             Ok(_) => Ok(credential),
-            Err(doubt) => Err(LoginFault::new(LoginError::Unverified(doubt))),
+            Err(doubt) => Err(TicketError::new(LoginError::Unverified(doubt))),
         }
     }
 }
@@ -96,7 +96,7 @@ pub fn verified_ticket(
     keytab: &Keytab,
     credential: &Credential,
     at: Moment,
-) -> Attempt<EncTicketPart, Doubt>
+) -> Attempt<EncTicketPart, VerifyError>
     // Promise, as KdcClient::verify: a verified login's ticket is valid ..
     ensures { IfOk result (λ found. found ≡ verified keytab.now at.sec credential.now) }
 {
@@ -114,23 +114,23 @@ pub fn opened_ticket(
     alloc: Global,
     keytab: &Keytab,
     credential: &Credential,
-) -> Attempt<EncTicketPart, Doubt>
+) -> Attempt<EncTicketPart, VerifyError>
     // Promise (value, is), as KdcClient::verify: **a verified login is ..
     ensures value { IfOk result (λ found. found ≡ opened keytab.now credential.now) }
     ensures is { IfOk result (λ found. IfOk found (λ part. IsTicketOf keytab.now credential.now)) }
 {
     match decrypted(alloc, keytab, credential.ticket.as_slice())? {
-        Ok(part) => Ok(if_of(credential, part)),
+        Ok(part) => Ok(require_match(credential, part)),
         Err(doubt) => Ok(Err(doubt)),
     }
 }
 
 /// Decrypts the ticket that bytes encode.
-fn decrypted(alloc: Global, keytab: &Keytab, octets: &[u8]) -> Attempt<EncTicketPart, Doubt>
+fn decrypted(alloc: Global, keytab: &Keytab, octets: &[u8]) -> Attempt<EncTicketPart, VerifyError>
     ensures { IfOk result (λ found. found ≡ part_in keytab.now (ticket_in octets.now)) }
 {
     let Ok(ticket) = read::<TicketRef<'_>>(octets) else {
-        return Ok(Err(Doubt::NotOpened));
+        return Ok(Err(VerifyError::NotOpened));
     };
     let service = ticket.sname.to_name(alloc)?;
     part_by(alloc, keytab_key(keytab, &ticket, &service), &ticket)
@@ -140,12 +140,12 @@ fn part_by(
     alloc: Global,
     key: Option<&Key>,
     ticket: &TicketRef<'_>,
-) -> Attempt<EncTicketPart, Doubt>
+) -> Attempt<EncTicketPart, VerifyError>
     ensures { IfOk result (λ found. found ≡ part_by (option_copied key.entry) ticket.now) }
 {
     match key {
-        Some(key) => Ok(part_under(alloc, key, ticket)?.ok_or(Doubt::NotOpened)),
-        None => Ok(Err(Doubt::NoTicketKey)),
+        Some(key) => Ok(part_under(alloc, key, ticket)?.ok_or(VerifyError::NotOpened)),
+        None => Ok(Err(VerifyError::NoTicketKey)),
     }
 }
 
@@ -160,28 +160,28 @@ fn part_under(
     open_part(alloc, key, KeyUsage::Ticket, cipher)
 }
 
-fn if_of(credential: &Credential, part: EncTicketPart) -> Result<EncTicketPart, Doubt>
+fn require_match(credential: &Credential, part: EncTicketPart) -> Result<EncTicketPart, VerifyError>
     ensures { result ≡ if_of credential.now (Ok part) }
 {
-    if is_of(credential, &part) {
+    if matches_credential(credential, &part) {
         Ok(part)
     } else {
-        Err(Doubt::OtherTicket)
+        Err(VerifyError::OtherTicket)
     }
 }
 
-fn if_valid(at: Moment, part: EncTicketPart) -> Result<EncTicketPart, Doubt>
+fn if_valid(at: Moment, part: EncTicketPart) -> Result<EncTicketPart, VerifyError>
     ensures { result ≡ if_valid at.sec (Ok part) }
 {
     if is_valid(&part, at) {
         Ok(part)
     } else {
-        Err(Doubt::NotValid)
+        Err(VerifyError::NotValid)
     }
 }
 
 /// Checks whether a ticket has the credential's client and session key.
-fn is_of(credential: &Credential, part: &EncTicketPart) -> bool
+fn matches_credential(credential: &Credential, part: &EncTicketPart) -> bool
     ensures { result ≡ is_of credential.now part.now }
 {
     is_client(&credential.client, part) && is_session_key(&credential.key, &part.key)

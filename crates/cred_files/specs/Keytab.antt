@@ -11,8 +11,8 @@ use Rattle.enctypes.specs.Key.{ProtocolKey}
 use Rattle.enctypes.specs.Numbered.{type_numbered}
 use Rattle.krb_elements.specs.Spells.{Items}
 use Rattle.krb_fields.specs.Name.{Components, name_cmp}
-use Rattle.cred_files.specs.declared.fault.CredFault.{CredFault}
-use Rattle.cred_files.specs.declared.fault.CredFault.TheVariants.{BadEntry, Memory}
+use Rattle.cred_files.specs.declared.fault.CredError.{CredError}
+use Rattle.cred_files.specs.declared.fault.CredError.TheVariants.{BadEntry, Memory}
 use Rattle.cred_files.specs.declared.keytab_entry.EntryFields.{EntryFields}
 use Rattle.cred_files.specs.declared.keytab_entry.KeyFields.{KeyFields}
 use Rattle.cred_files.specs.declared.keytab_entry.KeytabEntry.{KeytabEntry}
@@ -57,7 +57,7 @@ abbrev pub version_of : ℕ → List ℕ → ℕ
 version_of short more = if nat_lt (length more) 4 then short else unless_zero short (from_be_bytes w32 (take 4 more))
 
 -- an entry with an unsupported encryption type is none; a key must have the length for its encryption type
-abbrev pub entry_of : EntryFields → ℕ → Option Etype → Result (Option KeytabEntry) CredFault
+abbrev pub entry_of : EntryFields → ℕ → Option Etype → Result (Option KeytabEntry) CredError
 entry_of fields version None = Ok None
 entry_of fields version (Some etype) =
     if length fields.key == key_len etype
@@ -142,7 +142,7 @@ abbrev pub HasRoom : KeytabEntry → Type 0
 HasRoom e = HasCounts e × (length (entry_text e) < 2 ^ 31)
 
 -- why something is not written: it doesn't fit, or memory ran out
-abbrev pub IsNotWritten : Type 0 → CredFault → Type 0
+abbrev pub IsNotWritten : Type 0 → CredError → Type 0
 IsNotWritten Room BadEntry = Room → ⊥
 IsNotWritten Room Memory = Unit {0}
 IsNotWritten Room fault = ⊥

@@ -1,7 +1,7 @@
 //! Errors of reading, searching and changing files.
 ghost use Rattle.std.specs.Prelude.{◌≡◌, option_map};
-ghost use Rattle.cred_files.specs.declared.fault.Cut.TheVariants as cuts;
-ghost use Rattle.cred_files.specs.declared.fault.CredFault.TheVariants.{Memory};
+ghost use Rattle.cred_files.specs.declared.fault.TakeError.TheVariants as cuts;
+ghost use Rattle.cred_files.specs.declared.fault.CredError.TheVariants.{Memory};
 ghost use Rattle.cred_files.specs.Reading.{fault_of};
 ghost use Rattle.cred_files.specs.RefusalWord.{cred_refusal};
 
@@ -11,7 +11,7 @@ use std::fmt;
 
 /// What is wrong with a keytab or a credential cache, or with a request to it.
 #[derive(Clone, Copy, Debug, PartialEq, Eq)]
-pub enum CredFault {
+pub enum CredError {
     /// The file has fewer than two bytes, or doesn't start with those of its format.
     BadMagic,
     /// The file ends within a field, an entry or a hole.
@@ -27,93 +27,93 @@ pub enum CredFault {
     Memory,
 }
 
-impl CredFault {
+impl CredError {
     /// Returns the word that commands print if a file is refused. Out of memory has none: it refuses nothing.
     pub fn refusal(self) -> Option<&'static str>
-        // Promise, as ReadFault::refusal of principals_text: each error has its ..
+        // Promise, as ReadError::refusal of principals_text: each error has its ..
         ensures { option_map (λ word. word.now) result ≡ cred_refusal self }
     {
         match self {
-            CredFault::BadMagic => Some("BadMagic"),
-            CredFault::Truncated => Some("Truncated"),
-            CredFault::BadEntry => Some("BadEntry"),
-            CredFault::TooLate => Some("TooLate"),
-            CredFault::Absent => Some("Absent"),
-            CredFault::Memory => None,
+            CredError::BadMagic => Some("BadMagic"),
+            CredError::Truncated => Some("Truncated"),
+            CredError::BadEntry => Some("BadEntry"),
+            CredError::TooLate => Some("TooLate"),
+            CredError::Absent => Some("Absent"),
+            CredError::Memory => None,
         }
     }
 
     /// Returns what is wrong, to stand after the name of the file.
     pub fn text(self) -> &'static str {
         match self {
-            CredFault::BadMagic => "the file does not start with the bytes of its format",
-            CredFault::Truncated => "the file ends too early",
-            CredFault::BadEntry => "an entry is invalid, or too long for the file",
-            CredFault::TooLate => "a time is out of the range of the file format",
-            CredFault::Absent => "there is no such credential",
-            CredFault::Memory => "out of memory",
+            CredError::BadMagic => "the file does not start with the bytes of its format",
+            CredError::Truncated => "the file ends too early",
+            CredError::BadEntry => "an entry is invalid, or too long for the file",
+            CredError::TooLate => "a time is out of the range of the file format",
+            CredError::Absent => "there is no such credential",
+            CredError::Memory => "out of memory",
         }
     }
 }
 
-impl fmt::Display for CredFault {
+impl fmt::Display for CredError {
     fn fmt<W: fmt::Write>(&self, f: &mut fmt::Formatter<W>) -> fmt::Result {
         f.write_str(self.text())
     }
 }
 
-impl Error for CredFault {}
+impl Error for CredError {}
 
 /// Why no value could be read from the front of bytes.
 #[derive(Clone, Copy, Debug, PartialEq, Eq)]
-pub enum Cut {
+pub enum TakeError {
     /// The bytes end before the value does.
     End,
     /// Memory ran out.
     Memory,
 }
 
-impl From<AllocError> for Cut {
+impl From<AllocError> for TakeError {
     ghost from_gives = { λ _ e. e ≡ cuts.Memory };
 
-    fn from(_error: AllocError) -> Cut {
-        Cut::Memory
+    fn from(_error: AllocError) -> TakeError {
+        TakeError::Memory
     }
 }
 
-impl<T: Drop> From<AllocFailed<T>> for Cut {
+impl<T: Drop> From<AllocFailed<T>> for TakeError {
     ghost from_gives = { λ _ e. e ≡ cuts.Memory };
 
-    fn from(_error: AllocFailed<T>) -> Cut {
-        Cut::Memory
+    fn from(_error: AllocFailed<T>) -> TakeError {
+        TakeError::Memory
     }
 }
 
-impl From<AllocError> for CredFault {
+impl From<AllocError> for CredError {
     ghost from_gives = { λ _ e. e ≡ Memory };
 
-    fn from(_error: AllocError) -> CredFault {
-        CredFault::Memory
+    fn from(_error: AllocError) -> CredError {
+        CredError::Memory
     }
 }
 
-impl<T: Drop> From<AllocFailed<T>> for CredFault {
+impl<T: Drop> From<AllocFailed<T>> for CredError {
     ghost from_gives = { λ _ e. e ≡ Memory };
 
-    fn from(_error: AllocFailed<T>) -> CredFault {
-        CredFault::Memory
+    fn from(_error: AllocFailed<T>) -> CredError {
+        CredError::Memory
     }
 }
 
 /// A field extends past the end of the file. (If it extends past the end of its entry, that is a
-/// [`CredFault::BadEntry`].)
-impl From<Cut> for CredFault {
+/// [`CredError::BadEntry`].)
+impl From<TakeError> for CredError {
     ghost from_gives = { λ cut e. e ≡ fault_of cut };
 
-    fn from(cut: Cut) -> CredFault {
+    fn from(cut: TakeError) -> CredError {
         match cut {
-            Cut::End => CredFault::Truncated,
-            Cut::Memory => CredFault::Memory,
+            TakeError::End => CredError::Truncated,
+            TakeError::Memory => CredError::Memory,
         }
     }
 }

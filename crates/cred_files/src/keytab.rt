@@ -8,7 +8,7 @@ ghost use Rattle.cred_files.specs.KeytabReading.{Gives, GivesBy, GivesNext, entr
 ghost use Rattle.cred_files.specs.Reading.{IsReadUnlessMemory};
 ghost use Rattle.cred_files.specs.declared.keytab_entry.KeytabEntry as entries;
 
-use crate::fault::CredFault;
+use crate::fault::CredError;
 use crate::keytab_entry::{HOLES, KeytabEntry, read_entry, write_entry};
 use crate::magic::{FIRST, KEYTAB, after_magic};
 use crate::reader::Reader;
@@ -69,7 +69,7 @@ impl Model for Keytab {
 }
 
 #[tactic(auto, unfolding(crate::specs::KeytabReading::next_at))]
-fn next_part(alloc: Global, reader: &mut Reader<'_>) -> Result<Part, CredFault>
+fn next_part(alloc: Global, reader: &mut Reader<'_>) -> Result<Part, CredError>
     ensures { GivesNext result reader.new (next_at reader.old) }
 {
     if reader.is_empty() {
@@ -92,7 +92,7 @@ fn next_part(alloc: Global, reader: &mut Reader<'_>) -> Result<Part, CredFault>
 }
 
 /// Reads entries to the end of the file.
-fn read_entries(alloc: Global, bytes: &[u8]) -> Result<Vec<KeytabEntry>, CredFault>
+fn read_entries(alloc: Global, bytes: &[u8]) -> Result<Vec<KeytabEntry>, CredError>
     ensures { GivesBy (λ v. v.items) result (entries_at bytes.now) }
 {
     let mut entries = Vec::new(alloc);
@@ -108,7 +108,7 @@ fn read_entries(alloc: Global, bytes: &[u8]) -> Result<Vec<KeytabEntry>, CredFau
 }
 
 /// Appends an entry after its length.
-fn put_entry(alloc: Global, out: &mut Vec<u8>, entry: &KeytabEntry) -> Result<(), CredFault>
+fn put_entry(alloc: Global, out: &mut Vec<u8>, entry: &KeytabEntry) -> Result<(), CredError>
     ensures text { OnOk result (out.new.items ≡ out.old.items ++ part_text entry.now) }
     ensures spelled { IfOk result (λ done. IsPart (Some entry.now) (part_text entry.now)) }
     ensures fault { IfErr result (λ fault. IsNotWritten (HasRoom entry.now) fault) }
@@ -120,7 +120,7 @@ fn put_entry(alloc: Global, out: &mut Vec<u8>, entry: &KeytabEntry) -> Result<()
 }
 
 /// Appends entries, each after its length.
-fn put_entries(alloc: Global, out: &mut Vec<u8>, entries: &[KeytabEntry]) -> Result<(), CredFault>
+fn put_entries(alloc: Global, out: &mut Vec<u8>, entries: &[KeytabEntry]) -> Result<(), CredError>
     ensures text { OnOk result (out.new.items ≡ out.old.items ++ flat_map part_text entries.now) }
     ensures spelled { IfOk result (λ done. All (λ e. IsPart (Some e) (part_text e)) entries.now) }
     ensures fault { IfErr result (λ fault. IsNotWritten (All HasRoom entries.now) fault) }
@@ -166,7 +166,7 @@ fn newest<'a>(
 
 impl Keytab {
     /// Returns a keytab with copies of these entries. Fails with `BadEntry` if one is too long for a file.
-    pub fn new(alloc: Global, entries: &[KeytabEntry]) -> Result<Keytab, CredFault>
+    pub fn new(alloc: Global, entries: &[KeytabEntry]) -> Result<Keytab, CredError>
         // Promise (ok, room, fault): a keytab is made and written unless an entry has no room or memory runs out.
         ensures ok { IfOk result (λ keytab. keytab ≡ entries.now) }
         ensures room { IfOk result (λ keytab. All HasRoom entries.now) }
@@ -195,7 +195,7 @@ impl Keytab {
     }
 
     /// Reads a keytab from the bytes of a file.
-    pub fn read(alloc: Global, bytes: &[u8]) -> Result<Keytab, CredFault>
+    pub fn read(alloc: Global, bytes: &[u8]) -> Result<Keytab, CredError>
         // If it succeeds, the file holds this keytab.
         // Promise (found, only, exact): the file's bytes are those of the keytab that is read, and a file that is one
         // is read, unless memory runs out; which error it is.
@@ -213,7 +213,7 @@ impl Keytab {
 
     /// Returns the bytes of the file. Fails with `BadEntry` if an entry is too long for it. One with 2147483644 bytes
     /// or more may be: it was read without the version of four bytes, which is always written.
-    pub fn write(&self, alloc: Global) -> Result<Vec<u8>, CredFault>
+    pub fn write(&self, alloc: Global) -> Result<Vec<u8>, CredError>
         // Promise (text, spelled): what is written is a file of this value, so it is read back equal.
         ensures text { IfOk result (λ bytes. bytes.items ≡ keytab_text self.now) }
         // So reading them gives the same entries.

@@ -5,9 +5,9 @@ ghost use Rattle.enctypes.specs.Sealing.{mac};
 ghost use Rattle.encrypted_data.specs.Encrypted.{encrypted, decrypted};
 ghost use Rattle.encrypted_data.specs.Parts.{IsSpelledWithin, opened_as};
 
-use crate::encrypting::{PartKey, encrypted, encrypted_by};
+use crate::encrypting::{PartKey, encrypt_with, encrypted};
 use crate::places::{Places, made_ready, make_ready};
-use crate::{open_part, open_part_by};
+use crate::{open_part, open_with};
 use enctypes::{Key, KeyUsage, ReadyChecksum, ReadyKey, verify};
 use krb_elements::{Encode, ReadOwned};
 use krb_fields::EncryptedData;
@@ -60,9 +60,9 @@ impl ReadyKeys {
             ≡ opened_as T.codec key.now.etype key.now.bytes (usage_number usage) cipher.now) }
         ensures within { IfOk result (λ found. IfSome found (λ part. IsSpelledWithin T.codec part cipher.now)) }
     {
-        if let Some(mut place) = self.place_of(key, usage) {
+        if let Some(mut place) = self.borrow_place(key, usage) {
             if let Some(ready) = made_ready_to_open(&mut place, key, usage) {
-                return open_part_by(alloc, ready, cipher);
+                return open_with(alloc, ready, cipher);
             }
         }
         open_part(alloc, key, usage, cipher)
@@ -85,9 +85,9 @@ impl ReadyKeys {
             decrypted T.codec key.now.key (usage_number key.now.usage) sealed ≡ Some part.now) }
         ensures most { IfOk result (λ sealed. length sealed.cipher ≤ 46 + length (T.codec.text part.now)) }
     {
-        if let Some(mut place) = self.place_of(&key.key, key.usage) {
+        if let Some(mut place) = self.borrow_place(&key.key, key.usage) {
             if let Some(ready) = made_ready(&mut place, &key.key, key.usage) {
-                return encrypted_by(alloc, ready, key.kvno, confounder, part);
+                return encrypt_with(alloc, ready, key.kvno, confounder, part);
             }
         }
         encrypted(alloc, key, confounder, part)
@@ -100,7 +100,7 @@ impl ReadyKeys {
         ensures { IsTrue result
             ↔ (octets.now ≡ mac key.now.etype key.now.bytes (usage_number usage) text.now) }
     {
-        if let Some(mut place) = self.for_checksums.place_of(&self.secret, key, usage) {
+        if let Some(mut place) = self.for_checksums.borrow_place(&self.secret, key, usage) {
             if let Some(ready) = made_ready(&mut place, key, usage) {
                 return ready.verify(text, octets);
             }
@@ -110,11 +110,11 @@ impl ReadyKeys {
 
     /// Returns the place of a key for the encrypted parts of a usage. Returns `None` while it is in use, and for a
     /// subkey, which a client chooses for one request only.
-    fn place_of(&self, key: &Key, usage: KeyUsage) -> Option<RefMut<'_, Option<ReadyKey>>> {
+    fn borrow_place(&self, key: &Key, usage: KeyUsage) -> Option<RefMut<'_, Option<ReadyKey>>> {
         if usage == KeyUsage::TgsRepEncPartSubkey {
             return None;
         }
-        self.for_parts.place_of(&self.secret, key, usage)
+        self.for_parts.borrow_place(&self.secret, key, usage)
     }
 }
 

@@ -71,7 +71,7 @@ impl ReadyChecksum {
     fn checksum(&self, text: &[u8]) -> Mac
         ensures { result ≡ mac self.now.key.etype self.now.key.bytes (usage_number self.now.usage) text.now }
     {
-        mac_of(&self.hashed, text)
+        text_mac(&self.hashed, text)
     }
 }
 
@@ -86,7 +86,7 @@ impl fmt::Debug for ReadyChecksum {
 }
 
 // Returns the HMAC of a text.
-fn mac_of(hashed: &MacKey, text: &[u8]) -> Mac
+fn text_mac(hashed: &MacKey, text: &[u8]) -> Mac
     ensures { (etype : types.Etype) (key : List ℕ) → IsMacKey etype key hashed.now
         → result ≡ cut_hmac etype key text.now }
 {

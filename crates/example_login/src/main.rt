@@ -3,7 +3,7 @@
 //! and prints when the ticket of a service ends.
 #![tactic(auto)]
 
-use client_files::Fault;
+use client_files::ClientError;
 use client_sockets::{Client, SystemClient};
 use command_line::{Status, open_missing_streams};
 use cred_files::Credential;
@@ -38,7 +38,7 @@ fn get_ticket(
     name: &str,
     service: &str,
     keytab: &str,
-) -> Result<Credential, Fault> {
+) -> Result<Credential, ClientError> {
     let mut client = Client::open(rt, name)?;
     verified_ticket(&mut client, service, keytab)
 }
@@ -49,7 +49,7 @@ fn verified_ticket(
     client: &mut SystemClient<'_>,
     service: &str,
     keytab: &str,
-) -> Result<Credential, Fault> {
+) -> Result<Credential, ClientError> {
     let keytab = client.read_keytab(keytab)?;
     let password = client.ask_password()?;
     client.log_in(&password)?;

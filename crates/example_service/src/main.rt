@@ -22,7 +22,7 @@ fn main(rt: HostRuntime) -> io::Result<ExitCode> {
     let Some(args) = read_words(&rt)? else {
         return usage(&rt);
     };
-    match words_of(args.as_slice()) {
+    match parse_words(args.as_slice()) {
         Some(words) => serve(&rt, &words),
         None => usage(&rt),
     }
@@ -38,7 +38,7 @@ struct Words<'a> {
     saved: Option<&'a str>,
 }
 
-fn words_of(args: &[String]) -> Option<Words<'_>> {
+fn parse_words(args: &[String]) -> Option<Words<'_>> {
     let (keytab, is_first, saved) = match args {
         [_, keytab] => (keytab, false, None),
         [_, keytab, first] if first.as_str() == "first" => (keytab, true, None),

@@ -141,7 +141,7 @@ fn seen(alloc: Global, client: Name) -> Result<Seq<Seen>, Fail> {
     Ok(Seq::from_vec(seen))
 }
 
-fn resumes_with(database: Database, limits: Limits, seen: Seq<Seen>) -> Event {
+fn resume_event(database: Database, limits: Limits, seen: Seq<Seen>) -> Event {
     Event::Resume {
         database,
         limits,
@@ -156,7 +156,7 @@ fn resumes(alloc: Global) -> Result<Event, Fail> {
     let limits = limits(0)?;
     let seen = seen(alloc, Name::new(alloc, 1, &[b"u"])?)?;
     match with_one(alloc, b"A.B", b'h', (1, 0)) {
-        Ok(database) => Ok(resumes_with(database, limits, seen)),
+        Ok(database) => Ok(resume_event(database, limits, seen)),
         Err(fail) => Err(fail),
     }
 }
@@ -354,7 +354,7 @@ enum Calls {
 }
 
 /// Runs the events over a KDC. Only this function drops one: each place with a drop takes long to prove.
-fn is_run_of(
+fn runs_events(
     alloc: Global,
     run: &Run,
     events: &[Event],
@@ -372,10 +372,10 @@ fn is_run_of(
     }
 }
 
-fn is_right_of(alloc: Global, run: &Run, words: &[&str], calls: Calls) -> Result<bool, Fail> {
+fn runs_right(alloc: Global, run: &Run, words: &[&str], calls: Calls) -> Result<bool, Fail> {
     let mut events = Vec::new(alloc);
     match push_events(alloc, &mut events, words) {
-        Ok(()) => is_run_of(alloc, run, &events, words, calls),
+        Ok(()) => runs_events(alloc, run, &events, words, calls),
         Err(fail) => Err(fail),
     }
 }
@@ -383,7 +383,7 @@ fn is_right_of(alloc: Global, run: &Run, words: &[&str], calls: Calls) -> Result
 fn is_right(alloc: Global, run: &Run, calls: Calls) -> Result<bool, Fail> {
     let (_, _, _, text) = run;
     let words: Vec<&str> = text.split_whitespace().collect(alloc)?;
-    is_right_of(alloc, run, &words, calls)
+    runs_right(alloc, run, &words, calls)
 }
 
 fn expect_runs(rt: &(impl AllocGlobal + Abort), calls: Calls) -> Result<(), Fail> {

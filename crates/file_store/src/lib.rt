@@ -32,7 +32,7 @@ mod variable;
 mod version;
 
 pub use crate::counting::{counted, counted_write};
-pub use crate::faults::{FileCause, FileFault};
+pub use crate::faults::{FileError, PathError};
 pub use crate::folders::{folder_of, sync_folder};
 pub use crate::inputs::{
     CLOCK, RANDOM_OCTETS, STANDARD_INPUT, ask_password, draw_seed, file_rights, first_octet,
@@ -43,7 +43,7 @@ pub use crate::locks::{LOCK_END, hold_lock};
 pub use crate::memory_store::{MemoryStore, WriteEnd};
 pub use crate::moment::now;
 pub use crate::plain_files::{
-    OWNER_ONLY, RIGHTS, RIGHTS_OF_OTHERS, is_own, open_plain, open_plain_with, own_user,
+    OWNER_ONLY, RIGHTS, RIGHTS_OF_OTHERS, is_own, open_by_options, open_plain, own_user,
 };
 pub use crate::reading::read_within;
 pub use crate::stamp::FileStamp;

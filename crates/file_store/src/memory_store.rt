@@ -8,7 +8,7 @@ ghost use Rattle.file_store.specs.Memory.{file_at, input_of, rights_under, world
 ghost use Rattle.file_store.specs.World.{first_octet, with_file, without_file};
 
 use crate::counting::{counted, counted_write};
-use crate::inputs::{after_line, line_of};
+use crate::inputs::{after_line, first_line};
 use crate::plain_files::OWNER_ONLY;
 use crate::store::{FileRights, NewMode, Store, Written};
 use std::alloc::{AllocError, Global};
@@ -72,7 +72,7 @@ impl MemoryStore {
     {
         for file in &self.files {
             if file.path.as_str() == path {
-                return octets_of(file);
+                return stored_octets(file);
             }
         }
         None
@@ -157,7 +157,7 @@ impl MemoryStore {
         }
     }
 
-    fn rights_of(&self, path: &str) -> io::Result<FileRights>
+    fn path_rights(&self, path: &str) -> io::Result<FileRights>
         ensures { IfOk result (λ rights. rights ≡ rights_under self.now.user) }
     {
         match self.get(path) {
@@ -194,7 +194,7 @@ impl MemoryStore {
     }
 }
 
-fn octets_of(file: &StoredFile) -> Option<&[u8]>
+fn stored_octets(file: &StoredFile) -> Option<&[u8]>
     ensures { option_map (λ octets. octets.now) result ≡ option_map (λ octets. octets.items) file.now.octets }
 {
     match &file.octets {
@@ -215,7 +215,7 @@ fn take_line(alloc: Global, input: &mut Vec<u8>, most: usize) -> io::Result<Opti
     if input.is_empty() {
         return Err(Error::from(ErrorKind::UnexpectedEof));
     }
-    let line = Vec::from_slice(alloc, line_of(input))?;
+    let line = Vec::from_slice(alloc, first_line(input))?;
     *input = Vec::from_slice(alloc, after_line(input))?;
     if line.len() > most {
         return Ok(None);
@@ -282,7 +282,7 @@ impl Store for MemoryStore {
     }
 
     fn rights(&mut self, path: &str) -> io::Result<FileRights> {
-        let read = self.rights_of(path);
+        let read = self.path_rights(path);
         self.faults = counted(self.faults, &read);
         read
     }

@@ -24,13 +24,13 @@ const OWN_PROCESS: &str = "/proc/self";
 pub fn open_plain<F: Files>(files: &F, path: &str) -> io::Result<F::File> {
     let mut how = OpenOptions::new();
     how.read(true);
-    open_plain_with(files, &how, path)
+    open_by_options(files, &how, path)
 }
 
 /// Opens a regular file with these options. Any other file is refused first: to open a FIFO can block forever, and to
 /// open a device can have effects of its own. A user who may write in the folder can still put one there before the
 /// open, since no option of `OpenOptions` keeps a link out.
-pub fn open_plain_with<F: Files>(files: &F, how: &OpenOptions, path: &str) -> io::Result<F::File> {
+pub fn open_by_options<F: Files>(files: &F, how: &OpenOptions, path: &str) -> io::Result<F::File> {
     require_plain(&fs::metadata(files, path)?)?;
     let file = how.open(files, path)?;
     // another file may have taken its place meanwhile

@@ -12,7 +12,7 @@ use Rattle.journal.specs.declared.decision.Found.{Found}
 use Rattle.journal.specs.declared.decision.Found.TheVariants.{Nothing, Broken, Whole}
 use Rattle.journal.specs.declared.decision.Start.{Start}
 use Rattle.journal.specs.declared.decision.Start.TheVariants.{Resumes}
-use Rattle.journal.specs.declared.files.BeginFault.{BeginFault}
+use Rattle.journal.specs.declared.files.BeginError.{BeginError}
 use Rattle.journal.specs.declared.files.Begun.{Begun}
 use Rattle.journal.specs.declared.files.Begun.TheVariants.{Linked, Anew, Roomy}
 use Rattle.journal.specs.declared.files.Left.{Left}
@@ -47,7 +47,7 @@ pub record FailsFile (place : Place) (floor : Option ℤ) (link : List ℕ) (how
 abbrev pub MayFail : Place → Option ℤ → List ℕ → Begun → Left → Option World → Option World → Type 0
 MayFail place floor link how left old new = ((left ≡ Before) × (new ≡ old)) ⊎ FailsFile place floor link how left old new
 
-abbrev pub HasBegun : {E : Type 0} → Place → Option ℤ → List ℕ → Begun → Option World → Result Tail (BeginFault E) → Option World
+abbrev pub HasBegun : {E : Type 0} → Place → Option ℤ → List ℕ → Begun → Option World → Result Tail (BeginError E) → Option World
     → Type 0
 HasBegun place floor link how old (Ok tail) new = BeginsFile place floor link how tail.check old new
 HasBegun place floor link how old (Err fault) new = MayFail place floor link how fault.left old new

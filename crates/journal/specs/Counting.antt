@@ -8,14 +8,14 @@ use Rattle.journal.specs.Holding.{IsAbove}
 use Rattle.journal.specs.Life.{IsLife, IsProcess, IsReadOut, IsStage, Past, Process, Stage, StagesFollow, kept_by_process, past_after, past_of}
 use Rattle.journal.specs.Life.Stage.{Ran, Finished, Sealed, Lost}
 use Rattle.journal.specs.World.{World}
-use Rattle.journal.specs.declared.decision.Doubt.{Doubt}
+use Rattle.journal.specs.declared.decision.ResumeRefusal.{ResumeRefusal}
 use Rattle.journal.specs.declared.decision.Found.{Found}
 use Rattle.journal.specs.declared.decision.Start.{Start}
 use Rattle.journal.specs.declared.decision.Start.TheVariants.{Resumes, Refuses}
 
 -- A start refused by what it read of all three files. Its floor is not below the one that they ask for, nor below the
 -- one with which the process began that kept this. No authenticator is of the last second of the year 9999.
-pub record HasRead (kept : Resumption) (p : Process) (doubt : Doubt) (found : Option ℤ) (w : World) : Type 0 where
+pub record HasRead (kept : Resumption) (p : Process) (doubt : ResumeRefusal) (found : Option ℤ) (w : World) : Type 0 where
   pub place : Place
   pub older : Found
   pub beside : Found

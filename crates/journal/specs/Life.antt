@@ -15,7 +15,7 @@ use Rattle.journal.specs.Forms.{Entry}
 use Rattle.journal.specs.Holding.{Counts, FilesHave, IsAbove, IsFound, IsKept, IsSafe, IsStart, Spells, StillThere, known_by, with_one}
 use Rattle.journal.specs.Showing.{Shows, Shown}
 use Rattle.journal.specs.World.{Leaves, SameSeal, World, finished, with_seal}
-use Rattle.journal.specs.declared.decision.Doubt.{Doubt}
+use Rattle.journal.specs.declared.decision.ResumeRefusal.{ResumeRefusal}
 use Rattle.journal.specs.declared.decision.Found.{Found}
 use Rattle.journal.specs.declared.decision.Found.TheVariants.{Nothing, Broken, Whole}
 use Rattle.journal.specs.declared.decision.Start.{Start}
@@ -239,7 +239,7 @@ LeavesNoSeal = (p : Process) (old new : World) → p.has_begun ≡ true → IsPr
 abbrev pub NextBootRefuses : Type 0
 NextBootRefuses = (w : World) (place : Place) (older newer beside : Found) → IsFound w.older older → IsFound w.newer newer
     → place.seal.now ≡ [] → ((j : Journal) → newer ≡ Whole j → j.header.boot ≡ place.boot.now → ⊥)
-    → (doubt : Doubt) × (floor : Option ℤ) × (start_of place older newer beside ≡ Refuses doubt floor)
+    → (doubt : ResumeRefusal) × (floor : Option ℤ) × (start_of place older newer beside ≡ Refuses doubt floor)
 
 -- ---- what the files still have
 
@@ -273,7 +273,7 @@ StaysThere = (seen : Seen) (life : List Stage) (old new : World) → FilesHave o
 
 -- So a start that then refuses counts it: its floor is above it, unless it is of the last second of the year 9999.
 abbrev pub ThereIsCounted : Type 0
-ThereIsCounted = (w : World) (place : Place) (older newer beside : Found) (doubt : Doubt) (floor : Option ℤ)
+ThereIsCounted = (w : World) (place : Place) (older newer beside : Found) (doubt : ResumeRefusal) (floor : Option ℤ)
     → IsReadOut w.older older → IsReadOut w.newer newer → IsReadOut w.beside beside
     → next_start place older newer beside ≡ Refuses doubt floor
     → (seen : Seen) → FilesHave w seen → seen.ctime <ℤ last_second → IsSomeAnd floor (λ f. seen.ctime <ℤ f)
@@ -295,7 +295,7 @@ FilesShow w e =
 -- Whatever its clock shows, and whatever became of the files, a start that refuses has a floor above each authenticator
 -- that the files still show. (There is no floor above the last second of the year 9999.)
 abbrev pub ShownIsRefused : Type 0
-ShownIsRefused = (w : World) (place : Place) (older newer beside : Found) (doubt : Doubt) (floor : Option ℤ)
+ShownIsRefused = (w : World) (place : Place) (older newer beside : Found) (doubt : ResumeRefusal) (floor : Option ℤ)
     → IsReadOut w.older older → IsReadOut w.newer newer → IsReadOut w.beside beside
     → start_of place older newer beside ≡ Refuses doubt floor
     → (e : Entry) → FilesShow w e → e.ctime <ℤ last_second → IsSomeAnd floor (λ f. e.ctime <ℤ f)

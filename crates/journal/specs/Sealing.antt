@@ -6,7 +6,7 @@ use Rattle.journal.specs.Holding.{IsSafe}
 use Rattle.journal.specs.World.{Leaves, Seals, World, with_seal}
 use Rattle.journal.specs.declared.decision.Found.{Found}
 use Rattle.journal.specs.declared.decision.Found.TheVariants.{Whole}
-use Rattle.journal.specs.declared.decision.Doubt.{Doubt}
+use Rattle.journal.specs.declared.decision.ResumeRefusal.{ResumeRefusal}
 use Rattle.journal.specs.declared.decision.Start.TheVariants.{Resumes, Refuses}
 use Rattle.journal.specs.declared.reading.Journal.{Journal}
 use Rattle.journal.specs.declared.sealing.SealOutcome.{SealOutcome}
@@ -44,7 +44,7 @@ SealIsSafe = (low : ℤ) (r : Resumption) (w : World) (seal : List ℕ) → IsSa
 abbrev pub MissealedRefuses : Type 0
 MissealedRefuses = (place : Place) (older newer beside : Found) (j : Journal) → newer ≡ Whole j
     → (place.seal.now ≡ [] → ⊥) → (place.seal.now ≡ j.check → ⊥)
-    → (doubt : Doubt) × (floor : Option ℤ) × (start_of place older newer beside ≡ Refuses doubt floor)
+    → (doubt : ResumeRefusal) × (floor : Option ℤ) × (start_of place older newer beside ≡ Refuses doubt floor)
 
 pub record SealsHold : Type 0 where
   pub resumes : SealsWhatResumes

@@ -57,7 +57,7 @@ pub struct Place<'a> {
 
 /// Why a start can't resume.
 #[derive(Clone, Copy, Debug, PartialEq, Eq)]
-pub enum Doubt {
+pub enum ResumeRefusal {
     /// There is no journal.
     Absent,
     /// It was cut within an entry, an entry was changed, or one was left out or added before others; its seal is that
@@ -72,14 +72,14 @@ pub enum Doubt {
     Unlinked,
 }
 
-impl fmt::Display for Doubt {
+impl fmt::Display for ResumeRefusal {
     fn fmt<W: fmt::Write>(&self, f: &mut fmt::Formatter<W>) -> fmt::Result {
         f.write_str(match self {
-            Doubt::Absent => "there is none",
-            Doubt::Damaged => "it is damaged, or others may write it",
-            Doubt::OtherRealm => "it is of another realm",
-            Doubt::OtherBoot => "the system was booted since, and it was not sealed before",
-            Doubt::Unlinked => "the journal that goes before it is missing",
+            ResumeRefusal::Absent => "there is none",
+            ResumeRefusal::Damaged => "it is damaged, or others may write it",
+            ResumeRefusal::OtherRealm => "it is of another realm",
+            ResumeRefusal::OtherBoot => "the system was booted since, and it was not sealed before",
+            ResumeRefusal::Unlinked => "the journal that goes before it is missing",
         })
     }
 }
@@ -96,7 +96,7 @@ pub enum Start {
     },
     /// It refuses all authenticators that may have come before it.
     Refuses {
-        doubt: Doubt,
+        doubt: ResumeRefusal,
         /// The floor that the files ask for, if they show any authenticator or header: it is above the times of all
         /// that they show. So it counts if the clock is behind.
         floor: Option<i64>,
@@ -104,7 +104,11 @@ pub enum Start {
 }
 
 /// Decides how a server starts.
-pub fn start_of(alloc: Global, place: &Place<'_>, found: &FoundFiles) -> Result<Start, AllocError>
+pub fn decide_start(
+    alloc: Global,
+    place: &Place<'_>,
+    found: &FoundFiles,
+) -> Result<Start, AllocError>
     // Promise: **a start resumes exactly if** the journal is whole, of this realm, of this boot or sealed, and what it
     // links to is there, likewise whole and of this realm, and below its floor.
     // Promise: a start that doesn't resume gives the first reason why not.
@@ -122,10 +126,10 @@ pub fn start_of(alloc: Global, place: &Place<'_>, found: &FoundFiles) -> Result<
             floor,
         }),
         Found::Broken(_) => Ok(Start::Refuses {
-            doubt: Doubt::Damaged,
+            doubt: ResumeRefusal::Damaged,
             floor,
         }),
-        Found::Whole(journal) => match doubt_of(place, &found.older, journal) {
+        Found::Whole(journal) => match find_refusal(place, &found.older, journal) {
             Some(doubt) => Ok(Start::Refuses { doubt, floor }),
             None => resumes(alloc, place, found, journal),
         },
@@ -143,19 +147,19 @@ fn resumes(
         start ≡ start_by place.now found.now.older journal.now found.now.beside None) }
 {
     Ok(Start::Resumes {
-        resumption: resumption_of(alloc, place, &found.older, journal)?,
+        resumption: make_resumption(alloc, place, &found.older, journal)?,
         check: goes_on_behind(place, &found.older, journal),
     })
 }
 
 /// Returns why a server can't resume without a newer file.
-fn doubt_without(older: &Found, beside: &Found) -> Doubt
+fn doubt_without(older: &Found, beside: &Found) -> ResumeRefusal
     ensures { result ≡ doubt_without older.now beside.now }
 {
     if is_nothing(older) && is_nothing(beside) {
-        Doubt::Absent
+        ResumeRefusal::Absent
     } else {
-        Doubt::Damaged
+        ResumeRefusal::Damaged
     }
 }
 
@@ -176,13 +180,13 @@ pub fn found_floor(found: &FoundFiles) -> Option<i64>
     ensures { result ≡ found_floor found.now.older found.now.newer found.now.beside }
 {
     greater(
-        shown_by(&found.older),
-        greater(shown_by(&found.newer), shown_by(&found.beside)),
+        file_floor(&found.older),
+        greater(file_floor(&found.newer), file_floor(&found.beside)),
     )
 }
 
 /// Returns the floor that one of the files asks for.
-fn shown_by(found: &Found) -> Option<i64>
+fn file_floor(found: &Found) -> Option<i64>
     ensures { result ≡ shown_by found.now }
 {
     match found {
@@ -239,13 +243,17 @@ fn goes_behind(found: &Found, before: &Found) -> bool
 }
 
 /// Returns the seal of these journals: the last check of the newer one, if a start would resume with both.
-pub(crate) fn seal_of(place: &Place<'_>, older: &Found, newer: &Found) -> Result<[u8; 16], Doubt>
+pub(crate) fn decide_seal(
+    place: &Place<'_>,
+    older: &Found,
+    newer: &Found,
+) -> Result<[u8; 16], ResumeRefusal>
     ensures { result ≡ seal_of place.now older.now newer.now }
 {
     match newer {
-        Found::Nothing => Err(Doubt::Absent),
-        Found::Broken(_) => Err(Doubt::Damaged),
-        Found::Whole(journal) => match doubt_of(place, older, journal) {
+        Found::Nothing => Err(ResumeRefusal::Absent),
+        Found::Broken(_) => Err(ResumeRefusal::Damaged),
+        Found::Whole(journal) => match find_refusal(place, older, journal) {
             Some(doubt) => Err(doubt),
             None => Ok(journal.check),
         },
@@ -253,14 +261,14 @@ pub(crate) fn seal_of(place: &Place<'_>, older: &Found, newer: &Found) -> Result
 }
 
 /// Returns why the server can't resume with this journal, if it can't.
-fn doubt_of(place: &Place<'_>, older: &Found, journal: &Journal) -> Option<Doubt>
+fn find_refusal(place: &Place<'_>, older: &Found, journal: &Journal) -> Option<ResumeRefusal>
     ensures { result ≡ doubt_of place.now older.now journal.now }
 {
     first_holding(&[
-        (is_other_realm(place, journal), Doubt::OtherRealm),
-        (is_missealed(place, journal), Doubt::Damaged),
-        (is_other_boot(place, journal), Doubt::OtherBoot),
-        (is_unlinked(place, older, journal), Doubt::Unlinked),
+        (is_other_realm(place, journal), ResumeRefusal::OtherRealm),
+        (is_missealed(place, journal), ResumeRefusal::Damaged),
+        (is_other_boot(place, journal), ResumeRefusal::OtherBoot),
+        (is_unlinked(place, older, journal), ResumeRefusal::Unlinked),
     ])
 }
 
@@ -369,7 +377,7 @@ fn goes_on_behind(place: &Place<'_>, older: &Found, journal: &Journal) -> Option
 }
 
 /// Returns what the server resumes with.
-fn resumption_of(
+fn make_resumption(
     alloc: Global,
     place: &Place<'_>,
     older: &Found,

@@ -1,6 +1,6 @@
 //! Errors of reading and of writing a journal.
 ghost use Rattle.std.specs.Prelude.{◌≡◌};
-ghost use Rattle.journal.specs.declared.fault.JournalFault.TheVariants as faults;
+ghost use Rattle.journal.specs.declared.fault.JournalError.TheVariants as faults;
 
 use krb_der::DerFault;
 use std::alloc::{AllocError, AllocFailed};
@@ -9,45 +9,45 @@ use std::fmt;
 
 /// Why a journal can't be read.
 #[derive(Clone, Copy, Debug, PartialEq, Eq)]
-pub enum JournalFault {
+pub enum JournalError {
     /// The octets are no journal, or an entry was cut, changed, left out or added.
     Broken,
     /// Memory ran out.
     Memory,
 }
 
-impl fmt::Display for JournalFault {
+impl fmt::Display for JournalError {
     fn fmt<W: fmt::Write>(&self, f: &mut fmt::Formatter<W>) -> fmt::Result {
         f.write_str(match self {
-            JournalFault::Broken => "it is no whole journal",
-            JournalFault::Memory => "out of memory",
+            JournalError::Broken => "it is no whole journal",
+            JournalError::Memory => "out of memory",
         })
     }
 }
 
-impl Error for JournalFault {}
+impl Error for JournalError {}
 
-impl From<DerFault> for JournalFault {
+impl From<DerFault> for JournalError {
     ghost from_gives = { λ _ e. e ≡ faults.Broken };
 
-    fn from(_error: DerFault) -> JournalFault {
-        JournalFault::Broken
+    fn from(_error: DerFault) -> JournalError {
+        JournalError::Broken
     }
 }
 
-impl From<AllocError> for JournalFault {
+impl From<AllocError> for JournalError {
     ghost from_gives = { λ _ e. e ≡ faults.Memory };
 
-    fn from(_error: AllocError) -> JournalFault {
-        JournalFault::Memory
+    fn from(_error: AllocError) -> JournalError {
+        JournalError::Memory
     }
 }
 
-impl<T: Drop> From<AllocFailed<T>> for JournalFault {
+impl<T: Drop> From<AllocFailed<T>> for JournalError {
     ghost from_gives = { λ _ e. e ≡ faults.Memory };
 
-    fn from(_error: AllocFailed<T>) -> JournalFault {
-        JournalFault::Memory
+    fn from(_error: AllocFailed<T>) -> JournalError {
+        JournalError::Memory
     }
 }
 
@@ -56,7 +56,7 @@ pub const UNFIT: &str = "a name or a number is too large";
 
 /// Why an authenticator could not be kept, a file could not be begun, or one could not be read.
 #[derive(Debug, Drop)]
-pub enum FilesFault<E> {
+pub enum FilesError<E> {
     /// A name or a number is too large.
     Unfit,
     /// Memory ran out.
@@ -65,12 +65,12 @@ pub enum FilesFault<E> {
     Files(E),
 }
 
-impl<E: fmt::Display> fmt::Display for FilesFault<E> {
+impl<E: fmt::Display> fmt::Display for FilesError<E> {
     fn fmt<W: fmt::Write>(&self, f: &mut fmt::Formatter<W>) -> fmt::Result {
         match self {
-            FilesFault::Unfit => f.write_str(UNFIT),
-            FilesFault::Memory => f.write_str("out of memory"),
-            FilesFault::Files(fault) => write!(f, "{fault}"),
+            FilesError::Unfit => f.write_str(UNFIT),
+            FilesError::Memory => f.write_str("out of memory"),
+            FilesError::Files(fault) => write!(f, "{fault}"),
         }
     }
 }

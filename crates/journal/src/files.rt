@@ -3,7 +3,7 @@ ghost use Rattle.std.specs.Prelude.{◌≡◌, Option, IfOk, IfSome};
 ghost use Rattle.std.specs.Result.{is_ok};
 ghost use Rattle.journal.specs.World.{Appends, BeginsAs, Finishes, IsRead, Leaves, Seals, Unseals, World, file_in};
 
-use crate::fault::FilesFault;
+use crate::fault::FilesError;
 use std::alloc::Global;
 
 /// One of the three files of a journal.
@@ -44,7 +44,7 @@ pub enum Left {
 
 /// Why a file was not begun, and what that left.
 #[derive(Drop)]
-pub struct BeginFault<E> {
+pub struct BeginError<E> {
     /// Why the call failed.
     pub fault: E,
     /// What it left.
@@ -66,9 +66,9 @@ pub enum FileText {
 #[derive(Drop)]
 pub enum News<E> {
     /// The files could not take turns. The journal goes on in the same file.
-    NotTurned(FilesFault<E>),
+    NotTurned(FilesError<E>),
     /// An authenticator could not be kept.
-    Lost(FilesFault<E>),
+    Lost(FilesError<E>),
     /// All that could not be kept is kept now.
     Mended,
 }
@@ -92,7 +92,7 @@ pub trait JournalFiles {
         alloc: Global,
         text: &[u8],
         how: Begun,
-    ) -> Result<(), BeginFault<Self::Fault>>
+    ) -> Result<(), BeginError<Self::Fault>>
         ensures { BeginsAs how text.now result (world self.old) (world self.new) };
 
     /// Finishes a turn that was cut: the file beside becomes the newer one, which is missing, and the folder is synced.

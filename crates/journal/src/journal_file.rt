@@ -11,8 +11,8 @@ ghost use Rattle.journal.specs.Keeping.{BeginsJournal, begun};
 ghost use Rattle.journal.specs.World.{Leaves, SameSeal};
 
 use crate::decision::{Found, Place, Start};
-use crate::fault::FilesFault;
-use crate::files::{BeginFault, Begun, JournalFiles, Left, News};
+use crate::fault::FilesError;
+use crate::files::{BeginError, Begun, JournalFiles, Left, News};
 use crate::keeping::{floor_on, write_beginning, write_seen};
 use crate::reading::Journal;
 use crate::writing::Written;
@@ -113,7 +113,7 @@ impl<F: JournalFiles> JournalFile<F> {
         start: &Start,
         newer: &Found,
         len: u64,
-    ) -> Result<(), FilesFault<F::Fault>>
+    ) -> Result<(), FilesError<F::Fault>>
         // The files hold all that the start knows.
         // Promise (kept, safe): **what files hold after each call is known**: over files whose calls may fail, a
         // journal that was begun holds all that its start knows.
@@ -139,7 +139,7 @@ impl<F: JournalFiles> JournalFile<F> {
         ensures broken { IfOk result (λ _. IfSome (F.world self.new.files) (λ w. w.seal ≡ [])) }
     {
         if let Err(fault) = self.files.unseal() {
-            return Err(FilesFault::Files(fault));
+            return Err(FilesError::Files(fault));
         }
         let place = Place {
             realm: self.realm.as_slice(),
@@ -294,12 +294,12 @@ fn begin_in_place<F: JournalFiles>(
     files: &mut F,
     is_said: &mut bool,
     next: &Next<'_>,
-) -> Result<Option<Tail>, FilesFault<F::Fault>>
+) -> Result<Option<Tail>, FilesError<F::Fault>>
     ensures { HasStarted next.now.place next.now.floor (F.world files.old) result (F.world files.new) }
 {
     match begin(alloc, files, next, &[], Begun::Anew) {
         Ok(tail) => Ok(Some(tail)),
-        Err(BeginFault { fault, left }) => match left {
+        Err(BeginError { fault, left }) => match left {
             Left::Before => Err(fault),
             Left::Between => Err(fault),
             Left::InPlace => {
@@ -317,13 +317,13 @@ fn begin<F: JournalFiles>(
     next: &Next<'_>,
     link: &[u8],
     how: Begun,
-) -> Result<Tail, BeginFault<FilesFault<F::Fault>>>
+) -> Result<Tail, BeginError<FilesError<F::Fault>>>
     ensures { HasBegun next.now.place next.now.floor link.now how (F.world files.old) result (F.world files.new) }
 {
     let written = match fit(beginning(alloc, &next.place, next.floor, link)) {
         Ok(written) => written,
         Err(fault) => {
-            return Err(BeginFault {
+            return Err(BeginError {
                 fault,
                 left: Left::Before,
             });
@@ -335,21 +335,21 @@ fn begin<F: JournalFiles>(
             last: next.place.at.sec.saturating_add(TURN),
             left: next.most.saturating_sub(written.text.len() as u64),
         }),
-        Err(BeginFault { fault, left }) => Err(BeginFault {
-            fault: FilesFault::Files(fault),
+        Err(BeginError { fault, left }) => Err(BeginError {
+            fault: FilesError::Files(fault),
             left,
         }),
     }
 }
 
 /// Returns what was written, and fails if nothing was.
-fn fit<E>(written: Result<Option<Written>, AllocError>) -> Result<Written, FilesFault<E>>
+fn fit<E>(written: Result<Option<Written>, AllocError>) -> Result<Written, FilesError<E>>
     ensures { IfOk result (λ w. written ≡ Ok (Some w)) }
 {
     match written {
         Ok(Some(written)) => Ok(written),
-        Ok(None) => Err(FilesFault::Unfit),
-        Err(AllocError) => Err(FilesFault::Memory),
+        Ok(None) => Err(FilesError::Unfit),
+        Err(AllocError) => Err(FilesError::Memory),
     }
 }
 
@@ -396,7 +396,7 @@ fn turn<F: JournalFiles>(alloc: Global, files: &mut F, next: &Next<'_>, tail: Ta
 {
     match begin(alloc, files, next, &tail.check, Begun::Linked) {
         Ok(end) => Some(end),
-        Err(BeginFault { fault, left }) => {
+        Err(BeginError { fault, left }) => {
             files.say(News::NotTurned(fault));
             match left {
                 Left::Before => Some(Tail {
@@ -445,7 +445,7 @@ fn append_seen<F: JournalFiles>(
     files: &mut F,
     timed: &TimedSeen<'_>,
     tail: Tail,
-) -> Result<Tail, FilesFault<F::Fault>>
+) -> Result<Tail, FilesError<F::Fault>>
     ensures { HasAppended timed.now.at timed.now.seen.now tail (F.world files.old) result (F.world files.new) }
 {
     let written = fit(write_seen(alloc, &tail.check, timed.at, timed.seen))?;
@@ -455,7 +455,7 @@ fn append_seen<F: JournalFiles>(
             last: tail.last,
             left: tail.left.saturating_sub(written.text.len() as u64),
         }),
-        Err(fault) => Err(FilesFault::Files(fault)),
+        Err(fault) => Err(FilesError::Files(fault)),
     }
 }
 
@@ -481,7 +481,7 @@ fn begin_anew<F: JournalFiles>(
 }
 
 /// Reports that an authenticator could not be kept, unless that was reported.
-fn say_lost<F: JournalFiles>(files: &mut F, is_said: &mut bool, fault: FilesFault<F::Fault>)
+fn say_lost<F: JournalFiles>(files: &mut F, is_said: &mut bool, fault: FilesError<F::Fault>)
     ensures { F.world files.new ≡ F.world files.old }
 {
     if !*is_said {

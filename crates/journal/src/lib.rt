@@ -2,7 +2,7 @@
 //!
 //! ```
 //! let found = read_files(alloc, &mut files)?;
-//! let start = start_of(alloc, &place, &found)?;
+//! let start = decide_start(alloc, &place, &found)?;
 //! let mut journal = JournalFile::new(files, realm, boot, floor, most);
 //! journal.start(alloc, at, &start, &found.newer, len)?;
 //! journal.keep(alloc, at, &seen)?; // before the reply to its request is sent
@@ -38,11 +38,13 @@ mod sealing;
 mod showing;
 mod writing;
 
-pub use decision::{Doubt, Found, FoundFiles, Place, Start, found_floor, greater, start_of};
+pub use decision::{
+    Found, FoundFiles, Place, ResumeRefusal, Start, decide_start, found_floor, greater,
+};
 pub use entry::{Entry, EntryRef};
-pub use fault::{FilesFault, JournalFault, UNFIT};
-pub use files::{BeginFault, Begun, FileText, JournalFiles, Left, News, Part};
-pub use found_files::{found_of, read_files, read_part};
+pub use fault::{FilesError, JournalError, UNFIT};
+pub use files::{BeginError, Begun, FileText, JournalFiles, Left, News, Part};
+pub use found_files::{judge_text, read_files, read_part};
 pub use head::{HEAD, may_be_journal};
 pub use header::{Header, HeaderRef};
 pub use journal_file::{JournalFile, NotKept};

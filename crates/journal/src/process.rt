@@ -10,7 +10,7 @@ ghost use Rattle.journal.specs.Life.Call.{Keep, Mend};
 ghost use Rattle.journal.specs.Life.Stage.{Sealed};
 ghost use Rattle.journal.specs.World.{World};
 
-use crate::decision::{Found, Place, Start, start_of};
+use crate::decision::{Found, Place, Start, decide_start};
 use crate::files::JournalFiles;
 use crate::found_files::read_files;
 use crate::journal_file::{JournalFile, NotKept};
@@ -36,7 +36,7 @@ fn decides<F: JournalFiles>(alloc: Global, files: &mut F, place: &Place<'_>) -> 
     let Ok(found) = read_files(alloc, files) else {
         return None;
     };
-    let Ok(start) = start_of(alloc, place, &found) else {
+    let Ok(start) = decide_start(alloc, place, &found) else {
         return None;
     };
     Some(Beginning {
@@ -153,10 +153,10 @@ fn run_process<F: JournalFiles>(
     let Some(beginning) = decides(alloc, &mut files, place) else {
         return files;
     };
-    let Some(names) = names_of(alloc, place) else {
+    let Some(names) = copy_names(alloc, place) else {
         return files;
     };
-    let floor = floor_of(&beginning.start, floor);
+    let floor = known_floor(&beginning.start, floor);
     let mut journal = JournalFile::new(files, names.realm, names.boot, floor, most);
     begins_and_serves(alloc, &mut journal, place.at, &beginning, asked);
     journal.into_files()
@@ -169,7 +169,7 @@ struct Names {
     boot: Octets,
 }
 
-fn names_of(alloc: Global, place: &Place<'_>) -> Option<Names> {
+fn copy_names(alloc: Global, place: &Place<'_>) -> Option<Names> {
     let Ok(realm) = Octets::from_slice(alloc, place.realm) else {
         return None;
     };
@@ -180,7 +180,7 @@ fn names_of(alloc: Global, place: &Place<'_>) -> Option<Names> {
 }
 
 /// Returns the floor that a start knows: its own, or this one if it refuses to resume.
-fn floor_of(start: &Start, floor: i64) -> i64
+fn known_floor(start: &Start, floor: i64) -> i64
     ensures { result ≡ (known_by floor start.now).floor }
 {
     match start {

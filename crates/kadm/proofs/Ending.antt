@@ -2,8 +2,8 @@
 use Rattle.std.proofs.Common.{◌≡◌, ◌∙◌, List, Bool, true, false, Option, Result, Ok, Err, IfErr, IfOk, ap, subst, sym, inl, inr}
 use Rattle.std.specs.Result.{result_unwrap_or}
 use Rattle.file_store.specs.World.{World}
-use Rattle.file_store.specs.declared.faults.FileCause.{FileCause}
-use Rattle.file_store.specs.declared.faults.FileCause.TheVariants.{LongFile, ShortSeed, Failed}
+use Rattle.file_store.specs.declared.faults.FileError.{FileError}
+use Rattle.file_store.specs.declared.faults.FileError.TheVariants.{LongFile, ShortSeed, Failed}
 use Rattle.kadm.specs.Batches.{IsBatchDone}
 use Rattle.kadm_changes.specs.Stops.{IsFailed, IsFailure}
 use Rattle.kadm.specs.Ends.{IsEnd, IsFileCauseStatus, IsReported, IsCommandEnd, IsCommandStopped, IsStatusOf, IsStopped, IsDone, IsKindDone, IsPrinted, IsTried, IsWriteDone}
@@ -17,8 +17,8 @@ use Rattle.kadm.specs.declared.writing.WriteCommand.{WriteCommand}
 use Rattle.kadm.specs.declared.writing.WriteCommand.TheVariants as writes
 use Rattle.command_line.specs.declared.status.Status.{Status}
 use Rattle.command_line.specs.declared.status.Status.TheVariants as statuses
-use Rattle.kadm_changes.specs.declared.stop.Stop.{Stop}
-use Rattle.kadm_changes.specs.declared.stop.Stop.TheVariants as stops
+use Rattle.kadm_changes.specs.declared.stop.CommandError.{CommandError}
+use Rattle.kadm_changes.specs.declared.stop.CommandError.TheVariants as stops
 
 -- ---- commands that write
 
@@ -65,14 +65,14 @@ spelled_end (Ok statuses.Failed) words before command after spelled (inl done) =
 spelled_end (Ok statuses.Failed) words before command after spelled (inr tried) = inr (inr (command, spelled, tried))
 spelled_end (Err e) words before command after spelled done = tt
 
-pub spelled_stop : {A : Type 0} (r : Result A Stop) (words : List Text) (before : Option World) (command : Command) (after : Option World)
+pub spelled_stop : {A : Type 0} (r : Result A CommandError) (words : List Text) (before : Option World) (command : Command) (after : Option World)
     → Spells words command → IfErr r (λ stop. IsCommandStopped before command stop after) → IfErr r (λ stop. IsStopped words before stop after)
 spelled_stop (Ok x) words before command after spelled stopped = tt
 spelled_stop (Err stop) words before command after spelled (inl same) = inl same
 spelled_stop (Err stop) words before command after spelled (inr (failed, done)) = inr (failed, inl (command, spelled, done))
 
 -- the output fails after a command
-pub failed_after : (words : List Text) (before : Option World) (status : Status) (stop : Stop) (after : Option World)
+pub failed_after : (words : List Text) (before : Option World) (status : Status) (stop : CommandError) (after : Option World)
     → IsEnd words before status after → IsFailed stop → IsStopped words before stop after
 failed_after words before statuses.Done stop after (inl (asks, same)) failed = inl same
 failed_after words before statuses.Done stop after (inr done) failed = inr (failed, inl done)
@@ -99,7 +99,7 @@ IsOther statuses.Refused = Unit {0}
 IsOther statuses.Usage = Unit {0}
 IsOther statuses.Failed = Unit {0}
 
-cause_other : (cause : FileCause) (status : Status) → IsFileCauseStatus cause status → IsOther status
+cause_other : (cause : FileError) (status : Status) → IsFileCauseStatus cause status → IsOther status
 cause_other LongFile statuses.Refused is = tt
 cause_other LongFile statuses.Failed is = tt
 cause_other LongFile statuses.Done is = absurd is
@@ -110,7 +110,7 @@ cause_other ShortSeed statuses.Done is = absurd is
 cause_other ShortSeed statuses.Usage is = tt
 cause_other (Failed error) status is = subst IsOther (sym is) tt
 
-other : (stop : Stop) (status : Status) → IsStatusOf stop status → IsOther status
+other : (stop : CommandError) (status : Status) → IsStatusOf stop status → IsOther status
 other stops.Usage status is = subst IsOther (sym is) tt
 other stops.LineRefused status is = subst IsOther (sym is) tt
 other stops.LineFailed status is = subst IsOther (sym is) tt
@@ -125,12 +125,12 @@ same_end words before statuses.Refused after is same = inl same
 same_end words before statuses.Usage after is same = same
 same_end words before statuses.Failed after is same = inl same
 
-failed_cause : (cause : FileCause) (status : Status) → IsFailure cause → IsFileCauseStatus cause status → status ≡ statuses.Failed
+failed_cause : (cause : FileError) (status : Status) → IsFailure cause → IsFileCauseStatus cause status → status ≡ statuses.Failed
 failed_cause LongFile status failed is = absurd failed
 failed_cause ShortSeed status failed is = absurd failed
 failed_cause (Failed error) status failed is = is
 
-failed_status : (stop : Stop) (status : Status) → IsFailed stop → IsStatusOf stop status → status ≡ statuses.Failed
+failed_status : (stop : CommandError) (status : Status) → IsFailed stop → IsStatusOf stop status → status ≡ statuses.Failed
 failed_status stops.Usage status failed is = absurd failed
 failed_status stops.LineRefused status failed is = absurd failed
 failed_status stops.LineFailed status failed is = absurd failed
@@ -139,20 +139,20 @@ failed_status (stops.Refused refusal) status failed is = absurd failed
 failed_status (stops.File fault) status failed is = failed_cause fault.cause status failed is
 
 -- a command that stopped early, with the status of what stopped it
-stopped_end : (words : List Text) (before : Option World) (stop : Stop) (status : Status) (after : Option World)
+stopped_end : (words : List Text) (before : Option World) (stop : CommandError) (status : Status) (after : Option World)
     → IsStopped words before stop after → IsStatusOf stop status → IsEnd words before status after
 stopped_end words before stop status after (inl same) is = same_end words before status after (other stop status is) same
 stopped_end words before stop status after (inr (failed, done)) is =
     subst (λ s. IsEnd words before s after) (sym (failed_status stop status failed is)) (inr done)
 
 -- the report of it fails
-stopped_failed : (words : List Text) (before : Option World) (stop : Stop) (after : Option World)
+stopped_failed : (words : List Text) (before : Option World) (stop : CommandError) (after : Option World)
     → IsStopped words before stop after → IsEnd words before statuses.Failed after
 stopped_failed words before stop after (inl same) = inl same
 stopped_failed words before stop after (inr (failed, done)) = inr done
 
 -- whatever the output says at the end
-pub ended : {E : Type 0} (end : Result Status Stop) (r : Result Status E) (words : List Text) (before after : Option World)
+pub ended : {E : Type 0} (end : Result Status CommandError) (r : Result Status E) (words : List Text) (before after : Option World)
     → IfOk end (λ status. IsEnd words before status after) → IfErr end (λ stop. IsStopped words before stop after)
     → IfOk r (λ status. IsReported end status) → IsEnd words before (result_unwrap_or r statuses.Failed) after
 ended (Ok status) (Ok reported) words before after done stopped is = subst (λ s. IsEnd words before s after) (sym is) done

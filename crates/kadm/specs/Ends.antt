@@ -1,8 +1,8 @@
 -- How a command line ends, and what it leaves.
 use Rattle.std.specs.Prelude.{◌≡◌, ◌⊎◌, Bool, true, false, List, Option, Some, Result, Ok, Err, codes}
 use Rattle.file_store.specs.World.{World}
-use Rattle.file_store.specs.declared.faults.FileCause.{FileCause}
-use Rattle.file_store.specs.declared.faults.FileCause.TheVariants.{LongFile, ShortSeed, Failed}
+use Rattle.file_store.specs.declared.faults.FileError.{FileError}
+use Rattle.file_store.specs.declared.faults.FileError.TheVariants.{LongFile, ShortSeed, Failed}
 use Rattle.kadm_changes.specs.Stops.{IsFailed}
 use Rattle.kadm_changes.specs.Realm.{StaysOpen}
 use Rattle.kadm_changes.specs.Texts.{Text, path_of}
@@ -20,8 +20,8 @@ use Rattle.kadm.specs.declared.writing.WriteCommand.{WriteCommand}
 use Rattle.kadm.specs.declared.writing.WriteCommand.TheVariants as writes
 use Rattle.command_line.specs.declared.status.Status.{Status}
 use Rattle.command_line.specs.declared.status.Status.TheVariants as statuses
-use Rattle.kadm_changes.specs.declared.stop.Stop.{Stop}
-use Rattle.kadm_changes.specs.declared.stop.Stop.TheVariants.{Usage, LineRefused, LineFailed, NotInBatch, Refused, File}
+use Rattle.kadm_changes.specs.declared.stop.CommandError.{CommandError}
+use Rattle.kadm_changes.specs.declared.stop.CommandError.TheVariants.{Usage, LineRefused, LineFailed, NotInBatch, Refused, File}
 
 -- refused or failed
 abbrev pub IsNotDone : Status → Type 0
@@ -30,12 +30,12 @@ IsNotDone statuses.Refused = Unit {0}
 IsNotDone statuses.Usage = ⊥
 IsNotDone statuses.Failed = Unit {0}
 
-abbrev pub IsFileCauseStatus : FileCause → Status → Type 0
+abbrev pub IsFileCauseStatus : FileError → Status → Type 0
 IsFileCauseStatus LongFile status = IsNotDone status
 IsFileCauseStatus ShortSeed status = IsNotDone status
 IsFileCauseStatus (Failed error) status = status ≡ statuses.Failed
 
-abbrev pub IsStatusOf : Stop → Status → Type 0
+abbrev pub IsStatusOf : CommandError → Status → Type 0
 IsStatusOf Usage status = status ≡ statuses.Usage
 IsStatusOf LineRefused status = status ≡ statuses.Refused
 IsStatusOf LineFailed status = status ≡ statuses.Failed
@@ -44,7 +44,7 @@ IsStatusOf (Refused refusal) status = status ≡ statuses.Refused
 IsStatusOf (File fault) status = IsFileCauseStatus fault.cause status
 
 -- the status that is reported of a command line's end
-abbrev pub IsReported : Result Status Stop → Status → Type 0
+abbrev pub IsReported : Result Status CommandError → Status → Type 0
 IsReported (Ok status) reported = reported ≡ status
 IsReported (Err stop) reported = IsStatusOf stop reported
 
@@ -96,7 +96,7 @@ IsCommandEnd before command statuses.Refused after = (after ≡ before) ⊎ IsTr
 IsCommandEnd before command statuses.Usage after = ⊥
 IsCommandEnd before command statuses.Failed after = IsDone before command after ⊎ IsTried before command after
 
-abbrev pub IsCommandStopped : Option World → Command → Stop → Option World → Type 0
+abbrev pub IsCommandStopped : Option World → Command → CommandError → Option World → Type 0
 IsCommandStopped before command stop after = (after ≡ before) ⊎ (IsFailed stop × IsDone before command after)
 
 -- ---- the words of a command line
@@ -109,7 +109,7 @@ IsSpelledDone words before after = (command : Command) × Spells words command �
 abbrev pub IsSpelledTried : List Text → Option World → Option World → Type 0
 IsSpelledTried words before after = (command : Command) × Spells words command × IsTried before command after
 
-abbrev pub IsStopped : List Text → Option World → Stop → Option World → Type 0
+abbrev pub IsStopped : List Text → Option World → CommandError → Option World → Type 0
 IsStopped words before stop after =
     (after ≡ before) ⊎ (IsFailed stop × (IsSpelledDone words before after ⊎ IsSpelledTried words before after))
 

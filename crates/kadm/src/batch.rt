@@ -9,17 +9,17 @@ use crate::commands::{Command, CommandKind, WHOLE_REALM, read_args, read_command
 use crate::outcome::Outcome;
 use crate::reports::report;
 use crate::subject::{Subject, begin_line};
-use crate::usage::{CommandFault, report_command_fault, report_fault};
-use crate::values::{NAME, has_flag, value_of};
+use crate::usage::{UsageError, report_command_fault, report_fault};
+use crate::values::{NAME, has_flag, option_value};
 use crate::words::{in_batch, is_given};
 use crate::writing::WriteCommand;
 use clap::ArgMatches;
 use clap::error::Error;
 use command_line::Status;
-use file_store::{FileCause, FileFault, STANDARD_INPUT, Store};
+use file_store::{FileError, PathError, STANDARD_INPUT, Store};
 use kadm_changes::{
-    Context, Draft, FoundPassword, Note, Stop, Target, find_password, lock_database, read_database,
-    report_realm, update_in_batch, write_database,
+    CommandError, Context, Draft, FoundPassword, Note, Target, find_password, lock_database,
+    read_database, report_realm, update_in_batch, write_database,
 };
 use std::alloc::{AllocError, Global};
 use std::io::{ErrorKind, Write};
@@ -86,7 +86,7 @@ pub(crate) fn run_batch<'p, T: Store, W: Write, E: Write>(
     store: &mut T,
     target: &Target<'p>,
     keep_going: bool,
-) -> Result<Outcome, Stop<'p>>
+) -> Result<Outcome, CommandError<'p>>
     // Promise (done, unchanged): `batch`: the same, with the changes of all lines one after another, each the change
     // that its words spell for the database of the batch. If one is not done, the file is as it was.
     // Promise: with `--keep-going` each line of a batch is done, or leaves the database as it was.
@@ -120,7 +120,7 @@ fn read_lines<T: Store, E: Write>(
     alloc: Global,
     store: &mut T,
     errors: &mut E,
-) -> Result<Vec<InputLine>, Stop<'static>>
+) -> Result<Vec<InputLine>, CommandError<'static>>
     ensures unchanged { T.world store.new ≡ T.world store.old }
 {
     let mut lines = Vec::new(alloc);
@@ -136,17 +136,20 @@ fn read_lines<T: Store, E: Write>(
 }
 
 /// Reads the next line. `None` if the input has ended.
-fn next_line<T: Store>(alloc: Global, store: &mut T) -> Result<Option<Vec<u8>>, Stop<'static>>
+fn next_line<T: Store>(
+    alloc: Global,
+    store: &mut T,
+) -> Result<Option<Vec<u8>>, CommandError<'static>>
     ensures unchanged { T.world store.new ≡ T.world store.old }
 {
     match store.ask(alloc, PROMPT, LONGEST_LINE) {
         Ok(Some(line)) => Ok(Some(line)),
-        Ok(None) => Err(Stop::from(FileFault {
+        Ok(None) => Err(CommandError::from(PathError {
             path: STANDARD_INPUT,
-            cause: FileCause::LongFile,
+            cause: FileError::LongFile,
         })),
         Err(error) if error.kind() == ErrorKind::UnexpectedEof => Ok(None),
-        Err(error) => Err(Stop::from(FileFault::failed(STANDARD_INPUT, error))),
+        Err(error) => Err(CommandError::from(PathError::failed(STANDARD_INPUT, error))),
     }
 }
 
@@ -179,7 +182,7 @@ fn with_passwords<T: Store>(
 {
     let mut all = Vec::new(alloc);
     for line in lines {
-        let password = password_of(alloc, store, db, &line.words)?;
+        let password = line_password(alloc, store, db, &line.words)?;
         all.push(BatchLine {
             number: line.number,
             words: line.words,
@@ -191,7 +194,7 @@ fn with_passwords<T: Store>(
 
 /// Reads the file of the password that a line takes. `None` if it takes none; what is wrong with the line is reported
 /// when it is run.
-fn password_of<T: Store>(
+fn line_password<T: Store>(
     alloc: Global,
     store: &mut T,
     db: &str,
@@ -231,9 +234,13 @@ fn command_password<T: Store>(
 }
 
 /// Reports why a line is no command. Returns how the batch ends. Ignores a failed write.
-fn report_line_fault<E: Write>(errors: &mut E, number: usize, fault: &str) -> Stop<'static> {
+fn report_line_fault<E: Write>(
+    errors: &mut E,
+    number: usize,
+    fault: &str,
+) -> CommandError<'static> {
     let _ = writeln!(errors, "kadm: line {number}: {fault}");
-    Stop::Usage
+    CommandError::Usage
 }
 
 /// Runs the commands, and returns whether all were done. If one is not, that is the end, unless the batch keeps going.
@@ -243,7 +250,7 @@ fn run_lines<T: Store, W: Write, E: Write>(
     store: &mut T,
     batch: &Batch<'_>,
     draft: &mut Draft,
-) -> Result<bool, Stop<'static>>
+) -> Result<bool, CommandError<'static>>
     requires read { All (IsLineRead (T.world store.old)) batch.now.lines.now }
     ensures run { IfOk result (λ whole. IsRun (T.world store.old) batch.now.whole_realm batch.now.db.now batch.now.keep_going
         (line_texts batch.now.lines.now) draft.old.database draft.new.database whole) }
@@ -262,7 +269,7 @@ fn run_all<T: Store, W: Write, E: Write>(
     store: &mut T,
     batch: &Batch<'_>,
     draft: &mut Draft,
-) -> Result<(), Stop<'static>>
+) -> Result<(), CommandError<'static>>
     requires read { All (IsLineRead (T.world store.old)) batch.now.lines.now }
     // Promise (done, unchanged), as run_batch: `batch`: the same, with ..
     ensures done { OnOk result (AreDone (T.world store.old) batch.now.whole_realm batch.now.db.now (line_texts batch.now.lines.now)
@@ -278,7 +285,7 @@ fn run_all<T: Store, W: Write, E: Write>(
                 "kadm: line {}: nothing was written",
                 line.number
             );
-            return Err(stop_of(status));
+            return Err(batch_end(status));
         }
         rest = others;
     }
@@ -286,11 +293,11 @@ fn run_all<T: Store, W: Write, E: Write>(
 }
 
 /// Returns how a batch ends whose line ends so.
-fn stop_of(status: Status) -> Stop<'static> {
+fn batch_end(status: Status) -> CommandError<'static> {
     match status {
-        Status::Usage => Stop::Usage,
-        Status::Failed => Stop::LineFailed,
-        Status::Done | Status::Refused => Stop::LineRefused,
+        Status::Usage => CommandError::Usage,
+        Status::Failed => CommandError::LineFailed,
+        Status::Done | Status::Refused => CommandError::LineRefused,
     }
 }
 
@@ -300,7 +307,7 @@ fn run_each<T: Store, W: Write, E: Write>(
     store: &mut T,
     batch: &Batch<'_>,
     draft: &mut Draft,
-) -> Result<bool, Stop<'static>>
+) -> Result<bool, CommandError<'static>>
     requires read { All (IsLineRead (T.world store.old)) batch.now.lines.now }
     // Promise (run, unchanged), as run_batch: with `--keep-going` each line ..
     ensures run { IfOk result (λ whole. IsRun (T.world store.old) batch.now.whole_realm batch.now.db.now true (line_texts batch.now.lines.now)
@@ -325,7 +332,7 @@ fn try_line<T: Store, W: Write, E: Write>(
     line: &BatchLine,
     whole: bool,
     draft: &mut Draft,
-) -> Result<bool, Stop<'static>>
+) -> Result<bool, CommandError<'static>>
     requires read { IsLineRead (T.world store.old) line.now }
     ensures turn { IfOk result (λ whole_then. IsTurn (T.world store.old) batch.now.whole_realm batch.now.db.now (line_text line.now)
         whole draft.old.database draft.new.database whole_then) }
@@ -353,7 +360,7 @@ fn run_line<T: Store, W: Write, E: Write>(
     batch: &Batch<'_>,
     line: &BatchLine,
     draft: &mut Draft,
-) -> Result<Option<Status>, Stop<'static>>
+) -> Result<Option<Status>, CommandError<'static>>
     requires read { IsLineRead (T.world store.old) line.now }
     ensures done { IfOk result (λ end. IfNone end (IsLineDone (T.world store.old) batch.now.whole_realm batch.now.db.now
         (line_text line.now) draft.old.database draft.new.database)) }
@@ -386,7 +393,7 @@ fn keep_note(
     subject: &Subject<'_>,
     note: Option<Note>,
 ) -> Result<(), AllocError> {
-    let (Some(note), Some(name)) = (note, value_of(subject.words, NAME)) else {
+    let (Some(note), Some(name)) = (note, option_value(subject.words, NAME)) else {
         return Ok(());
     };
     begin_line(notes, subject);
@@ -404,7 +411,7 @@ fn run_words<'a, T: Store, E: Write>(
     draft: &mut Draft,
     whole: bool,
     found: Option<&FoundPassword>,
-) -> Result<Option<Note>, Stop<'a>>
+) -> Result<Option<Note>, CommandError<'a>>
     requires found { IsFoundIn (T.world store.old) found }
     ensures done { OnOk result (IsSpelledMade (T.world store.old) whole (texts subject.now.words.now) draft.old.database draft.new.database) }
     ensures unchanged { T.world store.new ≡ T.world store.old }
@@ -426,7 +433,7 @@ fn check_words<E: Write>(
     errors: &mut E,
     subject: &Subject<'_>,
     matches: &Result<ArgMatches<'_>, Error>,
-) -> Result<(), Stop<'static>> {
+) -> Result<(), CommandError<'static>> {
     match matches {
         Err(error) => {
             begin_line(errors, subject);
@@ -447,9 +454,9 @@ fn refused_option<E: Write>(
     errors: &mut E,
     subject: &Subject<'_>,
     fault: &'static str,
-) -> Stop<'static> {
+) -> CommandError<'static> {
     begin_line(errors, subject);
-    report_command_fault(errors, CommandFault::BadValue(fault))
+    report_command_fault(errors, UsageError::BadValue(fault))
 }
 
 /// Makes a change that a line asks for.
@@ -459,7 +466,7 @@ fn run_command<'a, T: Store>(
     draft: &mut Draft,
     whole: bool,
     found: Option<&FoundPassword>,
-) -> Result<Option<Note>, Stop<'a>>
+) -> Result<Option<Note>, CommandError<'a>>
     requires found { IsFoundIn (T.world store.old) found }
     ensures done { OnOk result (IsCommandMade (T.world store.old) whole command.now draft.old.database draft.new.database) }
     ensures unchanged { T.world store.new ≡ T.world store.old }
@@ -468,7 +475,7 @@ fn run_command<'a, T: Store>(
         CommandKind::Write(WriteCommand::Update(update)) => {
             update_in_batch(store, draft, &command.target, whole, update, found)
         }
-        _ => Err(Stop::NotInBatch),
+        _ => Err(CommandError::NotInBatch),
     }
 }
 

@@ -9,8 +9,8 @@ use crate::options::{
     ANY_PASSWORDS, DATABASE, KEEPS_MODE, NAME, NAMES, PASSWORD, REPLACES, TYPES, WHOLE_REALM,
 };
 use crate::settings::sets_some;
-use crate::usage::{CommandFault, NO_COMMAND, required, setting_fault};
-use crate::values::{KEYTAB, has_flag, value_of};
+use crate::usage::{NO_COMMAND, UsageError, required, setting_fault};
+use crate::values::{KEYTAB, has_flag, option_value};
 use crate::words::is_given;
 use crate::writing::WriteCommand;
 use command_line::{FlagRow, OptionRow, SubcommandRow, Times};
@@ -211,31 +211,31 @@ const NO_VERSION: &str =
 const NO_SETTING: &str = "give --set FIELD=VALUE, once or more, or --field with --value";
 
 /// Returns what the command writes. `None` if it is not one of these.
-pub(crate) fn change_of<'a>(
+pub(crate) fn read_change<'a>(
     command: &str,
     words: &'a [&'a str],
-) -> Result<Option<WriteCommand<'a>>, CommandFault<'a>>
+) -> Result<Option<WriteCommand<'a>>, UsageError<'a>>
     ensures { command_of (texts words.now) ≡ Some command.now
         → IfOk result (λ found. IfSome found (λ write. IsWriteSpelled (texts words.now) write)) }
 {
     match command {
-        "add" => Ok(Some(row_of(words, added(words)?)?)),
-        "passwd" => Ok(Some(row_of(words, renewed(words))?)),
-        "random" => Ok(Some(row_of(words, random_args(words))?)),
+        "add" => Ok(Some(row_change(words, added(words)?)?)),
+        "passwd" => Ok(Some(row_change(words, renewed(words))?)),
+        "random" => Ok(Some(row_change(words, random_args(words))?)),
         "import" => Ok(Some(import_args(words)?)),
-        "drop" => Ok(Some(changes_of(words, drop_args(words)?)?)),
-        "policy" => Ok(Some(changes_of(words, policy_args(words)?)?)),
+        "drop" => Ok(Some(named_changes(words, drop_args(words)?)?)),
+        "policy" => Ok(Some(named_changes(words, policy_args(words)?)?)),
         "batch" => Ok(Some(batch_args(words)?)),
-        "remove" => Ok(Some(changes_of(words, ChangeArgs::Remove)?)),
+        "remove" => Ok(Some(named_changes(words, ChangeArgs::Remove)?)),
         _ => Ok(None),
     }
 }
 
 /// Returns the change that gives the principal keys, and then makes the settings of the words.
-fn row_of<'a>(
+fn row_change<'a>(
     words: &'a [&'a str],
     how: RowUpdate<'a>,
-) -> Result<WriteCommand<'a>, CommandFault<'a>>
+) -> Result<WriteCommand<'a>, UsageError<'a>>
     ensures { IsRowSpelled (texts words.now) how.entry → IfOk result (λ write. IsWriteSpelled (texts words.now) write) }
 {
     let name = required(words, "--name", NO_COMMAND)?;
@@ -244,7 +244,7 @@ fn row_of<'a>(
 
 /// Returns the keys of the principal to add. Fails if both random keys and a password are asked for, or a setting is
 /// invalid.
-fn added<'a>(words: &[&'a str]) -> Result<RowUpdate<'a>, CommandFault<'a>>
+fn added<'a>(words: &[&'a str]) -> Result<RowUpdate<'a>, UsageError<'a>>
     ensures { command_of (texts words.now) ≡ Some (codes "add") → IfOk result (λ how. IsRowSpelled (texts words.now) how) }
 {
     if let Some(fault) = setting_fault(words) {
@@ -258,10 +258,10 @@ fn added<'a>(words: &[&'a str]) -> Result<RowUpdate<'a>, CommandFault<'a>>
         }));
     }
     if password.any || password.file.is_some() {
-        return Err(CommandFault::BadValue(NO_SOURCE));
+        return Err(UsageError::BadValue(NO_SOURCE));
     }
     Ok(RowUpdate::Random(RandomGrant {
-        seed: value_of(words, "--seed"),
+        seed: option_value(words, "--seed"),
         grant: Grant::New,
     }))
 }
@@ -281,7 +281,7 @@ fn password_args<'a>(words: &[&'a str]) -> PasswordArgs<'a>
     ensures { path_of result.file ≡ value_of (texts words.now) (codes "--password-file") }
 {
     PasswordArgs {
-        file: value_of(words, "--password-file"),
+        file: option_value(words, "--password-file"),
         any: has_flag(words, "--any-password"),
     }
 }
@@ -311,7 +311,7 @@ fn random_args<'a>(words: &[&'a str]) -> RowUpdate<'a>
     ensures { command_of (texts words.now) ≡ Some (codes "random") → IsRowSpelled (texts words.now) result }
 {
     RowUpdate::Random(RandomGrant {
-        seed: value_of(words, "--seed"),
+        seed: option_value(words, "--seed"),
         grant: random_grant(words),
     })
 }
@@ -331,14 +331,14 @@ fn random_grant(words: &[&str]) -> Grant
 }
 
 /// Returns what an import writes: a whole realm, or one principal. Fails if the options are of both.
-fn import_args<'a>(words: &'a [&'a str]) -> Result<WriteCommand<'a>, CommandFault<'a>>
+fn import_args<'a>(words: &'a [&'a str]) -> Result<WriteCommand<'a>, UsageError<'a>>
     ensures { command_of (texts words.now) ≡ Some (codes "import") → IfOk result (λ write. IsWriteSpelled (texts words.now) write) }
 {
-    let Some(dump) = value_of(words, "--dump") else {
+    let Some(dump) = option_value(words, "--dump") else {
         return import_row(words);
     };
     if is_given(words, "--name") || is_given(words, KEYTAB) || is_given(words, "--types") {
-        return Err(CommandFault::BadValue(NO_IMPORT));
+        return Err(UsageError::BadValue(NO_IMPORT));
     }
     Ok(WriteCommand::Dump(DumpArgs {
         dump,
@@ -348,11 +348,11 @@ fn import_args<'a>(words: &'a [&'a str]) -> Result<WriteCommand<'a>, CommandFaul
 }
 
 /// Returns the import of one principal.
-fn import_row<'a>(words: &'a [&'a str]) -> Result<WriteCommand<'a>, CommandFault<'a>>
+fn import_row<'a>(words: &'a [&'a str]) -> Result<WriteCommand<'a>, UsageError<'a>>
     ensures { command_of (texts words.now) ≡ Some (codes "import") → IfOk result (λ write. IsWriteSpelled (texts words.now) write) }
 {
     if has_flag(words, "--skip") || is_given(words, "--stash") {
-        return Err(CommandFault::BadValue(NO_IMPORT));
+        return Err(UsageError::BadValue(NO_IMPORT));
     }
     Ok(WriteCommand::Update(Update::Row(RowArgs {
         name: required(words, "--name", NO_IMPORT)?,
@@ -363,47 +363,47 @@ fn import_row<'a>(words: &'a [&'a str]) -> Result<WriteCommand<'a>, CommandFault
 }
 
 /// Returns the change of each principal that the words name. An `Err` says that they name none.
-fn changes_of<'a>(
+fn named_changes<'a>(
     words: &'a [&'a str],
     how: ChangeArgs,
-) -> Result<WriteCommand<'a>, CommandFault<'a>>
+) -> Result<WriteCommand<'a>, UsageError<'a>>
     ensures { IsChangeSpelled (texts words.now) how → IfOk result (λ write. IsWriteSpelled (texts words.now) write) }
 {
     if !is_given(words, "--name") {
-        return Err(CommandFault::BadValue(NO_COMMAND));
+        return Err(UsageError::BadValue(NO_COMMAND));
     }
     Ok(WriteCommand::Update(Update::Changes(how)))
 }
 
 /// Returns which versions to drop. Fails unless exactly one of `--version` and `--older` is given.
-fn drop_args<'a>(words: &[&'a str]) -> Result<ChangeArgs, CommandFault<'a>>
+fn drop_args<'a>(words: &[&'a str]) -> Result<ChangeArgs, UsageError<'a>>
     ensures { command_of (texts words.now) ≡ Some (codes "drop") → IfOk result (λ how. IsChangeSpelled (texts words.now) how) }
 {
-    match (value_of(words, "--version"), has_flag(words, "--older")) {
+    match (option_value(words, "--version"), has_flag(words, "--older")) {
         (Some(version), false) => match number_u32(version) {
             Some(version) => Ok(ChangeArgs::Drop { version }),
-            None => Err(CommandFault::BadValue(NO_VERSION)),
+            None => Err(UsageError::BadValue(NO_VERSION)),
         },
         (None, true) => Ok(ChangeArgs::DropOlder),
-        _ => Err(CommandFault::BadValue(NO_VERSION)),
+        _ => Err(UsageError::BadValue(NO_VERSION)),
     }
 }
 
 /// Returns the change by the settings that the words ask for. Fails if there is none, or one is invalid.
-fn policy_args<'a>(words: &[&'a str]) -> Result<ChangeArgs, CommandFault<'a>>
+fn policy_args<'a>(words: &[&'a str]) -> Result<ChangeArgs, UsageError<'a>>
     ensures { command_of (texts words.now) ≡ Some (codes "policy") → IfOk result (λ how. IsChangeSpelled (texts words.now) how) }
 {
     if let Some(fault) = setting_fault(words) {
         return Err(fault);
     }
     if !sets_some(words) {
-        return Err(CommandFault::BadValue(NO_SETTING));
+        return Err(UsageError::BadValue(NO_SETTING));
     }
     Ok(ChangeArgs::Policy)
 }
 
 /// Returns whether a batch keeps going.
-fn batch_args<'a>(words: &'a [&'a str]) -> Result<WriteCommand<'a>, CommandFault<'a>>
+fn batch_args<'a>(words: &'a [&'a str]) -> Result<WriteCommand<'a>, UsageError<'a>>
     ensures { command_of (texts words.now) ≡ Some (codes "batch") → IfOk result (λ write. IsWriteSpelled (texts words.now) write) }
 {
     Ok(WriteCommand::Batch {

@@ -4,7 +4,7 @@ ghost use Rattle.std.specs.Prelude.{◌≡◌};
 use crate::json_lines::json_finding;
 use enctypes::Etype;
 use file_store::{FileRights, RIGHTS_OF_OTHERS, Store, file_rights, read_clock};
-use kadm_changes::{Context, Stop, read_database};
+use kadm_changes::{CommandError, Context, read_database};
 use krb_fields::Name;
 use principal_rows::Row;
 use principals::Database;
@@ -38,7 +38,7 @@ pub(crate) fn print_lint<'p, T: Store, W: Write, E: Write>(
     store: &mut T,
     db: &'p str,
     lint: LintArgs,
-) -> Result<bool, Stop<'p>>
+) -> Result<bool, CommandError<'p>>
     ensures unchanged { T.world store.new ≡ T.world store.old }
 {
     let database = read_database(context, store, db)?;
@@ -59,7 +59,7 @@ fn print_findings<'p, W: Write, E: Write>(
     rights: FileRights,
     database: &Database,
     json: bool,
-) -> Result<bool, Stop<'p>> {
+) -> Result<bool, CommandError<'p>> {
     let of_file = file_findings(place.alloc, place.db, rights)?;
     print_lines(place.alloc, &of_file, json, &mut context.out)?;
     let of_principals = findings(place, database)?;
@@ -72,7 +72,7 @@ fn print_lines<'p, W: Write>(
     lines: &[String],
     json: bool,
     out: &mut W,
-) -> Result<(), Stop<'p>> {
+) -> Result<(), CommandError<'p>> {
     for line in lines {
         if json {
             out.write_all(&json_finding(alloc, line)?)?;

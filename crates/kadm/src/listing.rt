@@ -4,7 +4,7 @@ ghost use Rattle.std.specs.Prelude.{◌≡◌};
 use crate::json_lines::{behind_name, json_line};
 use crate::patterns::is_like;
 use file_store::Store;
-use kadm_changes::{Context, Stop, read_database};
+use kadm_changes::{CommandError, Context, read_database};
 use krb_fields::{Name, Second};
 use principal_rows::{KeyList, Row};
 use principals::{ChangeFault, Database};
@@ -31,11 +31,11 @@ pub(crate) fn print_list<'p, T: Store, W: Write, E: Write>(
     store: &mut T,
     db: &'p str,
     list: ListArgs<'_>,
-) -> Result<(), Stop<'p>>
+) -> Result<(), CommandError<'p>>
     ensures unchanged { T.world store.new ≡ T.world store.old }
 {
     let database = read_database(context, store, db)?;
-    let lines = lines_of(context.alloc, &database, list)?;
+    let lines = listed_lines(context.alloc, &database, list)?;
     Ok(print_lines(&lines, list.json, &mut context.out)?)
 }
 
@@ -54,7 +54,7 @@ fn print_lines<W: Write>(lines: &[Vec<u8>], json: bool, out: &mut W) -> io::Resu
 }
 
 /// Returns the line of each principal whose name fits, in the order of the names.
-fn lines_of(
+fn listed_lines(
     alloc: Global,
     database: &Database,
     list: ListArgs<'_>,
@@ -64,7 +64,7 @@ fn lines_of(
         if let Some((name, row)) = database.at(place) {
             let name = name.to_text(alloc)?;
             if fits(list.like, &name) {
-                lines.push(line_of(alloc, &name, row, list)?)?;
+                lines.push(listed_line(alloc, &name, row, list)?)?;
             }
         }
     }
@@ -82,7 +82,7 @@ fn fits(like: Option<&str>, name: &str) -> bool {
 }
 
 /// Returns the line of a principal. An object of JSON is behind its name and a space.
-fn line_of(
+fn listed_line(
     alloc: Global,
     name: &str,
     row: &Row,
@@ -140,13 +140,13 @@ pub(crate) fn print_row<'p, T: Store, W: Write, E: Write>(
     store: &mut T,
     db: &'p str,
     name: &str,
-) -> Result<(), Stop<'p>>
+) -> Result<(), CommandError<'p>>
     ensures unchanged { T.world store.new ≡ T.world store.old }
 {
     let name = Name::from_text(context.alloc, name)?;
     let database = read_database(context, store, db)?;
     let Some(row) = database.get(&name) else {
-        return Err(Stop::from(ChangeFault::Absent));
+        return Err(CommandError::from(ChangeFault::Absent));
     };
     print_policy(row, &mut context.out)?;
     print_versions(context.alloc, row, &mut context.out)
@@ -159,7 +159,11 @@ fn print_policy<W: Write>(row: &Row, out: &mut W) -> io::Result<()> {
     Ok(())
 }
 
-fn print_versions<'p, W: Write>(alloc: Global, row: &Row, out: &mut W) -> Result<(), Stop<'p>> {
+fn print_versions<'p, W: Write>(
+    alloc: Global,
+    row: &Row,
+    out: &mut W,
+) -> Result<(), CommandError<'p>> {
     for version in row.versions.as_slice() {
         let types = types_of(alloc, &version.keys)?;
         writeln!(out, "version {} {types}", version.number)?;

@@ -46,7 +46,7 @@ struct Given<'a> {
 }
 
 /// Why a command line can't be run.
-enum GivenFault {
+enum GivenError {
     /// A word, or the variable, is not UTF-8. The text says which.
     NotUtf8(&'static str),
     /// A call of the system failed.
@@ -57,11 +57,11 @@ impl<'a> Given<'a> {
     fn read(
         rt: &HostRuntime,
         named: &'a Result<String, VarError>,
-    ) -> Result<Given<'a>, GivenFault> {
+    ) -> Result<Given<'a>, GivenError> {
         let args = match read_words(rt) {
             Ok(Some(args)) => args,
-            Ok(None) => return Err(GivenFault::NotUtf8(NOT_UTF8)),
-            Err(error) => return Err(GivenFault::System(error)),
+            Ok(None) => return Err(GivenError::NotUtf8(NOT_UTF8)),
+            Err(error) => return Err(GivenError::System(error)),
         };
         match Variable::new(named) {
             Ok(Variable::Absent) => Ok(Given { args, db: None }),
@@ -69,8 +69,8 @@ impl<'a> Given<'a> {
                 args,
                 db: Some(path),
             }),
-            Ok(Variable::NotUtf8) => Err(GivenFault::NotUtf8(DB_NOT_UTF8)),
-            Err(error) => Err(GivenFault::System(io::Error::from(error))),
+            Ok(Variable::NotUtf8) => Err(GivenError::NotUtf8(DB_NOT_UTF8)),
+            Err(error) => Err(GivenError::System(io::Error::from(error))),
         }
     }
 }
@@ -96,13 +96,13 @@ fn main(rt: HostRuntime) -> ExitCode {
 }
 
 /// Reports why a command line can't be run. If that can't be written, there is nowhere to report it.
-fn report(rt: &HostRuntime, fault: GivenFault) -> Status {
+fn report(rt: &HostRuntime, fault: GivenError) -> Status {
     match fault {
-        GivenFault::NotUtf8(why) => {
+        GivenError::NotUtf8(why) => {
             let _ = eprintln!(rt; "error: {why}");
             Status::Usage
         }
-        GivenFault::System(error) => {
+        GivenError::System(error) => {
             report_failure(
                 rt,
                 "kadm",

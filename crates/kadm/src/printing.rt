@@ -8,11 +8,11 @@ ghost use Rattle.kadm.specs.declared.printing.PrintCommand.TheVariants as prints
 use crate::linting::{LintArgs, print_lint};
 use crate::listing::{ListArgs, print_list, print_row};
 use crate::options::{DATABASE, NAME};
-use crate::values::{has_flag, value_of};
+use crate::values::{has_flag, option_value};
 use clap::Command as Parser;
 use command_line::{FlagRow, OptionRow, Status, SubcommandRow, Times, with_subcommands};
 use file_store::Store;
-use kadm_changes::{Context, Stop};
+use kadm_changes::{CommandError, Context};
 use std::alloc::{AllocError, Global};
 use std::convert::AsStr;
 use std::io::Write;
@@ -82,12 +82,12 @@ pub(crate) enum PrintCommand<'a> {
 }
 
 /// Returns what the command prints. `None` if it is a command that writes.
-pub(crate) fn print_of<'a>(command: &str, words: &'a [&'a str]) -> Option<PrintCommand<'a>>
+pub(crate) fn print_command<'a>(command: &str, words: &'a [&'a str]) -> Option<PrintCommand<'a>>
     ensures { command_of (texts words.now) ≡ Some command.now → IfSome result (λ print. IsPrintSpelled (texts words.now) print) }
 {
     match command {
         "list" => Some(PrintCommand::List(ListArgs {
-            like: value_of(words, "--like"),
+            like: option_value(words, "--like"),
             long: has_flag(words, "--long"),
             json: has_flag(words, "--json"),
         })),
@@ -96,7 +96,7 @@ pub(crate) fn print_of<'a>(command: &str, words: &'a [&'a str]) -> Option<PrintC
             json: has_flag(words, "--json"),
         })),
         "show" => Some(PrintCommand::Show {
-            name: value_of(words, "--name")?,
+            name: option_value(words, "--name")?,
         }),
         _ => None,
     }
@@ -108,7 +108,7 @@ pub(crate) fn run_print<'a, T: Store, W: Write, E: Write>(
     store: &mut T,
     db: &'a str,
     print: PrintCommand<'a>,
-) -> Result<Status, Stop<'a>>
+) -> Result<Status, CommandError<'a>>
     // Promise (printed, unchanged): `list`, `lint` and `show` leave all as it was; of these only `lint --check` ends
     // with `Refused`.
     ensures printed { IfOk result (λ status. IsPrinted status print.entry) }

@@ -11,11 +11,11 @@ use crate::printing::run_print;
 use crate::reports::{report, report_unsynced};
 use crate::subject::Subject;
 use crate::usage::{report_command_fault, report_fault};
-use crate::words::{asks_help, with_db, with_names, words_of};
+use crate::words::{asks_help, with_db, with_names, words_as_texts};
 use crate::writing::{write_files, written_path};
 use command_line::Status;
 use file_store::{Store, Written};
-use kadm_changes::{Context, Progress, Stop};
+use kadm_changes::{CommandError, Context, Progress};
 use std::alloc::{AllocError, Global};
 use std::io;
 use std::io::{BufWriter, Write};
@@ -85,7 +85,7 @@ pub(crate) fn kadm_run<T: Store, W: Write + Drop, E: Write + Drop>(
 fn words_with_db<'a>(alloc: Global, line: CommandLine<'a>) -> Result<Vec<&'a str>, AllocError>
     ensures { IfOk result (λ words. texts words.items ≡ with_db (path_of line.entry.db) (with_names (map string_bytes line.entry.args.now))) }
 {
-    let words = words_of(alloc, line.args)?;
+    let words = words_as_texts(alloc, line.args)?;
     let named = with_names(alloc, &words)?;
     with_db(alloc, named, line.db)
 }
@@ -94,7 +94,7 @@ fn words_with_db<'a>(alloc: Global, line: CommandLine<'a>) -> Result<Vec<&'a str
 fn report_end<W: Write, E: Write>(
     context: &mut Context<W, E>,
     words: &[&str],
-    end: Result<Status, Stop<'_>>,
+    end: Result<Status, CommandError<'_>>,
 ) -> io::Result<Status>
     ensures { IfOk result (λ status. IsReported end.entry status) }
 {
@@ -117,7 +117,7 @@ fn run_words<'a, T: Store, W: Write, E: Write>(
     context: &mut Context<W, E>,
     store: &mut T,
     words: &'a [&'a str],
-) -> Result<Status, Stop<'a>>
+) -> Result<Status, CommandError<'a>>
     ensures done { IfOk result (λ status. IsEnd (texts words.entry.now) (T.world store.old) status (T.world store.new)) }
     ensures stopped { IfErr result (λ stop. IsStopped (texts words.entry.now) (T.world store.old) stop (T.world store.new)) }
 {
@@ -139,7 +139,7 @@ fn run_words<'a, T: Store, W: Write, E: Write>(
 fn asks<'a, W: Write, E: Write>(
     context: &mut Context<W, E>,
     words: &'a [&'a str],
-) -> Result<bool, Stop<'static>>
+) -> Result<bool, CommandError<'static>>
     ensures { IfOk result (λ asks. asks ≡ true → asks_help (texts words.now) ≡ true) }
 {
     let matches = read_args(context.alloc, words);
@@ -159,7 +159,7 @@ fn run_command<'a, T: Store, W: Write, E: Write>(
     context: &mut Context<W, E>,
     store: &mut T,
     command: &Command<'a>,
-) -> Result<Status, Stop<'a>>
+) -> Result<Status, CommandError<'a>>
     ensures done { IfOk result (λ status. IsCommandEnd (T.world store.old) command.now status (T.world store.new)) }
     ensures stopped { IfErr result (λ stop. IsCommandStopped (T.world store.old) command.now stop (T.world store.new)) }
 {

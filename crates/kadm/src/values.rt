@@ -16,7 +16,7 @@ pub(crate) const NAME: &str = "--name";
 
 /// Returns the value of an option such as `--db`: the word after it, or what follows it and an equals sign; of several
 /// the first.
-pub(crate) fn value_of<'a>(words: &[&'a str], option: &str) -> Option<&'a str>
+pub(crate) fn option_value<'a>(words: &[&'a str], option: &str) -> Option<&'a str>
     // Promise, as read_command: the command is read ..
     ensures { option_map (λ value. value.now) result ≡ value_of (texts words.now) option.now }
 {
@@ -60,7 +60,7 @@ pub(crate) fn value_at<'a>(option: &str, word: &'a str, others: &[&'a str]) -> O
 }
 
 /// Returns the values of an option, in their order.
-pub(crate) fn values_of<'a>(
+pub(crate) fn option_values<'a>(
     alloc: Global,
     words: &[&'a str],
     option: &str,

@@ -6,14 +6,14 @@ ghost use Rattle.kadm.specs.Values.{value_of};
 ghost use Rattle.kadm.specs.Words.{asks_help, batch_words, behind_command, behind_names, command_of, in_batch, is_name};
 ghost use Rattle.kadm.specs.Words.{is_option, is_value_next, lacks_db, named, spelled, takes_names, takes_text, takes_value, with_db, with_names};
 
-use crate::values::{DB, has_flag, value_of};
+use crate::values::{DB, has_flag, option_value};
 use std::alloc::{AllocError, Global};
 
 /// The word that asks for the help of the command after it.
 const HELP: &str = "help";
 
 /// Returns the words as texts.
-pub(crate) fn words_of(alloc: Global, args: &[String]) -> Result<Vec<&str>, AllocError>
+pub(crate) fn words_as_texts(alloc: Global, args: &[String]) -> Result<Vec<&str>, AllocError>
     ensures { IfOk result (λ words. texts words.items ≡ map string_bytes args.now) }
 {
     let mut words = Vec::new(alloc);
@@ -242,7 +242,7 @@ pub(crate) fn command_of<'a>(words: &[&'a str]) -> Option<&'a str>
 pub(crate) fn is_given(words: &[&str], option: &str) -> bool
     ensures { result ≡ is_some (value_of (texts words.now) option.now) }
 {
-    match value_of(words, option) {
+    match option_value(words, option) {
         Some(_) => true,
         None => false,
     }

@@ -5,17 +5,17 @@ ghost use Rattle.kadm.specs.Ends.{IsWriteDone};
 ghost use Rattle.kadm.specs.Words.{IsWriteSpelled, command_of};
 
 use crate::batch::run_batch;
-use crate::changing::{CHANGES, change_of};
+use crate::changing::{CHANGES, read_change};
 use crate::commands::Command;
 use crate::options::{DATABASE, KEEPS_MODE, NAME};
 use crate::outcome::Outcome;
-use crate::usage::{CommandFault, NO_COMMAND, required};
-use crate::values::{DB, has_flag, value_of};
+use crate::usage::{NO_COMMAND, UsageError, required};
+use crate::values::{DB, has_flag, option_value};
 use clap::Command as Parser;
 use command_line::{FlagRow, OptionRow, Status, SubcommandRow, Times, with_subcommands};
 use file_store::Store;
 use kadm_changes::{
-    Context, DumpArgs, InitArgs, KeytabArgs, Stop, Target, Update, import_dump, make_realm,
+    CommandError, Context, DumpArgs, InitArgs, KeytabArgs, Target, Update, import_dump, make_realm,
     make_update, write_keytab,
 };
 use std::alloc::{AllocError, Global};
@@ -111,13 +111,13 @@ pub(crate) enum WriteCommand<'a> {
 }
 
 /// Returns what to write.
-pub(crate) fn write_of<'a>(
+pub(crate) fn write_command<'a>(
     command: &str,
     words: &'a [&'a str],
-) -> Result<WriteCommand<'a>, CommandFault<'a>>
+) -> Result<WriteCommand<'a>, UsageError<'a>>
     ensures { command_of (texts words.now) ≡ Some command.now → IfOk result (λ write. IsWriteSpelled (texts words.now) write) }
 {
-    if let Some(change) = change_of(command, words)? {
+    if let Some(change) = read_change(command, words)? {
         return Ok(change);
     }
     match command {
@@ -126,27 +126,27 @@ pub(crate) fn write_of<'a>(
             users_are_no_services: has_flag(words, "--users-are-no-services"),
         })),
         "keytab" => keytab_args(words),
-        _ => Err(CommandFault::BadValue(NO_COMMAND)),
+        _ => Err(UsageError::BadValue(NO_COMMAND)),
     }
 }
 
 /// Returns the realm to make, and where the seed of its keys is.
-fn init_args<'a>(words: &'a [&'a str]) -> Result<WriteCommand<'a>, CommandFault<'a>>
+fn init_args<'a>(words: &'a [&'a str]) -> Result<WriteCommand<'a>, UsageError<'a>>
     ensures { command_of (texts words.now) ≡ Some (codes "init") → IfOk result (λ write. IsWriteSpelled (texts words.now) write) }
 {
     Ok(WriteCommand::Init(InitArgs {
         realm: required(words, "--realm", NO_COMMAND)?,
-        seed: value_of(words, "--seed"),
+        seed: option_value(words, "--seed"),
     }))
 }
 
 /// Returns which keytab to write. Fails if its path is the database's, which it would replace.
-fn keytab_args<'a>(words: &'a [&'a str]) -> Result<WriteCommand<'a>, CommandFault<'a>>
+fn keytab_args<'a>(words: &'a [&'a str]) -> Result<WriteCommand<'a>, UsageError<'a>>
     ensures { command_of (texts words.now) ≡ Some (codes "keytab") → IfOk result (λ write. IsWriteSpelled (texts words.now) write) }
 {
     let out = required(words, "--out", NO_KEYTAB)?;
     if out == required(words, DB, NO_KEYTAB)? {
-        return Err(CommandFault::BadValue(NO_KEYTAB));
+        return Err(UsageError::BadValue(NO_KEYTAB));
     }
     Ok(WriteCommand::Keytab(KeytabArgs {
         name: required(words, "--name", NO_KEYTAB)?,
@@ -170,7 +170,7 @@ pub(crate) fn write_files<'a, T: Store, W: Write, E: Write>(
     store: &mut T,
     target: &Target<'a>,
     write: WriteCommand<'a>,
-) -> Result<Outcome, Stop<'a>>
+) -> Result<Outcome, CommandError<'a>>
     ensures done { IfOk result (λ end. IsWriteDone (T.world store.old) target.now write.entry end.whole (T.world store.new)) }
     // Promise, as make_update of kadm_changes: a command that ends ..
     ensures unchanged { OnErr result (T.world store.new ≡ T.world store.old) }

@@ -7,7 +7,7 @@ use Rattle.principal_rows.specs.Policy.{default_policy}
 use Rattle.principal_rows.specs.declared.policy.Policy.{Policy}
 use Rattle.principals.specs.Database.{Principals}
 use Rattle.principals_text.specs.Value.{text_database}
-use Rattle.principals_text.specs.declared.read_fault.ReadFault.{ReadFault}
+use Rattle.principals_text.specs.declared.read_fault.ReadError.{ReadError}
 use Rattle.file_store.specs.World.{World}
 use Rattle.kadm_changes.specs.declared.updates.RowUpdate.{RowUpdate}
 use Rattle.kadm_changes.specs.declared.updates.RowUpdate.TheVariants as rows
@@ -50,7 +50,7 @@ MayHaveKeys whole realm who (rows.Import keytab) = ⊤
 
 -- ---- the files
 
-abbrev pub found_policy : Result Principals ReadFault → Policy
+abbrev pub found_policy : Result Principals ReadError → Policy
 found_policy (Ok p) = tgs_policy p
 found_policy (Err fault) = default_policy
 

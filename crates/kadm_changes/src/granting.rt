@@ -12,7 +12,7 @@ ghost use Rattle.kadm_changes.specs.Texts.{path_of};
 use crate::databases::apply;
 use crate::denying::deny_service;
 use crate::draft::Draft;
-use crate::stop::Stop;
+use crate::stop::CommandError;
 use enctypes::Etype;
 use file_store::{Store, read_clock, read_or_draw_seed};
 use krb_fields::{Name, Second};
@@ -86,7 +86,7 @@ pub(crate) fn give_password<'p, T: Store>(
     draft: &mut Draft,
     to: &Recipient<'_>,
     grant: Grant,
-) -> Result<(), Stop<'p>>
+) -> Result<(), CommandError<'p>>
     // Promise: `passwd` and `add`: keys of the password and the default salt, given as the words say.
     // Promise: besides, a `password_expires` that is past by the clock is cleared, and any other stays.
     ensures given { OnOk result (GivesPassword (T.world store.old) to.now.etypes.now to.now.pass.now grant to.now.who.now.components
@@ -94,7 +94,7 @@ pub(crate) fn give_password<'p, T: Store>(
     // Promise, as lock_database: what a command reads, ..
     ensures unchanged { T.world store.new ≡ T.world store.old }
 {
-    let keys = keys_of(draft, to)?;
+    let keys = derive_keys(draft, to)?;
     give(draft, to.who, keys, grant)?;
     clear_expiry(store, draft, to.who)
 }
@@ -105,7 +105,7 @@ pub(crate) fn give_random<'p, T: Store>(
     draft: &mut Draft,
     to: &Recipient<'_>,
     random: RandomGrant<'p>,
-) -> Result<(), Stop<'p>>
+) -> Result<(), CommandError<'p>>
     // Promise: `random` and `add --random`: the same with keys drawn from the seed's 32 bytes, which are the file's
     // first or the store's own.
     ensures given { OnOk result (GivesRandom (T.world store.old) to.now.etypes.now (path_of random.entry.seed) random.entry.grant
@@ -119,7 +119,7 @@ pub(crate) fn give_random<'p, T: Store>(
 }
 
 /// Derives the keys of a password, with the principal's default salt.
-fn keys_of(draft: &Draft, to: &Recipient<'_>) -> Result<KeyList, AllocError>
+fn derive_keys(draft: &Draft, to: &Recipient<'_>) -> Result<KeyList, AllocError>
     ensures { IfOk result (λ keys. keys ≡ map
         (password_key to.now.pass.now (default_salt draft.now.database.realm to.now.who.now.components)) to.now.etypes.now) }
 {
@@ -136,10 +136,10 @@ fn give(draft: &mut Draft, who: &Name, keys: KeyList, grant: Grant) -> Result<()
     ensures { OnOk result (IsGranted grant who.now.components keys draft.old.database draft.new.database) }
 {
     let how = grant.key_change(is_there(&draft.database, who));
-    give_by(draft, who, keys, how)
+    put_keys(draft, who, keys, how)
 }
 
-fn give_by(draft: &mut Draft, who: &Name, keys: KeyList, how: KeyChange) -> Result<(), ChangeFault>
+fn put_keys(draft: &mut Draft, who: &Name, keys: KeyList, how: KeyChange) -> Result<(), ChangeFault>
     ensures { OnOk result (IsGiven how who.now.components keys draft.old.database draft.new.database) }
 {
     match how {
@@ -214,7 +214,11 @@ fn numbers_of(alloc: Global, versions: &[KeyVersion]) -> Result<Vec<u32>, AllocE
 }
 
 /// Clears a `password_expires` that is past.
-fn clear_expiry<'p, T: Store>(store: &mut T, draft: &mut Draft, who: &Name) -> Result<(), Stop<'p>>
+fn clear_expiry<'p, T: Store>(
+    store: &mut T,
+    draft: &mut Draft,
+    who: &Name,
+) -> Result<(), CommandError<'p>>
     ensures cleared { OnOk result (IsCleared (T.world store.old) who.now.components draft.old.database draft.new.database) }
     ensures unchanged { T.world store.new ≡ T.world store.old }
 {

@@ -1,18 +1,18 @@
 //! Joins two keytabs byte by byte, so that entries with other key types and all times are unchanged.
 ghost use Rattle.std.specs.Prelude.{◌≡◌, ◌++◌, ◌<◌, ℕ, IfOk, IfSome, drop, length, take};
 
-use cred_files::CredFault;
+use cred_files::CredError;
 use std::alloc::Global;
 
 /// How many bytes come before the first part of a keytab.
 const MAGIC_LEN: usize = 2;
 
 /// Returns the keytab with the parts of the old one, which was read as a keytab, and then those of the new one.
-pub(crate) fn joined(alloc: Global, old: &[u8], new: &[u8]) -> Result<Vec<u8>, CredFault>
+pub(crate) fn joined(alloc: Global, old: &[u8], new: &[u8]) -> Result<Vec<u8>, CredError>
     ensures { IfOk result (λ all. (size : ℕ) × (all.items ≡ take size old.now ++ drop 2 new.now)) }
 {
     let (Some(parts), Some(added)) = (old.get(MAGIC_LEN..), new.get(MAGIC_LEN..)) else {
-        return Err(CredFault::BadMagic);
+        return Err(CredError::BadMagic);
     };
     let mut all = Vec::from_slice(alloc, old)?;
     all.truncate(old.len().saturating_sub(end_of(parts).len()));

@@ -8,12 +8,12 @@ ghost use Rattle.kadm_changes.specs.Worlds.{WroteKeytab};
 use crate::context::Context;
 use crate::databases::{lock_database, read_database};
 use crate::joining::joined;
-use crate::reason::{Part, Reason};
-use crate::stop::Stop;
+use crate::reason::{CommandRefusal, Part};
+use crate::stop::CommandError;
 use crate::target::Target;
-use cred_files::{CredFault, Keytab, KeytabEntry};
+use cred_files::{CredError, Keytab, KeytabEntry};
 use file_store::{
-    FileFault, FileRights, LOCK_END, Store, Written, file_rights, first_octet, folder_of, has_file,
+    FileRights, LOCK_END, PathError, Store, Written, file_rights, first_octet, folder_of, has_file,
     read_file, update_file, write_file,
 };
 use krb_elements::KerberosString;
@@ -50,7 +50,7 @@ pub fn write_keytab<'p, T: Store, W: Write, E: Write>(
     store: &mut T,
     target: &Target<'p>,
     to: KeytabArgs<'p>,
-) -> Result<Written, Stop<'p>>
+) -> Result<Written, CommandError<'p>>
     // Promise: `keytab` reads a database that has the principal, and writes one file: its current keys as entries of a
     // keytab.
     // Promise: a keytab's entries stand after the first two bytes of a keytab, or with `--append` after the start of
@@ -73,19 +73,23 @@ pub fn write_keytab<'p, T: Store, W: Write, E: Write>(
 
 /// Refuses the path of a lock, a path with a lock beside it, and a file that is neither empty nor a keytab. Each
 /// database that a command writes has a lock, and so has the one that this command locks, whatever path names it.
-fn check_path<'p, T: Store>(alloc: Global, store: &mut T, path: &'p str) -> Result<(), Stop<'p>>
+fn check_path<'p, T: Store>(
+    alloc: Global,
+    store: &mut T,
+    path: &'p str,
+) -> Result<(), CommandError<'p>>
     ensures free { OnOk result (IsFreePath (T.world store.old) path.now) }
     ensures unchanged { T.world store.new ≡ T.world store.old }
 {
     if path.ends_with(LOCK_END) {
-        return Err(Stop::refused(Part::NewKeytab, Reason::IsLock));
+        return Err(CommandError::refused(Part::NewKeytab, CommandRefusal::IsLock));
     }
     if has_lock(alloc, store, path)? {
-        return Err(Stop::refused(Part::NewKeytab, Reason::IsDatabase));
+        return Err(CommandError::refused(Part::NewKeytab, CommandRefusal::IsDatabase));
     }
     let first = first_octet(alloc, store, path)?;
     if is_other_file(first) {
-        return Err(Stop::from(CredFault::BadMagic));
+        return Err(CommandError::from(CredError::BadMagic));
     }
     Ok(())
 }
@@ -101,14 +105,18 @@ fn is_other_file(first: Option<u8>) -> bool
 }
 
 /// Checks whether there is a lock beside a file.
-fn has_lock<'p, T: Store>(alloc: Global, store: &mut T, path: &'p str) -> Result<bool, Stop<'p>>
+fn has_lock<'p, T: Store>(
+    alloc: Global,
+    store: &mut T,
+    path: &'p str,
+) -> Result<bool, CommandError<'p>>
     ensures there { IfOk result (λ found. IsThere (T.world store.old) (lock_of path.now) found) }
     ensures unchanged { T.world store.new ≡ T.world store.old }
 {
     let beside = format!(in alloc; "{path}{LOCK_END}")?;
     match store.exists(&beside) {
         Ok(found) => Ok(found),
-        Err(error) => Err(Stop::from(FileFault::failed(path, error))),
+        Err(error) => Err(CommandError::from(PathError::failed(path, error))),
     }
 }
 
@@ -119,12 +127,12 @@ fn new_octets<'p, T: Store>(
     database: &Database,
     name: &Name,
     to: KeytabArgs<'p>,
-) -> Result<Vec<u8>, Stop<'p>>
+) -> Result<Vec<u8>, CommandError<'p>>
     ensures holds { IfOk result (λ octets. IsKeytabFor (T.world store.old) to.entry name.now.components database.now octets.items) }
     ensures unchanged { T.world store.new ≡ T.world store.old }
 {
     let old = read_old(alloc, store, to.out, to.append)?;
-    let new = keytab_of(alloc, database, name)?;
+    let new = new_keytab(alloc, database, name)?;
     Ok(behind(alloc, old, new)?)
 }
 
@@ -135,7 +143,7 @@ fn put_octets<'p, T: Store>(
     target: &Target<'p>,
     to: KeytabArgs<'p>,
     octets: &[u8],
-) -> Result<Written, Stop<'p>>
+) -> Result<Written, CommandError<'p>>
     ensures written { OnOk result (T.world store.new ≡ option_map (with_file to.entry.out.now octets.now) (T.world store.old)) }
     ensures unchanged { OnErr result (T.world store.new ≡ T.world store.old) }
 {
@@ -151,7 +159,7 @@ fn read_old<'p, T: Store>(
     store: &mut T,
     path: &'p str,
     append: bool,
-) -> Result<Option<Vec<u8>>, Stop<'p>>
+) -> Result<Option<Vec<u8>>, CommandError<'p>>
     ensures old { IfOk result (λ old. IsOldKeytab (T.world store.old) append path.now (option_map (λ octets. octets.items) old)) }
     ensures unchanged { T.world store.new ≡ T.world store.old }
 {
@@ -164,7 +172,7 @@ fn read_old<'p, T: Store>(
 }
 
 /// Refuses the keytab of another user, who may have put it there to get the new keys.
-fn check_owner<'p, T: Store>(store: &mut T, path: &'p str) -> Result<(), Stop<'p>>
+fn check_owner<'p, T: Store>(store: &mut T, path: &'p str) -> Result<(), CommandError<'p>>
     ensures ours { OnOk result (IsOurs (T.world store.old) path.now) }
     ensures unchanged { T.world store.new ≡ T.world store.old }
 {
@@ -174,7 +182,7 @@ fn check_owner<'p, T: Store>(store: &mut T, path: &'p str) -> Result<(), Stop<'p
     }
     let folder = match file_rights(store, folder_of(path)) {
         Ok(folder) => folder,
-        Err(fault) => return Err(Stop::from(FileFault {
+        Err(fault) => return Err(CommandError::from(PathError {
             path,
             cause: fault.cause,
         })),
@@ -182,7 +190,7 @@ fn check_owner<'p, T: Store>(store: &mut T, path: &'p str) -> Result<(), Stop<'p
     if is_ours(file, folder) {
         return Ok(());
     }
-    Err(Stop::refused(Part::NewKeytab, Reason::NotOurs))
+    Err(CommandError::refused(Part::NewKeytab, CommandRefusal::NotOurs))
 }
 
 /// Checks whether the user who runs the program owns a file.
@@ -217,7 +225,7 @@ fn read_judged<'p, T: Store>(
     alloc: Global,
     store: &mut T,
     path: &'p str,
-) -> Result<Vec<u8>, Stop<'p>>
+) -> Result<Vec<u8>, CommandError<'p>>
     ensures read { IfOk result (λ octets. IsRead (T.world store.old) path.now octets.items) }
     ensures unchanged { T.world store.new ≡ T.world store.old }
 {
@@ -227,7 +235,7 @@ fn read_judged<'p, T: Store>(
 }
 
 /// Returns the content of an old keytab that was checked, followed by the entries of a new one.
-fn behind(alloc: Global, old: Option<Vec<u8>>, new: Vec<u8>) -> Result<Vec<u8>, CredFault>
+fn behind(alloc: Global, old: Option<Vec<u8>>, new: Vec<u8>) -> Result<Vec<u8>, CredError>
     ensures { IfOk result (λ all. IsBehind (option_map (λ octets. octets.items) old) new.items all.items) }
 {
     match old {
@@ -237,19 +245,23 @@ fn behind(alloc: Global, old: Option<Vec<u8>>, new: Vec<u8>) -> Result<Vec<u8>, 
 }
 
 /// Returns a keytab of a principal's current keys.
-fn keytab_of(alloc: Global, database: &Database, name: &Name) -> Result<Vec<u8>, Stop<'static>>
+fn new_keytab(
+    alloc: Global,
+    database: &Database,
+    name: &Name,
+) -> Result<Vec<u8>, CommandError<'static>>
     ensures { IfOk result (λ octets. IsNewKeytab database.now name.now octets.items) }
 {
     let Some(row) = database.get(name) else {
-        return Err(Stop::from(ChangeFault::Absent));
+        return Err(CommandError::from(ChangeFault::Absent));
     };
     let current = row.versions.current();
-    let entries = entries_of(alloc, database.realm(), name, current)?;
+    let entries = keytab_entries(alloc, database.realm(), name, current)?;
     Ok(Keytab::new(alloc, &entries)?.write(alloc)?)
 }
 
 /// Returns the keys of a version, as entries of a keytab.
-fn entries_of(
+fn keytab_entries(
     alloc: Global,
     realm: &[u8],
     name: &Name,

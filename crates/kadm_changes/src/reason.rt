@@ -1,8 +1,8 @@
 //! Why a command is refused, and for which value.
 use crate::asking::SettingForm;
-use cred_files::CredFault;
+use cred_files::CredError;
 use principals::ChangeFault;
-use principals_text::ReadFault;
+use principals_text::ReadError;
 
 /// What of a command is refused.
 #[derive(Clone, Copy, PartialEq, Eq)]
@@ -35,7 +35,7 @@ pub struct Refusal<'p> {
     /// Its text; `None` if it is the first that the command has for this part.
     pub value: Option<&'p str>,
     /// Why it is refused.
-    pub reason: Reason,
+    pub reason: CommandRefusal,
 }
 
 /// How a change of `krbtgt/REALM` ends a realm.
@@ -55,7 +55,7 @@ pub enum RealmEnd {
 
 /// Why a command is refused.
 #[derive(Clone, Copy)]
-pub enum Reason {
+pub enum CommandRefusal {
     /// The text is not the name of a principal.
     BadName,
     /// The text is not the name of a realm.
@@ -65,11 +65,11 @@ pub enum Reason {
     /// The file of a new realm already exists.
     FileExists,
     /// A file is not a database that can be read.
-    Database(ReadFault),
+    Database(ReadError),
     /// The database refuses a change.
     Change(ChangeFault),
     /// A file is not a keytab that can be read, or an entry is too long for one.
-    Keytab(CredFault),
+    Keytab(CredError),
     /// The second answer for a password differs from the first.
     Mismatch,
     /// A password is empty, or ends in a carriage return.

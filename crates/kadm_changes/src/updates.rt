@@ -16,7 +16,7 @@ use crate::importing::import;
 use crate::note::Note;
 use crate::passwords::{FoundPassword, PasswordGrant, batch_password, new_password};
 use crate::realm::{check_password, check_realm, report_realm, tgs_policy};
-use crate::stop::Stop;
+use crate::stop::CommandError;
 use crate::target::Target;
 use file_store::{Store, Written};
 use krb_fields::Name;
@@ -61,7 +61,7 @@ pub fn make_update<'p, T: Store, W: Write, E: Write>(
     store: &mut T,
     target: &Target<'p>,
     update: Update<'p>,
-) -> Result<Written, Stop<'p>>
+) -> Result<Written, CommandError<'p>>
     // Promise: who changes a database reads it once and writes it once: the path then has the text of what the change
     // made of the database that was read.
     // Promise, as kadm_run of kadm: without `--whole-realm` no command ..
@@ -87,7 +87,7 @@ fn update_row<'p, T: Store, W: Write, E: Write>(
     store: &mut T,
     target: &Target<'p>,
     to: &RowArgs<'p>,
-) -> Result<Written, Stop<'p>>
+) -> Result<Written, CommandError<'p>>
     ensures done { OnOk result (Rewritten (T.world store.old) target.now.db.now
         (IsRowUpdated (T.world store.old) target.now.whole_realm target.now to.now) (T.world store.new)) }
     // Promise, as make_update: a command that ends ..
@@ -117,7 +117,7 @@ fn update_row<'p, T: Store, W: Write, E: Write>(
     report_note(
         &mut context.errors,
         to.name,
-        note_of(to, &who, &draft.database, expired),
+        row_note(to, &who, &draft.database, expired),
     );
     Ok(written)
 }
@@ -136,7 +136,7 @@ fn update_rows<'p, T: Store, W: Write, E: Write>(
     store: &mut T,
     target: &Target<'p>,
     how: ChangeArgs,
-) -> Result<Written, Stop<'p>>
+) -> Result<Written, CommandError<'p>>
     ensures done { OnOk result (Rewritten (T.world store.old) target.now.db.now
         (AreKept (T.world store.old) target.now.whole_realm target.now how) (T.world store.new)) }
     // Promise, as make_update: a command that ends ..
@@ -161,7 +161,7 @@ fn migrate<'p, T: Store, W: Write, E: Write>(
     store: &mut T,
     target: &Target<'p>,
     users_are_no_services: bool,
-) -> Result<Written, Stop<'p>>
+) -> Result<Written, CommandError<'p>>
     ensures done { OnOk result (Rewritten (T.world store.old) target.now.db.now
         (IsMigrated (T.world store.old) target.now.whole_realm users_are_no_services) (T.world store.new)) }
     // Promise, as make_update: a command that ends ..
@@ -185,7 +185,7 @@ pub fn update_in_batch<'p, T: Store>(
     whole: bool,
     update: Update<'p>,
     found: Option<&FoundPassword>,
-) -> Result<Option<Note>, Stop<'p>>
+) -> Result<Option<Note>, CommandError<'p>>
     requires found { IsFoundIn (T.world store.old) found }
     // Promise, as kadm_run of kadm: without `--whole-realm` no command ..
     // Promise, as kadm_run of kadm: without it, `krbtgt/R` is ..
@@ -217,7 +217,7 @@ fn row_in_batch<'p, T: Store>(
     whole: bool,
     to: &RowArgs<'p>,
     found: Option<&FoundPassword>,
-) -> Result<Option<Note>, Stop<'p>>
+) -> Result<Option<Note>, CommandError<'p>>
     requires found { IsFoundIn (T.world store.old) found }
     ensures done { OnOk result (IsRowUpdated (T.world store.old) whole target.now to.now draft.old.database draft.new.database) }
     ensures unchanged { T.world store.new ≡ T.world store.old }
@@ -231,7 +231,7 @@ fn row_in_batch<'p, T: Store>(
         pass: &pass,
     };
     keep_row(store, draft, &recipient, &to.how, target, whole)?;
-    Ok(note_of(to, &who, &draft.database, expired))
+    Ok(row_note(to, &who, &draft.database, expired))
 }
 
 /// Changes the row of a principal, and refuses what would end the whole realm, unless `whole` allows it. After an `Err`
@@ -243,7 +243,7 @@ fn keep_row<'p, T: Store>(
     how: &RowUpdate<'p>,
     target: &Target<'p>,
     whole: bool,
-) -> Result<(), Stop<'p>>
+) -> Result<(), CommandError<'p>>
     ensures changed { OnOk result (IsRowKept (T.world store.old) whole recipient.now.etypes.now
         (all_asked target.now.settings.items) recipient.now.pass.now how.now recipient.now.who.now.components draft.old.database draft.new.database) }
     ensures unchanged { T.world store.new ≡ T.world store.old }
@@ -268,7 +268,7 @@ fn keep_all<'p, T: Store>(
     target: &Target<'p>,
     how: ChangeArgs,
     whole: bool,
-) -> Result<(), Stop<'p>>
+) -> Result<(), CommandError<'p>>
     ensures changed { OnOk result (AreKept (T.world store.old) whole target.now how
         draft.old.database draft.new.database) }
     ensures unchanged { T.world store.new ≡ T.world store.old }
@@ -291,7 +291,7 @@ fn keep_migrated<T: Store>(
     draft: &mut Draft,
     users_are_no_services: bool,
     whole: bool,
-) -> Result<(), Stop<'static>>
+) -> Result<(), CommandError<'static>>
     ensures migrated { OnOk result (IsMigrated (T.world store.old) whole users_are_no_services draft.old.database draft.new.database) }
     ensures unchanged { T.world store.new ≡ T.world store.old }
 {
@@ -308,7 +308,7 @@ fn change_row<'p, T: Store>(
     recipient: &Recipient<'_>,
     how: &RowUpdate<'p>,
     target: &Target<'p>,
-) -> Result<(), Stop<'p>>
+) -> Result<(), CommandError<'p>>
     ensures changed { OnOk result (IsRowChanged (T.world store.old) recipient.now.etypes.now
         (all_asked target.now.settings.items) recipient.now.pass.now how.now recipient.now.who.now.components draft.old.database draft.new.database) }
     ensures unchanged { T.world store.new ≡ T.world store.old }
@@ -323,7 +323,7 @@ fn give_row<'p, T: Store>(
     draft: &mut Draft,
     recipient: &Recipient<'_>,
     how: &RowUpdate<'p>,
-) -> Result<(), Stop<'p>>
+) -> Result<(), CommandError<'p>>
     ensures given { OnOk result (IsRowGiven (T.world store.old) recipient.now.etypes.now recipient.now.pass.now how.now
         recipient.now.who.now.components draft.old.database draft.new.database) }
     ensures unchanged { T.world store.new ≡ T.world store.old }
@@ -337,7 +337,7 @@ fn give_row<'p, T: Store>(
 
 /// Returns what an administrator may not expect of a change of a row. `expired` says whether the password had a time at
 /// which it expires and that was past.
-fn note_of(to: &RowArgs<'_>, who: &Name, database: &Database, expired: bool) -> Option<Note> {
+fn row_note(to: &RowArgs<'_>, who: &Name, database: &Database, expired: bool) -> Option<Note> {
     match &to.how {
         RowUpdate::Password(_) => password_note(who, database, expired),
         RowUpdate::Random(random) => random_note(random.grant, who, database),

@@ -12,7 +12,7 @@ use Rattle.client_core.specs.declared.asked.Asked.{Asked}
 use Rattle.client_files.specs.Caches.{HasCache, new_cache}
 use Rattle.client_login.specs.Logins.{IsFirst, IsFurther}
 use Rattle.client_login.specs.Replies.{IsExchanged}
-use Rattle.client_login.specs.declared.faults.LoginFault.{LoginFault}
+use Rattle.client_login.specs.declared.faults.TicketError.{TicketError}
 use Rattle.client_login.specs.declared.kdc_places.KdcPlace.{KdcPlace}
 use Rattle.client_login.specs.declared.secrets.Secret.{Secret}
 use Rattle.kclient.specs.CacheSessions.{Collected}
@@ -23,14 +23,14 @@ use Rattle.kclient.specs.declared.kvno.CacheSession.{CacheSession}
 
 module _ (finds : List ℕ → ℕ → SocketAddr → Type 0) (places : List KdcPlace) (carries : List ℕ → Type 0)
     (answers : SocketAddr → List ℕ → List ℕ → Type 0) where
-  pub came_first : (secret : Secret) (asked : Asked) (now : ℤ) (result : Result Credential LoginFault)
+  pub came_first : (secret : Secret) (asked : Asked) (now : ℤ) (result : Result Credential TicketError)
       → IfOk result (λ ticket. IsFirst (IsExchanged finds places carries answers) secret asked now ticket)
       → IfOk result (λ ticket. CameFirst finds carries answers ticket)
   came_first secret asked now (Ok ticket) is =
       record { places = places; secret = secret; asked = asked; now = now; first = is }
   came_first secret asked now (Err fault) is = tt
 
-  pub came_further : (granting : Credential) (asked : Asked) (now : ℤ) (result : Result Credential LoginFault)
+  pub came_further : (granting : Credential) (asked : Asked) (now : ℤ) (result : Result Credential TicketError)
       → IfOk result (λ ticket. IsFurther (IsExchanged finds places carries answers) granting asked now ticket)
       → IfOk result (λ ticket. CameFurther finds carries answers ticket)
   came_further granting asked now (Ok ticket) is =

@@ -1,8 +1,8 @@
 //! The context of a command.
 ghost use Rattle.std.specs.Prelude.{◌≡◌};
 
-use client_files::{Fault, unknown_hosts};
-use client_login::{KdcClient, LoginFault};
+use client_files::{ClientError, unknown_hosts};
+use client_login::{KdcClient, TicketError};
 use std::alloc::{AllocError, Global};
 
 /// What a command uses besides its words: memory, files, and a client of KDCs, whose addresses the command finds.
@@ -76,7 +76,7 @@ impl<T, X> Context<T, X> {
 
     /// Takes the time of a KDC that refuses because the clocks differ, once. Otherwise the fault ends the command;
     /// `source` is the file with the keys of the request.
-    pub(crate) fn take_clock(&mut self, source: &str, fault: LoginFault) -> Result<(), Fault>
+    pub(crate) fn take_clock(&mut self, source: &str, fault: TicketError) -> Result<(), ClientError>
         ensures store { self.new.store ≡ self.old.store }
     {
         if let Some(ahead) = self.client.take_clock(fault) {
@@ -86,8 +86,8 @@ impl<T, X> Context<T, X> {
     }
 
     /// Returns the fault for a login that got no ticket. `source` is the file with the keys of the request.
-    pub(crate) fn fault(&self, source: &str, fault: LoginFault) -> Fault {
-        Fault::of_login(self.alloc, &self.client.kdcs, source, fault)
+    pub(crate) fn fault(&self, source: &str, fault: TicketError) -> ClientError {
+        ClientError::of_login(self.alloc, &self.client.kdcs, source, fault)
     }
 }
 

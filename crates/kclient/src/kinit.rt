@@ -14,7 +14,7 @@ use crate::words::{
 };
 use clap::ArgMatches;
 use client_files::{
-    Cause, ClientStore, Defaults, Fault, at_file, at_password, read_cache, read_keytab,
+    ClientError, ClientStore, Defaults, StepError, at_file, at_password, read_cache, read_keytab,
     write_new_cache,
 };
 use client_login::{AnyMessage, Login, Password, Secret, TicketRequest};
@@ -41,7 +41,7 @@ pub(crate) fn get_first<T: ClientStore, X: AnyMessage>(
     context: &mut Context<T, X>,
     options: &ArgMatches<'_>,
     defaults: &Defaults<'_>,
-) -> Result<Printed, Fault>
+) -> Result<Printed, ClientError>
     // Promise (made, unchanged): `kinit` that succeeds makes a cache of the first ticket that came, under a key of the
     // client; a refused one changes no file.
     ensures made { OnOk result (
@@ -60,7 +60,7 @@ fn log_in<T, X: AnyMessage>(
     context: &mut Context<T, X>,
     source: &str,
     first: &mut First,
-) -> Result<Credential, Fault>
+) -> Result<Credential, ClientError>
     ensures came { IfOk result (λ ticket. CameFirst X.finds X.carries X.answers ticket) }
     ensures store { context.new.store ≡ context.old.store }
 {
@@ -81,7 +81,7 @@ fn prepare<T: ClientStore, X>(
     options: &ArgMatches<'_>,
     defaults: &Defaults<'_>,
     words: &FirstWords<'_>,
-) -> Result<First, Fault>
+) -> Result<First, ClientError>
     ensures unchanged { T.world context.new.store ≡ T.world context.old.store }
 {
     let path = cache_path(context.alloc, &mut context.store, options, defaults)?;
@@ -102,7 +102,7 @@ pub(crate) fn write_new<T: ClientStore, X>(
     context: &mut Context<T, X>,
     path: &str,
     credential: &Credential,
-) -> Result<Printed, Fault>
+) -> Result<Printed, ClientError>
     ensures written { OnOk result (T.world context.new.store
         ≡ option_map (with_file path.now (cache_text (new_cache credential.now))) (T.world context.old.store)) }
     ensures unchanged { OnErr result (T.world context.new.store ≡ T.world context.old.store) }
@@ -117,7 +117,7 @@ pub(crate) fn generator<T: ClientStore>(
     alloc: Global,
     store: &mut T,
     options: &ArgMatches<'_>,
-) -> Result<ChaCha20Rng, Fault>
+) -> Result<ChaCha20Rng, ClientError>
     ensures unchanged { T.world store.new ≡ T.world store.old }
 {
     let seed = read_or_draw_seed(alloc, store, options.get_str("seed"));
@@ -130,7 +130,7 @@ fn read_login<T: ClientStore, X>(
     defaults: &Defaults<'_>,
     words: &FirstWords<'_>,
     path: &str,
-) -> Result<Login, Fault>
+) -> Result<Login, ClientError>
     ensures unchanged { T.world context.new.store ≡ T.world context.old.store }
 {
     let alloc = context.alloc;
@@ -144,7 +144,7 @@ fn read_login<T: ClientStore, X>(
         None => cached_client(context, defaults, path)?,
     };
     let request = with_configured(words.request, configured_request(context, defaults)?);
-    login_of(alloc, client, service, request)
+    make_login(alloc, client, service, request)
 }
 
 /// Returns the client of the cache, and sets the KDCs to those of its realm. Without a cache it is the user's own name.
@@ -152,12 +152,12 @@ fn cached_client<T: ClientStore, X>(
     context: &mut Context<T, X>,
     defaults: &Defaults<'_>,
     path: &str,
-) -> Result<Principal, Fault>
+) -> Result<Principal, ClientError>
     ensures unchanged { T.world context.new.store ≡ T.world context.old.store }
 {
     let cache = match read_cache(context.alloc, &mut context.store, path) {
         Ok(cache) => cache,
-        Err(fault) if matches!(fault.cause, Cause::NoCache) => {
+        Err(fault) if matches!(fault.cause, StepError::NoCache) => {
             return own_client(context, defaults);
         }
         Err(fault) => return Err(fault),
@@ -171,11 +171,11 @@ fn cached_client<T: ClientStore, X>(
 fn own_client<T: ClientStore, X>(
     context: &mut Context<T, X>,
     defaults: &Defaults<'_>,
-) -> Result<Principal, Fault>
+) -> Result<Principal, ClientError>
     ensures unchanged { T.world context.new.store ≡ T.world context.old.store }
 {
     let Variable::Text(user) = defaults.user else {
-        return Err(Fault::usage(NO_NAME));
+        return Err(ClientError::usage(NO_NAME));
     };
     let name = read_name(context.alloc, "LOGNAME", user, user)?;
     let realm = find_realm(context, defaults, None)?;
@@ -192,7 +192,7 @@ struct GivenClient {
 fn given_client(
     alloc: Global,
     words: Option<ClientWords<'_>>,
-) -> Result<Option<GivenClient>, Fault> {
+) -> Result<Option<GivenClient>, ClientError> {
     let Some(words) = words else {
         return Ok(None);
     };
@@ -201,12 +201,12 @@ fn given_client(
     Ok(Some(GivenClient { name, realm }))
 }
 
-fn login_of(
+fn make_login(
     alloc: Global,
     client: Principal,
     service: Option<Name>,
     request: TicketRequest,
-) -> Result<Login, Fault> {
+) -> Result<Login, ClientError> {
     let service = match service {
         Some(service) => service,
         None => tgs_name(alloc, client.realm.as_slice())?,
@@ -218,7 +218,10 @@ fn login_of(
     })
 }
 
-fn given_realm(alloc: Global, words: &ClientWords<'_>) -> Result<Option<KerberosString>, Fault> {
+fn given_realm(
+    alloc: Global,
+    words: &ClientWords<'_>,
+) -> Result<Option<KerberosString>, ClientError> {
     let Some(realm) = words.realm else {
         return Ok(None);
     };
@@ -228,7 +231,7 @@ fn given_realm(alloc: Global, words: &ClientWords<'_>) -> Result<Option<Kerberos
     Ok(Some(read_realm(alloc, words.option, words.given, realm)?))
 }
 
-fn given_service(alloc: Global, service: Option<&str>) -> Result<Option<Name>, Fault> {
+fn given_service(alloc: Global, service: Option<&str>) -> Result<Option<Name>, ClientError> {
     match service {
         Some(service) => Ok(Some(read_name(alloc, "--service", service, service)?)),
         None => Ok(None),
@@ -241,7 +244,7 @@ fn read_secret<T: ClientStore>(
     store: &mut T,
     words: &FirstWords<'_>,
     client: &Principal,
-) -> Result<Secret, Fault>
+) -> Result<Secret, ClientError>
     ensures unchanged { T.world store.new ≡ T.world store.old }
 {
     let pass = match words.secret {

@@ -9,7 +9,8 @@ use crate::run::Printed;
 use crate::words::keytab_path;
 use clap::ArgMatches;
 use client_files::{
-    Cause, ClientStore, Defaults, Fault, good_credential, read_cache, read_keytab, remove_cache,
+    ClientError, ClientStore, Defaults, StepError, good_credential, read_cache, read_keytab,
+    remove_cache,
 };
 use command_line::Status;
 use krb_fields::{Moment, tgs_name};
@@ -24,7 +25,7 @@ pub(crate) fn list<T: ClientStore, X>(
     context: &mut Context<T, X>,
     options: &ArgMatches<'_>,
     defaults: &Defaults<'_>,
-) -> Result<Printed, Fault>
+) -> Result<Printed, ClientError>
     // Promise, as destroy: `kdestroy` that succeeds removes ..
     ensures unchanged { T.world context.new.store ≡ T.world context.old.store }
 {
@@ -38,7 +39,7 @@ fn list_keytab<T: ClientStore, X>(
     context: &mut Context<T, X>,
     options: &ArgMatches<'_>,
     path: &str,
-) -> Result<Printed, Fault>
+) -> Result<Printed, ClientError>
     ensures unchanged { T.world context.new.store ≡ T.world context.old.store }
 {
     check_alone(options)?;
@@ -50,7 +51,7 @@ fn list_cache<T: ClientStore, X>(
     context: &mut Context<T, X>,
     options: &ArgMatches<'_>,
     defaults: &Defaults<'_>,
-) -> Result<Printed, Fault>
+) -> Result<Printed, ClientError>
     ensures unchanged { T.world context.new.store ≡ T.world context.old.store }
 {
     let alloc = context.alloc;
@@ -65,12 +66,12 @@ fn list_cache<T: ClientStore, X>(
 }
 
 /// Checks that no option of a cache stands beside a keytab.
-fn check_alone(options: &ArgMatches<'_>) -> Result<(), Fault> {
+fn check_alone(options: &ArgMatches<'_>) -> Result<(), ClientError> {
     if options.get_flag("s") {
-        return Err(Fault::usage(SILENT_KEYTAB));
+        return Err(ClientError::usage(SILENT_KEYTAB));
     }
     if options.get_str("cache").is_some() {
-        return Err(Fault::usage(TWO_FILES));
+        return Err(ClientError::usage(TWO_FILES));
     }
     Ok(())
 }
@@ -81,7 +82,7 @@ fn has_good_ticket<T: ClientStore>(
     store: &mut T,
     path: &str,
     at: Moment,
-) -> Result<bool, Fault>
+) -> Result<bool, ClientError>
     ensures unchanged { T.world store.new ≡ T.world store.old }
 {
     let cache = read_cache(alloc, store, path)?;
@@ -91,10 +92,10 @@ fn has_good_ticket<T: ClientStore>(
 
 /// Returns the status of `klist -s`, as MIT's has it. A cache that is missing or can't be read counts as one without a
 /// ticket.
-fn status_of(found: &Result<bool, Fault>) -> Status {
+fn status_of(found: &Result<bool, ClientError>) -> Status {
     match found {
         Ok(true) => Status::Done,
-        Err(fault) if matches!(fault.cause, Cause::Memory) => Status::Failed,
+        Err(fault) if matches!(fault.cause, StepError::Memory) => Status::Failed,
         _ => Status::Refused,
     }
 }
@@ -105,7 +106,7 @@ pub(crate) fn destroy<T: ClientStore, X>(
     context: &mut Context<T, X>,
     options: &ArgMatches<'_>,
     defaults: &Defaults<'_>,
-) -> Result<Printed, Fault>
+) -> Result<Printed, ClientError>
     // Promise (removed, unchanged): `kdestroy` that succeeds removes the file, and a refused one changes none; `klist`
     // changes none.
     ensures removed { OnOk result (Removed (T.world context.old.store) (T.world context.new.store)) }

@@ -15,8 +15,8 @@ use crate::run::Printed;
 use crate::words::{NO_SERVICE, keytab_path, read_name, read_realm};
 use clap::ArgMatches;
 use client_files::{
-    Cause, ClientStore, Defaults, Fault, at, good_credential, granting_ticket, put_credential,
-    read_cache, read_keytab, write_cache,
+    ClientError, ClientStore, Defaults, StepError, at, good_credential, granting_ticket,
+    put_credential, read_cache, read_keytab, write_cache,
 };
 use client_login::{AnyMessage, LoginError, opened_ticket};
 use cred_files::{Cache, Credential, Keytab};
@@ -53,7 +53,7 @@ pub(crate) fn get_tickets<T: ClientStore, X: AnyMessage>(
     context: &mut Context<T, X>,
     options: &ArgMatches<'_>,
     defaults: &Defaults<'_>,
-) -> Result<Printed, Fault>
+) -> Result<Printed, ClientError>
     // Promise: `kvno`, refused or not, writes nothing, or the user's own cache with the tickets that came.
     ensures world { (T.world context.new.store ≡ T.world context.old.store)
         ⊎ Filled (CameFurther X.finds X.carries X.answers) (T.world context.old.store) (T.world context.new.store) }
@@ -75,7 +75,7 @@ fn fill<T: ClientStore, X: AnyMessage>(
     defaults: &Defaults<'_>,
     session: &mut CacheSession,
     services: &[Service],
-) -> Result<Printed, Fault>
+) -> Result<Printed, ClientError>
     ensures world { (T.world context.new.store ≡ T.world context.old.store)
         ⊎ Added (CameFurther X.finds X.carries X.answers) (string_bytes session.old.path) session.old.cache
         (T.world context.old.store) (T.world context.new.store) }
@@ -96,7 +96,7 @@ fn get_each<T: ClientStore, X: AnyMessage>(
     defaults: &Defaults<'_>,
     session: &mut CacheSession,
     services: &[Service],
-) -> Result<String, Fault>
+) -> Result<String, ClientError>
     ensures collected { Collected (CameFurther X.finds X.carries X.answers) session.old session.new }
     ensures unchanged { T.world context.new.store ≡ T.world context.old.store }
 {
@@ -120,7 +120,7 @@ fn read_session<T: ClientStore, X>(
     options: &ArgMatches<'_>,
     path: String,
     keytab: Option<&str>,
-) -> Result<CacheSession, Fault>
+) -> Result<CacheSession, ClientError>
     ensures held { IfOk result (λ session.
         HasCache (T.world context.old.store) (string_bytes session.path) session.cache) }
     ensures unchanged { T.world context.new.store ≡ T.world context.old.store }
@@ -143,7 +143,7 @@ fn write_changed<T: ClientStore>(
     alloc: Global,
     store: &mut T,
     session: &CacheSession,
-) -> Result<(), Fault>
+) -> Result<(), ClientError>
     ensures world { (T.world store.new ≡ T.world store.old) ⊎ (T.world store.new
         ≡ option_map (with_file (string_bytes session.now.path) (cache_text session.now.cache)) (T.world store.old)) }
 {
@@ -162,17 +162,20 @@ struct Service {
 }
 
 /// Returns the names of services: the plain words, and those of options.
-fn service_words<'a>(alloc: Global, options: &ArgMatches<'a>) -> Result<Vec<&'a str>, Fault> {
+fn service_words<'a>(alloc: Global, options: &ArgMatches<'a>) -> Result<Vec<&'a str>, ClientError> {
     let mut names = Vec::new(alloc);
     names.extend_from_slice(options.get_strs("service").unwrap_or(&[]))?;
     names.extend_from_slice(options.get_strs("name").unwrap_or(&[]))?;
     if names.is_empty() {
-        return Err(Fault::usage(NO_SERVICE));
+        return Err(ClientError::usage(NO_SERVICE));
     }
     Ok(names)
 }
 
-fn read_services<T, X>(context: &mut Context<T, X>, names: &[&str]) -> Result<Vec<Service>, Fault>
+fn read_services<T, X>(
+    context: &mut Context<T, X>,
+    names: &[&str],
+) -> Result<Vec<Service>, ClientError>
     ensures store { context.new.store ≡ context.old.store }
 {
     let mut services = Vec::new(context.alloc);
@@ -185,7 +188,7 @@ fn read_services<T, X>(context: &mut Context<T, X>, names: &[&str]) -> Result<Ve
     Ok(services)
 }
 
-fn read_service(alloc: Global, word: &str) -> Result<Service, Fault> {
+fn read_service(alloc: Global, word: &str) -> Result<Service, ClientError> {
     let Some((name, realm)) = word.split_once('@') else {
         return Ok(Service {
             word: String::from_str(alloc, word)?,
@@ -205,7 +208,7 @@ fn check_realms<T, X>(
     context: &mut Context<T, X>,
     services: &[Service],
     cache: &Cache,
-) -> Result<(), Fault>
+) -> Result<(), ClientError>
     ensures store { context.new.store ≡ context.old.store }
 {
     for service in services {
@@ -217,23 +220,28 @@ fn check_realms<T, X>(
     Ok(())
 }
 
-fn check_realm(service: &Service, cache: &Cache) -> Result<(), Cause> {
+fn check_realm(service: &Service, cache: &Cache) -> Result<(), StepError> {
     match &service.realm {
         Some(realm) if realm.as_slice() != cache.principal().realm.as_slice() => {
-            Err(Cause::OtherRealm)
+            Err(StepError::OtherRealm)
         }
         _ => Ok(()),
     }
 }
 
 /// Notes the name that ends the command, if there are several.
-fn at_name<T, X>(context: &mut Context<T, X>, count: usize, name: &str, fault: Fault) -> Fault
+fn at_name<T, X>(
+    context: &mut Context<T, X>,
+    count: usize,
+    name: &str,
+    fault: ClientError,
+) -> ClientError
     ensures store { context.new.store ≡ context.old.store }
 {
     if count > 1
         && let Err(error) = context.note_name(name)
     {
-        return Fault::from(error);
+        return ClientError::from(error);
     }
     fault
 }
@@ -242,7 +250,7 @@ fn read_checks<T: ClientStore>(
     alloc: Global,
     store: &mut T,
     path: Option<&str>,
-) -> Result<Option<Checks>, Fault>
+) -> Result<Option<Checks>, ClientError>
     ensures unchanged { T.world store.new ≡ T.world store.old }
 {
     match path {
@@ -260,7 +268,7 @@ fn push_line(
     service: &Service,
     version: i64,
     opened: bool,
-) -> Result<(), Fault> {
+) -> Result<(), ClientError> {
     let more = if opened { OPENED } else { "" };
     let word = service.word.as_str();
     Ok(writeln!(lines, "{word} kvno {version}{more}")?)
@@ -277,7 +285,7 @@ fn get_ticket<T: ClientStore, X: AnyMessage>(
     defaults: &Defaults<'_>,
     session: &mut CacheSession,
     service: &Name,
-) -> Result<i64, Fault>
+) -> Result<i64, ClientError>
     ensures collected { Collected (CameFurther X.finds X.carries X.answers) session.old session.new }
     ensures unchanged { T.world context.new.store ≡ T.world context.old.store }
 {
@@ -306,7 +314,7 @@ fn requested<T, X: AnyMessage>(
     rng: &mut ChaCha20Rng,
     granting: &Granting<'_>,
     service: &Name,
-) -> Result<Credential, Fault>
+) -> Result<Credential, ClientError>
     ensures came { IfOk result (λ ticket. CameFurther X.finds X.carries X.answers ticket) }
     ensures store { context.new.store ≡ context.old.store }
 {
@@ -332,7 +340,7 @@ fn held_version(
     session: &CacheSession,
     service: &Name,
     now: Moment,
-) -> Result<Option<i64>, Fault> {
+) -> Result<Option<i64>, ClientError> {
     if session.fresh {
         return Ok(None);
     }
@@ -348,17 +356,21 @@ fn unended<'c>(
     path: &str,
     cache: &'c Cache,
     now: Moment,
-) -> Result<&'c Credential, Fault> {
+) -> Result<&'c Credential, ClientError> {
     let granting = at(alloc, path, granting_ticket(alloc, cache))?;
     let end = granting.times.end_time.seconds();
     if now.sec < end {
         return Ok(granting);
     }
-    Err(Fault::new(alloc, path, Cause::Ended(end)))
+    Err(ClientError::new(alloc, path, StepError::Ended(end)))
 }
 
 /// Puts a credential into the cache, and returns its key version.
-fn keep(alloc: Global, session: &mut CacheSession, credential: &Credential) -> Result<i64, Fault>
+fn keep(
+    alloc: Global,
+    session: &mut CacheSession,
+    credential: &Credential,
+) -> Result<i64, ClientError>
     ensures put { OnOk result (session.new.cache
         ≡ record session.old.cache { credentials = put_first credential.now session.old.cache.credentials }) }
     ensures unchanged { OnErr result (session.new.cache ≡ session.old.cache) }
@@ -367,7 +379,7 @@ fn keep(alloc: Global, session: &mut CacheSession, credential: &Credential) -> R
     let version = checked_version(alloc, &session.checks, credential)?;
     match put_credential(alloc, &mut session.cache, credential) {
         Ok(()) => {}
-        Err(cause) => return Err(Fault::new(alloc, session.path.as_str(), cause)),
+        Err(cause) => return Err(ClientError::new(alloc, session.path.as_str(), cause)),
     }
     session.is_changed = true;
     Ok(version)
@@ -379,7 +391,7 @@ fn checked_version(
     alloc: Global,
     checks: &Option<Checks>,
     credential: &Credential,
-) -> Result<i64, Fault>
+) -> Result<i64, ClientError>
     // Promise: a ticket that is reported as valid is decrypted by the keytab's key of its type and version, to the
     // credential's client and session key.
     ensures { IfOk result (λ version. IfSome checks.now (λ c. IsTicketOf c.keytab credential.now)) }
@@ -394,12 +406,12 @@ fn checked_version(
     Ok(version_of(credential))
 }
 
-fn check_ticket(alloc: Global, keytab: &Keytab, credential: &Credential) -> Result<(), Cause>
+fn check_ticket(alloc: Global, keytab: &Keytab, credential: &Credential) -> Result<(), StepError>
     ensures { IfOk result (λ done. IsTicketOf keytab.now credential.now) }
 {
     match opened_ticket(alloc, keytab, credential)? {
         Ok(_) => Ok(()),
-        Err(doubt) => Err(Cause::Login(LoginError::Unverified(doubt))),
+        Err(doubt) => Err(StepError::Login(LoginError::Unverified(doubt))),
     }
 }
 

@@ -21,7 +21,7 @@ use client_sockets::SocketNetwork;
 use command_line::{
     NOT_UTF8, Status, open_missing_streams, read_words, report_failure, report_usage,
 };
-use file_store::{CLOCK, FileFault, FileStore, Variable, now};
+use file_store::{CLOCK, FileStore, PathError, Variable, now};
 use krb_fields::Moment;
 use std::alloc::AllocError;
 use std::env::VarError;
@@ -30,9 +30,9 @@ use std::{env, fmt, io};
 
 /// Why the command line can't be used.
 #[derive(Clone, Copy)]
-enum Fault {
+enum GivenError {
     /// The null device can't be opened in place of a standard stream.
-    Streams(FileFault<'static>),
+    Streams(PathError<'static>),
     /// The clock can't be read, or shows no moment of the years 1970 to 9999.
     Clock(io::Error),
     /// The words of the command line can't be read.
@@ -41,21 +41,21 @@ enum Fault {
     Memory,
 }
 
-impl fmt::Display for Fault {
+impl fmt::Display for GivenError {
     fn fmt<W: fmt::Write>(&self, f: &mut fmt::Formatter<W>) -> fmt::Result {
         match self {
-            Fault::Streams(fault) => write!(f, "{fault}"),
-            Fault::Clock(error) => write!(f, "{CLOCK}: {error}"),
-            Fault::Args(error) => write!(f, "cannot read the command line: {error}"),
-            Fault::NotUtf8 => f.write_str(NOT_UTF8),
-            Fault::Memory => f.write_str("out of memory"),
+            GivenError::Streams(fault) => write!(f, "{fault}"),
+            GivenError::Clock(error) => write!(f, "{CLOCK}: {error}"),
+            GivenError::Args(error) => write!(f, "cannot read the command line: {error}"),
+            GivenError::NotUtf8 => f.write_str(NOT_UTF8),
+            GivenError::Memory => f.write_str("out of memory"),
         }
     }
 }
 
-impl From<AllocError> for Fault {
-    fn from(_: AllocError) -> Fault {
-        Fault::Memory
+impl From<AllocError> for GivenError {
+    fn from(_: AllocError) -> GivenError {
+        GivenError::Memory
     }
 }
 
@@ -70,18 +70,20 @@ struct Given {
 }
 
 impl Given {
-    fn read(rt: &HostRuntime) -> Result<Given, Fault> {
-        open_missing_streams(rt).map_err(Fault::Streams)?;
+    fn read(rt: &HostRuntime) -> Result<Given, GivenError> {
+        open_missing_streams(rt).map_err(GivenError::Streams)?;
         Ok(Given {
-            at: now(rt).map_err(Fault::Clock)?,
-            args: read_words(rt).map_err(Fault::Args)?.ok_or(Fault::NotUtf8)?,
+            at: now(rt).map_err(GivenError::Clock)?,
+            args: read_words(rt)
+                .map_err(GivenError::Args)?
+                .ok_or(GivenError::NotUtf8)?,
             cache: env::var(rt, "KRB5CCNAME"),
             config: env::var(rt, "KRB5_CONFIG"),
             user: env::var(rt, "LOGNAME"),
         })
     }
 
-    fn defaults(&self) -> Result<Defaults<'_>, Fault> {
+    fn defaults(&self) -> Result<Defaults<'_>, GivenError> {
         Ok(Defaults {
             cache: Variable::new(&self.cache)?,
             config: Variable::new(&self.config)?,
@@ -109,9 +111,9 @@ fn main(rt: HostRuntime) -> ExitCode {
 }
 
 /// Reports why the command line can't be used. If that can't be written, there is nowhere to report it.
-fn ended(rt: &HostRuntime, fault: &Fault) -> ExitCode {
+fn ended(rt: &HostRuntime, fault: &GivenError) -> ExitCode {
     let status = match fault {
-        Fault::NotUtf8 => report_usage(rt, fault).unwrap_or(Status::Usage),
+        GivenError::NotUtf8 => report_usage(rt, fault).unwrap_or(Status::Usage),
         _ => report_failure(rt, "kclient", fault),
     };
     ExitCode::from(status.code())

@@ -4,7 +4,7 @@ ghost use Rattle.std.specs.Prelude.{◌≡◌};
 use crate::context::Context;
 use crate::words::word_fault;
 use clap::ArgMatches;
-use client_files::{Cause, ClientStore, Config, Defaults, Fault, NameOf, path_in};
+use client_files::{ClientError, ClientStore, Config, Defaults, NameOf, StepError, file_path};
 use client_login::{KdcPlace, Kdcs, TicketRequest, Transports};
 use cred_files::Credential;
 use krb_elements::KerberosString;
@@ -26,11 +26,11 @@ pub(crate) fn cache_path<T: ClientStore>(
     store: &mut T,
     options: &ArgMatches<'_>,
     defaults: &Defaults<'_>,
-) -> Result<String, Fault>
+) -> Result<String, ClientError>
     ensures unchanged { T.world store.new ≡ T.world store.old }
 {
     match options.get_str("cache") {
-        Some(name) => Ok(String::from_str(alloc, path_in(name, NameOf::Cache)?)?),
+        Some(name) => Ok(String::from_str(alloc, file_path(name, NameOf::Cache)?)?),
         None => defaults.cache_path(alloc, store),
     }
 }
@@ -40,7 +40,7 @@ pub(crate) fn use_given_kdcs<X>(
     alloc: Global,
     kdcs: &mut Kdcs<X>,
     options: &ArgMatches<'_>,
-) -> Result<(), Fault> {
+) -> Result<(), ClientError> {
     kdcs.restart();
     kdcs.places.clear();
     kdcs.transports = if options.get_flag("tcp") {
@@ -50,7 +50,7 @@ pub(crate) fn use_given_kdcs<X>(
     };
     for word in options.get_strs("kdc").unwrap_or(&[]) {
         let Ok(address) = word.parse() else {
-            return Err(word_fault(alloc, "--kdc", word, Cause::Usage(NO_ADDRESS)));
+            return Err(word_fault(alloc, "--kdc", word, StepError::Usage(NO_ADDRESS)));
         };
         kdcs.places.push(KdcPlace::of_address(alloc, address)?)?;
     }
@@ -67,7 +67,7 @@ pub(crate) fn find_realm<T: ClientStore, X>(
     context: &mut Context<T, X>,
     defaults: &Defaults<'_>,
     given: Option<KerberosString>,
-) -> Result<KerberosString, Fault>
+) -> Result<KerberosString, ClientError>
     ensures unchanged { T.world context.new.store ≡ T.world context.old.store }
 {
     match given {
@@ -80,7 +80,7 @@ fn configure<T: ClientStore, X>(
     context: &mut Context<T, X>,
     defaults: &Defaults<'_>,
     given: Option<KerberosString>,
-) -> Result<KerberosString, Fault>
+) -> Result<KerberosString, ClientError>
     ensures unchanged { T.world context.new.store ≡ T.world context.old.store }
 {
     let config = read_config(context, defaults)?;
@@ -97,7 +97,7 @@ fn configure<T: ClientStore, X>(
 fn read_config<T: ClientStore, X>(
     context: &mut Context<T, X>,
     defaults: &Defaults<'_>,
-) -> Result<Config, Fault>
+) -> Result<Config, ClientError>
     ensures unchanged { T.world context.new.store ≡ T.world context.old.store }
 {
     let config = Config::read(context.alloc, &mut context.store, defaults)?;
@@ -109,7 +109,7 @@ fn read_config<T: ClientStore, X>(
 pub(crate) fn configured_request<T: ClientStore, X>(
     context: &mut Context<T, X>,
     defaults: &Defaults<'_>,
-) -> Result<TicketRequest, Fault>
+) -> Result<TicketRequest, ClientError>
     ensures unchanged { T.world context.new.store ≡ T.world context.old.store }
 {
     let alloc = context.alloc;
@@ -125,7 +125,7 @@ pub(crate) fn use_kdcs_of<T: ClientStore, X>(
     context: &mut Context<T, X>,
     defaults: &Defaults<'_>,
     realm: &[u8],
-) -> Result<(), Fault>
+) -> Result<(), ClientError>
     ensures unchanged { T.world context.new.store ≡ T.world context.old.store }
 {
     if !has_kdcs(context) {

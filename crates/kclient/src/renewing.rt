@@ -7,7 +7,9 @@ use crate::kinit::{generator, write_new};
 use crate::places::{Granting, cache_path, use_given_kdcs, use_kdcs_of};
 use crate::run::Printed;
 use clap::ArgMatches;
-use client_files::{Cause, ClientStore, Defaults, Fault, at, granting_ticket, read_cache};
+use client_files::{
+    ClientError, ClientStore, Defaults, StepError, at, granting_ticket, read_cache,
+};
 use client_login::{AnyMessage, Renewal};
 use cred_files::{Cache, Credential};
 use krb_fields::TicketFlag;
@@ -20,7 +22,7 @@ pub(crate) fn renew_ticket<T: ClientStore, X: AnyMessage>(
     options: &ArgMatches<'_>,
     defaults: &Defaults<'_>,
     renewal: Renewal,
-) -> Result<Printed, Fault>
+) -> Result<Printed, ClientError>
     // Promise (made, unchanged): `kinit --renew` and `--validate` make a cache of the ticket that came under the
     // session key of the cache's; a refused one changes no file.
     ensures made { OnOk result (
@@ -46,7 +48,7 @@ fn read_held<T: ClientStore, X>(
     context: &mut Context<T, X>,
     options: &ArgMatches<'_>,
     defaults: &Defaults<'_>,
-) -> Result<HeldCache, Fault>
+) -> Result<HeldCache, ClientError>
     ensures store { T.world context.new.store ≡ T.world context.old.store }
 {
     let alloc = context.alloc;
@@ -63,7 +65,7 @@ fn renew_from<T: ClientStore, X: AnyMessage>(
     rng: &mut ChaCha20Rng,
     granting: &Granting<'_>,
     renewal: Renewal,
-) -> Result<Printed, Fault>
+) -> Result<Printed, ClientError>
     ensures made { OnOk result (
         Made (CameFurther X.finds X.carries X.answers) (T.world context.old.store) (T.world context.new.store)) }
     ensures unchanged { OnErr result (T.world context.new.store ≡ T.world context.old.store) }
@@ -79,7 +81,7 @@ fn renewed<T, X: AnyMessage>(
     rng: &mut ChaCha20Rng,
     granting: &Granting<'_>,
     renewal: Renewal,
-) -> Result<Credential, Fault>
+) -> Result<Credential, ClientError>
     ensures came { IfOk result (λ ticket. CameFurther X.finds X.carries X.answers ticket) }
     ensures store { context.new.store ≡ context.old.store }
 {
@@ -99,11 +101,11 @@ fn renewable<'c>(
     path: &str,
     cache: &'c Cache,
     renewal: Renewal,
-) -> Result<&'c Credential, Fault> {
+) -> Result<&'c Credential, ClientError> {
     let granting = at(alloc, path, granting_ticket(alloc, cache))?;
     match renewal {
         Renewal::Renew if !granting.flags.has(TicketFlag::Renewable) => {
-            Err(Fault::new(alloc, path, Cause::NotRenewable))
+            Err(ClientError::new(alloc, path, StepError::NotRenewable))
         }
         _ => Ok(granting),
     }

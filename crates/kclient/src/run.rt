@@ -11,7 +11,7 @@ use crate::renewing::renew_ticket;
 use crate::words::renewal;
 use clap::ArgMatches;
 use clap::error::{Error, ErrorKind};
-use client_files::{Cause, ClientStore, Defaults, Fault};
+use client_files::{ClientError, ClientStore, Defaults, StepError};
 use client_login::{AnyMessage, LoginError};
 use command_line::{Status, parse_status, print_failure, print_refusal, print_usage_error};
 use std::alloc::{AllocError, Global};
@@ -89,13 +89,13 @@ pub fn kclient_run<S: AsStr, T: ClientStore, X: AnyMessage, W: Write + Drop, E: 
 }
 
 /// Notes the hosts that have no known address, unless the command ended because of them.
-fn note_hosts<T, X>(context: &mut Context<T, X>, ended: &Result<Printed, Fault>)
+fn note_hosts<T, X>(context: &mut Context<T, X>, ended: &Result<Printed, ClientError>)
     ensures store { context.new.store ≡ context.old.store }
 {
     match ended {
         Err(
-            Fault {
-                cause: Cause::NotAnAddress,
+            ClientError {
+                cause: StepError::NotAnAddress,
                 ..
             },
         ) => {}
@@ -111,7 +111,7 @@ fn run_command<S: AsStr, T: ClientStore, X: AnyMessage>(
     context: &mut Context<T, X>,
     args: &[S],
     defaults: &Defaults<'_>,
-) -> Result<Printed, Fault>
+) -> Result<Printed, ClientError>
     ensures world { CommandLeaves (CameFirst X.finds X.carries X.answers) (CameFurther X.finds X.carries X.answers)
         (T.world context.old.store) (T.world context.new.store) }
 {
@@ -120,7 +120,7 @@ fn run_command<S: AsStr, T: ClientStore, X: AnyMessage>(
         Err(error) => return words_ended(context.alloc, &error),
     };
     let Some((kind, options)) = chosen(&matches) else {
-        return Err(Fault::usage("a command is missing"));
+        return Err(ClientError::usage("a command is missing"));
     };
     match (kind, renewal(options)?) {
         (CommandKind::Kinit, Some(renewal)) => renew_ticket(context, options, defaults, renewal),
@@ -138,9 +138,9 @@ fn chosen<'m, 'a>(matches: &'m ArgMatches<'a>) -> Option<(CommandKind, &'m ArgMa
 }
 
 /// Returns what is wrong with the words, or the help that they request.
-fn words_ended(alloc: Global, error: &Error) -> Result<Printed, Fault> {
+fn words_ended(alloc: Global, error: &Error) -> Result<Printed, ClientError> {
     if error.kind() == ErrorKind::OutOfMemory {
-        return Err(Fault::from(AllocError));
+        return Err(ClientError::from(AllocError));
     }
     Ok(Printed {
         text: format!(in alloc; "{error}")?,
@@ -153,7 +153,7 @@ fn print<W: Write, E: Write>(
     out: &mut W,
     errors: &mut E,
     notes: &str,
-    ended: &Result<Printed, Fault>,
+    ended: &Result<Printed, ClientError>,
 ) -> io::Result<Status> {
     write!(errors, "{notes}")?;
     let status = match ended {
@@ -175,9 +175,9 @@ fn print_text<W: Write>(out: &mut W, printed: &Printed) -> io::Result<Status> {
 fn print_fault<W: Write, E: Write>(
     out: &mut W,
     errors: &mut E,
-    fault: &Fault,
+    fault: &ClientError,
 ) -> io::Result<Status> {
-    if matches!(fault.cause, Cause::Usage(_)) {
+    if matches!(fault.cause, StepError::Usage(_)) {
         return print_usage_error(out, fault);
     }
     let status = print_word(out, fault.cause)?;
@@ -185,9 +185,9 @@ fn print_fault<W: Write, E: Write>(
     Ok(status)
 }
 
-fn print_word<W: Write>(out: &mut W, cause: Cause) -> io::Result<Status> {
+fn print_word<W: Write>(out: &mut W, cause: StepError) -> io::Result<Status> {
     match (cause, cause.name()) {
-        (Cause::Login(LoginError::Refused(error)), _) => print_refusal(out, &error.code),
+        (StepError::Login(LoginError::Refused(error)), _) => print_refusal(out, &error.code),
         (_, Some(name)) => print_refusal(out, &name),
         (_, None) => print_failure(out),
     }

@@ -2,7 +2,7 @@
 use crate::context::NO_WORD;
 use crate::options::asks_for_first;
 use clap::ArgMatches;
-use client_files::{Cause, Fault, NameOf, path_in};
+use client_files::{ClientError, NameOf, StepError, file_path};
 use client_login::{Renewal, TicketRequest};
 use file_store::STANDARD_INPUT;
 use krb_elements::KerberosString;
@@ -88,46 +88,46 @@ const NO_FIRST: &str = "\
 --renew and --validate take the ticket of the cache: no option of a first ticket goes with them";
 
 /// Returns the path of a keytab, if one is named.
-pub(crate) fn keytab_path<'a>(options: &ArgMatches<'a>) -> Result<Option<&'a str>, Fault> {
+pub(crate) fn keytab_path<'a>(options: &ArgMatches<'a>) -> Result<Option<&'a str>, ClientError> {
     match options.get_str("keytab") {
-        Some(name) => Ok(Some(path_in(name, NameOf::Keytab)?)),
+        Some(name) => Ok(Some(file_path(name, NameOf::Keytab)?)),
         None => Ok(None),
     }
 }
 
 /// Returns what to do with a ticket that the client has; `None` if a first ticket is requested.
-pub(crate) fn renewal(options: &ArgMatches<'_>) -> Result<Option<Renewal>, Fault> {
+pub(crate) fn renewal(options: &ArgMatches<'_>) -> Result<Option<Renewal>, ClientError> {
     let renewal = match (options.get_flag("renew"), options.get_flag("validate")) {
-        (true, true) => return Err(Fault::usage(TWO_WAYS)),
+        (true, true) => return Err(ClientError::usage(TWO_WAYS)),
         (true, false) => Renewal::Renew,
         (false, true) => Renewal::Validate,
         (false, false) => return Ok(None),
     };
     if asks_for_first(options) {
-        return Err(Fault::usage(NO_FIRST));
+        return Err(ClientError::usage(NO_FIRST));
     }
     Ok(Some(renewal))
 }
 
 /// Returns the words for a first ticket.
-pub(crate) fn first_words<'a>(options: &ArgMatches<'a>) -> Result<FirstWords<'a>, Fault> {
+pub(crate) fn first_words<'a>(options: &ArgMatches<'a>) -> Result<FirstWords<'a>, ClientError> {
     Ok(FirstWords {
         client: client_words(options)?,
         secret: secret_words(options)?,
         service: options.get_str("service"),
-        least_count: number_in(options, "least-count").ok_or(Fault::usage(NO_COUNT))?,
+        least_count: number_in(options, "least-count").ok_or(ClientError::usage(NO_COUNT))?,
         request: ticket_request(options)?,
     })
 }
 
 /// Returns the words for the client, if one is named.
-fn client_words<'a>(options: &ArgMatches<'a>) -> Result<Option<ClientWords<'a>>, Fault> {
+fn client_words<'a>(options: &ArgMatches<'a>) -> Result<Option<ClientWords<'a>>, ClientError> {
     let realm = options.get_str("realm");
     let (option, given) = match (options.get_str("client"), options.get_str("name")) {
-        (Some(_), Some(_)) => return Err(Fault::usage(TWO_NAMES)),
+        (Some(_), Some(_)) => return Err(ClientError::usage(TWO_NAMES)),
         (Some(given), None) => ("", given),
         (None, Some(given)) => ("--name", given),
-        (None, None) if realm.is_some() => return Err(Fault::usage(NO_NAME)),
+        (None, None) if realm.is_some() => return Err(ClientError::usage(NO_NAME)),
         (None, None) => return Ok(None),
     };
     let has_realm_option = realm.is_some();
@@ -145,27 +145,27 @@ fn client_words<'a>(options: &ArgMatches<'a>) -> Result<Option<ClientWords<'a>>,
 fn name_and_realm<'a>(
     name: &'a str,
     realm: Option<&'a str>,
-) -> Result<(&'a str, Option<&'a str>), Fault> {
+) -> Result<(&'a str, Option<&'a str>), ClientError> {
     match (name.split_once('@'), realm) {
-        (Some(_), Some(_)) => Err(Fault::usage(TWO_REALMS)),
+        (Some(_), Some(_)) => Err(ClientError::usage(TWO_REALMS)),
         (Some((name, realm)), None) => Ok((name, Some(realm))),
         (None, realm) => Ok((name, realm)),
     }
 }
 
-fn secret_words<'a>(options: &ArgMatches<'a>) -> Result<SecretWords<'a>, Fault> {
+fn secret_words<'a>(options: &ArgMatches<'a>) -> Result<SecretWords<'a>, ClientError> {
     match (options.get_str("password-file"), keytab_path(options)?) {
-        (Some(_), Some(_)) => Err(Fault::usage(TWO_SECRETS)),
+        (Some(_), Some(_)) => Err(ClientError::usage(TWO_SECRETS)),
         (Some(path), None) => Ok(SecretWords::PasswordFile(path)),
         (None, Some(path)) => Ok(SecretWords::Keytab(path)),
         (None, None) => Ok(SecretWords::Asked),
     }
 }
 
-fn ticket_request(options: &ArgMatches<'_>) -> Result<TicketRequest, Fault> {
+fn ticket_request(options: &ArgMatches<'_>) -> Result<TicketRequest, ClientError> {
     Ok(TicketRequest {
-        lifetime: seconds_in(options, "life").ok_or(Fault::usage(NO_LIFE))?,
-        start: seconds_in(options, "start").ok_or(Fault::usage(NO_START))?,
+        lifetime: seconds_in(options, "life").ok_or(ClientError::usage(NO_LIFE))?,
+        start: seconds_in(options, "start").ok_or(ClientError::usage(NO_START))?,
         renewable: options.get_flag("renewable"),
         renew_lifetime: None,
         forwardable: options.get_flag("forwardable"),
@@ -211,10 +211,10 @@ pub(crate) fn read_name(
     option: &str,
     word: &str,
     text: &str,
-) -> Result<Name, Fault> {
+) -> Result<Name, ClientError> {
     match Name::from_text(alloc, text) {
         Ok(name) => Ok(name),
-        Err(fault) => Err(word_fault(alloc, option, word, Cause::from(fault))),
+        Err(fault) => Err(word_fault(alloc, option, word, StepError::from(fault))),
     }
 }
 
@@ -224,18 +224,18 @@ pub(crate) fn read_realm(
     option: &str,
     word: &str,
     text: &str,
-) -> Result<KerberosString, Fault> {
+) -> Result<KerberosString, ClientError> {
     match component_from_text(alloc, text) {
         Ok(realm) => Ok(realm),
-        Err(fault) => Err(word_fault(alloc, option, word, Cause::from(fault))),
+        Err(fault) => Err(word_fault(alloc, option, word, StepError::from(fault))),
     }
 }
 
 /// Returns the fault for a word. If it is empty, the option is named alone. A plain word has no option.
-pub(crate) fn word_fault(alloc: Global, option: &str, word: &str, cause: Cause) -> Fault {
+pub(crate) fn word_fault(alloc: Global, option: &str, word: &str, cause: StepError) -> ClientError {
     match word_text(alloc, option, word) {
-        Ok(subject) => Fault::of(subject, cause),
-        Err(error) => Fault::from(error),
+        Ok(subject) => ClientError::of(subject, cause),
+        Err(error) => ClientError::from(error),
     }
 }
 

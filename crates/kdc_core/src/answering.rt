@@ -22,7 +22,7 @@ use krb_fields::NameRef;
 use krb_types::{Exchange, KdcReqRef};
 use std::alloc::{AllocError, Global};
 use tgs_exchange::{TgsOutcome, tgs_error};
-use tgs_opening::Rejection;
+use tgs_opening::OpeningRefusal;
 
 /// The answer to a request, before the KDC's state changes.
 #[derive(Drop)]
@@ -68,7 +68,7 @@ fn refused<'q>(
     alloc: Global,
     incoming: &Incoming<'_>,
     message: &KdcReqRef<'q>,
-    rejection: Rejection,
+    rejection: OpeningRefusal,
 ) -> Result<Answered<'q>, AllocError>
     requires { IsShortName message.now }
     ensures written { IfOk result (λ reply.
@@ -83,7 +83,7 @@ fn refused<'q>(
 {
     let realm = state.database.realm();
     let body = &message.body.value;
-    let Rejection { rule, client } = rejection;
+    let OpeningRefusal { rule, client } = rejection;
     Ok(Answered {
         octets: tgs_error(alloc, realm, incoming.at, body, rule)?,
         mark: None,

@@ -16,7 +16,7 @@ use krb_types::{Exchange, KdcReqRef, read_kdc_req};
 use principal_rows::Row;
 use rule_lists::Attempt;
 use std::alloc::Global;
-use tgs_opening::{Presented, Rejection, TicketView, tgs_open};
+use tgs_opening::{OpeningRefusal, Presented, TicketView, tgs_open};
 
 /// The greatest size of a request, in bytes: lengths of TCP frames end there (RFC 4120, section 7.2.2).
 pub const GREATEST_REQUEST: usize = 2_147_483_647;
@@ -44,7 +44,7 @@ pub fn open_presented(
     alloc: Global,
     ready: &ReadyKeys,
     message: &KdcReqRef<'_>,
-) -> Attempt<Presented, Rejection>
+) -> Attempt<Presented, OpeningRefusal>
     requires { IfSome (tgs_data message.now) (λ value. length value < 2147483648) }
     ensures value { IfOk result (λ found. found ≡ presented (ticket_view state.now message.now) message.now) }
     ensures authorization { IfOk result (λ found. IfOk found (λ presented.
@@ -53,14 +53,14 @@ pub fn open_presented(
     let view = TicketView {
         realm: state.database.realm(),
         tgs: state.database.tgs(),
-        service: row_of(state, message.body.value.sname.as_ref()),
+        service: named_row(state, message.body.value.sname.as_ref()),
         ready,
     };
     tgs_open(alloc, &view, message)
 }
 
 /// Returns the row of the name in a request, if the request has a name.
-pub fn row_of<'s>(state: &'s State, name: Option<&NameRef<'_>>) -> Option<&'s Row>
+pub fn named_row<'s>(state: &'s State, name: Option<&NameRef<'_>>) -> Option<&'s Row>
     ensures { option_copied result ≡ row_of state.now (components_of (option_copied name.entry)) }
 {
     state.database.get_ref(name?)

@@ -190,7 +190,7 @@ impl Kdc {
                 limits,
                 resumption,
             } => {
-                self.resume_with(alloc, database, *limits, resumption)?;
+                self.resume_copy(alloc, database, *limits, resumption)?;
                 Ok(None)
             }
         }
@@ -213,7 +213,7 @@ impl Kdc {
     }
 
     /// Resumes with a copy of this database.
-    fn resume_with(
+    fn resume_copy(
         &mut self,
         alloc: Global,
         database: &Database,

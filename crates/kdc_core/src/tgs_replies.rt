@@ -13,7 +13,7 @@ ghost use Rattle.kdc_core.specs.Held.Contents.{TgsReq};
 
 use crate::answering::Answered;
 use crate::audit::{AuditRecord, lent_name};
-use crate::contents::row_of;
+use crate::contents::named_row;
 use crate::mark::Mark;
 use kdc_replies::Incoming;
 use kdc_state::State;
@@ -104,13 +104,13 @@ fn tgs_view<'s>(
         realm: state.database.realm(),
         limits: &state.limits,
         client: state.database.get(&presented.ticket.cname),
-        service: row_of(state, message.body.value.sname.as_ref()),
-        cache: cache_of(state, &presented.ticket.cname, unstored),
+        service: named_row(state, message.body.value.sname.as_ref()),
+        cache: client_cache(state, &presented.ticket.cname, unstored),
     }
 }
 
 /// Returns the replay cache of a client.
-fn cache_of<'s>(
+fn client_cache<'s>(
     state: &'s State,
     client: &Name,
     unstored: &'s ReplayCache<Kept>,

@@ -8,11 +8,11 @@ ghost use Rattle.journal.specs.Appending.{kept_by};
 ghost use Rattle.journal.specs.Holding.{HasKept, IsStart, is_whole, known_by, with_one};
 ghost use Rattle.kdc_files.specs.Unrecorded.{none_handed};
 
-use crate::files::ServerFileCause;
+use crate::files::ServerFileError;
 use crate::journal_store::SystemJournal;
 use crate::journals::JournalBeginning;
 use crate::keeping::JournalWriter;
-use journal::{FilesFault, JournalFile, JournalFiles, NotKept};
+use journal::{FilesError, JournalFile, JournalFiles, NotKept};
 use kdc_core::Seen;
 use krb_fields::Moment;
 use std::alloc::Global;
@@ -30,7 +30,7 @@ pub fn begin_journal<'a, F: Files<File = File>, W: Write + Drop>(
     files: SystemJournal<'a, F, W>,
     beginning: JournalBeginning,
     most: u64,
-) -> Result<FileJournal<'a, F, W>, ServerFileCause> {
+) -> Result<FileJournal<'a, F, W>, ServerFileError> {
     let len = files.len();
     Ok(begun(alloc, files, beginning, len, most)?)
 }
@@ -43,7 +43,7 @@ pub fn begun<F: JournalFiles + Drop>(
     beginning: JournalBeginning,
     len: u64,
     most: u64,
-) -> Result<JournalFile<F>, FilesFault<F::Fault>>
+) -> Result<JournalFile<F>, FilesError<F::Fault>>
     // If the start made this of what is in the files, they hold all that it knows.
     // Promise, as start of kdc_server: a server's journal begins ..
     ensures kept { IfOk result (λ journal.

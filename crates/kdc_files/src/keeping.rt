@@ -69,7 +69,7 @@ impl<J: JournalWriter> JournalWriter for Option<J> {
 
 /// Has a journal keep what an action's reply makes the KDC remember. Returns whether it has kept all, if the action has
 /// a reply.
-pub fn keep_for<J: JournalWriter>(
+pub fn keep_action<J: JournalWriter>(
     alloc: Global,
     journal: &mut J,
     at: Moment,

@@ -35,10 +35,10 @@ pub fn error_reply(
         krb_error.Spells (error_reply realm.now at code (option_copied sname.entry) e_data) octets.items) }
 {
     match sname {
-        Some(name) => write(alloc, &error_of(realm, at, code, sent_name(name), e_data)),
+        Some(name) => write(alloc, &lent_error(realm, at, code, sent_name(name), e_data)),
         None => {
             let tgs = tgs_name(alloc, realm)?;
-            write(alloc, &error_of(realm, at, code, tgs, e_data))
+            write(alloc, &lent_error(realm, at, code, tgs, e_data))
         }
     }
 }
@@ -67,7 +67,7 @@ pub fn too_big(
 }
 
 /// Returns the error, which borrows its realm and name.
-fn error_of<'r, N: Coded>(
+fn lent_error<'r, N: Coded>(
     realm: &'r [u8],
     at: Moment,
     code: Code,

@@ -7,7 +7,7 @@ ghost use Rattle.kdc_server.specs.Starting.{Held, HasNoJournal, ReadJournals, Sh
 ghost use Rattle.kdc_server.specs.Starting.{BeganJournal, TookRows};
 
 use crate::sockets::ServerSockets;
-use kdc_files::{JournalBeginning, JournalWriter, OpenedJournals, ServerFileCause};
+use kdc_files::{JournalBeginning, JournalWriter, OpenedJournals, ServerFileError};
 use kdc_hub::RowSource;
 use kdc_metrics::{LogNumbers, MetricsWriter, Tally};
 use krb_fields::Moment;
@@ -64,11 +64,11 @@ pub trait Host {
     ghost recorded: { Self → Option (List HostDid) };
 
     /// Reads the rows of the database.
-    fn read_rows(&mut self, alloc: Global) -> Result<Database, ServerFileCause>
+    fn read_rows(&mut self, alloc: Global) -> Result<Database, ServerFileError>
         ensures { IfOk result (λ rows. Records (recorded self.old) (ReadRows rows ∷ []) (recorded self.new)) };
 
     /// Reads the file of a seed.
-    fn read_seed(&mut self, alloc: Global, path: &str) -> Result<Vec<u8>, ServerFileCause>
+    fn read_seed(&mut self, alloc: Global, path: &str) -> Result<Vec<u8>, ServerFileError>
         ensures { IfOk result (λ octets.
             Records (recorded self.old) (ReadSeed path.now octets.items ∷ []) (recorded self.new)) };
 
@@ -92,7 +92,7 @@ pub trait Host {
         &mut self,
         alloc: Global,
         path: &str,
-    ) -> Result<OpenedJournals<Self::JournalFiles>, ServerFileCause>
+    ) -> Result<OpenedJournals<Self::JournalFiles>, ServerFileError>
         ensures records { IfOk result (λ opened.
             Records (recorded self.old) (ReadJournals path.now opened.journals ∷ []) (recorded self.new)) }
         // It removes none.
@@ -105,7 +105,7 @@ pub trait Host {
         &mut self,
         alloc: Global,
         is_first: bool,
-    ) -> Result<Option<i64>, ServerFileCause>
+    ) -> Result<Option<i64>, ServerFileError>
         ensures { IfOk result (λ removed.
             Records (recorded self.old) (HasNoJournal removed ∷ []) (recorded self.new)) };
 
@@ -115,7 +115,7 @@ pub trait Host {
         alloc: Global,
         files: Self::JournalFiles,
         beginning: JournalBeginning,
-    ) -> Result<Self::Journal, ServerFileCause>
+    ) -> Result<Self::Journal, ServerFileError>
         ensures began { IfOk result (λ _.
             Records (recorded self.old) (BeganJournal beginning ∷ []) (recorded self.new)) }
         ensures new { IfOk result (λ journal. IsNew (Self.Journal.handed journal)) }
@@ -146,7 +146,7 @@ pub trait Host {
         ensures { recorded self.new ≡ recorded self.old };
 
     /// Hands over the source of the rows, which knows the rows that were read. No change of theirs is missed.
-    fn take_rows(&mut self) -> Result<Self::Rows, ServerFileCause>
+    fn take_rows(&mut self) -> Result<Self::Rows, ServerFileError>
         ensures records { IfOk result (λ rows. Records (recorded self.old) (TookRows ∷ []) (recorded self.new)) }
         ensures new { IfOk result (λ rows. IsNew (Self.Rows.recorded rows)) };
 

@@ -38,5 +38,5 @@ pub use crate::reporter::Reporter;
 pub use crate::server::{Ran, Server, run_server};
 pub use crate::server_wire::ServerWire;
 pub use crate::sockets::ServerSockets;
-pub use crate::starting::{StartFault, SystemPart};
+pub use crate::starting::{StartError, SystemPart};
 pub use crate::withheld::Withheld;

@@ -10,7 +10,7 @@ use crate::host::{Host, StartNews};
 use crate::memory_sockets::MemorySockets;
 use journal::{Found, FoundFiles};
 use kdc_files::{
-    JournalBeginning, Journals, MemoryJournal, OpenedJournals, Record, ServerFileCause,
+    JournalBeginning, Journals, MemoryJournal, OpenedJournals, Record, ServerFileError,
 };
 use kdc_hub::{Event, Look, MemoryRows};
 use kdc_metrics::{CountedLog, MemoryMetrics, MemoryTally};
@@ -162,15 +162,15 @@ impl Host for MemoryHost {
 
     ghost recorded = { λ h. seen_as did_by h.calls };
 
-    fn read_rows(&mut self, alloc: Global) -> Result<Database, ServerFileCause> {
+    fn read_rows(&mut self, alloc: Global) -> Result<Database, ServerFileError> {
         let Some(rows) = self.rows.take() else {
-            return Err(ServerFileCause::from(Error::from(ErrorKind::NotFound)));
+            return Err(ServerFileError::from(Error::from(ErrorKind::NotFound)));
         };
         self.note(rows_read(alloc, &rows));
         Ok(rows)
     }
 
-    fn read_seed(&mut self, alloc: Global, path: &str) -> Result<Vec<u8>, ServerFileCause> {
+    fn read_seed(&mut self, alloc: Global, path: &str) -> Result<Vec<u8>, ServerFileError> {
         let octets = Vec::from_slice(alloc, self.seed.as_slice())?;
         self.note(seed_read(alloc, path, &octets));
         Ok(octets)
@@ -199,7 +199,7 @@ impl Host for MemoryHost {
         &mut self,
         alloc: Global,
         path: &str,
-    ) -> Result<OpenedJournals<()>, ServerFileCause> {
+    ) -> Result<OpenedJournals<()>, ServerFileError> {
         let journals = no_journals(alloc)?;
         self.note(journals_read(alloc, path));
         Ok(OpenedJournals {
@@ -212,9 +212,9 @@ impl Host for MemoryHost {
         &mut self,
         _alloc: Global,
         is_first: bool,
-    ) -> Result<Option<i64>, ServerFileCause> {
+    ) -> Result<Option<i64>, ServerFileError> {
         if is_first && self.leftover.is_some() {
-            return Err(ServerFileCause::NotFirst);
+            return Err(ServerFileError::NotFirst);
         }
         let removed = self.leftover;
         self.note(Ok(HostCall::HasNoJournal(removed)));
@@ -226,7 +226,7 @@ impl Host for MemoryHost {
         alloc: Global,
         _files: (),
         beginning: JournalBeginning,
-    ) -> Result<MemoryJournal, ServerFileCause> {
+    ) -> Result<MemoryJournal, ServerFileError> {
         let keeps_before_fault = self.keeps_before_fault;
         self.note(Ok(HostCall::BeganJournal(beginning)));
         Ok(MemoryJournal::new(alloc, keeps_before_fault))
@@ -240,9 +240,9 @@ impl Host for MemoryHost {
         self.announced = Some(news);
     }
 
-    fn take_rows(&mut self) -> Result<MemoryRows, ServerFileCause> {
+    fn take_rows(&mut self) -> Result<MemoryRows, ServerFileError> {
         let Some(looks) = self.looks.take() else {
-            return Err(ServerFileCause::from(Error::from(ErrorKind::NotFound)));
+            return Err(ServerFileError::from(Error::from(ErrorKind::NotFound)));
         };
         self.note(Ok(HostCall::TookRows));
         Ok(MemoryRows::new(self.alloc, looks))

@@ -65,23 +65,28 @@ impl<H: Host> Reporter<H> {
         let Some(writer) = &mut self.writer else {
             return;
         };
-        if let Ok(text) = text_of(alloc, VERSION, numbers, counts) {
+        if let Ok(text) = metrics_text(alloc, VERSION, numbers, counts) {
             writer.write_metrics(&text);
         }
     }
 
     /// Returns the numbers of a server whose rows are in this state.
-    fn numbers_of(&self, wire: &ServerWire<H>, rows: RowsState, hub: &Hub<ChaCha20Rng>) -> Numbers {
+    fn gather_numbers(
+        &self,
+        wire: &ServerWire<H>,
+        rows: RowsState,
+        hub: &Hub<ChaCha20Rng>,
+    ) -> Numbers {
         let withheld = wire.withheld();
         Numbers {
-            started: second_of(self.started.sec),
+            started: unsigned_second(self.started.sec),
             refused_until: refused_until(self.refused),
             events: self.events,
             faults: wire.tally().faults(),
             memory_faults: self.memory_faults,
             lost_lines: wire.log().lost_lines(),
             rows: hub.row_count() as u64,
-            rows_taken: second_of(rows.taken_at.unwrap_or(self.started.sec)),
+            rows_taken: unsigned_second(rows.taken_at.unwrap_or(self.started.sec)),
             rows_behind: u64::from(rows.is_behind),
             caches: hub.cache_sizes(),
             withheld_by_journal: withheld.by_journal,
@@ -111,13 +116,13 @@ impl<H: Host> Observer<ServerWire<H>, ChaCha20Rng> for Reporter<H> {
         let Some(counts) = server.wire.log().counts() else {
             return;
         };
-        let numbers = self.numbers_of(server.wire, server.rows, server.hub);
+        let numbers = self.gather_numbers(server.wire, server.rows, server.hub);
         self.write(alloc, &numbers, counts);
     }
 }
 
 /// Returns the text of a server of this version.
-fn text_of(
+fn metrics_text(
     alloc: Global,
     version: &str,
     numbers: &Numbers,
@@ -135,14 +140,14 @@ fn refused_until(refused: Option<Refused>) -> u64
     ensures { result ≡ refused_until refused }
 {
     match refused {
-        Some(Refused::All(until)) => second_of(until),
+        Some(Refused::All(until)) => unsigned_second(until),
         Some(Refused::ServedLater(_)) => 0,
         None => 0,
     }
 }
 
 /// Returns a second since 1970, or 0 for one before.
-fn second_of(second: i64) -> u64
+fn unsigned_second(second: i64) -> u64
     ensures { result ≡ second_of second }
 {
     if second < 0 { 0 } else { second.unsigned_abs() }

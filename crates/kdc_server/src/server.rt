@@ -16,9 +16,9 @@ use crate::outlets::Outlets;
 use crate::quiet::quiet_until;
 use crate::reporter::Reporter;
 use crate::server_wire::{ServerWire, StartTimes};
-use crate::starting::{ReadyServer, StartFault, ready};
+use crate::starting::{ReadyServer, StartError, ready};
 use journal::Start;
-use kdc_files::{JournalBeginning, ServerFileCause};
+use kdc_files::{JournalBeginning, ServerFileError};
 use kdc_hub::{Hub, Totals, serve_life};
 use krb_fields::Moment;
 use rand_chacha::ChaCha20Rng;
@@ -57,7 +57,7 @@ pub fn run_server<'a, H: Host>(
     alloc: Global,
     host: &mut H,
     options: &ServeOptions<'a>,
-) -> Result<Ran<H>, StartFault<'a, H::SocketFault>>
+) -> Result<Ran<H>, StartError<'a, H::SocketFault>>
     // It starts as the host's record says, and then lives over the hub and the wire of that start. Unless its rows are
     // fixed, they come from the source that the host handed over.
     // Promise: **what `kdcd serve` runs is a start and a life over it**: the hub and the wire that `serve_life` begins
@@ -81,7 +81,7 @@ pub fn run_server<'a, H: Host>(
     let mut server = start(alloc, host, options)?;
     let mut rows = take_rows(host, options)?;
     host.announce(server.news);
-    let rounds = rounds_of(options.rounds);
+    let rounds = round_limit(options.rounds);
     let started = server.wire.came_at();
     let mut reporter = Reporter::new(host.take_metrics(), started, server.news.refused);
     let totals = serve_life(
@@ -105,7 +105,7 @@ pub fn start<'a, H: Host>(
     alloc: Global,
     host: &mut H,
     options: &ServeOptions<'a>,
-) -> Result<Server<H>, StartFault<'a, H::SocketFault>>
+) -> Result<Server<H>, StartError<'a, H::SocketFault>>
     // Promise: **a server starts as its options say**: it reads its rows, its seed and the journals, and binds its
     // sockets to the given addresses; then it reads the clock.
     // Promise: a server's seed is the first 32 bytes of the file that `--seed` names, or what the system draws; its
@@ -143,11 +143,11 @@ pub fn start<'a, H: Host>(
     let found = found_at(options.journal, &beginning.start, at);
     let outlets = match Outlets::open(alloc, host) {
         Ok(outlets) => outlets,
-        Err(_) => return Err(StartFault::Memory),
+        Err(_) => return Err(StartError::Memory),
     };
     let journal = match begin_journal(alloc, host, files, beginning) {
         Ok(journal) => journal,
-        Err(fault) => return Err(StartFault::File(options.journal_place(), fault)),
+        Err(fault) => return Err(StartError::File(options.journal_place(), fault)),
     };
     let refused = refused_at_start(floor, at);
     let times = StartTimes {
@@ -172,7 +172,7 @@ fn begin_journal<H: Host>(
     host: &mut H,
     files: Option<H::JournalFiles>,
     beginning: JournalBeginning,
-) -> Result<H::Journal, ServerFileCause>
+) -> Result<H::Journal, ServerFileError>
     ensures began { IfOk result (λ _.
         Records (H.recorded host.old) (began (is_some files) beginning) (H.recorded host.new)) }
     ensures new { IfOk result (λ journal. IsNew (H.Journal.handed journal)) }
@@ -198,7 +198,7 @@ fn found_at(path: Option<&str>, start: &Start, at: Moment) -> Option<JournalFoun
 fn take_rows<'a, H: Host>(
     host: &mut H,
     options: &ServeOptions<'a>,
-) -> Result<Option<H::Rows>, StartFault<'a, H::SocketFault>>
+) -> Result<Option<H::Rows>, StartError<'a, H::SocketFault>>
     // Promise (took, there): **changes are served**: unless the rows are fixed, a server looks at the source that its
     // host handed over, once, and each database that a look finds replaces the rows.
     // Promise (took, there): with `--fixed` the host is not asked, no look finds anything, and no row changes.
@@ -212,12 +212,12 @@ fn take_rows<'a, H: Host>(
     }
     match host.take_rows() {
         Ok(rows) => Ok(Some(rows)),
-        Err(fault) => Err(StartFault::File(options.db, fault)),
+        Err(fault) => Err(StartError::File(options.db, fault)),
     }
 }
 
 /// Returns how many rounds are served.
-fn rounds_of(rounds: Option<u32>) -> u64
+fn round_limit(rounds: Option<u32>) -> u64
     ensures { result ≡ rounds_of rounds }
 {
     match rounds {

@@ -17,7 +17,7 @@ use crate::outlets::Outlets;
 use crate::quiet::quiet_withholds;
 use crate::sockets::ServerSockets;
 use crate::withheld::Withheld;
-use kdc_files::keep_for;
+use kdc_files::keep_action;
 use kdc_hub::{Action, Event, Wire, WireFault};
 use kdc_metrics::Tally;
 use krb_fields::Moment;
@@ -231,7 +231,7 @@ impl<H: Host> Wire for ServerWire<H> {
             (quiet_withholds self.old.quiet_until self.old.came.at action.now) }
         ensures quiet { self.new.quiet_until ≡ self.old.quiet_until }
     {
-        let is_kept = keep_for(alloc, &mut self.journal, self.came.at, action);
+        let is_kept = keep_action(alloc, &mut self.journal, self.came.at, action);
         let is_withheld = quiet_withholds(&self.quiet_until, self.came.at, action);
         let outcome = send(alloc, &mut self.sockets, is_kept && !is_withheld, action);
         self.withheld.note(is_kept, is_withheld);

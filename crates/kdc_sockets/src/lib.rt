@@ -42,7 +42,7 @@ mod shared_writer;
 mod socket_turns;
 mod sockets;
 
-pub use bind_fault::{BindFault, Endpoint};
+pub use bind_fault::{BindError, Endpoint};
 pub use ready_writer::ReadyWriter;
 pub use shared_writer::SharedWriter;
 pub use sockets::Sockets;

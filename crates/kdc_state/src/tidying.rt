@@ -7,7 +7,7 @@ ghost use Rattle.kdc_state.specs.State.{cache_of, tidied_state};
 use crate::state::State;
 use krb_fields::Moment;
 use principal_rows::{Upkeep, ValueChange, ValueTest};
-use replay::{Kept, ReplayCache, floor_on};
+use replay::{Kept, ReplayCache, tidied_floor};
 
 impl State {
     /// Drops each client's authenticators that are too old to come again at this moment, and each cache that
@@ -17,7 +17,7 @@ impl State {
         ensures state { self.new ≡ tidied_state self.old at }
         ensures caches { (name : Components) → cache_of self.new name ≡ tidied (cache_of self.old name) at.sec }
     {
-        self.floor = floor_on(self.floor, at);
+        self.floor = tidied_floor(self.floor, at);
         self.caches.change_values(&Tidying { at });
         self.caches.retain(&Used { floor: self.floor });
     }

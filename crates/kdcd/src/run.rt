@@ -12,7 +12,7 @@ ghost use Rattle.kdcd.specs.Octets.{octets_of};
 ghost use Rattle.kdcd.specs.Run.{CannotRun, Changes, Runs, policy_of, row_change, stop_of};
 ghost use Rattle.kdcd.specs.Script.{fault_text, IsFaultText, IsRunStatus, PrintsScript, PrintsText, PrintsUpToFault, read_part};
 ghost use Rattle.kdcd.specs.declared.line.Line.TheVariants as lines;
-ghost use Rattle.kdcd.specs.declared.run.Stop.TheVariants.{Failed, Fault};
+ghost use Rattle.kdcd.specs.declared.run.ScriptError.TheVariants.{Failed, Fault};
 ghost use Rattle.krb_fields.specs.NameLimits.{IsComponent};
 ghost use Rattle.kdc_state.specs.State.{opened_state};
 ghost use Rattle.replay.specs.declared.opening.Opening.TheVariants.{First};
@@ -21,7 +21,7 @@ ghost use Rattle.principals.specs.Database.{first_database};
 
 use crate::answer::Answer;
 use crate::input::Input;
-use crate::line::{Line, LineChange, LineFault, LineRequest};
+use crate::line::{Line, LineChange, LineError, LineRequest};
 use command_line::Status;
 use kdc_core::{Kdc, Opening};
 use krb_elements::KerberosString;
@@ -34,36 +34,36 @@ use std::io::{Read, Write};
 
 /// Why a run ended early.
 #[derive(Clone, Copy, PartialEq, Eq)]
-pub(crate) enum Stop {
+pub(crate) enum ScriptError {
     /// The last line that was read has none of the forms, or exceeds a limit.
     Fault,
     /// A read or write failed, or memory ran out.
     Failed,
 }
 
-impl From<io::Error> for Stop {
+impl From<io::Error> for ScriptError {
     ghost from_gives = { λ _ stop. stop ≡ Failed };
 
-    fn from(_: io::Error) -> Stop {
-        Stop::Failed
+    fn from(_: io::Error) -> ScriptError {
+        ScriptError::Failed
     }
 }
 
-impl From<AllocError> for Stop {
+impl From<AllocError> for ScriptError {
     ghost from_gives = { λ _ stop. stop ≡ Failed };
 
-    fn from(_: AllocError) -> Stop {
-        Stop::Failed
+    fn from(_: AllocError) -> ScriptError {
+        ScriptError::Failed
     }
 }
 
-impl From<LineFault> for Stop {
+impl From<LineError> for ScriptError {
     ghost from_gives = { λ fault stop. stop ≡ stop_of fault };
 
-    fn from(fault: LineFault) -> Stop {
+    fn from(fault: LineError) -> ScriptError {
         match fault {
-            LineFault::Form => Stop::Fault,
-            LineFault::Memory => Stop::Failed,
+            LineError::Form => ScriptError::Fault,
+            LineError::Memory => ScriptError::Failed,
         }
     }
 }
@@ -103,11 +103,11 @@ fn run_input<R: Read + Drop, W: Write>(alloc: Global, reader: R, writer: &mut W)
     };
     match run_lines(alloc, &mut input, writer) {
         Ok(()) => Status::Done,
-        Err(Stop::Fault) => match print_fault(writer, input.number()) {
+        Err(ScriptError::Fault) => match print_fault(writer, input.number()) {
             Ok(()) => Status::Refused,
             Err(_) => Status::Failed,
         },
-        Err(Stop::Failed) => Status::Failed,
+        Err(ScriptError::Failed) => Status::Failed,
     }
 }
 
@@ -123,7 +123,7 @@ fn run_lines<R: Read + Drop, W: Write>(
     alloc: Global,
     input: &mut Input<R>,
     writer: &mut W,
-) -> Result<(), Stop>
+) -> Result<(), ScriptError>
     requires octets { input.old.taken ≡ 0 }
     requires lines { input.old.number ≡ 0 }
     ensures done { OnOk result
@@ -143,7 +143,7 @@ fn run_on<R: Read + Drop, W: Write>(
     kdc: &mut Option<Kdc>,
     input: &mut Input<R>,
     writer: &mut W,
-) -> Result<(), Stop>
+) -> Result<(), ScriptError>
     requires kdc { kdc.old ≡ None }
     requires octets { input.old.taken ≡ 0 }
     requires lines { input.old.number ≡ 0 }
@@ -168,7 +168,7 @@ fn run_text<W: Write>(
     kdc: &mut Option<Kdc>,
     text: &[u8],
     writer: &mut W,
-) -> Result<(), Stop>
+) -> Result<(), ScriptError>
     ensures ok { OnOk result (PrintsText kdc.old text.now kdc.new (W.contents writer.old) (W.contents writer.new)) }
     ensures fault { result ≡ Err Fault → IsFaultText kdc.old text.now }
     ensures unchanged { result ≡ Err Fault → W.contents writer.new ≡ W.contents writer.old }
@@ -183,7 +183,7 @@ fn run_text<W: Write>(
 }
 
 /// Runs one line on the KDC, if a line has opened one.
-fn run_line(alloc: Global, kdc: &mut Option<Kdc>, line: Line) -> Result<Answer, Stop>
+fn run_line(alloc: Global, kdc: &mut Option<Kdc>, line: Line) -> Result<Answer, ScriptError>
     // Promise: a line does and prints what the definitions of the KDC say: a new KDC with its first database, a change
     // or its refusal, a restart, a reply or none.
     ensures ok { IfOk result (λ answer. Runs kdc.old line kdc.new answer) }
@@ -210,14 +210,14 @@ fn open(
     realm: &KerberosString,
     limits: Limits,
     krbtgt_keys: KeyList,
-) -> Result<Kdc, Stop>
+) -> Result<Kdc, ScriptError>
     ensures ok { IfOk result (λ kdc. kdc ≡ opened_state (first_database realm.now krbtgt_keys) limits First) }
     ensures fault { result ≡ Err Fault → ¬ IsComponent realm.now }
 {
     let database = match Database::first(alloc, realm.as_slice(), krbtgt_keys) {
         Ok(database) => database,
-        Err(NameFault::BadName) => return Err(Stop::Fault),
-        Err(NameFault::Memory) => return Err(Stop::Failed),
+        Err(NameFault::BadName) => return Err(ScriptError::Fault),
+        Err(NameFault::Memory) => return Err(ScriptError::Failed),
     };
     Ok(Kdc::open(alloc, database, limits, Opening::First)?)
 }
@@ -228,12 +228,12 @@ fn change(
     kdc: &mut Option<Kdc>,
     name: Option<Name>,
     what: LineChange,
-) -> Result<Answer, Stop>
+) -> Result<Answer, ScriptError>
     ensures ok { IfOk result (λ answer. Runs kdc.old (lines.Change name what) kdc.new answer) }
     ensures fault { result ≡ Err Fault → CannotRun kdc.old (lines.Change name what) }
 {
     let Some(kdc) = kdc else {
-        return Err(Stop::Fault);
+        return Err(ScriptError::Fault);
     };
     let Some(name) = name else {
         return Ok(Answer::Refused(ChangeFault::BadName));
@@ -251,12 +251,12 @@ fn row_change(kdc: &Kdc, name: &Name, what: LineChange) -> RowChange
         LineChange::NewKeys(keys) => RowChange::NewKeys(keys),
         LineChange::DropKeys(version) => RowChange::DropKeys(version),
         LineChange::Remove => RowChange::Remove,
-        LineChange::Set(setting) => RowChange::SetPolicy(setting.on(policy_of(kdc, name))),
+        LineChange::Set(setting) => RowChange::SetPolicy(setting.on(current_policy(kdc, name))),
     }
 }
 
 /// Returns the policy of a principal, or the default if it has no row; the database refuses such a change anyway.
-fn policy_of(kdc: &Kdc, name: &Name) -> Policy
+fn current_policy(kdc: &Kdc, name: &Name) -> Policy
     ensures { result ≡ policy_of (map.get kdc.now.database.rows name.now.components) }
 {
     match kdc.get(name) {
@@ -266,36 +266,40 @@ fn policy_of(kdc: &Kdc, name: &Name) -> Policy
 }
 
 /// Applies a change, which the database may refuse.
-fn apply(alloc: Global, kdc: &mut Kdc, change: &Change) -> Result<Answer, Stop>
+fn apply(alloc: Global, kdc: &mut Kdc, change: &Change) -> Result<Answer, ScriptError>
     ensures ok { IfOk result (λ answer.
         Changes kdc.old change.now (refusal kdc.old.database change.now) (Some kdc.new) answer) }
     ensures fault { result ≢ Err Fault }
 {
     match kdc.apply(alloc, change) {
         Ok(()) => Ok(Answer::Done),
-        Err(ChangeFault::Memory) => Err(Stop::Failed),
+        Err(ChangeFault::Memory) => Err(ScriptError::Failed),
         Err(fault) => Ok(Answer::Refused(fault)),
     }
 }
 
 /// Restarts the KDC at this moment.
-fn restart(kdc: &mut Option<Kdc>, at: Moment) -> Result<Answer, Stop>
+fn restart(kdc: &mut Option<Kdc>, at: Moment) -> Result<Answer, ScriptError>
     ensures ok { IfOk result (λ answer. Runs kdc.old (lines.Restart at) kdc.new answer) }
     ensures fault { result ≡ Err Fault → CannotRun kdc.old (lines.Restart at) }
 {
     let Some(kdc) = kdc else {
-        return Err(Stop::Fault);
+        return Err(ScriptError::Fault);
     };
     kdc.restart(at);
     Ok(Answer::Done)
 }
 
-fn handle(alloc: Global, kdc: &mut Option<Kdc>, request: &LineRequest) -> Result<Answer, Stop>
+fn handle(
+    alloc: Global,
+    kdc: &mut Option<Kdc>,
+    request: &LineRequest,
+) -> Result<Answer, ScriptError>
     ensures ok { IfOk result (λ answer. Runs kdc.old (lines.Request request.now) kdc.new answer) }
     ensures fault { result ≡ Err Fault → CannotRun kdc.old (lines.Request request.now) }
 {
     let Some(kdc) = kdc else {
-        return Err(Stop::Fault);
+        return Err(ScriptError::Fault);
     };
     let reply = kdc.handle(
         alloc,

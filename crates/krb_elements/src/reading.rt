@@ -74,12 +74,12 @@ pub(crate) fn look_all<'a, T: Decode<'a>>(bytes: &'a [u8]) -> Result<T, DerFault
 {
     let mut reader = Reader::new(bytes);
     let value = T::look(&mut reader)?;
-    end_of(&reader)?;
+    expect_end(&reader)?;
     Ok(value)
 }
 
 /// Checks that nothing is left.
-pub fn end_of(fields: &Reader<'_>) -> Result<(), DerFault>
+pub fn expect_end(fields: &Reader<'_>) -> Result<(), DerFault>
     // Promise, as take_field: a field, an optional ..
     ensures { Sees result (end fields.now) }
 {
@@ -129,7 +129,7 @@ pub fn take_fixed(fields: &mut Reader<'_>, n: u8, number: i32) -> Result<(), Der
 {
     let mut contents = Reader::new(fields.read_tlv(0xa0 + n)?);
     look_fixed(&mut contents, number)?;
-    end_of(&contents)
+    expect_end(&contents)
 }
 
 #[tactic(auto, unfolding(crate::specs::Simple::fixed_at))]
@@ -216,7 +216,7 @@ fn sequence_in<'a, T: DecodeFields<'a>>(bytes: &'a [u8]) -> Result<T, DerFault>
 {
     let mut reader = Reader::new(bytes);
     let value = look_sequence(&mut reader)?;
-    end_of(&reader)?;
+    expect_end(&reader)?;
     Ok(value)
 }
 
@@ -233,6 +233,6 @@ fn fields_in<'a, T: DecodeFields<'a>>(bytes: &'a [u8]) -> Result<T, DerFault>
 {
     let mut fields = Reader::new(bytes);
     let value = T::look_fields(&mut fields)?;
-    end_of(&fields)?;
+    expect_end(&fields)?;
     Ok(value)
 }

@@ -7,7 +7,7 @@ ghost use Rattle.krb_elements.specs.Codec.{sequence, fields_at};
 use crate::byte_string::ByteString;
 use crate::codec::{Coded, Fielded};
 use crate::fault::Fault;
-use crate::reading::end_of;
+use crate::reading::expect_end;
 use krb_der::Reader;
 use std::alloc::Global;
 
@@ -42,7 +42,7 @@ pub fn take_whole<T: TakeOwned>(alloc: Global, bytes: &[u8]) -> Result<T, Fault>
 {
     let mut reader = Reader::new(bytes);
     let value = T::take_parts(alloc, &mut reader)?;
-    end_of(&reader)?;
+    expect_end(&reader)?;
     Ok(value)
 }
 
@@ -85,6 +85,6 @@ fn fields_in<T: TakeFields>(alloc: Global, bytes: &[u8]) -> Result<T, Fault>
 {
     let mut fields = Reader::new(bytes);
     let value = T::take_fields(alloc, &mut fields)?;
-    end_of(&fields)?;
+    expect_end(&fields)?;
     Ok(value)
 }

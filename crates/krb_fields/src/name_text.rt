@@ -186,11 +186,11 @@ fn split_digits(text: &[u8]) -> Option<(u8, &[u8])>
     let [high, low, rest @ ..] = text else {
         return None;
     };
-    Some((octet_of(*high, *low)?, rest))
+    Some((spelled_octet(*high, *low)?, rest))
 }
 
 /// Returns the byte that these digits spell, if it must be written in digits.
-fn octet_of(high: u8, low: u8) -> Option<u8>
+fn spelled_octet(high: u8, low: u8) -> Option<u8>
     ensures found { IfSome result (λ octet. (is_plain octet ≡ false) × (digits_of octet ≡ high ∷ low ∷ [])) }
     ensures none { IfNone result ((o : ℕ) → o < 256 → is_plain o ≡ false → digits_of o ≢ high ∷ low ∷ []) }
 {

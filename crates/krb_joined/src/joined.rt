@@ -8,7 +8,7 @@ ghost use Rattle.krb_joined.specs.Obtaining.{issue_for, reply_to, state_after};
 ghost use Rattle.krb_joined.specs.Reading.{IsReader, reads_reply};
 
 use crate::client::Client;
-use crate::fault::JoinedFault;
+use crate::fault::JoinedError;
 use crate::obtaining::{Issuing, obtain};
 use crate::presenting::{Sealing, present};
 use ap_accept::{Accepted, Acceptor};
@@ -38,7 +38,7 @@ pub fn end_to_end(
     answering: &Answering,
     request: &[u8],
     client: &Client,
-) -> Result<Accepted, JoinedFault>
+) -> Result<Accepted, JoinedError>
     requires { IsShortChecksum client.now.wanted.checksum }
     // Promise (value, repeated): all in one: from any request, through all five calls, what was issued, now or with a
     // stored reply, and taken is accepted by such a service, if its conditions hold, unless memory runs out.

@@ -9,7 +9,7 @@ ghost use Rattle.krb_joined.specs.Joined.{IsHeard, IsJoined, IsLater, IsPresente
 ghost use Rattle.krb_joined.specs.Joined.{ruled};
 
 use crate::client::Client;
-use crate::fault::JoinedFault;
+use crate::fault::JoinedError;
 use ap_accept::{Accepted, Acceptor};
 use client_core::{ap_request, is_presentable, read_ap_reply, session_key};
 use cred_files::Credential;
@@ -33,7 +33,7 @@ pub fn present(
     client: &Client,
     acceptor: &mut Acceptor,
     accepting: &Sealing,
-) -> Result<Accepted, JoinedFault>
+) -> Result<Accepted, JoinedError>
     requires { IsShortChecksum client.now.wanted.checksum }
     // A service accepts the credential of an issued ticket.
     // Promise: the credential of a ticket that was issued is accepted, if it is valid then, by a service whose keytab
@@ -63,7 +63,7 @@ pub fn present(
 {
     look(client.wanted.subkey);
     if !is_presentable(credential) {
-        return Err(JoinedFault::NotPresentable);
+        return Err(JoinedError::NotPresentable);
     }
     let key = session_key(credential).unwrap();
     let octets = ap_request(
@@ -75,7 +75,7 @@ pub fn present(
     )?;
     match acceptor.accept(alloc, accepting.at, &accepting.confounder, &octets) {
         Ok(accepted) => check_ap_rep(alloc, &key, client.presenting.at, accepted),
-        Err(fault) => Err(JoinedFault::NotAccepted(fault)),
+        Err(fault) => Err(JoinedError::NotAccepted(fault)),
     }
 }
 
@@ -94,12 +94,12 @@ fn check_ap_rep(
     key: &Key,
     sent: Moment,
     accepted: Accepted,
-) -> Result<Accepted, JoinedFault>
+) -> Result<Accepted, JoinedError>
     ensures { IsHeard key.now sent accepted result }
 {
     if let Some(octets) = &accepted.ap_rep {
         if let Err(fault) = read_ap_reply(alloc, key, sent, octets.as_slice()) {
-            return Err(JoinedFault::NotAnswered(fault));
+            return Err(JoinedError::NotAnswered(fault));
         }
     }
     Ok(accepted)

@@ -5,7 +5,7 @@ ghost use Rattle.kdc_replies.specs.Issue.{Issue, IsIssued};
 ghost use Rattle.krb_joined.specs.Credential.{IsCredentialOf};
 ghost use Rattle.krb_joined.specs.Reading.{IsReader, IsTakenBy, reads_reply};
 
-use client_core::{Asked, ClientFault, KeyRole, read_as_reply, read_tgs_reply};
+use client_core::{Asked, KeyRole, ReplyError, read_as_reply, read_tgs_reply};
 use cred_files::Credential;
 use enctypes::Key;
 use krb_fields::Moment;
@@ -28,7 +28,7 @@ pub fn read_reply(
     asked: &Asked,
     reader: &Reader,
     octets: &[u8],
-) -> Result<Credential, ClientFault>
+) -> Result<Credential, ReplyError>
     ensures value { Gives result (reads_reply reader.now asked.now octets.now) }
     ensures taken { IfOk result (IsTakenBy reader.now asked.now octets.now) }
     // From a reply with an issued ticket, a client with the right key gets that ticket's credential, whenever the KDC
@@ -45,7 +45,7 @@ fn read_by_role(
     asked: &Asked,
     reader: &Reader,
     octets: &[u8],
-) -> Result<Credential, ClientFault>
+) -> Result<Credential, ReplyError>
     ensures value { Gives result (reads_reply reader.now asked.now octets.now) }
     ensures taken { IfOk result (IsTakenBy reader.now asked.now octets.now) }
 {

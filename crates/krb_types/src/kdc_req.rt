@@ -11,7 +11,7 @@ use crate::req_body::{ReqBody, ReqBodyRef};
 use krb_der::{DerFault, Reader, Writer};
 use krb_elements::{
     Coded, DecodeFields, EncodeFields, Fielded, Sent, Seq, SeqRef, Untagged, application_tag,
-    end_of, look_either, take_field, take_optional, take_sent, write_field, write_inside,
+    expect_end, look_either, take_field, take_optional, take_sent, write_field, write_inside,
     write_optional,
 };
 use krb_fields::numbers::{AS_REQ, TGS_REQ};
@@ -120,7 +120,7 @@ fn look_message(bytes: &[u8]) -> Result<(Exchange, KdcReqRef<'_>), DerFault>
 {
     let mut reader = Reader::new(bytes);
     let found = look_either(&mut reader, Exchange::As.tagged(), Exchange::Tgs.tagged())?;
-    end_of(&reader)?;
+    expect_end(&reader)?;
     Ok(found)
 }
 

@@ -13,7 +13,7 @@ use std::fmt;
 
 /// Why the keys of a principal can't be decrypted.
 #[derive(Clone, Copy, Debug, PartialEq, Eq)]
-pub enum KeyFault {
+pub enum KeyError {
     /// The stash file has no master key of the version.
     NoMaster,
     /// A key is not encrypted with the master key, or has not the length of its type.
@@ -22,27 +22,27 @@ pub enum KeyFault {
     Memory,
 }
 
-impl fmt::Display for KeyFault {
+impl fmt::Display for KeyError {
     fn fmt<W: fmt::Write>(&self, f: &mut fmt::Formatter<W>) -> fmt::Result {
         f.write_str(match self {
-            KeyFault::NoMaster => {
+            KeyError::NoMaster => {
                 "the stash file lacks the master key that encrypts its keys; `kdb5_util stash` writes all"
             }
-            KeyFault::NotOpened => "the master key in the stash file does not decrypt its keys",
-            KeyFault::Memory => "out of memory",
+            KeyError::NotOpened => "the master key in the stash file does not decrypt its keys",
+            KeyError::Memory => "out of memory",
         })
     }
 }
 
-impl From<AllocError> for KeyFault {
-    fn from(_: AllocError) -> KeyFault {
-        KeyFault::Memory
+impl From<AllocError> for KeyError {
+    fn from(_: AllocError) -> KeyError {
+        KeyError::Memory
     }
 }
 
-impl<T: Drop> From<AllocFailed<T>> for KeyFault {
-    fn from(_: AllocFailed<T>) -> KeyFault {
-        KeyFault::Memory
+impl<T: Drop> From<AllocFailed<T>> for KeyError {
+    fn from(_: AllocFailed<T>) -> KeyError {
+        KeyError::Memory
     }
 }
 
@@ -61,14 +61,14 @@ impl StoredKey {
 impl DumpedPrincipal {
     /// Returns the keys that have a place in a row as entries of a keytab, the last key first, decrypted with a master
     /// key of MIT's stash file.
-    pub fn entries(&self, alloc: Global, stash: &Keytab) -> Result<Vec<KeytabEntry>, KeyFault>
+    pub fn entries(&self, alloc: Global, stash: &Keytab) -> Result<Vec<KeytabEntry>, KeyError>
         // Promise, as import_dump of kadm_changes: an imported database has ..
         ensures { IfOk result (λ entries. AreEntries stash.now self.now entries.items) }
     {
         let Some(master) = master_key(alloc, self, stash)? else {
-            return Err(KeyFault::NoMaster);
+            return Err(KeyError::NoMaster);
         };
-        entries_of(alloc, self, master, &self.keys)
+        open_entries(alloc, self, master, &self.keys)
     }
 
     /// Returns the types of the keys that have a place in a row: each once, in the order of the keys.
@@ -97,12 +97,12 @@ fn short_etype(number: u16) -> Option<Etype>
 }
 
 /// Returns the entries of these keys, the last key first.
-fn entries_of(
+fn open_entries(
     alloc: Global,
     principal: &DumpedPrincipal,
     master: &Key,
     keys: &[StoredKey],
-) -> Result<Vec<KeytabEntry>, KeyFault>
+) -> Result<Vec<KeytabEntry>, KeyError>
     ensures { IfOk result (λ entries. ArePushed principal.now master.now keys.now entries.items) }
 {
     let mut entries = Vec::new(alloc);
@@ -130,14 +130,14 @@ fn push_entry(
     principal: &DumpedPrincipal,
     master: &Key,
     stored: &StoredKey,
-) -> Result<(), KeyFault>
+) -> Result<(), KeyError>
     ensures { OnOk result (IsPushed principal.now master.now stored.now entries.old.items entries.new.items) }
 {
     let Some(etype) = stored.etype() else {
         return Ok(());
     };
     let Some(key) = decrypted(alloc, master, etype, stored.key.octets.as_slice())? else {
-        return Err(KeyFault::NotOpened);
+        return Err(KeyError::NotOpened);
     };
     entries.push(KeytabEntry {
         realm: principal.realm.copy(alloc)?,

@@ -5,7 +5,7 @@ use std::fmt;
 
 /// What is wrong with a line of a dump.
 #[derive(Clone, Copy, Debug, PartialEq, Eq)]
-pub enum LineFault {
+pub enum LineError {
     /// The first line is not `kdb5_util load_dump version N`, with N from 5 to 8.
     Header,
     /// The line is neither that of a principal nor that of a policy.
@@ -26,36 +26,36 @@ pub enum LineFault {
 
 /// Where a text fails to be a dump, and why.
 #[derive(Clone, Copy, Debug, PartialEq, Eq)]
-pub struct DumpFault {
+pub struct DumpError {
     /// The number of the line, from 1.
     pub line: usize,
     /// What is wrong with it.
-    pub cause: LineFault,
+    pub cause: LineError,
 }
 
-impl fmt::Display for LineFault {
+impl fmt::Display for LineError {
     fn fmt<W: fmt::Write>(&self, f: &mut fmt::Formatter<W>) -> fmt::Result {
         f.write_str(match self {
-            LineFault::Header => { "it is not `kdb5_util load_dump version N`, with N from 5 to 8" }
-            LineFault::Word => "it is neither a principal (princ) nor a policy (policy)",
-            LineFault::Count => "it has more or fewer fields than its counts say",
-            LineFault::Number => "a field is not a number from 0 to 4294967295",
-            LineFault::Name => "its name is not one as kdb5_util writes it",
-            LineFault::Octets => "bytes are not in hexadecimal, or have another length",
-            LineFault::Cut => "the text ends inside it",
-            LineFault::Memory => "out of memory",
+            LineError::Header => { "it is not `kdb5_util load_dump version N`, with N from 5 to 8" }
+            LineError::Word => "it is neither a principal (princ) nor a policy (policy)",
+            LineError::Count => "it has more or fewer fields than its counts say",
+            LineError::Number => "a field is not a number from 0 to 4294967295",
+            LineError::Name => "its name is not one as kdb5_util writes it",
+            LineError::Octets => "bytes are not in hexadecimal, or have another length",
+            LineError::Cut => "the text ends inside it",
+            LineError::Memory => "out of memory",
         })
     }
 }
 
-impl From<AllocError> for LineFault {
-    fn from(_: AllocError) -> LineFault {
-        LineFault::Memory
+impl From<AllocError> for LineError {
+    fn from(_: AllocError) -> LineError {
+        LineError::Memory
     }
 }
 
-impl<T: Drop> From<AllocFailed<T>> for LineFault {
-    fn from(_: AllocFailed<T>) -> LineFault {
-        LineFault::Memory
+impl<T: Drop> From<AllocFailed<T>> for LineError {
+    fn from(_: AllocFailed<T>) -> LineError {
+        LineError::Memory
     }
 }

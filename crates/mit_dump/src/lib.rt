@@ -36,8 +36,8 @@ mod stored_key;
 
 pub use attribute::Attribute;
 pub use dump::read_dump;
-pub use entries::KeyFault;
-pub use fault::{DumpFault, LineFault};
+pub use entries::KeyError;
+pub use fault::{DumpError, LineError};
 pub use losses::Loss;
 pub use part::Part;
 pub use place::dump_realm;

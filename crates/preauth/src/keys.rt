@@ -54,7 +54,7 @@ pub fn first_key<'k>(keys: &'k KeyList, types: &SeqRef<'_, i32>) -> Option<&'k K
 }
 
 /// Returns those of these encryption types for which there is a key, in order and without repetition.
-pub fn types_of(
+pub fn usable_types(
     alloc: Global,
     keys: &KeyList,
     types: &SeqRef<'_, i32>,

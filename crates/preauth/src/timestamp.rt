@@ -38,7 +38,7 @@ pub fn check_timestamp<'p>(
     // current keys; the value of the first padata of a type.
     ensures { IfOk result (λ o. o ≡ outcome client.now at.sec (option_copied padata.entry)) }
 {
-    let Some(value) = first_of(PA_ENC_TIMESTAMP, padata) else {
+    let Some(value) = first_padata(PA_ENC_TIMESTAMP, padata) else {
         return Ok(Outcome::Absent);
     };
     let keys = &client.versions.current().keys;
@@ -50,7 +50,7 @@ pub fn check_timestamp<'p>(
 }
 
 /// Returns the value of the first padata of this type.
-pub fn first_of<'p>(
+pub fn first_padata<'p>(
     number: i32,
     padata: Option<&SeqRef<'p, PaDataRef<'p>>>,
 ) -> Option<OctetsRef<'p>>

@@ -125,18 +125,18 @@ fn key_block<H: Hasher>(key: &[u8]) -> [u8; LONGEST_BLOCK]
     ensures { take H.BLOCK_LEN result ≡ key_block H.hash H.BLOCK_LEN key.now }
 {
     if key.len() <= H::BLOCK_LEN {
-        return block_of(key);
+        return padded_block(key);
     }
     let mut hasher = H::new();
     hasher.update(key);
     let mut digest = [0; LONGEST_BLOCK];
     let digest = &mut digest[..H::SIZE];
     hasher.finish(digest);
-    block_of(digest)
+    padded_block(digest)
 }
 
 /// Returns the bytes, padded with zeros.
-pub fn block_of(octets: &[u8]) -> [u8; LONGEST_BLOCK]
+pub fn padded_block(octets: &[u8]) -> [u8; LONGEST_BLOCK]
     requires { length octets.now ≤ LONGEST_BLOCK }
     ensures { result ≡ block_of LONGEST_BLOCK octets.now }
 {

@@ -13,7 +13,7 @@ ghost use Rattle.krb_fields.specs.Granting.{tgs_principal};
 ghost use Rattle.principals.specs.Change.{refusal, add_rules, changed, row_changed, row_refusal};
 
 use crate::granting::TgsOf;
-use crate::split_name::row_of;
+use crate::split_name::find_row;
 use crate::{Change, ChangeFault, RowChange};
 use krb_elements::KerberosString;
 use krb_fields::{Name, NameFault, NameRef, is_component, tgs_name};
@@ -121,7 +121,7 @@ impl Database {
         // Promise, as Database::realm: every database has a ..
         ensures valid { IfSome result (λ row. IsRow row.now) }
     {
-        row_of(&self.rows, name_ref)
+        find_row(&self.rows, name_ref)
     }
 
     /// Returns the row of the ticket-granting service, without building its name.

@@ -31,13 +31,13 @@ impl Database {
         if let Some(fault) = self.add_refusal(name) {
             return Err(fault);
         }
-        self.rows.put(name.copy(alloc)?, row_of(versions))?;
+        self.rows.put(name.copy(alloc)?, default_row(versions))?;
         Ok(())
     }
 }
 
 /// Returns the row of a principal with these versions, and the default policy.
-fn row_of(versions: Versions) -> Row
+fn default_row(versions: Versions) -> Row
     ensures row { result ≡ record { versions = versions; policy = default_policy } }
     ensures valid { IsRow result }
 {

@@ -123,7 +123,7 @@ impl<T: Keep> ReplayCache<T> {
     {
         let start = self.floor.max(at.sec - SKEW);
         let above = self.pairs.drop_before(start, self.floor);
-        self.floor = floor_on(above, at);
+        self.floor = tidied_floor(above, at);
     }
 
     /// Frees the memory of the pairs that a tidying dropped.
@@ -156,7 +156,7 @@ impl<T: Keep> ReplayCache<T> {
 }
 
 /// Returns the floor of a client with nothing recorded, tidied at this moment: at least a day before it.
-pub fn floor_on(floor: i64, at: Moment) -> i64
+pub fn tidied_floor(floor: i64, at: Moment) -> i64
     // Promise, as tidied_unseen: authenticators that can't come ..
     ensures { result ≡ floor_on floor at.sec }
 {

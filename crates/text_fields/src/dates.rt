@@ -58,7 +58,7 @@ fn laid_over(date: &[u8]) -> [u8; 20]
 /// Reads a date with a time of day.
 fn moment(octets: &[u8]) -> Option<Second>
     requires { length octets.now ≡ 20 }
-    // Promise (read, none), as setting_of: a field of a ..
+    // Promise (read, none), as parse_setting: a field of a ..
     ensures read { IfSome result (λ second. IsMomentText second octets.now) }
     ensures none { IfNone result ((second : ℤ) → ¬ IsMomentText second octets.now) }
 {

@@ -190,7 +190,7 @@ impl TimeField {
 impl Setting {
     /// Reads a field's name and its value, with an equals sign between them.
     pub fn parse(text: &str) -> Option<Setting>
-        // Promise (read, none), as setting_of: a field of a ..
+        // Promise (read, none), as parse_setting: a field of a ..
         ensures read { IfSome result (λ setting. IsSettingText setting text.now) }
         ensures none { IfNone result ((setting : settings.Setting) → ¬ IsSettingText setting text.now) }
     {
@@ -201,7 +201,7 @@ impl Setting {
     /// Reads the value of the field with this name. Returns `None` if there is no such field or the value isn't valid
     /// for it.
     pub fn of(name: &str, value: &str) -> Option<Setting>
-        // Promise (read, none), as setting_of: a field of a ..
+        // Promise (read, none), as parse_setting: a field of a ..
         ensures read { IfSome result (λ setting. IsSettingOf setting name.now value.now) }
         ensures none { IfNone result ((setting : settings.Setting) → ¬ IsSettingOf setting name.now value.now) }
     {
@@ -215,7 +215,7 @@ impl Setting {
     /// Reads a date as the value of the field with this name. Returns `None` if there is no such field, its value is
     /// not a time, or this is not a date.
     pub fn of_date(name: &str, value: &str) -> Option<Setting>
-        // Promise (read, none), as setting_of: a field of a ..
+        // Promise (read, none), as parse_setting: a field of a ..
         ensures read { IfSome result (λ setting. IsDateOf setting name.now value.now) }
         ensures none { IfNone result ((setting : settings.Setting) → ¬ IsDateOf setting name.now value.now) }
     {

@@ -10,7 +10,7 @@ use krb_fields::Second;
 
 /// Reads a field with its value, which is not a time from now. Returns `None` if there is no such field or the value
 /// isn't valid for it.
-pub fn setting_of(field: &str, value: &str) -> Option<Setting>
+pub fn parse_setting(field: &str, value: &str) -> Option<Setting>
     // Promise (read, none): a field of a policy with its value is read exactly where its text spells it, and for a
     // command also where it spells a date or a time span.
     ensures read { IfSome result (λ setting. IsFixedValue setting field.now value.now) }
@@ -36,7 +36,7 @@ fn life_setting(field: &str, value: &str) -> Option<Setting>
 /// Reads a field whose value is a time from now. Returns `None` if no time has this name, the value is no time span, or
 /// the time is after the year 9999.
 pub fn setting_from(field: &str, value: &str, now: u64) -> Option<Setting>
-    // Promise (read, none), as setting_of: a field of a ..
+    // Promise (read, none), as parse_setting: a field of a ..
     ensures read { IfSome result (λ setting. IsTimeFrom now setting field.now value.now) }
     ensures none { IfNone result ((setting : settings.Setting) → ¬ IsTimeFrom now setting field.now value.now) }
 {

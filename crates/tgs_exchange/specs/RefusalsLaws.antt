@@ -31,7 +31,7 @@ use Rattle.tgs_opening.specs.declared.opened.OpenedTicket.{OpenedTicket}
 use Rattle.tgs_opening.specs.declared.presented.Presented.{Presented}
 use Rattle.tgs_opening.specs.declared.refusal.TgsRefusal.{TgsRefusal}
 use Rattle.tgs_opening.specs.declared.refusal.TgsRefusal.TheVariants as tgs
-use Rattle.tgs_opening.specs.declared.rejection.Rejection.{Rejection}
+use Rattle.tgs_opening.specs.declared.rejection.OpeningRefusal.{OpeningRefusal}
 use Rattle.ticket_times.specs.declared.times.Times.{Times}
 use Rattle.ap_req.specs.Validity.{ticket_terms}
 use Rattle.tgs_exchange.specs.Decision.{by_admission, unless_client_refused, unless_repeated, decision, verdict_on}
@@ -55,7 +55,7 @@ refusing (Records refusal) = Some (Records refusal)
 refusing (Repeats kept) = Some (Repeats kept)
 refusing (Issues admission) = None
 
-abbrev pub by_presented : TgsView → ℤ → Received → Result Presented Rejection → Option (Decision Kept)
+abbrev pub by_presented : TgsView → ℤ → Received → Result Presented OpeningRefusal → Option (Decision Kept)
 by_presented v now message (Ok p) = refusing (decision v now message.body.value p)
 by_presented v now message (Err rejected) = Some (Refuses rejected.rule)
 

@@ -173,7 +173,7 @@ fn records(
         OutcomeSpelledBy view.now incoming.now.at random body.now p answer.outcome decided answer.reply.items) }
 {
     let reply = tgs_error(alloc, view.realm, incoming.at, body, refusal)?;
-    let kept = kept_of(alloc, view, incoming.octets, Bears::Error, &reply)?;
+    let kept = make_kept(alloc, view, incoming.octets, Bears::Error, &reply)?;
     Ok(TgsAnswer {
         reply,
         outcome: TgsOutcome::Refused(refusal),
@@ -304,7 +304,7 @@ fn issued(
     if reply.len() > incoming.room as usize {
         return refused_room(alloc, view, incoming.at, body);
     }
-    let kept = kept_of(alloc, view, incoming.octets, Bears::Ticket, &reply)?;
+    let kept = make_kept(alloc, view, incoming.octets, Bears::Ticket, &reply)?;
     Ok(TgsAnswer {
         reply,
         outcome: TgsOutcome::Issued(granted_by(body, presented, admission)),
@@ -314,7 +314,7 @@ fn issued(
 
 /// Returns what is stored of a request and its reply: nothing, if the request is longer than the limits say. Its
 /// authenticator is then refused if it comes again.
-fn kept_of(
+fn make_kept(
     alloc: Global,
     view: &TgsView<'_>,
     request: &[u8],

@@ -84,7 +84,7 @@ fn grant_by<'g>(
         client: Lent::new(&ticket.cname),
         service: Lent::new(&terms.service.name),
         session_key: session_key(terms.service.session_type, random),
-        flags: flags_of(body, presented, admission),
+        flags: issued_flags(body, presented, admission),
         authtime: ticket.authtime,
         times: *times,
         authorization_data: lent_data(&ticket.authorization_data),
@@ -101,7 +101,7 @@ fn lent_data(entries: &Option<Seq<Typed>>) -> Option<Lent<'_, Seq<Typed>>>
     }
 }
 
-fn flags_of(body: &ReqBodyRef<'_>, presented: &Presented, admission: &Admission) -> Flags
+fn issued_flags(body: &ReqBodyRef<'_>, presented: &Presented, admission: &Admission) -> Flags
     ensures { result ≡ tgs_flags body.now
         (ticket_terms presented.now.ticket) admission.now.terms.service.policy admission.now.times }
 {
@@ -124,7 +124,7 @@ pub fn granted_by(body: &ReqBodyRef<'_>, presented: &Presented, admission: &Admi
         reply_type: reply_key.key.etype(),
         ticket_type: terms.service.key.key.etype(),
         session_type: terms.service.session_type,
-        flags: flags_of(body, presented, admission),
+        flags: issued_flags(body, presented, admission),
         authtime: presented.ticket.authtime,
         times: *times,
     }

@@ -13,7 +13,7 @@ use Rattle.tgs_opening.specs.View.{TicketView}
 use Rattle.tgs_opening.specs.declared.opened.OpenedTicket.{OpenedTicket}
 use Rattle.tgs_opening.specs.declared.presented.Presented.{Presented}
 use Rattle.tgs_opening.specs.declared.refusal.TgsRefusal.{TgsRefusal}
-use Rattle.tgs_opening.specs.declared.rejection.Rejection.{Rejection}
+use Rattle.tgs_opening.specs.declared.rejection.OpeningRefusal.{OpeningRefusal}
 
 -- the presented ticket, decrypted
 abbrev pub opened_ticket : TicketView → Received → Result OpenedTicket TgsRefusal
@@ -40,14 +40,14 @@ presented_as o a = record {
 }
 
 -- a refusal after the ticket was decrypted names its client
-abbrev pub by_authenticated : OpenedTicket → Result Authenticated TgsRefusal → Result Presented Rejection
+abbrev pub by_authenticated : OpenedTicket → Result Authenticated TgsRefusal → Result Presented OpeningRefusal
 by_authenticated o (Ok a) = Ok (presented_as o a)
 by_authenticated o (Err rule) = Err (record { rule = rule; client = Some o.part.cname })
 
-abbrev pub by_ticket : TicketView → Received → Result OpenedTicket TgsRefusal → Result Presented Rejection
+abbrev pub by_ticket : TicketView → Received → Result OpenedTicket TgsRefusal → Result Presented OpeningRefusal
 by_ticket v message (Ok o) = by_authenticated o (authenticated v message o)
 by_ticket v message (Err rule) = Err (record { rule = rule; client = None })
 
 -- the request's ticket and authenticator, decrypted and checked
-abbrev pub presented : TicketView → Received → Result Presented Rejection
+abbrev pub presented : TicketView → Received → Result Presented OpeningRefusal
 presented v message = by_ticket v message (opened_ticket v message)

@@ -29,6 +29,6 @@ mod view;
 pub use opening::tgs_open;
 pub use presented::Presented;
 pub use refusal::TgsRefusal;
-pub use rejection::Rejection;
+pub use rejection::OpeningRefusal;
 pub use tickets::is_named;
 pub use view::TicketView;

@@ -7,15 +7,15 @@ ghost use Rattle.tgs_opening.specs.Opening.{authenticated, by_authenticated, by_
 ghost use Rattle.tgs_opening.specs.Tickets.{tgs_data};
 ghost use Rattle.tgs_opening.specs.declared.opened.OpenedTicket as tickets;
 
-use crate::authenticators::subkey_of;
-use crate::fault::TgsFault;
+use crate::authenticators::checked_subkey;
+use crate::fault::OpeningError;
 use crate::opened::OpenedTicket;
 use crate::presented::Presented;
 use crate::refusal::TgsRefusal;
-use crate::rejection::Rejection;
+use crate::rejection::OpeningRefusal;
 use crate::tickets::{ap_req_of, shown_ticket};
 use crate::view::TicketView;
-use ap_req::{Authenticated, authenticator_of, session_key_of};
+use ap_req::{Authenticated, checked_session_key, open_authenticator};
 use enctypes::KeyUsage;
 use krb_types::KdcReqRef;
 use rule_lists::Attempt;
@@ -29,7 +29,7 @@ pub fn tgs_open(
     alloc: Global,
     view: &TicketView<'_>,
     message: &KdcReqRef<'_>,
-) -> Attempt<Presented, Rejection>
+) -> Attempt<Presented, OpeningRefusal>
     requires { IfSome (tgs_data message.now) (λ value. length value < 2147483648) }
     // Promise: what a TGS-REQ presents, or the first rule that refuses it, with the client of the ticket if that was
     // decrypted, unless memory runs out.
@@ -48,7 +48,7 @@ fn open_ticket<'a>(
     alloc: Global,
     view: &TicketView<'_>,
     message: &KdcReqRef<'a>,
-) -> Result<OpenedTicket<'a>, TgsFault>
+) -> Result<OpenedTicket<'a>, OpeningError>
     requires { IfSome (tgs_data message.now) (λ value. length value < 2147483648) }
     ensures value { Gives result (opened_ticket view.now message.now) }
     ensures authorization { IfOk result (λ ticket.
@@ -64,8 +64,8 @@ fn by_ticket(
     alloc: Global,
     view: &TicketView<'_>,
     message: &KdcReqRef<'_>,
-    ticket: Result<OpenedTicket<'_>, TgsFault>,
-) -> Attempt<Presented, Rejection>
+    ticket: Result<OpenedTicket<'_>, OpeningError>,
+) -> Attempt<Presented, OpeningRefusal>
     requires { IfOk ticket (λ ticket.
         IfSome ticket.part.authorization_data (λ list. length ((list_of typed).text list) < 2147483648)) }
     ensures value { (wanted : Result tickets.OpenedTicket TgsRefusal) → Gives ticket.entry wanted
@@ -78,8 +78,8 @@ fn by_ticket(
             let shown = authenticated(alloc, view, message, &ticket);
             by_authenticated(alloc, ticket, shown)
         }
-        Err(TgsFault::Refused(rule)) => Ok(Err(Rejection { rule, client: None })),
-        Err(TgsFault::Memory) => Err(AllocError),
+        Err(OpeningError::Refused(rule)) => Ok(Err(OpeningRefusal { rule, client: None })),
+        Err(OpeningError::Memory) => Err(AllocError),
     }
 }
 
@@ -89,11 +89,11 @@ fn authenticated(
     view: &TicketView<'_>,
     message: &KdcReqRef<'_>,
     ticket: &OpenedTicket<'_>,
-) -> Result<Authenticated, TgsFault>
+) -> Result<Authenticated, OpeningError>
     ensures { Gives result (authenticated view.now message.now ticket.now) }
 {
-    let session_key = session_key_of(view.realm, &ticket.part)?;
-    let authenticator = authenticator_of(
+    let session_key = checked_session_key(view.realm, &ticket.part)?;
+    let authenticator = open_authenticator(
         alloc,
         Some(view.ready),
         KeyUsage::TgsReqAuthenticator,
@@ -101,7 +101,7 @@ fn authenticated(
         &ticket.ap.authenticator,
     )??;
     let body = body_octets(message);
-    let subkey = subkey_of(view.ready, &ticket.part, &session_key, body, &authenticator)?;
+    let subkey = checked_subkey(view.ready, &ticket.part, &session_key, body, &authenticator)?;
     Ok(Authenticated {
         session_key,
         authenticator,
@@ -113,8 +113,8 @@ fn authenticated(
 fn by_authenticated(
     alloc: Global,
     ticket: OpenedTicket<'_>,
-    shown: Result<Authenticated, TgsFault>,
-) -> Attempt<Presented, Rejection>
+    shown: Result<Authenticated, OpeningError>,
+) -> Attempt<Presented, OpeningRefusal>
     requires { IfSome ticket.part.authorization_data
         (λ list. length ((list_of typed).text list) < 2147483648) }
     ensures value { (wanted : Result Authenticated TgsRefusal) → Gives shown wanted
@@ -131,11 +131,11 @@ fn by_authenticated(
             authenticator: shown.authenticator,
             subkey: shown.subkey,
         })),
-        Err(TgsFault::Refused(rule)) => Ok(Err(Rejection {
+        Err(OpeningError::Refused(rule)) => Ok(Err(OpeningRefusal {
             rule,
             client: Some(part.cname),
         })),
-        Err(TgsFault::Memory) => Err(AllocError),
+        Err(OpeningError::Memory) => Err(AllocError),
     }
 }
 

@@ -75,11 +75,11 @@ fn keys_and_texts_make_what_the_standards_say(rt: HostRuntime) {
 #[test]
 fn keys_and_texts_in_digits_make_what_the_standards_say(rt: HostRuntime) {
     for row in DIGITS {
-        same(&rt, &row.4, &makes_of(rt.alloc(), row), &Ok(true));
+        same(&rt, &row.4, &holds_row(rt.alloc(), row), &Ok(true));
     }
 }
 
-fn makes_of(alloc: Global, row: &Row) -> Result<bool, AllocError> {
+fn holds_row(alloc: Global, row: &Row) -> Result<bool, AllocError> {
     let (function, key, text, count, digits) = row;
     let (key, text) = (bytes(alloc, *key), bytes(alloc, *text));
     makes(alloc, *function, (&key, &text, *count), *digits)

@@ -6,7 +6,7 @@ ghost use Rattle.cred_files.specs.Principal as formats;
 use crate::cryptography::fixtures::sized;
 use crate::expect::{BEGIN, END, JUDGED, are, bytes, mark, same, written};
 use cred_files::{
-    Cache, CredFault, Credential, Keytab, KeytabEntry, Miss, Principal, SessionKey, Times,
+    Cache, CredError, Credential, Keytab, KeytabEntry, Miss, Principal, SessionKey, Times,
 };
 use enctypes::{Etype, Key};
 use krb_der::KTime;
@@ -67,7 +67,7 @@ const WRITTEN: &[(Way, &str)] = &[
     (Way::NewCache, CACHE),
 ];
 
-fn file(alloc: Global, way: Way, octets: &[u8]) -> Result<Vec<u8>, CredFault> {
+fn file(alloc: Global, way: Way, octets: &[u8]) -> Result<Vec<u8>, CredError> {
     match way {
         Way::KeytabAgain => keytab_again(alloc, octets),
         Way::CacheAgain => cache_again(alloc, octets),
@@ -77,28 +77,28 @@ fn file(alloc: Global, way: Way, octets: &[u8]) -> Result<Vec<u8>, CredFault> {
 }
 
 /// Does the same, in a second call if memory ran out in the first one.
-fn file_again(alloc: Global, way: Way, octets: &[u8]) -> Result<Vec<u8>, CredFault> {
+fn file_again(alloc: Global, way: Way, octets: &[u8]) -> Result<Vec<u8>, CredError> {
     mark(alloc, BEGIN);
     let found = file(alloc, way, octets);
     mark(alloc, END);
     match found {
-        Err(CredFault::Memory) => file(alloc, way, octets),
+        Err(CredError::Memory) => file(alloc, way, octets),
         found => found,
     }
 }
 
-fn keytab_again(alloc: Global, octets: &[u8]) -> Result<Vec<u8>, CredFault> {
+fn keytab_again(alloc: Global, octets: &[u8]) -> Result<Vec<u8>, CredError> {
     Keytab::read(alloc, octets)?.write(alloc)
 }
 
-fn cache_again(alloc: Global, octets: &[u8]) -> Result<Vec<u8>, CredFault> {
+fn cache_again(alloc: Global, octets: &[u8]) -> Result<Vec<u8>, CredError> {
     Cache::read(alloc, octets)?
         .write(alloc)
-        .map_err(CredFault::from)
+        .map_err(CredError::from)
 }
 
 /// Writes a keytab with the entry of `KEYTAB` in this realm.
-fn new_keytab(alloc: Global, realm: &[u8]) -> Result<Vec<u8>, CredFault> {
+fn new_keytab(alloc: Global, realm: &[u8]) -> Result<Vec<u8>, CredError> {
     let key = Key::from_random(Etype::Aes128CtsHmacSha1_96, &sized(KEY));
     let entries = [KeytabEntry {
         realm: KerberosString::from_slice(alloc, realm)?,
@@ -106,29 +106,29 @@ fn new_keytab(alloc: Global, realm: &[u8]) -> Result<Vec<u8>, CredFault> {
         version: 1,
         key,
     }];
-    keytab_of(alloc, &entries)
+    written_keytab(alloc, &entries)
 }
 
 /// The bytes 00, 01, .. 0f, and others that a key of type 17 does not have.
 const KEY: &str = "000102030405060708090a0b0c0d0e0fffffffffffffffffffffffffffffffff";
 
-fn keytab_of(alloc: Global, entries: &[KeytabEntry]) -> Result<Vec<u8>, CredFault> {
+fn written_keytab(alloc: Global, entries: &[KeytabEntry]) -> Result<Vec<u8>, CredError> {
     Keytab::new(alloc, entries)?.write(alloc)
 }
 
-fn written_cache(alloc: Global) -> Result<Vec<u8>, CredFault> {
-    new_cache(alloc)?.write(alloc).map_err(CredFault::from)
+fn written_cache(alloc: Global) -> Result<Vec<u8>, CredError> {
+    new_cache(alloc)?.write(alloc).map_err(CredError::from)
 }
 
 /// Returns an empty cache of `u`.
 #[tactic(auto, unfolding(cred_files::specs::Principal::principal))]
-fn new_cache(alloc: Global) -> Result<Cache, CredFault> {
+fn new_cache(alloc: Global) -> Result<Cache, CredError> {
     let u = Name::new(alloc, 1, &[b"u"])?;
-    Cache::new(alloc, b"A.B", &u).map_err(CredFault::from)
+    Cache::new(alloc, b"A.B", &u).map_err(CredError::from)
 }
 
 /// Returns the number of entries of a keytab.
-fn count(alloc: Global, octets: &[u8]) -> Result<usize, CredFault> {
+fn count(alloc: Global, octets: &[u8]) -> Result<usize, CredError> {
     Ok(Keytab::read(alloc, octets)?.len())
 }
 
@@ -158,25 +158,25 @@ fn keytabs_are_read(rt: HostRuntime) {
         same(
             &rt,
             &new,
-            &count_with(alloc, old, new),
-            &Err(CredFault::BadEntry),
+            &entries_after(alloc, old, new),
+            &Err(CredError::BadEntry),
         );
     }
     same(
         &rt,
         &"a long realm",
         &long_keytab(alloc).err(),
-        &Some(CredFault::BadEntry),
+        &Some(CredError::BadEntry),
     );
 }
 
 /// Counts the entries of `KEYTAB` with a part of its digits replaced.
-fn count_with(alloc: Global, old: &str, new: &str) -> Result<usize, CredFault> {
+fn entries_after(alloc: Global, old: &str, new: &str) -> Result<usize, CredError> {
     let digits = KEYTAB.replace(alloc, old, new)?;
     count(alloc, &bytes(alloc, digits.as_str()))
 }
 
-fn long_keytab(alloc: Global) -> Result<Vec<u8>, CredFault> {
+fn long_keytab(alloc: Global) -> Result<Vec<u8>, CredError> {
     let realm = vec![in alloc; 0x41; 0x1_0000]?;
     new_keytab(alloc, &realm)
 }
@@ -187,7 +187,7 @@ fn find(
     realm: &[u8],
     etype: Etype,
     version: Option<u32>,
-) -> Result<Result<bool, Miss>, CredFault> {
+) -> Result<Result<bool, Miss>, CredError> {
     let h = Name::new(alloc, 3, &[b"h"])?;
     let keytab = Keytab::read(alloc, &bytes(alloc, HEIMDAL_KEYTAB))?;
     Ok(match keytab.find(realm, &h, etype, version) {
@@ -221,9 +221,9 @@ fn files_that_were_cut_are_refused(rt: HostRuntime) {
     let keytab = bytes(alloc, KEYTAB);
     for len in 0..keytab.len() {
         let wanted = match len {
-            0 | 1 => Err(CredFault::BadMagic),
+            0 | 1 => Err(CredError::BadMagic),
             2 => Ok(0),
-            _ => Err(CredFault::Truncated),
+            _ => Err(CredError::Truncated),
         };
         same(&rt, &len, &count(alloc, &keytab[..len]), &wanted);
     }
@@ -231,13 +231,13 @@ fn files_that_were_cut_are_refused(rt: HostRuntime) {
         &rt,
         &"magic",
         &count(alloc, &[5, 1, 0, 0]),
-        &Err(CredFault::BadMagic),
+        &Err(CredError::BadMagic),
     );
     let cache = bytes(alloc, CACHE);
     for len in 0..cache.len() {
         let wanted = match len {
-            0 | 1 => CredFault::BadMagic,
-            _ => CredFault::Truncated,
+            0 | 1 => CredError::BadMagic,
+            _ => CredError::Truncated,
         };
         same(
             &rt,
@@ -289,7 +289,7 @@ fn principal(alloc: Global, name: &[u8]) -> Result<Principal, AllocError>
 }
 
 /// Puts a credential with this end.
-fn put(alloc: Global, cache: &mut Cache, end: i64) -> Result<(), CredFault> {
+fn put(alloc: Global, cache: &mut Cache, end: i64) -> Result<(), CredError> {
     let start = time(1_704_067_200)?;
     let times = Times {
         auth_time: start,
@@ -301,7 +301,7 @@ fn put(alloc: Global, cache: &mut Cache, end: i64) -> Result<(), CredFault> {
 }
 
 /// Returns the end of the credential for a service.
-fn end_of(alloc: Global, cache: &Cache, service: &[u8]) -> Result<i64, CredFault> {
+fn service_end(alloc: Global, cache: &Cache, service: &[u8]) -> Result<i64, CredError> {
     let service = Name::new(alloc, 2, &[service])?;
     match cache.find(&service) {
         Ok(found) => Ok(found.times.end_time.seconds()),
@@ -310,32 +310,32 @@ fn end_of(alloc: Global, cache: &Cache, service: &[u8]) -> Result<i64, CredFault
 }
 
 /// Ends of credentials that are put one after the other, how that ends, and the end of the one that is found then.
-const PUT: &[(i64, Result<(), CredFault>, i64)] = &[
+const PUT: &[(i64, Result<(), CredError>, i64)] = &[
     (1_704_103_200, Ok(()), 1_704_103_200),
     (2_147_483_648, Ok(()), 2_147_483_648),
-    (4_294_967_296, Err(CredFault::TooLate), 2_147_483_648),
+    (4_294_967_296, Err(CredError::TooLate), 2_147_483_648),
     (1_704_103_201, Ok(()), 1_704_103_201),
 ];
 
 fn are_put(rt: &impl Abort, alloc: Global, cache: &mut Cache) {
     for (end, wanted, found) in PUT {
-        let before = end_of(alloc, cache, b"h");
+        let before = service_end(alloc, cache, b"h");
         mark(alloc, BEGIN);
         let mut outcome = put(alloc, cache, *end);
         mark(alloc, END);
-        if outcome == Err(CredFault::Memory) {
-            same(rt, end, &end_of(alloc, cache, b"h"), &before);
+        if outcome == Err(CredError::Memory) {
+            same(rt, end, &service_end(alloc, cache, b"h"), &before);
             outcome = put(alloc, cache, *end);
         }
         same(rt, end, &outcome, wanted);
-        same(rt, end, &end_of(alloc, cache, b"h"), &Ok(*found));
+        same(rt, end, &service_end(alloc, cache, b"h"), &Ok(*found));
         mark(alloc, JUDGED);
     }
     same(
         rt,
         &"u",
-        &end_of(alloc, cache, b"u"),
-        &Err(CredFault::Absent),
+        &service_end(alloc, cache, b"u"),
+        &Err(CredError::Absent),
     );
 }
 

@@ -5,7 +5,7 @@ use crate::expect::{bytes, shows, written};
 use krb_der::{DerFault, KTime, Reader, Writer};
 use krb_elements::{
     Decode, Encode, Fault, KerberosString, KerberosStringRef, MakeOwned, Microseconds, Octets,
-    OctetsRef, Seq, SeqRef, UInt32, application_tag, end_of, look_either, read, take_field,
+    OctetsRef, Seq, SeqRef, UInt32, application_tag, expect_end, look_either, read, take_field,
     take_fixed, take_optional, take_sent, write, write_field, write_inside, write_optional,
 };
 use std::alloc::{AllocError, Global};
@@ -112,17 +112,17 @@ const VALUES: &[(Kind, &str, &str)] = &[
     (Kind::Octets, "040200ff", "Ok(Octets { bytes: [0, 255] })"),
 ];
 
-fn numbers_of(alloc: Global, octets: &[u8]) -> Result<Seq<i32>, Fault> {
+fn read_numbers(alloc: Global, octets: &[u8]) -> Result<Seq<i32>, Fault> {
     let found: SeqRef<'_, i32> = read(octets)?;
     found.copy(alloc).map_err(Fault::from)
 }
 
-fn string_of(alloc: Global, octets: &[u8]) -> Result<KerberosString, Fault> {
+fn read_string(alloc: Global, octets: &[u8]) -> Result<KerberosString, Fault> {
     let found: KerberosStringRef<'_> = read(octets)?;
     found.copy(alloc).map_err(Fault::from)
 }
 
-fn octets_of(alloc: Global, octets: &[u8]) -> Result<Octets, Fault> {
+fn read_octets(alloc: Global, octets: &[u8]) -> Result<Octets, Fault> {
     let found: OctetsRef<'_> = read(octets)?;
     found.copy(alloc).map_err(Fault::from)
 }
@@ -178,11 +178,11 @@ fn again(alloc: Global, kind: Kind, octets: &[u8]) -> Result<Vec<u8>, Fault> {
         Kind::UInt32 => value_again::<UInt32>(alloc, octets),
         Kind::Microseconds => value_again::<Microseconds>(alloc, octets),
         Kind::Time => value_again::<KTime>(alloc, octets),
-        Kind::Numbers => list_written(alloc, &numbers_of(alloc, octets)?).map_err(Fault::from),
-        Kind::KerberosString => string_written(alloc, &string_of(alloc, octets)?).map_err(
+        Kind::Numbers => list_written(alloc, &read_numbers(alloc, octets)?).map_err(Fault::from),
+        Kind::KerberosString => string_written(alloc, &read_string(alloc, octets)?).map_err(
             Fault::from,
         ),
-        Kind::Octets => octets_written(alloc, &octets_of(alloc, octets)?).map_err(Fault::from),
+        Kind::Octets => octets_written(alloc, &read_octets(alloc, octets)?).map_err(Fault::from),
     }
 }
 
@@ -193,9 +193,9 @@ fn is_read(rt: &impl Abort, alloc: Global, kind: Kind, octets: &[u8], value: &st
         Kind::UInt32 => shows(rt, alloc, read::<UInt32>(octets), value),
         Kind::Microseconds => shows(rt, alloc, read::<Microseconds>(octets), value),
         Kind::Time => shows(rt, alloc, read::<KTime>(octets), value),
-        Kind::Numbers => shows(rt, alloc, numbers_of(alloc, octets), value),
-        Kind::KerberosString => shows(rt, alloc, string_of(alloc, octets), value),
-        Kind::Octets => shows(rt, alloc, octets_of(alloc, octets), value),
+        Kind::Numbers => shows(rt, alloc, read_numbers(alloc, octets), value),
+        Kind::KerberosString => shows(rt, alloc, read_string(alloc, octets), value),
+        Kind::Octets => shows(rt, alloc, read_octets(alloc, octets), value),
     }
     if value.starts_with("Ok") {
         written(rt, again(alloc, kind, octets), octets);
@@ -213,7 +213,7 @@ fn values_are_read_and_written(rt: HostRuntime) {
 const LIST: [u8; 10] = [0xa8, 8, 0x30, 6, 2, 1, 17, 2, 1, 18];
 
 /// Returns the numbers of the field, or `None` if it is absent.
-fn numbers_at(alloc: Global, n: u8) -> Result<Option<Seq<i32>>, Fault>
+fn optional_numbers(alloc: Global, n: u8) -> Result<Option<Seq<i32>>, Fault>
     requires { n < 31 }
 {
     let mut fields = Reader::new(&LIST);
@@ -244,8 +244,8 @@ fn lists_are_read_in_place_and_keep_their_items(rt: HostRuntime) {
     let numbers = take_field(&mut Reader::new(&LIST), 8);
     let found = (
         numbers.map(is_iterated_twice),
-        numbers_at(alloc, 8),
-        numbers_at(alloc, 9),
+        optional_numbers(alloc, 8),
+        optional_numbers(alloc, 9),
         lists(alloc),
         Seq::<u32>::new(alloc).is_empty(),
     );
@@ -302,9 +302,9 @@ fn fields_are_read(rt: HostRuntime) {
         take_field::<i32>(&mut fields, 0),
         take_optional::<i32>(&mut fields, 0),
         take_optional::<i32>(&mut fields, 1),
-        end_of(&fields),
+        expect_end(&fields),
         take_fixed(&mut fields, 2, 5),
-        end_of(&fields),
+        expect_end(&fields),
         take_fixed(&mut Reader::new(FIELDS), 0, 6),
     );
     shows(

@@ -87,7 +87,7 @@ fn is_written(alloc: Global, text: &str) -> Result<bool, NameFault> {
 }
 
 /// Returns the text of a component of this many bytes 255.
-fn text_of(alloc: Global, count: usize) -> Result<String, AllocError> {
+fn long_text(alloc: Global, count: usize) -> Result<String, AllocError> {
     let mut text = String::new(alloc);
     for _ in 0..count {
         text.push_str("\\ff")?;
@@ -97,7 +97,7 @@ fn text_of(alloc: Global, count: usize) -> Result<String, AllocError> {
 
 /// Checks whether that text is read and written.
 fn is_spelled(alloc: Global, count: usize) -> Result<bool, NameFault> {
-    let text = text_of(alloc, count)?;
+    let text = long_text(alloc, count)?;
     spells(alloc, text.as_str(), &[0xff; 255])
 }
 
@@ -206,7 +206,7 @@ fn names_are_ordered_by_components(rt: HostRuntime) {
     ];
     for (i, one) in TEXTS.iter().enumerate() {
         for (j, other) in TEXTS.iter().enumerate() {
-            let order = order_of(rt.alloc(), *one, *other);
+            let order = compare_texts(rt.alloc(), *one, *other);
             same(&rt, &(one, other), &order, &Ok((i.cmp(&j), i == j, 2)));
         }
     }
@@ -214,7 +214,11 @@ fn names_are_ordered_by_components(rt: HostRuntime) {
 
 /// Returns the order of the names with two texts, and whether they are equal. The second one gets the type 2 and is
 /// copied, and the last part is the type of its copy.
-fn order_of(alloc: Global, one: &str, other: &str) -> Result<(Ordering, bool, i32), NameFault> {
+fn compare_texts(
+    alloc: Global,
+    one: &str,
+    other: &str,
+) -> Result<(Ordering, bool, i32), NameFault> {
     let one = Name::from_text(alloc, one)?;
     let mut other = Name::from_text(alloc, other)?;
     other.name_type = 2;

@@ -264,7 +264,7 @@ fn is_read<X: ReadOwned + Encode + Debug>(
 }
 
 /// Asserts it for this type of message.
-fn is_read_as(rt: &impl Abort, alloc: Global, kind: Kind, octets: &[u8], value: &str) {
+fn is_message_read(rt: &impl Abort, alloc: Global, kind: Kind, octets: &[u8], value: &str) {
     match kind {
         Kind::EncryptedData => is_read::<EncryptedData>(rt, alloc, octets, value),
         Kind::Ticket => is_read::<Ticket>(rt, alloc, octets, value),
@@ -291,9 +291,9 @@ fn is_read_as(rt: &impl Abort, alloc: Global, kind: Kind, octets: &[u8], value: 
 fn is_whole(rt: &impl Abort, alloc: Global, row: &Row) {
     let (kind, digits, value) = row;
     let octets = bytes(alloc, *digits);
-    is_read_as(rt, alloc, *kind, &octets, *value);
+    is_message_read(rt, alloc, *kind, &octets, *value);
     for len in 0..octets.len() {
-        is_read_as(rt, alloc, *kind, &octets[..len], "Err(Der(Truncated))");
+        is_message_read(rt, alloc, *kind, &octets[..len], "Err(Der(Truncated))");
     }
 }
 
@@ -370,7 +370,7 @@ fn each_message_is_read_and_written_by_name(rt: HostRuntime) {
 #[test]
 fn other_bytes_are_refused(rt: HostRuntime) {
     for (kind, digits, value) in REFUSED {
-        is_read_as(&rt, rt.alloc(), *kind, &bytes(rt.alloc(), *digits), *value);
+        is_message_read(&rt, rt.alloc(), *kind, &bytes(rt.alloc(), *digits), *value);
     }
 }
 
@@ -386,7 +386,7 @@ fn is_changed(rt: &impl Abort, alloc: Global, row: &Changed) {
     match digits.replace(alloc, *old, *new) {
         Ok(digits) => {
             let octets = bytes(alloc, digits.as_str());
-            is_read_as(rt, alloc, *kind, &octets, *value);
+            is_message_read(rt, alloc, *kind, &octets, *value);
         }
         Err(AllocError) => panic!(rt; "no memory"),
     }

@@ -38,7 +38,7 @@ pub fn is_first(rt: &impl Abort, alloc: Global, database: &mut Database) {
         same(
             rt,
             text,
-            &place_of(alloc, database, *place, *text),
+            &finds_name(alloc, database, *place, *text),
             &Ok(*wanted),
         );
     }
@@ -49,7 +49,7 @@ pub fn is_first(rt: &impl Abort, alloc: Global, database: &mut Database) {
 }
 
 /// Checks whether the name is found, and whether it is at this place.
-fn place_of(
+fn finds_name(
     alloc: Global,
     database: &Database,
     place: usize,

@@ -7,9 +7,9 @@ use krb_elements::{Octets, SeqRef, read};
 use krb_fields::{Moment, PaDataRef};
 use preauth::{
     Outcome, after_failure, after_success, check_timestamp, counted_for, first_key, is_locked,
-    key_numbered, method_data, types_of,
+    key_numbered, method_data, usable_types,
 };
-use principal_rows::{KeyList, KeyListFault, Limits, Row};
+use principal_rows::{KeyList, KeyListError, Limits, Row};
 use replay::Failures;
 use std::alloc::Global;
 use std::process::Abort;
@@ -78,13 +78,13 @@ fn key(etype: Etype, first: u8) -> Key {
     Key::from_random(etype, &octets)
 }
 
-fn keys(alloc: Global) -> Result<KeyList, KeyListFault> {
+fn keys(alloc: Global) -> Result<KeyList, KeyListError> {
     let first = key(Etype::Aes256CtsHmacSha1_96, 0);
     let second = key(Etype::Aes256CtsHmacSha384_192, 32);
     Ok(KeyList::new(alloc, &[first, second])?)
 }
 
-fn client(alloc: Global) -> Result<Row, KeyListFault> {
+fn client(alloc: Global) -> Result<Row, KeyListError> {
     Ok(Row::first(alloc, keys(alloc)?)?)
 }
 
@@ -188,7 +188,7 @@ fn method_data_at_last(alloc: Global, types: &[i32; 2]) -> Option<Octets> {
 }
 
 fn hinted(alloc: Global, keys: &KeyList, asked: &SeqRef<'_, i32>) -> Option<[i32; 2]> {
-    let found = types_of(alloc, keys, asked).ok()?;
+    let found = usable_types(alloc, keys, asked).ok()?;
     match found.as_slice() {
         [first, second] => Some([*first, *second]),
         _ => None,

@@ -15,7 +15,7 @@ returns g c =
     let at = c.args.place.now.at in
     let newer = c.in-Some.beginning.newer in
     let start = c.in-Some.beginning.start in
-    let floor = c.floor_of-floor.result in
+    let floor = c.known_floor-floor.result in
     let fits : SFits w64 floor = search rules in
     let (read, there, finished) = read_world old (world c.decides.new.files)
     (subst (λ w. MayFinish w (world c.decides.new.files)) was c.in-Some.ensures.world) in (
@@ -25,6 +25,6 @@ returns g c =
           (process_run at floor newer start c.args.asked.now (state_of world c.new-journal.result) (state_of world c.begins_and_serves.new.journal) read new
           (ap world c.new-journal.ensures.files ∙ there) (simp to_z-of_z at c.new-journal.ensures.floor)
           ((subst (λ w. IfSome w (λ w. (f : ℤ) → f ≡ (known_by f start).floor → IsStart at f newer start w)) there c.in-Some.ensures.start) floor
-          (known_again start _ floor c.floor_of-floor.ensures))
+          (known_again start _ floor c.known_floor-floor.ensures))
           c.begins_and_serves.ensures (ap world (sym c.into_files.ensures) ∙ is)),
     )

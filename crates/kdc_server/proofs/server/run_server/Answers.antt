@@ -32,6 +32,6 @@ returns-clause-run g c =
       tried = c.in_ok-server.ensures.tally;
       looks = c.in_ok-rows.ensures.new;
       life = life_of_option (is_fixed_if g.H.Rows.RowSource.is_fixed source) c.args.options.now.is_fixed fixed tally rows begun _ _ tally_after rows_after ended
-          (subst (λ n. IsLife tally (is_fixed_if g.H.Rows.RowSource.is_fixed source) rows begun (periods_of n) c.serve_life-totals.result tally_after rows_after ended) c.rounds_of-rounds.ensures
+          (subst (λ n. IsLife tally (is_fixed_if g.H.Rows.RowSource.is_fixed source) rows begun (periods_of n) c.serve_life-totals.result tally_after rows_after ended) c.round_limit-rounds.ensures
           c.serve_life-totals.ensures.life);
     }

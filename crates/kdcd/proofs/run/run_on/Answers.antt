@@ -1,5 +1,5 @@
 use Rattle.std.proofs.Common.{◌≡◌, Err, inr, rules}
-use Rattle.kdcd.specs.declared.run.Stop.TheVariants.{Fault}
+use Rattle.kdcd.specs.declared.run.ScriptError.TheVariants.{Fault}
 use Rattle.kdcd.proofs.Running.{run_goes_on, run_ends, run_stops_beyond, run_stops_at_text}
 use Rattle.kdcd.proofs.run.run_on.Goals as goal
 

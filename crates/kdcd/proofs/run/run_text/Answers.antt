@@ -1,6 +1,6 @@
 use Rattle.std.proofs.Common.{◌≡◌, Err, rules}
-use Rattle.kdcd.specs.declared.line.LineFault.TheVariants.{Form}
-use Rattle.kdcd.specs.declared.run.Stop.TheVariants.{Fault}
+use Rattle.kdcd.specs.declared.line.LineError.TheVariants.{Form}
+use Rattle.kdcd.specs.declared.run.ScriptError.TheVariants.{Fault}
 use Rattle.kdcd.proofs.Faults.{none_can_run}
 use Rattle.kdcd.proofs.run.run_text.Goals as goal
 
