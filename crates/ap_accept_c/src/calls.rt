@@ -1,7 +1,8 @@
 //! The calls from C, as operations on a `Holder`.
 ghost use Rattle.std.specs.Prelude.{◌≡◌, None, IfOk, IfErr, length};
 ghost use Rattle.ap_accept_c.specs.Buffers.{texted};
-ghost use Rattle.ap_accept_c.specs.Calls.{IsAccepted, IsChecked, IsClosing, IsFetched, IsNaming, IsOpening, IsReplacing, IsResuming};
+ghost use Rattle.ap_accept_c.specs.Calls.{IsAccepted, IsChecked, IsClosing, IsFetched, IsNaming, IsOpening};
+ghost use Rattle.ap_accept_c.specs.Calls.{IsReplacing, IsResuming};
 ghost use Rattle.ap_accept_c.specs.Calls.{IsSaving, word_of_held};
 ghost use Rattle.ap_accept_c.specs.Elements.{IsElement};
 ghost use Rattle.ap_accept_c.specs.Exports.{opening_at, IsAcceptedAt, IsFetchPart, IsOpenAt, IsTextCall};

@@ -6,7 +6,8 @@ ghost use Rattle.std.specs.Prelude.{◌≡◌, None, length};
 ghost use Rattle.ap_accept_c.specs.Buffers.{texted};
 ghost use Rattle.ap_accept_c.specs.Calls.{word_of_held};
 ghost use Rattle.ap_accept_c.specs.Exports.{IsAcceptCall, IsCheckCall, IsCloseCall, IsElementCall, IsFetchCall};
-ghost use Rattle.ap_accept_c.specs.Exports.{IsNameCall, IsOpenCall, IsReplaceCall, IsResumeCall, IsSaveCall, IsTextCall};
+ghost use Rattle.ap_accept_c.specs.Exports.{IsNameCall, IsOpenCall, IsReplaceCall, IsResumeCall, IsSaveCall};
+ghost use Rattle.ap_accept_c.specs.Exports.{IsTextCall};
 ghost use Rattle.ap_accept_c.specs.Exports.{IsChecksumCall, IsKeyCall, IsSealCall, IsUnsealCall, IsVerifyCall};
 ghost use Rattle.ap_accept_c.specs.Holder.{IsHolder};
 

@@ -53,7 +53,8 @@ impl Last {
 
     /// Returns the bytes of the KRB-ERROR for the refusal, if there is one and it can name the ticket's service.
     pub fn error(&self, alloc: Global) -> Result<Option<Vec<u8>>, AllocError>
-        ensures { IfOk result (λ found. option_map (λ octets. octets.items) found ≡ error_in self.now.label self.now.refusal) }
+        ensures { IfOk result (λ found. option_map (λ octets. octets.items) found
+            ≡ error_in self.now.label self.now.refusal) }
     {
         match (&self.label, self.refusal) {
             (Some(label), Some(refusal)) => label.error(alloc, refusal.at, refusal.rule),

@@ -6,7 +6,8 @@ ghost use Rattle.ap_accept_c.specs.Calls.{IsFetchedOf};
 ghost use Rattle.ap_accept_c.specs.Part.{octets_of};
 ghost use Rattle.ap_accept_c.specs.Status.{status_of_answer};
 ghost use Rattle.ap_accept_c.specs.Service.{IsKeytabFault, IsOpened, IsOpenFault, IsRekeyed, IsResumed, IsResumeFault};
-ghost use Rattle.ap_accept_c.specs.Service.{IsNamed, IsName, IsNameFault, IsNamed, IsSaved, IsTaken, judged, judged_by, keeping};
+ghost use Rattle.ap_accept_c.specs.Service.{IsNamed, IsName, IsNameFault, IsNamed, IsSaved, IsTaken, judged, judged_by};
+ghost use Rattle.ap_accept_c.specs.Service.{keeping};
 
 use crate::buffers::{Given, give};
 use crate::last::{Last, Refusal};

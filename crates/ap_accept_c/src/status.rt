@@ -1,6 +1,7 @@
 //! The results of calls from C.
 ghost use Rattle.std.specs.Prelude.{◌≡◌};
-ghost use Rattle.ap_accept_c.specs.Status.{number_of, status_of, status_of_checksum, status_of_keytab, status_of_resuming};
+ghost use Rattle.ap_accept_c.specs.Status.{number_of, status_of, status_of_checksum, status_of_keytab};
+ghost use Rattle.ap_accept_c.specs.Status.{status_of_resuming};
 ghost use Rattle.ap_accept_c.specs.declared.status.Status.TheVariants as statuses;
 
 use ap_accept::{ApFault, ApRefusal, ChecksumRefusal, ResumeError};

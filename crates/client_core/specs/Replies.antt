@@ -148,7 +148,8 @@ taken type asked now reply part =
 
 -- ---- all stages
 
-abbrev pub if_part : (type : ℕ) → Asked → ℤ → KdcRep type → Result EncKdcRepPart ReplyRefusal → Result Credential ReplyRefusal
+abbrev pub if_part : (type : ℕ) → Asked → ℤ → KdcRep type → Result EncKdcRepPart ReplyRefusal
+    → Result Credential ReplyRefusal
 if_part type asked now reply (Ok part) = taken type asked now reply part
 if_part type asked now reply (Err rejection) = Err rejection
 

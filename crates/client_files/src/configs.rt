@@ -1,7 +1,8 @@
 //! A `krb5.conf`: its text with the files that it includes, its default realm, and the KDCs of a realm.
 ghost use Rattle.std.specs.Prelude.{◌≡◌, ◌==◌, ◌<◌, ◌^◌, ◌↔◌, IfOk, IfSome, IsSome, map};
 ghost use Rattle.std.specs.Str.Parse.{IsNumeral, digits_value};
-ghost use Rattle.client_files.specs.Configs.{ArePlaces, ArePlacesOf, IsDefaultRealm, IsHostPlace, IsHostText, IsNamed, IsPlace};
+ghost use Rattle.client_files.specs.Configs.{ArePlaces, ArePlacesOf, IsDefaultRealm, IsHostPlace, IsHostText, IsNamed};
+ghost use Rattle.client_files.specs.Configs.{IsPlace};
 ghost use Rattle.client_files.specs.Configs.{HasPort, IsShownAs};
 ghost use Rattle.krb_fields.specs.NameText.{component_text};
 ghost use Rattle.std.specs.List.{after_first, before_first};

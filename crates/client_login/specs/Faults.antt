@@ -89,7 +89,8 @@ abbrev pub IsNamed : (SocketAddr → List ℕ → List ℕ → Type 0) → (List
 IsNamed answers Says (Some kdc) = IsAnswered answers kdc Says
 IsNamed answers Says None = ⊥
 
-abbrev pub IsFirstFault : (SocketAddr → List ℕ → List ℕ → Type 0) → Secret → Asked → ℤ → LoginError → Option SocketAddr → Type 0
+abbrev pub IsFirstFault : (SocketAddr → List ℕ → List ℕ → Type 0) → Secret → Asked → ℤ → LoginError → Option SocketAddr
+    → Type 0
 IsFirstFault answers secret asked now says.NotAskable kdc = (is_askable asked ≡ false) × (kdc ≡ None)
 IsFirstFault answers secret asked now says.NoClientKey kdc = (asked.etypes ≡ []) × (kdc ≡ None)
 IsFirstFault answers secret asked now (says.Silence error) kdc = kdc ≡ None
@@ -108,12 +109,14 @@ SaysTgs key asked now says.Memory octets = Unit {0}
 SaysTgs key asked now why octets = ⊥
 
 -- under that of the presented ticket
-pub record SaysFurther (granting : Credential) (asked : Asked) (now : ℤ) (why : LoginError) (octets : List ℕ) : Type 0 where
+pub record SaysFurther (granting : Credential) (asked : Asked) (now : ℤ) (why : LoginError)
+    (octets : List ℕ) : Type 0 where
   pub key : Key
   pub shared : session_key granting ≡ Some key
   pub says : SaysTgs key asked now why octets
 
-abbrev pub IsFurtherFault : (SocketAddr → List ℕ → List ℕ → Type 0) → Credential → Asked → ℤ → LoginError → Option SocketAddr
+abbrev pub IsFurtherFault : (SocketAddr → List ℕ → List ℕ → Type 0) → Credential → Asked → ℤ → LoginError
+    → Option SocketAddr
     → Type 0
 IsFurtherFault answers granting asked now says.NotPresentable kdc = (is_presentable granting ≡ false) × (kdc ≡ None)
 IsFurtherFault answers granting asked now says.NotAskable kdc = (is_askable asked ≡ false) × (kdc ≡ None)

@@ -29,7 +29,8 @@ pub record IsAnswered (answers : SocketAddr → List ℕ → List ℕ → Type 0
   pub says : Says reply
 
 -- a KDC answered a request with these bytes
-pub record IsAnswer (answers : SocketAddr → List ℕ → List ℕ → Type 0) (kdc : SocketAddr) (octets : List ℕ) : Type 0 where
+pub record IsAnswer (answers : SocketAddr → List ℕ → List ℕ → Type 0) (kdc : SocketAddr)
+    (octets : List ℕ) : Type 0 where
   pub request : List ℕ
   pub answered : answers kdc request octets
 

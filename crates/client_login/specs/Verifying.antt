@@ -110,7 +110,8 @@ pub record IsDoubted (answers : SocketAddr → List ℕ → List ℕ → Type 0)
   pub doubted : verified keytab now credential ≡ Err doubt
 
 -- or none came
-abbrev pub IsUnverified : (SocketAddr → List ℕ → List ℕ → Type 0) → List KeytabEntry → Credential → Asked → ℤ → LoginError
+abbrev pub IsUnverified : (SocketAddr → List ℕ → List ℕ → Type 0) → List KeytabEntry → Credential → Asked → ℤ
+    → LoginError
     → Option SocketAddr → Type 0
 IsUnverified answers keytab granting asked now (says.Unverified doubt) kdc =
     (kdc ≡ None) × IsDoubted answers keytab granting asked now doubt

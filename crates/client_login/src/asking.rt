@@ -4,7 +4,8 @@ ghost use Rattle.std.specs.List.{All, Contains};
 ghost use Rattle.client_core.specs.Replies as replies;
 ghost use Rattle.krb_fields.specs.Code.{number_of};
 ghost use Rattle.client_login.specs.Places.{AreWithin, IsKdc};
-ghost use Rattle.client_login.specs.Replies.{IsAnswer, IsExchanged, IsReply, counted, is_error, is_passed_over, said_of};
+ghost use Rattle.client_login.specs.Replies.{IsAnswer, IsExchanged, IsReply, counted, is_error, is_passed_over};
+ghost use Rattle.client_login.specs.Replies.{said_of};
 ghost use Rattle.client_login.specs.Faults.{IsUnheard};
 ghost use Rattle.client_login.specs.declared.faults.LoginError.TheVariants.{Memory};
 

@@ -278,7 +278,8 @@ fn take(
         replies.judged AS_REP roles.Client expected.now.asked.now expected.now.key.now expected.now.at.sec ticket.now
         ≡ Ok credential) }
     ensures err { IfErr result (λ why. IsRejection
-        (replies.judged AS_REP roles.Client expected.now.asked.now expected.now.key.now expected.now.at.sec ticket.now) why) }
+        (replies.judged AS_REP roles.Client expected.now.asked.now expected.now.key.now
+        expected.now.at.sec ticket.now) why) }
 {
     match judge_as_reply(alloc, expected.asked, expected.key, expected.at, ticket) {
         Ok(credential) => Ok(credential),

@@ -230,7 +230,8 @@ fn take(
         replies.judged TGS_REP roles.Session expected.now.asked.now expected.now.key.now expected.now.at.sec ticket.now
         ≡ Ok credential) }
     ensures err { IfErr result (λ why. IsTgsRejection
-        (replies.judged TGS_REP roles.Session expected.now.asked.now expected.now.key.now expected.now.at.sec ticket.now) why) }
+        (replies.judged TGS_REP roles.Session expected.now.asked.now expected.now.key.now
+        expected.now.at.sec ticket.now) why) }
 {
     match judge_tgs_reply(
         alloc,

@@ -1,7 +1,8 @@
 //! What a client requests from a KDC (RFC 4120, section 5.4.1).
 ghost use Rattle.std.specs.Prelude.{◌≡◌, ◌<◌, ◌^◌, IfOk};
 ghost use Rattle.client_login.specs.Asking.{renewal_option, renewal_options, first_asked, from_of, further_asked};
-ghost use Rattle.client_login.specs.Asking.{options_of, rtime_of, till_by, till_of, time_after, up_to_last, with_if, with_kept};
+ghost use Rattle.client_login.specs.Asking.{options_of, rtime_of, till_by, till_of, time_after, up_to_last, with_if};
+ghost use Rattle.client_login.specs.Asking.{with_kept};
 ghost use Rattle.client_login.specs.Keys.{offered};
 
 use client_core::Asked;

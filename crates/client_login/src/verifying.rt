@@ -9,7 +9,8 @@ ghost use Rattle.client_login.specs.Logins.{CarriesPresented, IsFurther};
 ghost use Rattle.client_login.specs.Moments.{IsMoved};
 ghost use Rattle.client_login.specs.Places.{AreWithin};
 ghost use Rattle.client_login.specs.Replies.{IsExchanged};
-ghost use Rattle.client_login.specs.Verifying.{IsTicketOf, IsUnverified, IsValidAt, if_of, if_valid, is_of, is_session_key};
+ghost use Rattle.client_login.specs.Verifying.{IsTicketOf, IsUnverified, IsValidAt, if_of, if_valid, is_of};
+ghost use Rattle.client_login.specs.Verifying.{is_session_key};
 ghost use Rattle.client_login.specs.Verifying.{is_valid, opened, part_by, part_in, part_under, verified};
 
 use crate::client::KdcClient;

@@ -1,7 +1,8 @@
 -- The words for the faults of a keytab or a credential cache.
 use Rattle.std.specs.Prelude.{ℕ, List, Option, Some, None, codes}
 use Rattle.cred_files.specs.declared.fault.CredError.{CredError}
-use Rattle.cred_files.specs.declared.fault.CredError.TheVariants.{BadMagic, Truncated, BadEntry, TooLate, Absent, Memory}
+use Rattle.cred_files.specs.declared.fault.CredError.TheVariants.{BadMagic, Truncated, BadEntry, TooLate, Absent}
+use Rattle.cred_files.specs.declared.fault.CredError.TheVariants.{Memory}
 
 -- a fault's word; running out of memory has none, since it refuses nothing
 abbrev pub cred_refusal : CredError → Option (List ℕ)

@@ -6,7 +6,8 @@ use Rattle.enctypes.specs.Etype as standard
 use Rattle.enctypes.specs.Sealing as sealing
 
 -- they are those of the standards
-pub record AreConstants (etype : types.Etype) (hash : hashes.Hash) (number : ℤ) (key_size mac_key_size mac_size : ℕ) (macs_cipher : Bool)
+pub record AreConstants (etype : types.Etype) (hash : hashes.Hash) (number : ℤ) (key_size mac_key_size mac_size : ℕ)
+    (macs_cipher : Bool)
     (checksum_type : ℤ) (default_count : ℕ) : Type 0 where
   pub hash_is : hash ≡ standard.hash etype
   pub number_is : number ≡ standard.number etype

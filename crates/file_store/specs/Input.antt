@@ -1,6 +1,7 @@
 -- Standard input: its lines, each of which is read once. A store without a record of it has no input, and nothing is
 -- stated about it.
-use Rattle.std.specs.Prelude.{◌≡◌, ◌<◌, ◌==◌, ℕ, Bool, true, false, List, [], ◌∷◌, Option, Some, IfSome, if◌then◌else◌, length}
+use Rattle.std.specs.Prelude.{◌≡◌, ◌<◌, ◌==◌, ℕ, Bool, true, false, List, [], ◌∷◌, Option, Some, IfSome, if◌then◌else◌}
+use Rattle.std.specs.Prelude.{length}
 
 -- with one more byte before the first line
 abbrev pub with_octet : ℕ → List (List ℕ) → List (List ℕ)
@@ -24,7 +25,8 @@ no_input = Some (record { lines = []; terminal = false })
 -- the next line was read, and those behind it are left
 abbrev pub TakesLine : Option Input → List ℕ → Option Input → Type 0
 TakesLine before line after =
-    IfSome before (λ held. (left : List (List ℕ)) × (held.lines ≡ line ∷ left) × (after ≡ Some (record held { lines = left })))
+    IfSome before (λ held. (left : List (List ℕ)) × (held.lines ≡ line ∷ left)
+    × (after ≡ Some (record held { lines = left })))
 
 -- the first of these lines has more bytes than this
 abbrev pub IsFirstLong : List (List ℕ) → ℕ → Type 0

@@ -10,7 +10,8 @@ use Rattle.file_store.specs.declared.store.FileRights.{FileRights}
 abbrev pub file_at : List StoredFile → List ℕ → Option (List ℕ)
 file_at [] path = None
 file_at (file ∷ files) path =
-    if bytes_eq (string_bytes file.path) path then option_map (λ octets. octets.items) file.octets else file_at files path
+    if bytes_eq (string_bytes file.path) path then option_map
+    (λ octets. octets.items) file.octets else file_at files path
 
 -- root owns each file, and nobody else may use it
 abbrev pub rights_under : ℕ → FileRights

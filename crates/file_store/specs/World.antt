@@ -1,5 +1,6 @@
 -- The content of a store. A store without a record of it has no world, and nothing is stated about it.
-use Rattle.std.specs.Prelude.{◌≡◌, ◌≤◌, ◌<◌, ℕ, Bool, List, Option, Some, None, IfSome, is_some, if◌then◌else◌, bytes_eq}
+use Rattle.std.specs.Prelude.{◌≡◌, ◌≤◌, ◌<◌, ℕ, Bool, List, Option, Some, None, IfSome, is_some, if◌then◌else◌}
+use Rattle.std.specs.Prelude.{bytes_eq}
 use Rattle.std.specs.Prelude.{length, slice_get, take}
 use Rattle.file_store.specs.Inputs.{first_line}
 use Rattle.file_store.specs.declared.store.FileRights.{FileRights}
@@ -44,7 +45,8 @@ IsNow world seconds = IfSome world (λ held. seconds ≡ held.now)
 
 -- the first 32 bytes of a file, or of a draw if no file is named
 abbrev pub HasSeed : Option World → Option (List ℕ) → List ℕ → Type 0
-HasSeed world (Some path) seed = (octets : List ℕ) × IsRead world path octets × (32 ≤ length octets) × (seed ≡ take 32 octets)
+HasSeed world (Some path) seed = (octets : List ℕ) × IsRead world path octets × (32 ≤ length octets)
+    × (seed ≡ take 32 octets)
 HasSeed world None seed = IsDrawn world seed
 
 -- the first line of a file

@@ -6,7 +6,8 @@ ghost use Rattle.std.specs.List.{after_first, position};
 ghost use Rattle.file_store.specs.Counting.{IsShown, IsWriteShown};
 ghost use Rattle.file_store.specs.Inputs.{first_line};
 ghost use Rattle.file_store.specs.Input.{HasLongLine, TakesLine};
-ghost use Rattle.file_store.specs.World.{with_file, HasFirstLine, HasLongFirstLine, HasRights, HasSeed, IsDrawn, IsFirst, IsNow};
+ghost use Rattle.file_store.specs.World.{with_file, HasFirstLine, HasLongFirstLine, HasRights, HasSeed, IsDrawn};
+ghost use Rattle.file_store.specs.World.{IsFirst, IsNow};
 ghost use Rattle.file_store.specs.World.{IsRead, IsThere};
 
 use crate::faults::{FileError, PathError};

@@ -172,7 +172,8 @@ impl MemoryStore {
 
     /// Writes a file, unless the disk is full.
     fn put(&mut self, alloc: Global, path: &str, octets: &[u8]) -> io::Result<()>
-        ensures written { OnOk result (Some (world_of self.new) ≡ Some (with_file path.now octets.now (world_of self.old))) }
+        ensures written { OnOk result (Some (world_of self.new)
+            ≡ Some (with_file path.now octets.now (world_of self.old))) }
         ensures unchanged { OnErr result (Some (world_of self.new) ≡ Some (world_of self.old)) }
         ensures kept { Some (input_of self.new) ≡ Some (input_of self.old) }
         ensures faults { self.new.faults ≡ self.old.faults }

@@ -13,7 +13,8 @@ use Rattle.journal.specs.declared.sealing.SealOutcome.{SealOutcome}
 use Rattle.journal.specs.declared.sealing.SealOutcome.TheVariants.{Doubted, Sealed}
 
 -- the files are sealed, or a start would refuse them and nothing was done, or the call on the files failed
-abbrev pub HasSealed : {E : Type 0} → Place → Found → Found → Option World → Result SealOutcome E → Option World → Type 0
+abbrev pub HasSealed : {E : Type 0} → Place → Found → Found → Option World → Result SealOutcome E → Option World
+    → Type 0
 HasSealed place older newer old (Ok Sealed) new =
     (check : List ℕ) × (seal_of place older newer ≡ Ok check) × Leaves (Seals check true) old new
 HasSealed place older newer old (Ok (Doubted doubt)) new = (seal_of place older newer ≡ Err doubt) × (new ≡ old)

@@ -1,5 +1,6 @@
 -- The files of a journal as bytes, and what each call on them may leave.
-use Rattle.std.specs.Prelude.{◌≡◌, ◌⊎◌, ℕ, ⊤, Bool, true, false, List, [], ◌++◌, Option, Some, None, option_map, Result, Ok, Err}
+use Rattle.std.specs.Prelude.{◌≡◌, ◌⊎◌, ℕ, ⊤, Bool, true, false, List, [], ◌++◌, Option, Some, None, option_map, Result}
+use Rattle.std.specs.Prelude.{Ok, Err}
 use Rattle.std.specs.Prelude.{vec_items}
 use Rattle.journal.specs.declared.files.BeginError.{BeginError}
 use Rattle.journal.specs.declared.files.Begun.{Begun}

@@ -6,7 +6,8 @@ ghost use Rattle.replay.specs.declared.seen.Resumption.{Resumption};
 ghost use Rattle.replay.specs.declared.seen.Seen.{Seen as SeenBefore};
 ghost use Rattle.journal.specs.Appending.{HasAppended, HasBegun, HasMended, HasTail, MayKeep, MayTurn};
 ghost use Rattle.journal.specs.Appending.{HasKeptOne, HasStarted, HasTurned, kept_by};
-ghost use Rattle.journal.specs.Holding.{Counts, HasKept, IsRaised, IsSafe, IsStart, StillThere, is_whole, known_by, with_one};
+ghost use Rattle.journal.specs.Holding.{Counts, HasKept, IsRaised, IsSafe, IsStart, StillThere, is_whole, known_by};
+ghost use Rattle.journal.specs.Holding.{with_one};
 ghost use Rattle.journal.specs.Keeping.{BeginsJournal, begun};
 ghost use Rattle.journal.specs.World.{Leaves, SameSeal};
 

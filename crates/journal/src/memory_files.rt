@@ -1,7 +1,8 @@
 //! The files of a journal, in memory.
 ghost use Rattle.std.specs.Prelude.{◌≡◌, ◌++◌, ℕ, List, [], Some, None, IfOk, OnErr, OnOk, option_map, vec_items};
 ghost use Rattle.std.specs.Result.{is_ok};
-ghost use Rattle.journal.specs.World.{Appends, BeginsAs, Finishes, HasBeside, IsBetween, IsInPlace, IsLeft, IsRead, Leaves, file_in, roomier, with_file, with_more};
+ghost use Rattle.journal.specs.World.{Appends, BeginsAs, Finishes, HasBeside, IsBetween, IsInPlace, IsLeft, IsRead};
+ghost use Rattle.journal.specs.World.{Leaves, file_in, roomier, with_file, with_more};
 ghost use Rattle.journal.specs.MemoryWorld.{memory_world, seal_in};
 
 use crate::files::{BeginError, Begun, FileText, JournalFiles, Left, News, Part};
@@ -236,7 +237,8 @@ impl JournalFiles for MemoryFiles {
 
 /// Appends a text to a file. If it fails, nothing is changed.
 fn push_text(file: &mut Option<Vec<u8>>, text: &[u8]) -> Result<(), MemoryFilesError>
-    ensures ok { OnOk result (option_map vec_items file.new ≡ option_map (λ front. front ++ text.now) (option_map vec_items file.old)) }
+    ensures ok { OnOk result (option_map vec_items file.new
+        ≡ option_map (λ front. front ++ text.now) (option_map vec_items file.old)) }
     ensures err { OnErr result (option_map vec_items file.new ≡ option_map vec_items file.old) }
 {
     match file {

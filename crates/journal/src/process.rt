@@ -3,7 +3,8 @@
 ghost use Rattle.std.specs.Prelude.{◌≡◌, ◌⊎◌, ℤ, Bool, true, List, [], ◌∷◌, Some, IfSome};
 ghost use Rattle.replay.specs.Run.{with_any};
 ghost use Rattle.journal.specs.Holding.{IsStart, known_by};
-ghost use Rattle.journal.specs.Life.{AreCalls, Call, IsBegun, IsCall, IsProcess, IsStage, JournalState, Process, Serves};
+ghost use Rattle.journal.specs.Life.{AreCalls, Call, IsBegun, IsCall, IsProcess, IsStage, JournalState, Process};
+ghost use Rattle.journal.specs.Life.{Serves};
 ghost use Rattle.journal.specs.Finding.{MayFinish};
 ghost use Rattle.journal.specs.Life.{seen_asked, seen_in, state_of};
 ghost use Rattle.journal.specs.Life.Call.{Keep, Mend};

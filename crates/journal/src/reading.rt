@@ -132,7 +132,8 @@ fn take_entries(
     at: KTime,
     floor: KTime,
 ) -> Result<Entries, JournalError>
-    ensures found { IfOk result (λ t. (all : List Listed) × HaveEntries reader.old before at floor all t.entries.items t.check t.latest t.high) }
+    ensures found { IfOk result (λ t. (all : List Listed)
+        × HaveEntries reader.old before at floor all t.entries.items t.check t.latest t.high) }
     ensures only { (es : List Listed) → HaveElements es → reader.old ≡ chained before es
         → UnlessMemory result (λ t. t.entries.items ≡ recent (latest_of at es) es) }
 {

@@ -21,7 +21,8 @@ use Rattle.kadm.specs.declared.writing.WriteCommand.TheVariants as writes
 use Rattle.command_line.specs.declared.status.Status.{Status}
 use Rattle.command_line.specs.declared.status.Status.TheVariants as statuses
 use Rattle.kadm_changes.specs.declared.stop.CommandError.{CommandError}
-use Rattle.kadm_changes.specs.declared.stop.CommandError.TheVariants.{Usage, LineRefused, LineFailed, NotInBatch, Refused, File}
+use Rattle.kadm_changes.specs.declared.stop.CommandError.TheVariants.{Usage, LineRefused, LineFailed, NotInBatch}
+use Rattle.kadm_changes.specs.declared.stop.CommandError.TheVariants.{Refused, File}
 
 -- refused or failed
 abbrev pub IsNotDone : Status → Type 0
@@ -78,7 +79,8 @@ IsDone before command after = IsKindDone before command.target command.kind afte
 
 -- the command is a batch that keeps going, and some of its lines were done
 abbrev pub IsWriteTried : Option World → Target → WriteCommand → Option World → Type 0
-IsWriteTried before target write after = (write ≡ writes.Batch true) × Tried before target.whole_realm target.db.now after
+IsWriteTried before target write after = (write ≡ writes.Batch true)
+    × Tried before target.whole_realm target.db.now after
 
 -- all was done, or some lines of a batch were
 abbrev pub IsWriteDone : Option World → Target → WriteCommand → Bool → Option World → Type 0
@@ -114,8 +116,8 @@ IsStopped words before stop after =
     (after ≡ before) ⊎ (IsFailed stop × (IsSpelledDone words before after ⊎ IsSpelledTried words before after))
 
 -- `Done`: what the words ask for was done, or they ask for help. `Refused` and `Usage`: the files are unchanged, unless
--- the words ask for a batch that keeps going. `Failed`: they are unchanged; or they have what was asked for, and then at
--- most the output failed, or the sync of a folder
+-- the words ask for a batch that keeps going. `Failed`: they are unchanged; or they have what was asked for, and then
+-- at most the output failed, or the sync of a folder
 abbrev pub IsEnd : List Text → Option World → Status → Option World → Type 0
 IsEnd words before statuses.Done after =
     ((asks_help words ≡ true) × (after ≡ before)) ⊎ IsSpelledDone words before after

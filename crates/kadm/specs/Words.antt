@@ -153,7 +153,8 @@ IsUpdateSpelled words (updates.Row to) =
 IsUpdateSpelled words (updates.Changes how) =
     (is_some (value_of words (codes "--name")) ≡ true) × IsChangeSpelled words how
 IsUpdateSpelled words (updates.Migrate users_are_no_services) =
-    (command_of words ≡ Some (codes "migrate")) × (users_are_no_services ≡ has_flag words (codes "--users-are-no-services"))
+    (command_of words ≡ Some (codes "migrate"))
+    × (users_are_no_services ≡ has_flag words (codes "--users-are-no-services"))
 
 abbrev pub IsWriteSpelled : List Text → WriteCommand → Type 0
 IsWriteSpelled words (writes.Init new) =

@@ -53,7 +53,8 @@ fn push_setting<'a>(
     settings: &mut Vec<AskedSetting<'a>>,
     setting: Option<AskedSetting<'a>>,
 ) -> Result<(), AllocError>
-    ensures { OnOk result (all_asked settings.new.items ≡ all_asked settings.old.items ++ listed (option_map asked_of setting.entry)) }
+    ensures { OnOk result (all_asked settings.new.items
+        ≡ all_asked settings.old.items ++ listed (option_map asked_of setting.entry)) }
 {
     if let Some(setting) = setting {
         settings.push(setting)?;

@@ -90,7 +90,8 @@ pub(crate) fn run_batch<'p, T: Store, W: Write, E: Write>(
     // Promise (done, unchanged): `batch`: the same, with the changes of all lines one after another, each the change
     // that its words spell for the database of the batch. If one is not done, the file is as it was.
     // Promise: with `--keep-going` each line of a batch is done, or leaves the database as it was.
-    ensures done { IfOk result (λ end. IsBatchDone (T.world store.old) target.now.whole_realm target.now.db.now keep_going end.whole (T.world store.new)) }
+    ensures done { IfOk result (λ end. IsBatchDone
+        (T.world store.old) target.now.whole_realm target.now.db.now keep_going end.whole (T.world store.new)) }
     // Promise, as make_update of kadm_changes: a command that ends ..
     ensures unchanged { OnErr result (T.world store.new ≡ T.world store.old) }
 {
@@ -252,7 +253,8 @@ fn run_lines<T: Store, W: Write, E: Write>(
     draft: &mut Draft,
 ) -> Result<bool, CommandError<'static>>
     requires read { All (IsLineRead (T.world store.old)) batch.now.lines.now }
-    ensures run { IfOk result (λ whole. IsRun (T.world store.old) batch.now.whole_realm batch.now.db.now batch.now.keep_going
+    ensures run { IfOk result (λ whole. IsRun
+        (T.world store.old) batch.now.whole_realm batch.now.db.now batch.now.keep_going
         (line_texts batch.now.lines.now) draft.old.database draft.new.database whole) }
     ensures unchanged { T.world store.new ≡ T.world store.old }
 {
@@ -272,7 +274,8 @@ fn run_all<T: Store, W: Write, E: Write>(
 ) -> Result<(), CommandError<'static>>
     requires read { All (IsLineRead (T.world store.old)) batch.now.lines.now }
     // Promise (done, unchanged), as run_batch: `batch`: the same, with ..
-    ensures done { OnOk result (AreDone (T.world store.old) batch.now.whole_realm batch.now.db.now (line_texts batch.now.lines.now)
+    ensures done { OnOk result (AreDone (T.world store.old) batch.now.whole_realm batch.now.db.now
+        (line_texts batch.now.lines.now)
         draft.old.database draft.new.database) }
     ensures unchanged { T.world store.new ≡ T.world store.old }
 {
@@ -310,7 +313,8 @@ fn run_each<T: Store, W: Write, E: Write>(
 ) -> Result<bool, CommandError<'static>>
     requires read { All (IsLineRead (T.world store.old)) batch.now.lines.now }
     // Promise (run, unchanged), as run_batch: with `--keep-going` each line ..
-    ensures run { IfOk result (λ whole. IsRun (T.world store.old) batch.now.whole_realm batch.now.db.now true (line_texts batch.now.lines.now)
+    ensures run { IfOk result (λ whole. IsRun (T.world store.old) batch.now.whole_realm batch.now.db.now true
+        (line_texts batch.now.lines.now)
         draft.old.database draft.new.database whole) }
     ensures unchanged { T.world store.new ≡ T.world store.old }
 {
@@ -334,7 +338,8 @@ fn try_line<T: Store, W: Write, E: Write>(
     draft: &mut Draft,
 ) -> Result<bool, CommandError<'static>>
     requires read { IsLineRead (T.world store.old) line.now }
-    ensures turn { IfOk result (λ whole_then. IsTurn (T.world store.old) batch.now.whole_realm batch.now.db.now (line_text line.now)
+    ensures turn { IfOk result (λ whole_then. IsTurn (T.world store.old) batch.now.whole_realm batch.now.db.now
+        (line_text line.now)
         whole draft.old.database draft.new.database whole_then) }
     ensures unchanged { T.world store.new ≡ T.world store.old }
 {
@@ -413,7 +418,8 @@ fn run_words<'a, T: Store, E: Write>(
     found: Option<&FoundPassword>,
 ) -> Result<Option<Note>, CommandError<'a>>
     requires found { IsFoundIn (T.world store.old) found }
-    ensures done { OnOk result (IsSpelledMade (T.world store.old) whole (texts subject.now.words.now) draft.old.database draft.new.database) }
+    ensures done { OnOk result (IsSpelledMade (T.world store.old) whole
+        (texts subject.now.words.now) draft.old.database draft.new.database) }
     ensures unchanged { T.world store.new ≡ T.world store.old }
 {
     let matches = read_args(draft.alloc, subject.words);
@@ -468,7 +474,8 @@ fn run_command<'a, T: Store>(
     found: Option<&FoundPassword>,
 ) -> Result<Option<Note>, CommandError<'a>>
     requires found { IsFoundIn (T.world store.old) found }
-    ensures done { OnOk result (IsCommandMade (T.world store.old) whole command.now draft.old.database draft.new.database) }
+    ensures done { OnOk result (IsCommandMade
+        (T.world store.old) whole command.now draft.old.database draft.new.database) }
     ensures unchanged { T.world store.new ≡ T.world store.old }
 {
     match command.kind {

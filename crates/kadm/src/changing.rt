@@ -3,7 +3,8 @@
 ghost use Rattle.std.specs.Prelude.{◌≡◌, IfOk, IfSome, Some, codes};
 ghost use Rattle.kadm_changes.specs.Texts.{path_of, texts};
 ghost use Rattle.kadm.specs.Values.{value_of};
-ghost use Rattle.kadm.specs.Words.{IsChangeSpelled, IsPasswordGrant, IsRandomGrant, IsRowSpelled, IsWriteSpelled, command_of};
+ghost use Rattle.kadm.specs.Words.{IsChangeSpelled, IsPasswordGrant, IsRandomGrant, IsRowSpelled, IsWriteSpelled};
+ghost use Rattle.kadm.specs.Words.{command_of};
 
 use crate::options::{
     ANY_PASSWORDS, DATABASE, KEEPS_MODE, NAME, NAMES, PASSWORD, REPLACES, TYPES, WHOLE_REALM,
@@ -245,7 +246,8 @@ fn row_change<'a>(
 /// Returns the keys of the principal to add. Fails if both random keys and a password are asked for, or a setting is
 /// invalid.
 fn added<'a>(words: &[&'a str]) -> Result<RowUpdate<'a>, UsageError<'a>>
-    ensures { command_of (texts words.now) ≡ Some (codes "add") → IfOk result (λ how. IsRowSpelled (texts words.now) how) }
+    ensures { command_of (texts words.now) ≡ Some (codes "add")
+        → IfOk result (λ how. IsRowSpelled (texts words.now) how) }
 {
     if let Some(fault) = setting_fault(words) {
         return Err(fault);
@@ -332,7 +334,8 @@ fn random_grant(words: &[&str]) -> Grant
 
 /// Returns what an import writes: a whole realm, or one principal. Fails if the options are of both.
 fn import_args<'a>(words: &'a [&'a str]) -> Result<WriteCommand<'a>, UsageError<'a>>
-    ensures { command_of (texts words.now) ≡ Some (codes "import") → IfOk result (λ write. IsWriteSpelled (texts words.now) write) }
+    ensures { command_of (texts words.now) ≡ Some (codes "import")
+        → IfOk result (λ write. IsWriteSpelled (texts words.now) write) }
 {
     let Some(dump) = option_value(words, "--dump") else {
         return import_row(words);
@@ -349,7 +352,8 @@ fn import_args<'a>(words: &'a [&'a str]) -> Result<WriteCommand<'a>, UsageError<
 
 /// Returns the import of one principal.
 fn import_row<'a>(words: &'a [&'a str]) -> Result<WriteCommand<'a>, UsageError<'a>>
-    ensures { command_of (texts words.now) ≡ Some (codes "import") → IfOk result (λ write. IsWriteSpelled (texts words.now) write) }
+    ensures { command_of (texts words.now) ≡ Some (codes "import")
+        → IfOk result (λ write. IsWriteSpelled (texts words.now) write) }
 {
     if has_flag(words, "--skip") || is_given(words, "--stash") {
         return Err(UsageError::BadValue(NO_IMPORT));
@@ -377,7 +381,8 @@ fn named_changes<'a>(
 
 /// Returns which versions to drop. Fails unless exactly one of `--version` and `--older` is given.
 fn drop_args<'a>(words: &[&'a str]) -> Result<ChangeArgs, UsageError<'a>>
-    ensures { command_of (texts words.now) ≡ Some (codes "drop") → IfOk result (λ how. IsChangeSpelled (texts words.now) how) }
+    ensures { command_of (texts words.now) ≡ Some (codes "drop")
+        → IfOk result (λ how. IsChangeSpelled (texts words.now) how) }
 {
     match (option_value(words, "--version"), has_flag(words, "--older")) {
         (Some(version), false) => match number_u32(version) {
@@ -391,7 +396,8 @@ fn drop_args<'a>(words: &[&'a str]) -> Result<ChangeArgs, UsageError<'a>>
 
 /// Returns the change by the settings that the words ask for. Fails if there is none, or one is invalid.
 fn policy_args<'a>(words: &[&'a str]) -> Result<ChangeArgs, UsageError<'a>>
-    ensures { command_of (texts words.now) ≡ Some (codes "policy") → IfOk result (λ how. IsChangeSpelled (texts words.now) how) }
+    ensures { command_of (texts words.now) ≡ Some (codes "policy")
+        → IfOk result (λ how. IsChangeSpelled (texts words.now) how) }
 {
     if let Some(fault) = setting_fault(words) {
         return Err(fault);
@@ -404,7 +410,8 @@ fn policy_args<'a>(words: &[&'a str]) -> Result<ChangeArgs, UsageError<'a>>
 
 /// Returns whether a batch keeps going.
 fn batch_args<'a>(words: &'a [&'a str]) -> Result<WriteCommand<'a>, UsageError<'a>>
-    ensures { command_of (texts words.now) ≡ Some (codes "batch") → IfOk result (λ write. IsWriteSpelled (texts words.now) write) }
+    ensures { command_of (texts words.now) ≡ Some (codes "batch")
+        → IfOk result (λ write. IsWriteSpelled (texts words.now) write) }
 {
     Ok(WriteCommand::Batch {
         keep_going: has_flag(words, "--keep-going"),

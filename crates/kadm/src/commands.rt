@@ -97,7 +97,8 @@ fn read_target<'a>(alloc: Global, words: &'a [&'a str]) -> Result<Target<'a>, Us
     ensures db { IfOk result (λ target. value_of (texts words.now) (codes "--db") ≡ Some target.db.now) }
     ensures names { IfOk result (λ target. texts target.names.items ≡ values_of (texts words.now) (codes "--name")) }
     ensures settings { IfOk result (λ target. all_asked target.settings.items ≡ settings_of (texts words.now)) }
-    ensures whole_realm { IfOk result (λ target. target.whole_realm ≡ has_flag (texts words.now) (codes "--whole-realm")) }
+    ensures whole_realm { IfOk result (λ target. target.whole_realm
+        ≡ has_flag (texts words.now) (codes "--whole-realm")) }
 {
     let db = required(words, DB, NO_COMMAND)?;
     let etypes = key_types(alloc, words)?;
@@ -145,7 +146,8 @@ fn read_key_types(alloc: Global, words: &[&str]) -> Result<Option<Vec<Etype>>, A
 
 /// Returns what the command does.
 fn command_kind<'a>(command: &str, words: &'a [&'a str]) -> Result<CommandKind<'a>, UsageError<'a>>
-    ensures { command_of (texts words.now) ≡ Some command.now → IfOk result (λ kind. IsKindSpelled (texts words.now) kind) }
+    ensures { command_of (texts words.now) ≡ Some command.now
+        → IfOk result (λ kind. IsKindSpelled (texts words.now) kind) }
 {
     match print_command(command, words) {
         Some(print) => Ok(CommandKind::Print(print)),

@@ -83,7 +83,8 @@ pub(crate) enum PrintCommand<'a> {
 
 /// Returns what the command prints. `None` if it is a command that writes.
 pub(crate) fn print_command<'a>(command: &str, words: &'a [&'a str]) -> Option<PrintCommand<'a>>
-    ensures { command_of (texts words.now) ≡ Some command.now → IfSome result (λ print. IsPrintSpelled (texts words.now) print) }
+    ensures { command_of (texts words.now) ≡ Some command.now
+        → IfSome result (λ print. IsPrintSpelled (texts words.now) print) }
 {
     match command {
         "list" => Some(PrintCommand::List(ListArgs {

@@ -49,12 +49,14 @@ pub(crate) fn kadm_run<T: Store, W: Write + Drop, E: Write + Drop>(
     // Promise: with `Refused` some lines of a batch may be done, if the words ask for a batch that keeps going.
     // Promise: with `Failed` all may be done, or what such a batch does, if only the printing or the sync of a folder
     // failed.
-    ensures ended { IsEnd (with_db (path_of line.entry.db) (with_names (map string_bytes line.entry.args.now))) (T.world store.old) result (T.world store.new) }
+    ensures ended { IsEnd (with_db (path_of line.entry.db) (with_names (map string_bytes line.entry.args.now)))
+        (T.world store.old) result (T.world store.new) }
     // Promise: without `--whole-realm` no command keeps out who could log in, whatever its status, a batch and an
     // import too.
     // Promise: without it, `krbtgt/R` is disabled, no service, expired at the clock's second or limited to tickets of
     // less than 300 seconds only if it was before; a new database has none of these.
-    ensures open { KeepsOpen (with_db (path_of line.entry.db) (with_names (map string_bytes line.entry.args.now))) (T.world store.old) (T.world store.new) }
+    ensures open { KeepsOpen (with_db (path_of line.entry.db) (with_names (map string_bytes line.entry.args.now)))
+        (T.world store.old) (T.world store.new) }
 {
     let Ok(words) = words_with_db(alloc, line) else {
         return Status::Failed;
@@ -83,7 +85,8 @@ pub(crate) fn kadm_run<T: Store, W: Write + Drop, E: Write + Drop>(
 /// Returns the words of a command line, with `--name` before its names, and with the database that is its default if
 /// they name none.
 fn words_with_db<'a>(alloc: Global, line: CommandLine<'a>) -> Result<Vec<&'a str>, AllocError>
-    ensures { IfOk result (λ words. texts words.items ≡ with_db (path_of line.entry.db) (with_names (map string_bytes line.entry.args.now))) }
+    ensures { IfOk result (λ words. texts words.items
+        ≡ with_db (path_of line.entry.db) (with_names (map string_bytes line.entry.args.now))) }
 {
     let words = words_as_texts(alloc, line.args)?;
     let named = with_names(alloc, &words)?;
@@ -118,8 +121,10 @@ fn run_words<'a, T: Store, W: Write, E: Write>(
     store: &mut T,
     words: &'a [&'a str],
 ) -> Result<Status, CommandError<'a>>
-    ensures done { IfOk result (λ status. IsEnd (texts words.entry.now) (T.world store.old) status (T.world store.new)) }
-    ensures stopped { IfErr result (λ stop. IsStopped (texts words.entry.now) (T.world store.old) stop (T.world store.new)) }
+    ensures done { IfOk result (λ status. IsEnd (texts words.entry.now) (T.world store.old) status
+        (T.world store.new)) }
+    ensures stopped { IfErr result (λ stop. IsStopped (texts words.entry.now) (T.world store.old) stop
+        (T.world store.new)) }
 {
     if asks(context, words)? {
         context.out.flush()?;

@@ -1,10 +1,12 @@
 //! The words of a command line.
-ghost use Rattle.std.specs.Prelude.{◌≡◌, ◌++◌, [], IfOk, OnOk, bytes_eq, false, codes, is_some, map, option_map, string_bytes};
+ghost use Rattle.std.specs.Prelude.{◌≡◌, ◌++◌, [], IfOk, OnOk, bytes_eq, false, codes, is_some, map, option_map};
+ghost use Rattle.std.specs.Prelude.{string_bytes};
 ghost use Rattle.std.specs.Prelude.{unwrap_or};
 ghost use Rattle.kadm_changes.specs.Texts.{path_of, texts};
 ghost use Rattle.kadm.specs.Values.{value_of};
 ghost use Rattle.kadm.specs.Words.{asks_help, batch_words, behind_command, behind_names, command_of, in_batch, is_name};
-ghost use Rattle.kadm.specs.Words.{is_option, is_value_next, lacks_db, named, spelled, takes_names, takes_text, takes_value, with_db, with_names};
+ghost use Rattle.kadm.specs.Words.{is_option, is_value_next, lacks_db, named, spelled, takes_names, takes_text};
+ghost use Rattle.kadm.specs.Words.{takes_value, with_db, with_names};
 
 use crate::values::{DB, has_flag, option_value};
 use std::alloc::{AllocError, Global};

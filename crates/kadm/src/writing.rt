@@ -115,7 +115,8 @@ pub(crate) fn write_command<'a>(
     command: &str,
     words: &'a [&'a str],
 ) -> Result<WriteCommand<'a>, UsageError<'a>>
-    ensures { command_of (texts words.now) ≡ Some command.now → IfOk result (λ write. IsWriteSpelled (texts words.now) write) }
+    ensures { command_of (texts words.now) ≡ Some command.now
+        → IfOk result (λ write. IsWriteSpelled (texts words.now) write) }
 {
     if let Some(change) = read_change(command, words)? {
         return Ok(change);
@@ -132,7 +133,8 @@ pub(crate) fn write_command<'a>(
 
 /// Returns the realm to make, and where the seed of its keys is.
 fn init_args<'a>(words: &'a [&'a str]) -> Result<WriteCommand<'a>, UsageError<'a>>
-    ensures { command_of (texts words.now) ≡ Some (codes "init") → IfOk result (λ write. IsWriteSpelled (texts words.now) write) }
+    ensures { command_of (texts words.now) ≡ Some (codes "init")
+        → IfOk result (λ write. IsWriteSpelled (texts words.now) write) }
 {
     Ok(WriteCommand::Init(InitArgs {
         realm: required(words, "--realm", NO_COMMAND)?,
@@ -142,7 +144,8 @@ fn init_args<'a>(words: &'a [&'a str]) -> Result<WriteCommand<'a>, UsageError<'a
 
 /// Returns which keytab to write. Fails if its path is the database's, which it would replace.
 fn keytab_args<'a>(words: &'a [&'a str]) -> Result<WriteCommand<'a>, UsageError<'a>>
-    ensures { command_of (texts words.now) ≡ Some (codes "keytab") → IfOk result (λ write. IsWriteSpelled (texts words.now) write) }
+    ensures { command_of (texts words.now) ≡ Some (codes "keytab")
+        → IfOk result (λ write. IsWriteSpelled (texts words.now) write) }
 {
     let out = required(words, "--out", NO_KEYTAB)?;
     if out == required(words, DB, NO_KEYTAB)? {
@@ -171,7 +174,8 @@ pub(crate) fn write_files<'a, T: Store, W: Write, E: Write>(
     target: &Target<'a>,
     write: WriteCommand<'a>,
 ) -> Result<Outcome, CommandError<'a>>
-    ensures done { IfOk result (λ end. IsWriteDone (T.world store.old) target.now write.entry end.whole (T.world store.new)) }
+    ensures done { IfOk result (λ end. IsWriteDone (T.world store.old) target.now write.entry end.whole
+        (T.world store.new)) }
     // Promise, as make_update of kadm_changes: a command that ends ..
     ensures unchanged { OnErr result (T.world store.new ≡ T.world store.old) }
 {

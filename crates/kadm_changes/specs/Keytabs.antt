@@ -25,7 +25,8 @@ lock_of path = path ++ codes ".lock"
 -- the path has no database
 abbrev pub IsNoDatabase : Option World → List ℕ → Type 0
 IsNoDatabase world path =
-    IfSome world (λ held. (text : List ℕ) → (p : Principals) → held.files path ≡ Some text → text_database text ≡ Ok p → ⊥)
+    IfSome world (λ held. (text : List ℕ) → (p : Principals) → held.files path ≡ Some text → text_database text ≡ Ok p
+    → ⊥)
 
 -- how a file begins that a keytab may replace: it is empty, or has the first byte of a keytab
 abbrev pub IsKeytabStart : Option ℕ → Type 0
@@ -73,7 +74,8 @@ IsBehind None new octets = octets ≡ new
 IsBehind (Some old) new octets = (size : ℕ) × (octets ≡ take size old ++ drop 2 new)
 
 -- the current keys of a principal that exists, after what comes before them
-pub record IsKeytabFor (world : Option World) (to : KeytabArgs) (who : Components) (p : Principals) (octets : List ℕ) : Type 0 where
+pub record IsKeytabFor (world : Option World) (to : KeytabArgs) (who : Components) (p : Principals)
+    (octets : List ℕ) : Type 0 where
   pub row : Row
   pub found : get p.rows who ≡ Some row
   pub name : Name

@@ -1,5 +1,6 @@
 -- What keeps everybody in a realm from logging in, by the policy of krbtgt/REALM.
-use Rattle.std.specs.Prelude.{◌≡◌, ◌<◌, ◌≤ℤ◌, ◌<ℤ◌, ℕ, ℤ, pos, Bool, true, false, Option, Some, None, IfSome, List, option_map, unwrap_or, Result, Ok, Err, ⊤}
+use Rattle.std.specs.Prelude.{◌≡◌, ◌<◌, ◌≤ℤ◌, ◌<ℤ◌, ℕ, ℤ, pos, Bool, true, false, Option, Some, None, IfSome, List}
+use Rattle.std.specs.Prelude.{option_map, unwrap_or, Result, Ok, Err, ⊤}
 use Rattle.std.specs.FinMap.{get}
 use Rattle.krb_fields.specs.Granting.{tgs_principal}
 use Rattle.krb_fields.specs.Name.{Components}
@@ -26,8 +27,8 @@ abbrev pub IsAhead : ℕ → Option ℤ → Type 0
 IsAhead now None = ⊤
 IsAhead now (Some expires) = pos now <ℤ expires
 
--- the second policy of krbtgt/REALM keeps nobody out whom the first let in: it is disabled, denied as a service, expired,
--- or has tickets of less than five minutes only if the first was, or had
+-- the second policy of krbtgt/REALM keeps nobody out whom the first let in: it is disabled, denied as a service,
+-- expired, or has tickets of less than five minutes only if the first was, or had
 pub record IsAsOpen (now : ℕ) (old new : Policy) : Type 0 where
   pub enabled : new.disabled ≡ true → old.disabled ≡ true
   pub served : new.service ≡ false → old.service ≡ false

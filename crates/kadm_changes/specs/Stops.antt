@@ -2,7 +2,8 @@
 use Rattle.file_store.specs.declared.faults.FileError.{FileError}
 use Rattle.file_store.specs.declared.faults.FileError.TheVariants.{LongFile, ShortSeed, Failed}
 use Rattle.kadm_changes.specs.declared.stop.CommandError.{CommandError}
-use Rattle.kadm_changes.specs.declared.stop.CommandError.TheVariants.{Usage, LineRefused, LineFailed, NotInBatch, Refused, File}
+use Rattle.kadm_changes.specs.declared.stop.CommandError.TheVariants.{Usage, LineRefused, LineFailed, NotInBatch}
+use Rattle.kadm_changes.specs.declared.stop.CommandError.TheVariants.{Refused, File}
 
 abbrev pub IsFailure : FileError → Type 0
 IsFailure LongFile = ⊥

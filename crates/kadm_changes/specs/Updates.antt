@@ -59,18 +59,21 @@ IsRowGiven world etypes pass (rows.Random to) who p new = GivesRandom world etyp
 IsRowGiven world etypes pass (rows.Import keytab) who p new = IsImported world etypes keytab.now who p new
 
 -- a principal is given keys, and then these settings
-abbrev pub IsRowChanged : Option World → List Etype → List Asked → List ℕ → RowUpdate → Components → Principals → Principals → Type 0
+abbrev pub IsRowChanged : Option World → List Etype → List Asked → List ℕ → RowUpdate → Components → Principals
+    → Principals → Type 0
 IsRowChanged world etypes settings pass how who p new =
     (given : Principals) × IsRowGiven world etypes pass how who p given × AreSet world settings who given new
 
 -- the same, and nobody is kept out of the realm: krbtgt/REALM gets no keys of a password, and stays as open as it was
-abbrev pub IsRowKept : Option World → Bool → List Etype → List Asked → List ℕ → RowUpdate → Components → Principals → Principals → Type 0
+abbrev pub IsRowKept : Option World → Bool → List Etype → List Asked → List ℕ → RowUpdate → Components → Principals
+    → Principals → Type 0
 IsRowKept world whole etypes settings pass how who p new =
     IsRowChanged world etypes settings pass how who p new × MayHaveKeys whole new.realm who how
     × KeepsRealm whole world (tgs_policy p) (tgs_policy new)
 
 -- the row of the principal that a text names is changed
-pub record IsRowUpdated (world : Option World) (whole : Bool) (target : Target) (to : RowArgs) (p : Principals) (new : Principals) : Type 0 where
+pub record IsRowUpdated (world : Option World) (whole : Bool) (target : Target) (to : RowArgs) (p : Principals)
+    (new : Principals) : Type 0 where
   pub who : Components
   pub spelled : IsNameText who to.name.now
   pub pass : List ℕ
@@ -90,4 +93,5 @@ IsMigrated world whole users_are_no_services p new =
 abbrev pub IsUpdated : Option World → Bool → Target → Update → Principals → Principals → Type 0
 IsUpdated world whole target (updates.Row to) p new = IsRowUpdated world whole target to p new
 IsUpdated world whole target (updates.Changes how) p new = AreKept world whole target how p new
-IsUpdated world whole target (updates.Migrate users_are_no_services) p new = IsMigrated world whole users_are_no_services p new
+IsUpdated world whole target (updates.Migrate users_are_no_services) p new =
+    IsMigrated world whole users_are_no_services p new

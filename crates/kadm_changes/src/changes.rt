@@ -56,7 +56,8 @@ pub fn make_realm<'p, T: Store, W: Write, E: Write>(
     new: InitArgs<'p>,
 ) -> Result<Written, CommandError<'p>>
     // Promise: `init`: there was no file, and now there is the first database of the realm, with keys of the seed.
-    ensures done { OnOk result (MadeRealm (T.world store.old) target.now.db.now target.now.etypes.items new.entry.realm.now
+    ensures done { OnOk result (MadeRealm (T.world store.old) target.now.db.now target.now.etypes.items
+        new.entry.realm.now
         (path_of new.entry.seed) (T.world store.new)) }
     // Promise, as make_update: a command that ends ..
     ensures unchanged { OnErr result (T.world store.new ≡ T.world store.old) }
@@ -134,7 +135,8 @@ fn change_named<'p, T: Store>(
     how: ChangeArgs,
     name: &'p str,
 ) -> Result<(), CommandError<'p>>
-    ensures changed { OnOk result (IsNamedChanged (T.world store.old) (all_asked target.now.settings.items) how name.entry.now
+    ensures changed { OnOk result (IsNamedChanged (T.world store.old)
+        (all_asked target.now.settings.items) how name.entry.now
         draft.old.database draft.new.database) }
     ensures unchanged { T.world store.new ≡ T.world store.old }
 {
@@ -168,7 +170,8 @@ fn change<'p, T: Store>(
     target: &Target<'p>,
     how: ChangeArgs,
 ) -> Result<(), CommandError<'p>>
-    ensures changed { OnOk result (IsChanged (T.world store.old) (all_asked target.now.settings.items) how who.now.components
+    ensures changed { OnOk result (IsChanged (T.world store.old)
+        (all_asked target.now.settings.items) how who.now.components
         draft.old.database draft.new.database) }
     ensures unchanged { T.world store.new ≡ T.world store.old }
 {
@@ -207,7 +210,8 @@ pub(crate) fn set_all<'p, T: Store>(
 
 /// Drops the keys of an old version.
 fn drop_keys(draft: &mut Draft, who: &Name, version: u32) -> Result<(), CommandError<'static>>
-    ensures { OnOk result (Makes draft.old.database who.now.components (row_changes.DropKeys version) draft.new.database) }
+    ensures { OnOk result (Makes draft.old.database who.now.components
+        (row_changes.DropKeys version) draft.new.database) }
 {
     if lacks_version(&draft.database, who, version) {
         return Err(CommandError::refused(Part::Name, CommandRefusal::NoVersion));
@@ -249,7 +253,8 @@ fn setting<'p, T: Store>(
     store: &mut T,
     asked: AskedSetting<'p>,
 ) -> Result<Setting, CommandError<'p>>
-    ensures setting { IfOk result (λ setting. IsValueOf (T.world store.old) setting asked.entry.field.now asked.entry.value.now) }
+    ensures setting { IfOk result (λ setting. IsValueOf
+        (T.world store.old) setting asked.entry.field.now asked.entry.value.now) }
     ensures unchanged { T.world store.new ≡ T.world store.old }
 {
     if let Some(setting) = parse_setting(asked.field, asked.value) {

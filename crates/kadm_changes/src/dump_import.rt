@@ -57,7 +57,8 @@ pub fn import_dump<'p, T: Store, W: Write, E: Write>(
     // decrypted with the master key in the stash file, and the policy that its numbers say.
     // Promise: without `--skip` nothing of a principal is lost, but for `K/M`, `kadmin/..` and `kiprop/..` (that each
     // dump is read, and which fault a refused one gets, is tested).
-    ensures done { OnOk result (MadeFromDump (T.world store.old) target.now.whole_realm target.now.db.now from.entry (T.world store.new)) }
+    ensures done { OnOk result (MadeFromDump (T.world store.old) target.now.whole_realm target.now.db.now from.entry
+        (T.world store.new)) }
     // Promise, as make_update: a command that ends ..
     ensures unchanged { OnErr result (T.world store.new ≡ T.world store.old) }
 {

@@ -89,7 +89,8 @@ pub(crate) fn give_password<'p, T: Store>(
 ) -> Result<(), CommandError<'p>>
     // Promise: `passwd` and `add`: keys of the password and the default salt, given as the words say.
     // Promise: besides, a `password_expires` that is past by the clock is cleared, and any other stays.
-    ensures given { OnOk result (GivesPassword (T.world store.old) to.now.etypes.now to.now.pass.now grant to.now.who.now.components
+    ensures given { OnOk result (GivesPassword
+        (T.world store.old) to.now.etypes.now to.now.pass.now grant to.now.who.now.components
         draft.old.database draft.new.database) }
     // Promise, as lock_database: what a command reads, ..
     ensures unchanged { T.world store.new ≡ T.world store.old }
@@ -108,7 +109,8 @@ pub(crate) fn give_random<'p, T: Store>(
 ) -> Result<(), CommandError<'p>>
     // Promise: `random` and `add --random`: the same with keys drawn from the seed's 32 bytes, which are the file's
     // first or the store's own.
-    ensures given { OnOk result (GivesRandom (T.world store.old) to.now.etypes.now (path_of random.entry.seed) random.entry.grant
+    ensures given { OnOk result (GivesRandom (T.world store.old) to.now.etypes.now
+        (path_of random.entry.seed) random.entry.grant
         to.now.who.now.components draft.old.database draft.new.database) }
     // Promise, as lock_database: what a command reads, ..
     ensures unchanged { T.world store.new ≡ T.world store.old }
@@ -121,7 +123,8 @@ pub(crate) fn give_random<'p, T: Store>(
 /// Derives the keys of a password, with the principal's default salt.
 fn derive_keys(draft: &Draft, to: &Recipient<'_>) -> Result<KeyList, AllocError>
     ensures { IfOk result (λ keys. keys ≡ map
-        (password_key to.now.pass.now (default_salt draft.now.database.realm to.now.who.now.components)) to.now.etypes.now) }
+        (password_key to.now.pass.now (default_salt draft.now.database.realm to.now.who.now.components))
+        to.now.etypes.now) }
 {
     let salt = to.who.salt(draft.alloc, draft.database.realm())?;
     password_keys(draft.alloc, to.etypes, to.pass, salt.as_slice())
@@ -219,7 +222,8 @@ fn clear_expiry<'p, T: Store>(
     draft: &mut Draft,
     who: &Name,
 ) -> Result<(), CommandError<'p>>
-    ensures cleared { OnOk result (IsCleared (T.world store.old) who.now.components draft.old.database draft.new.database) }
+    ensures cleared { OnOk result (IsCleared
+        (T.world store.old) who.now.components draft.old.database draft.new.database) }
     ensures unchanged { T.world store.new ≡ T.world store.old }
 {
     let Some((policy, expires)) = expiring(&draft.database, who) else {
@@ -237,7 +241,8 @@ fn clear_expiry<'p, T: Store>(
 
 /// Returns the policy of a principal whose password expires, and when it does.
 pub(crate) fn expiring(database: &Database, who: &Name) -> Option<(Policy, Second)>
-    ensures some { IfSome result (λ found. (row : rows.Row) × (finite.get database.now.rows who.now.components ≡ Some row)
+    ensures some { IfSome result (λ found. (row : rows.Row)
+        × (finite.get database.now.rows who.now.components ≡ Some row)
         × (row.policy ≡ found.0) × (row.policy.password_expires ≡ Some found.1)) }
     ensures none { IfNone result (password_expiry (finite.get database.now.rows who.now.components) ≡ None) }
 {

@@ -24,7 +24,8 @@ pub(crate) fn import<'p, T: Store>(
     // Promise: `import` adds a principal that is not there, with the keys that the keytab has of it in the database's
     // realm, of the types asked for.
     // Promise: an imported principal has every version that has such a key, with its number.
-    ensures imported { OnOk result (IsImported (T.world store.old) to.now.etypes.now keytab.now to.now.who.now.components
+    ensures imported { OnOk result (IsImported
+        (T.world store.old) to.now.etypes.now keytab.now to.now.who.now.components
         draft.old.database draft.new.database) }
     // Promise, as lock_database: what a command reads, ..
     ensures unchanged { T.world store.new ≡ T.world store.old }

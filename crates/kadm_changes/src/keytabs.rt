@@ -1,7 +1,8 @@
 //! The command that writes a keytab.
 ghost use Rattle.std.specs.Prelude.{◌≡◌, IfOk, IsFalse, OnOk, OnErr, option_map};
 ghost use Rattle.file_store.specs.World.{IsRead, IsThere, with_file};
-ghost use Rattle.kadm_changes.specs.Keytabs.{IsBehind, IsFreePath, IsKeytabFor, IsKeytabStart, IsNewKeytab, IsOldKeytab, entries_of, lock_of};
+ghost use Rattle.kadm_changes.specs.Keytabs.{IsBehind, IsFreePath, IsKeytabFor, IsKeytabStart, IsNewKeytab};
+ghost use Rattle.kadm_changes.specs.Keytabs.{IsOldKeytab, entries_of, lock_of};
 ghost use Rattle.kadm_changes.specs.Owners.{IsOurs, is_closed, is_ours, is_own};
 ghost use Rattle.kadm_changes.specs.Worlds.{WroteKeytab};
 
@@ -128,7 +129,8 @@ fn new_octets<'p, T: Store>(
     name: &Name,
     to: KeytabArgs<'p>,
 ) -> Result<Vec<u8>, CommandError<'p>>
-    ensures holds { IfOk result (λ octets. IsKeytabFor (T.world store.old) to.entry name.now.components database.now octets.items) }
+    ensures holds { IfOk result (λ octets. IsKeytabFor
+        (T.world store.old) to.entry name.now.components database.now octets.items) }
     ensures unchanged { T.world store.new ≡ T.world store.old }
 {
     let old = read_old(alloc, store, to.out, to.append)?;
@@ -144,7 +146,8 @@ fn put_octets<'p, T: Store>(
     to: KeytabArgs<'p>,
     octets: &[u8],
 ) -> Result<Written, CommandError<'p>>
-    ensures written { OnOk result (T.world store.new ≡ option_map (with_file to.entry.out.now octets.now) (T.world store.old)) }
+    ensures written { OnOk result (T.world store.new
+        ≡ option_map (with_file to.entry.out.now octets.now) (T.world store.old)) }
     ensures unchanged { OnErr result (T.world store.new ≡ T.world store.old) }
 {
     if to.append {
@@ -160,7 +163,8 @@ fn read_old<'p, T: Store>(
     path: &'p str,
     append: bool,
 ) -> Result<Option<Vec<u8>>, CommandError<'p>>
-    ensures old { IfOk result (λ old. IsOldKeytab (T.world store.old) append path.now (option_map (λ octets. octets.items) old)) }
+    ensures old { IfOk result (λ old. IsOldKeytab (T.world store.old) append path.now
+        (option_map (λ octets. octets.items) old)) }
     ensures unchanged { T.world store.new ≡ T.world store.old }
 {
     if append && has_file(store, path)? {

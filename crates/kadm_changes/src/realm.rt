@@ -1,7 +1,8 @@
 //! Keeps a change from ending a whole realm: what every login needs of `krbtgt/REALM`.
 ghost use Rattle.std.specs.Prelude.{◌≡◌, ◌&&◌, ◌<◌, ◌↔◌, not, IfNone, IfOk, IfSome, IsFalse, IsTrue, OnOk, false, true};
 ghost use Rattle.krb_fields.specs.Granting.{tgs_principal};
-ghost use Rattle.kadm_changes.specs.Realm.{IsAhead, IsAsOpen, IsGone, KeepsRealm, MayHaveKeys, MayHavePassword, tgs_policy};
+ghost use Rattle.kadm_changes.specs.Realm.{IsAhead, IsAsOpen, IsGone, KeepsRealm, MayHaveKeys, MayHavePassword};
+ghost use Rattle.kadm_changes.specs.Realm.{tgs_policy};
 
 use crate::reason::{CommandRefusal, Part, RealmEnd};
 use crate::stop::CommandError;

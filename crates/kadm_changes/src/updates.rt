@@ -3,7 +3,8 @@ ghost use Rattle.std.specs.Prelude.{◌≡◌, OnOk, OnErr};
 ghost use Rattle.kadm_changes.specs.Asking.{all_asked};
 ghost use Rattle.kadm_changes.specs.Found.{IsFoundIn};
 ghost use Rattle.kadm_changes.specs.Realm.{KeepsRealm, MayHaveKeys, tgs_policy};
-ghost use Rattle.kadm_changes.specs.Updates.{AreKept, IsMigrated, IsRowChanged, IsRowGiven, IsRowKept, IsRowUpdated, IsUpdated};
+ghost use Rattle.kadm_changes.specs.Updates.{AreKept, IsMigrated, IsRowChanged, IsRowGiven, IsRowKept, IsRowUpdated};
+ghost use Rattle.kadm_changes.specs.Updates.{IsUpdated};
 ghost use Rattle.kadm_changes.specs.Worlds.{Rewritten, Updated};
 
 use crate::changes::{ChangeArgs, change_all, check_names, migrate_rows, set_all};
@@ -190,7 +191,8 @@ pub fn update_in_batch<'p, T: Store>(
     // Promise, as kadm_run of kadm: without `--whole-realm` no command ..
     // Promise, as kadm_run of kadm: without it, `krbtgt/R` is ..
     // Promise, as make_update: without `--whole-realm` `krbtgt/R` gets ..
-    ensures done { OnOk result (IsUpdated (T.world store.old) whole target.now update.entry draft.old.database draft.new.database) }
+    ensures done { OnOk result (IsUpdated (T.world store.old) whole target.now update.entry
+        draft.old.database draft.new.database) }
     // Promise, as lock_database: what a command reads, ..
     ensures unchanged { T.world store.new ≡ T.world store.old }
 {
@@ -219,7 +221,8 @@ fn row_in_batch<'p, T: Store>(
     found: Option<&FoundPassword>,
 ) -> Result<Option<Note>, CommandError<'p>>
     requires found { IsFoundIn (T.world store.old) found }
-    ensures done { OnOk result (IsRowUpdated (T.world store.old) whole target.now to.now draft.old.database draft.new.database) }
+    ensures done { OnOk result (IsRowUpdated
+        (T.world store.old) whole target.now to.now draft.old.database draft.new.database) }
     ensures unchanged { T.world store.new ≡ T.world store.old }
 {
     let who = Name::from_text(draft.alloc, to.name)?;
@@ -245,7 +248,8 @@ fn keep_row<'p, T: Store>(
     whole: bool,
 ) -> Result<(), CommandError<'p>>
     ensures changed { OnOk result (IsRowKept (T.world store.old) whole recipient.now.etypes.now
-        (all_asked target.now.settings.items) recipient.now.pass.now how.now recipient.now.who.now.components draft.old.database draft.new.database) }
+        (all_asked target.now.settings.items) recipient.now.pass.now how.now recipient.now.who.now.components
+        draft.old.database draft.new.database) }
     ensures unchanged { T.world store.new ≡ T.world store.old }
 {
     let before = tgs_policy(&draft.database);
@@ -292,7 +296,8 @@ fn keep_migrated<T: Store>(
     users_are_no_services: bool,
     whole: bool,
 ) -> Result<(), CommandError<'static>>
-    ensures migrated { OnOk result (IsMigrated (T.world store.old) whole users_are_no_services draft.old.database draft.new.database) }
+    ensures migrated { OnOk result (IsMigrated
+        (T.world store.old) whole users_are_no_services draft.old.database draft.new.database) }
     ensures unchanged { T.world store.new ≡ T.world store.old }
 {
     let before = tgs_policy(&draft.database);
@@ -310,7 +315,8 @@ fn change_row<'p, T: Store>(
     target: &Target<'p>,
 ) -> Result<(), CommandError<'p>>
     ensures changed { OnOk result (IsRowChanged (T.world store.old) recipient.now.etypes.now
-        (all_asked target.now.settings.items) recipient.now.pass.now how.now recipient.now.who.now.components draft.old.database draft.new.database) }
+        (all_asked target.now.settings.items) recipient.now.pass.now how.now recipient.now.who.now.components
+        draft.old.database draft.new.database) }
     ensures unchanged { T.world store.new ≡ T.world store.old }
 {
     give_row(store, draft, recipient, how)?;
@@ -325,7 +331,8 @@ fn give_row<'p, T: Store>(
     how: &RowUpdate<'p>,
 ) -> Result<(), CommandError<'p>>
     ensures given { OnOk result (IsRowGiven (T.world store.old) recipient.now.etypes.now recipient.now.pass.now how.now
-        recipient.now.who.now.components draft.old.database draft.new.database) }
+        recipient.now.who.now.components
+        draft.old.database draft.new.database) }
     ensures unchanged { T.world store.new ≡ T.world store.old }
 {
     match how {

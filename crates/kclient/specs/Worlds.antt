@@ -48,7 +48,8 @@ with_tickets (ticket ∷ tickets) cache =
     with_tickets tickets (record cache { credentials = put_first ticket cache.credentials })
 
 -- a path has this cache with tickets that came, and every other path is unchanged
-pub record Added (IsReceived : Credential → Type 0) (path : List ℕ) (cache : CacheContents) (before after : Option World)
+pub record Added (IsReceived : Credential → Type 0) (path : List ℕ) (cache : CacheContents)
+    (before after : Option World)
     : Type 0 where
   pub tickets : List Credential
   pub came : All IsReceived tickets
@@ -69,4 +70,5 @@ pub record Removed (before after : Option World) : Type 0 where
 -- the world is as it was, or one of these
 abbrev pub CommandLeaves : (First Further : Credential → Type 0) → Option World → Option World → Type 0
 CommandLeaves First Further before after =
-    (after ≡ before) ⊎ (Made First before after ⊎ (Made Further before after ⊎ (Filled Further before after ⊎ Removed before after)))
+    (after ≡ before) ⊎ (Made First before after
+    ⊎ (Made Further before after ⊎ (Filled Further before after ⊎ Removed before after)))

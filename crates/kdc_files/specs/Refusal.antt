@@ -3,7 +3,8 @@ use Rattle.std.specs.Prelude.{ℕ, List, Option, Some, None, codes}
 use Rattle.file_store.specs.Refusal.{cause_refusal}
 use Rattle.principals_text.specs.RefusalWord.{read_refusal}
 use Rattle.kdc_files.specs.declared.files.ServerFileError.{ServerFileError}
-use Rattle.kdc_files.specs.declared.files.ServerFileError.TheVariants.{File, NotJournal, Journal, NotFirst, BesideDatabase, Database}
+use Rattle.kdc_files.specs.declared.files.ServerFileError.TheVariants.{File, NotJournal, Journal, NotFirst}
+use Rattle.kdc_files.specs.declared.files.ServerFileError.TheVariants.{BesideDatabase, Database}
 use Rattle.kdc_files.specs.declared.files.LeftoverError.{LeftoverError}
 use Rattle.kdc_files.specs.declared.files.LeftoverError.TheVariants as leftovers
 

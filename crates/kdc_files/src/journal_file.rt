@@ -76,7 +76,8 @@ impl<F: JournalFiles> JournalWriter for JournalFile<F> {
     ghost is_there = { λ _. true };
 
     fn keep(&mut self, alloc: Global, at: Moment, seen: &Seen) -> Result<(), NotKept>
-        ensures handed { Records (none_handed self.old) (record { at = at; seen = seen.now } ∷ []) (none_handed self.new) }
+        ensures handed { Records (none_handed self.old) (record { at = at; seen = seen.now } ∷ [])
+            (none_handed self.new) }
         ensures whole { is_whole self.new ≡ is_ok result }
         ensures kept { (low : ℤ) (kept all : Resumption)
             → HasKept F.world low kept all self.old.files self.old.tail self.old.floor

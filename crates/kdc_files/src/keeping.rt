@@ -87,7 +87,8 @@ pub fn keep_action<J: JournalWriter>(
 }
 
 fn keep_reply<J: JournalWriter>(alloc: Global, journal: &mut J, at: Moment, reply: &Reply) -> bool
-    ensures handed { Records (J.handed journal.old) (handed_at at (with_any reply.now.newly_seen [])) (J.handed journal.new) }
+    ensures handed { Records (J.handed journal.old) (handed_at at (with_any reply.now.newly_seen []))
+        (J.handed journal.new) }
     ensures whole { result ≡ J.is_whole journal.new }
 {
     keep_seen(alloc, journal, at, reply.newly_seen.as_ref())

@@ -1,6 +1,7 @@
 -- The life of a server: looks at a source of rows, rounds between them, and a tidying at most once a minute.
 use Rattle.std.specs.Prelude.{◌≡◌, ◌/◌, ◌%◌, ℕ, ⊤, List, [], ◌∷◌, ◌++◌, length, map}
-use Rattle.std.specs.Prelude.{pos, ◌+ℤ◌, int_lt, Bool, true, not, ◌&&◌, if◌then◌else◌, replicate, count_by, Option, Some, None}
+use Rattle.std.specs.Prelude.{pos, ◌+ℤ◌, int_lt, Bool, true, not, ◌&&◌, if◌then◌else◌, replicate, count_by, Option}
+use Rattle.std.specs.Prelude.{Some, None}
 use Rattle.std.specs.List.{AllByRecursion, flat_map}
 use Rattle.std.specs.Option.{option_or}
 use Rattle.krb_fields.specs.Name.{Components}

@@ -71,7 +71,8 @@ pub fn serve_life<W: Wire, S: RowSource, R: Rng, O: Observer<W, R>>(
     // Promise (life, counted): what is counted are the events, the calls that failed (up to the greatest `u64`) and the
     // refusals of that record.
     // Promise, as take_rows of kdc_server: **changes are served**: unless ..
-    ensures life { IsLife (W.recorded wire.old) (S.is_fixed source.old) (S.recorded source.old) (hub_state R.stream hub.old)
+    ensures life { IsLife (W.recorded wire.old) (S.is_fixed source.old) (S.recorded source.old)
+        (hub_state R.stream hub.old)
         (periods_of rounds) result (W.recorded wire.new) (S.recorded source.new) (hub_state R.stream hub.new) }
     ensures counted { IsCounted (W.fault_count wire.old) result.faults (W.fault_count wire.new) }
 {
@@ -120,7 +121,8 @@ fn serve_period<W: Wire, S: RowSource, R: Rng>(
     tidied: &mut Tidyings,
     rounds: u32,
 ) -> Served
-    ensures period { IsPeriod (W.recorded wire.old) (S.is_fixed source.old) (S.recorded source.old) (hub_state R.stream hub.old)
+    ensures period { IsPeriod (W.recorded wire.old) (S.is_fixed source.old) (S.recorded source.old)
+        (hub_state R.stream hub.old)
         tidied.old.last rounds result (W.recorded wire.new) (S.recorded source.new) (hub_state R.stream hub.new)
         tidied.new.last }
     ensures stays { S.is_fixed source.new ≡ S.is_fixed source.old }
@@ -137,7 +139,8 @@ fn serve_period<W: Wire, S: RowSource, R: Rng>(
 /// Drops authenticators that can't come again, if the last poll returned at least a minute after the last tidying, or
 /// before it. If not, it frees the memory of some that were dropped.
 fn tidy_if_due<R: Rng>(hub: &mut Hub<R>, tidied: &mut Tidyings, last: &Option<Moment>)
-    ensures { HasTidied (hub_state R.stream hub.old) tidied.old.last last.now (hub_state R.stream hub.new) tidied.new.last }
+    ensures { HasTidied (hub_state R.stream hub.old) tidied.old.last last.now
+        (hub_state R.stream hub.new) tidied.new.last }
 {
     match due(&tidied.last, last) {
         Some(at) => {

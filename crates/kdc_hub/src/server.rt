@@ -173,7 +173,8 @@ fn close<W: Wire, R: Rng>(
     at: Moment,
     conn: Option<u64>,
 ) -> u64
-    ensures acts { AreActs (W.recorded wire.old) (hub_state R.stream hub.old) at (close_of conn) result (W.recorded wire.new)
+    ensures acts { AreActs (W.recorded wire.old) (hub_state R.stream hub.old) at (close_of conn) result
+        (W.recorded wire.new)
         (hub_state R.stream hub.new) }
     ensures counted { IsCounted (W.fault_count wire.old) result (W.fault_count wire.new) }
     ensures few { result ≤ 1 }

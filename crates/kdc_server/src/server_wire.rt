@@ -205,7 +205,8 @@ impl<H: Host> Wire for ServerWire<H> {
         // Promise: an action with a reply is passed to the sockets only if the journal has kept all that it was handed.
         // Promise (sent, withheld): **a quiet start withholds nothing else**: what isn't sent is a refusal with 37,
         // before the second up to which all are refused; its connection ends.
-        ensures sent { may_send H.Journal.is_whole self.new.journal self.old.quiet_until self.old.came.at action.now ≡ true
+        ensures sent { may_send H.Journal.is_whole self.new.journal self.old.quiet_until self.old.came.at action.now
+            ≡ true
             → Records (H.Sockets.recorded self.old.sockets) (acted action.now result ∷ [])
             (H.Sockets.recorded self.new.sockets) }
         // Otherwise nothing is sent, and a connection ends: so an authenticator is kept before the reply to its request
@@ -220,7 +221,8 @@ impl<H: Host> Wire for ServerWire<H> {
         // which the request came, who sent it, and whether the action was done; no other entry is written.
         // Promise: the address of a datagram in the log is that of its action; that of a connection is the peer that
         // the sockets had for the connection of the event.
-        ensures logged { LogsAll H.Log.Logs self.old.log (entries_of self.old.came action.now (is_ok result)) self.new.log }
+        ensures logged { LogsAll H.Log.Logs self.old.log
+            (entries_of self.old.came action.now (is_ok result)) self.new.log }
         ensures came { self.new.came ≡ self.old.came }
         ensures clock { self.new.clock ≡ self.old.clock }
         // Promise, as ServerWire::poll: **unanswered requests are counted**: ..

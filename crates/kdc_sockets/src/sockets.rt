@@ -61,7 +61,8 @@ impl<C: Clock + Drop> Sockets<C> {
 }
 
 impl<C: Clock + Drop> Peers for Sockets<C> {
-    ghost peer_of = { λ w conn. option_map (λ connection. connection.peer) (held_at w.sockets.connections.held.entries conn) };
+    ghost peer_of = { λ w conn. option_map (λ connection. connection.peer)
+        (held_at w.sockets.connections.held.entries conn) };
 
     fn peer(&self, conn: u64) -> Option<SocketAddr> {
         self.sockets.peer(conn)

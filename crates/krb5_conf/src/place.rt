@@ -1,7 +1,8 @@
 //! The place of a line.
 ghost use Rattle.std.specs.Prelude.{◌≡◌, ◌<◌, ◌≤◌, ◌+◌, ◌-◌, ◌^◌};
 ghost use Rattle.krb5_conf.specs.Line.{said};
-ghost use Rattle.krb5_conf.specs.LinePlace.{behind, closed, group_place, is_place, named, opened, place_of, section_place};
+ghost use Rattle.krb5_conf.specs.LinePlace.{behind, closed, group_place, is_place, named, opened, place_of};
+ghost use Rattle.krb5_conf.specs.LinePlace.{section_place};
 
 use crate::line::Line;
 

@@ -2,7 +2,8 @@
 ghost use Rattle.std.specs.Prelude.{◌≡◌, ℕ, List, Some, IfErr, IfOk, IfSome};
 ghost use Rattle.client_core.specs.Presenting.{IsShortChecksum};
 ghost use Rattle.kdc_replies.specs.Issue.{Issue, IsIssued};
-ghost use Rattle.krb_joined.specs.Joined.{IsEnded, IsJoined, IsNextStateOn, IsPresented, IsRuled, IsServed, MayBeAccepted};
+ghost use Rattle.krb_joined.specs.Joined.{IsEnded, IsJoined, IsNextStateOn, IsPresented, IsRuled, IsServed};
+ghost use Rattle.krb_joined.specs.Joined.{MayBeAccepted};
 ghost use Rattle.krb_joined.specs.Joined.{key_of, ruled, taken_of};
 ghost use Rattle.krb_joined.specs.Obtaining.{issue_for, reply_to, state_after};
 ghost use Rattle.krb_joined.specs.Reading.{IsReader, reads_reply};

@@ -119,7 +119,8 @@ fn take_type<const TYPE: u8>(fields: &mut Reader<'_>) -> Result<(), DerFault>
 /// Writes the field with the message type.
 fn write_type<const TYPE: u8>(out: &mut Writer) -> Result<(), AllocError>
     requires { length (field_text 161 (message_type TYPE).tag ((message_type TYPE).text tt)) < 2 ^ 32 }
-    ensures ok { OnOk result (out.new ≡ out.old ++ field_text 161 (message_type TYPE).tag ((message_type TYPE).text tt)) }
+    ensures ok { OnOk result (out.new
+        ≡ out.old ++ field_text 161 (message_type TYPE).tag ((message_type TYPE).text tt)) }
     ensures kept { Continues out.old out.new }
 {
     write_field(out, 1, &i32::from(TYPE & 0x1f))

@@ -1,5 +1,6 @@
 -- The keys of a principal, decrypted with the realm's master key.
-use Rattle.std.specs.Prelude.{◌≡◌, ◌==◌, ◌&&◌, ◌+◌, ◌*◌, ◌++◌, not, ℕ, pos, nat_le, List, [], ◌∷◌, length, take, Option, Some, None}
+use Rattle.std.specs.Prelude.{◌≡◌, ◌==◌, ◌&&◌, ◌+◌, ◌*◌, ◌++◌, not, ℕ, pos, nat_le, List, [], ◌∷◌, length, take, Option}
+use Rattle.std.specs.Prelude.{Some, None}
 use Rattle.std.specs.Prelude.{if◌then◌else◌}
 use Rattle.std.specs.List.{filter}
 use Rattle.enctypes.specs.declared.etype.Etype.{Etype}
@@ -21,7 +22,8 @@ place_of k = if k.version == 0 then None else type_numbered (pos k.key.tag)
 -- the key in the first bytes of a text, if they are as many as its type wants
 abbrev pub key_within : Etype → ℕ → List ℕ → Option ProtocolKey
 key_within etype size text =
-    if nat_le size (length text) && size == key_len etype then Some (record { etype = etype; bytes = take size text }) else None
+    if nat_le size (length text)
+    && size == key_len etype then Some (record { etype = etype; bytes = take size text }) else None
 
 abbrev pub key_in : Etype → ℕ → Option (List ℕ) → Option ProtocolKey
 key_in etype size (Some text) = key_within etype size text
@@ -36,7 +38,8 @@ key_from master etype _ = None
 -- ---- all keys
 
 -- the entries with that of one more key, if it has a place
-abbrev pub IsPushedBy : DumpedPrincipal → ProtocolKey → StoredKey → Option Etype → List KeytabEntry → List KeytabEntry → Type 0
+abbrev pub IsPushedBy : DumpedPrincipal → ProtocolKey → StoredKey → Option Etype → List KeytabEntry → List KeytabEntry
+    → Type 0
 IsPushedBy p master k None old new = new ≡ old
 IsPushedBy p master k (Some etype) old new =
     (e : KeytabEntry) × (new ≡ old ++ e ∷ []) × (e.realm ≡ p.realm) × (e.name ≡ p.name) × (e.version ≡ k.version)

@@ -35,4 +35,5 @@ has_key keys = list_any (λ key. is_some (place_of key)) keys
 
 abbrev pub has_place : List ℕ → DumpedPrincipal → Bool
 has_place realm p =
-    not (is_own p.name.components) && (bytes_eq p.realm realm && (is_within_limits p.name.components && has_key p.keys.items))
+    not (is_own p.name.components)
+    && (bytes_eq p.realm realm && (is_within_limits p.name.components && has_key p.keys.items))

@@ -1,7 +1,8 @@
 //! The keys of a principal, decrypted with the realm's master key.
 ghost use Rattle.std.specs.Prelude.{◌≡◌, IfOk, OnOk, pos};
 ghost use Rattle.enctypes.specs.Numbered.{type_numbered};
-ghost use Rattle.mit_dump.specs.Entries.{AreEntries, ArePushed, IsPushed, key_from, key_within, place_of, preference, with_first};
+ghost use Rattle.mit_dump.specs.Entries.{AreEntries, ArePushed, IsPushed, key_from, key_within, place_of, preference};
+ghost use Rattle.mit_dump.specs.Entries.{with_first};
 
 use crate::master::master_key;
 use crate::principal::DumpedPrincipal;

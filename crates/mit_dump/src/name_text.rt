@@ -2,7 +2,8 @@
 //! before `/`, `@` and `\`, and with `n`, `t`, `b` or `0` for a line feed, a tab, a backspace or a zero byte.
 ghost use Rattle.std.specs.Prelude.{◌≡◌, ◌++◌, IfOk, OnOk};
 ghost use Rattle.std.specs.List.{flat_map};
-ghost use Rattle.mit_dump.specs.NameText.{component_part, component_text, components_text, full_text, letter_of, octet_text};
+ghost use Rattle.mit_dump.specs.NameText.{component_part, component_text, components_text, full_text, letter_of};
+ghost use Rattle.mit_dump.specs.NameText.{octet_text};
 
 use crate::LineError;
 use krb_elements::{KerberosString, Seq};

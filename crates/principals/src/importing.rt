@@ -23,7 +23,8 @@ impl Database {
         // Promise (imported, refused, otherwise, err): a principal that is not there is added with its versions of keys
         // and the default policy, or refused by the first error that holds.
         ensures imported { OnOk result (self.new ≡ imported self.old name.now.components versions) }
-        ensures refused { IfSome (first_holding (add_rules self.old name.now.components)) (λ fault. result ≡ Err fault) }
+        ensures refused { IfSome (first_holding (add_rules self.old name.now.components)) (λ fault. result
+            ≡ Err fault) }
         ensures otherwise { IfNone (first_holding (add_rules self.old name.now.components))
             (IsOkUnless result ChangeFault.Memory) }
         ensures err { OnErr result (self.new ≡ self.old) }

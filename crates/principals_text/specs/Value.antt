@@ -8,7 +8,8 @@ use Rattle.krb_fields.specs.Name.{Components, name_cmp}
 use Rattle.principal_rows.specs.declared.row.Row.{Row}
 use Rattle.principals_text.specs.declared.format.Format.{Format}
 use Rattle.principals_text.specs.declared.read_fault.ReadError.{ReadError}
-use Rattle.principals_text.specs.declared.read_fault.ReadError.TheVariants.{NotJson, BadVersion, BadRow, NoTicketGranter}
+use Rattle.principals_text.specs.declared.read_fault.ReadError.TheVariants.{NotJson, BadVersion, BadRow}
+use Rattle.principals_text.specs.declared.read_fault.ReadError.TheVariants.{NoTicketGranter}
 use Rattle.principals.specs.Database.{Principals}
 use Rattle.krb_fields.specs.Granting.{tgs_principal}
 use Rattle.principals_text.specs.Format.{format_of}

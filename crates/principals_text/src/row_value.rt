@@ -4,7 +4,8 @@ ghost use Rattle.serde_json.specs.View.{view, items_view};
 ghost use Rattle.principal_rows.specs.Row.{IsRow};
 ghost use Rattle.principal_rows.specs.Versions.{IsVersions};
 ghost use Rattle.text_fields.specs.declared.settings.Setting.TheVariants.{Flag, Life};
-ghost use Rattle.principals_text.specs.RowValue.{member_count, u32_of, time_of, etype_value, key_of, keys_of, version_of};
+ghost use Rattle.principals_text.specs.RowValue.{member_count, u32_of, time_of, etype_value, key_of, keys_of};
+ghost use Rattle.principals_text.specs.RowValue.{version_of};
 ghost use Rattle.principals_text.specs.RowValue.{versions_of, setting_from, setting_in, policy_of, row_of};
 ghost use Rattle.principals_text.specs.RowValue.{decoded, each, list_of};
 

@@ -4,7 +4,8 @@ use Rattle.std.specs.Prelude.{ℕ, Bool, List, [], ◌∷◌, ◌++◌, Option, 
 use Rattle.std.specs.Prelude.{chars, encode_utf8, map, string_bytes}
 use Rattle.text_fields.specs.declared.lines.LineReader.{LineReader}
 use Rattle.text_fields.specs.declared.lines.State.{State}
-use Rattle.text_fields.specs.declared.lines.State.TheVariants.{Between, InWord, InSingle, InDouble, Escaped, EscapedInDouble, InComment}
+use Rattle.text_fields.specs.declared.lines.State.TheVariants.{Between, InWord, InSingle, InDouble, Escaped}
+use Rattle.text_fields.specs.declared.lines.State.TheVariants.{EscapedInDouble, InComment}
 
 -- a line that was read up to a character
 pub record Reading : Type 0 where

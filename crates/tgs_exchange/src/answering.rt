@@ -14,7 +14,8 @@ ghost use Rattle.tgs_exchange.specs.Answer.{Opens, OpensBy, RepeatSpelled, Spell
 ghost use Rattle.tgs_exchange.specs.Decision.{decision_copied, stamp_of, IfIssued};
 ghost use Rattle.tgs_exchange.specs.Known.{IsKnown};
 ghost use Rattle.tgs_exchange.specs.NamedLaws.{IsNamed};
-ghost use Rattle.tgs_exchange.specs.Outcome.{outcome_by, repeated_outcome, resent_within, tgs_outcome, OutcomeSpelled, OutcomeSpelledBy};
+ghost use Rattle.tgs_exchange.specs.Outcome.{outcome_by, repeated_outcome, resent_within, tgs_outcome, OutcomeSpelled};
+ghost use Rattle.tgs_exchange.specs.Outcome.{OutcomeSpelledBy};
 ghost use Rattle.tgs_exchange.specs.declared.decision.Decision.TheVariants as decisions;
 ghost use Rattle.tgs_exchange.specs.declared.outcome.TgsOutcome.TheVariants as outcomes;
 
