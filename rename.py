@@ -381,6 +381,8 @@ def rename_type(tree, old, new, where):
     word = re.compile(rf"\b{old}\b")
     hits = 0
     for path, text in tree.texts.items():
+        if old not in text:
+            continue
         name = str(path.relative_to(TOP))
         if name.startswith(("CHANGELOG", "dev/make_", "dev/promised")) or path == TOP / "rename.py":
             continue
@@ -493,7 +495,8 @@ def proofs_of(tree, crate, module, old, text):
     top = TOP / "crates" / crate / "proofs"
     source = TOP / "crates" / crate / "src"
     several = sum(
-        path.is_relative_to(source) and bool(re.search(rf"\bfn {old}\b", tree.before[path])) for path in tree.texts
+        f"fn {old}" in text and path.is_relative_to(source) and bool(re.search(rf"\bfn {old}\b", text))
+        for path, text in tree.before.items()
     )
     return [
         path
@@ -523,7 +526,7 @@ def rename_function(tree, crate, module, old, new):
         print(f"  !! {home.relative_to(TOP)} has a function {new}")
     touched = {}
     for path, text in tree.texts.items():
-        if path.suffix != ".rt":
+        if path.suffix != ".rt" or old not in text:
             continue
         here = crate_of(path)
         if owner:
@@ -562,9 +565,11 @@ def rename_function(tree, crate, module, old, new):
     said = f"{owner}::{old}" if owner else old
     name = f"{owner}::{new}" if owner else new
     for path, text in tree.texts.items():
+        if old not in text:
+            continue
         if path.name == "unnamed_clauses.txt":
             tree.put(path, re.sub(rf"^({crate}) {said}(?=:)", rf"\1 {name}", text, flags=re.M), f"{old} -> {new}")
-        if path.suffix == ".rt":
+        if path.suffix == ".rt" and old in tree.texts[path]:
             made = re.sub(rf"(?<=, as ){said}(?= of {crate}\b)", name, text)
             if exported and crate_of(path) == crate:
                 made = re.sub(rf"(?<=, as ){said}(?=:)", name, made)
@@ -591,6 +596,8 @@ def users():
 def rename_edits(tree, crate, file, old, new, owner):
     """In the edits of a crate, the texts of one file, and who refused them."""
     for path in [*tree.texts]:
+        if path.suffix not in (".edit", ".edits") or old not in tree.texts[path]:
+            continue
         name = str(path.relative_to(TOP))
         if not name.startswith((f"crates/{crate}/must-fail/", f"dev/edits/{crate}.edits")):
             continue
