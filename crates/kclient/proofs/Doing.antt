@@ -1,6 +1,6 @@
 -- The effect of a command, from the effects of its calls.
 use Rattle.std.proofs.Common.{◌≡◌, ◌∙◌, ℕ, ℤ, List, [], ◌∷◌, ◌++◌, Option, Result, Ok, Err, OnOk, option_map}
-use Rattle.std.proofs.Common.{ap, refl, subst, sym, inl, inr}
+use Rattle.std.proofs.Common.{ap, false, refl, subst, sym, true, inl, inr}
 use Rattle.std.specs.Prelude.{◌⊎◌, IfErr, IfOk, OnErr}
 use Rattle.std.specs.String.{string_bytes}
 use Rattle.std.specs.declared.net.socket_addr.SocketAddr.{SocketAddr}
@@ -21,7 +21,8 @@ use Rattle.command_line.specs.declared.status.Status.{Status}
 use Rattle.command_line.specs.declared.status.Status.TheVariants.{Done, Refused, Usage, Failed}
 use Rattle.client_files.specs.declared.host.Host.{Host}
 use Rattle.kclient.specs.Ends.{IsCommandEnd, IsKindDone, IsKindTried, IsTried}
-use Rattle.kclient.specs.Words.{IsCacheOf}
+use Rattle.kclient.specs.Principals.{IsFirstOf}
+use Rattle.kclient.specs.Words.{IsCacheOf, text_of, texts}
 use Rattle.kclient.specs.Worlds.{Added, CameFirst, CameFurther, Filled, Made, Removed, Served, with_tickets}
 use Rattle.kclient.specs.declared.commands.Command.{Command}
 use Rattle.kclient.specs.declared.commands.CommandKind.{CommandKind}
@@ -49,10 +50,10 @@ module _ (finds : List ℕ → ℕ → SocketAddr → Type 0) (places : List Kdc
 
 -- ---- a new cache, and one that is removed
 
-pub made : {A E : Type 0} (result : Result A E) (IsReceived : Credential → Type 0) (IsPath : List ℕ → Type 0)
+pub made : {A E : Type 0} (result : Result A E) (IsReceived : List ℕ → Credential → Type 0) (IsPath : List ℕ → Type 0)
     (before came after : Option World) (path : List ℕ) (ticket : Credential)
     → OnOk result (after ≡ option_map (with_file path (cache_text (new_cache ticket))) came)
-    → IsReceived ticket → IsPath path → came ≡ before → OnOk result (Made IsReceived IsPath before after)
+    → IsReceived path ticket → IsPath path → came ≡ before → OnOk result (Made IsReceived IsPath before after)
 made (Ok x) IsReceived IsPath before came after path ticket written is named kept = record {
   path = path;
   named = named;
@@ -63,7 +64,7 @@ made (Ok x) IsReceived IsPath before came after path ticket written is named kep
 made (Err fault) IsReceived IsPath before came after path ticket written is named kept = tt
 
 -- at a path that was known before
-pub made_there : {A E : Type 0} (result : Result A E) (IsReceived : Credential → Type 0) (IsPath : List ℕ → Type 0)
+pub made_there : {A E : Type 0} (result : Result A E) (IsReceived : List ℕ → Credential → Type 0) (IsPath : List ℕ → Type 0)
     (before came after : Option World) (path : List ℕ) → OnOk result (Made IsReceived (λ p. p ≡ path) came after)
     → IsPath path → came ≡ before → OnOk result (Made IsReceived IsPath before after)
 made_there (Ok x) IsReceived IsPath before came after path is named kept = record {
@@ -84,6 +85,9 @@ removed (Err fault) IsPath before read after path is named kept = tt
 
 -- ---- a session
 
+true_false : true ≡ false → ⊥
+true_false same = absurd cc
+
 module _ (IsReceived : Credential → Type 0) where
   more : (tickets others : List Credential) (cache : CacheContents)
       → with_tickets (tickets ++ others) cache ≡ with_tickets others (with_tickets tickets cache)
@@ -92,7 +96,8 @@ module _ (IsReceived : Credential → Type 0) where
       more tickets others (record cache { credentials = put_first ticket cache.credentials })
 
   pub collected_none : (session : CacheSession) → Collected IsReceived session session
-  collected_none session = record { tickets = []; came = All-nil IsReceived; cache = refl; path = refl }
+  collected_none session =
+      record { tickets = []; came = All-nil IsReceived; cache = refl; path = refl; kept = λ same. (same, refl) }
 
   pub collected_more : (first between last : CacheSession) → Collected IsReceived first between → Collected IsReceived between last
       → Collected IsReceived first last
@@ -101,21 +106,30 @@ module _ (IsReceived : Credential → Type 0) where
     came = All-append IsReceived one.tickets other.tickets one.came other.came;
     cache = other.cache ∙ ap (with_tickets other.tickets) one.cache ∙ sym (more one.tickets other.tickets first.cache);
     path = other.path ∙ one.path;
+    kept = λ same. ((one.kept (other.kept same).0).0, (other.kept same).1 ∙ (one.kept (other.kept same).0).1);
   }
 
   -- after a ticket was asked for, it was put or not
   pub collected_one : {A E : Type 0} (result : Result A E) (first asked last : CacheSession) (ticket : Credential)
       → OnOk result (last.cache ≡ record asked.cache { credentials = put_first ticket asked.cache.credentials })
-      → OnErr result (last.cache ≡ asked.cache) → last.path ≡ asked.path → IsReceived ticket → asked.cache ≡ first.cache
-      → asked.path ≡ first.path → Collected IsReceived first last
-  collected_one (Ok x) first asked last ticket put kept stays is same at = record {
+      → OnErr result (last.cache ≡ asked.cache) → OnOk result (last.is_changed ≡ true)
+      → OnErr result (last.is_changed ≡ asked.is_changed) → last.path ≡ asked.path → IsReceived ticket
+      → asked.cache ≡ first.cache → asked.path ≡ first.path → asked.is_changed ≡ first.is_changed
+      → Collected IsReceived first last
+  collected_one (Ok x) first asked last ticket put kept changed unchanged stays is same at before = record {
     tickets = ticket ∷ [];
     came = All-cons IsReceived ticket [] is (All-nil IsReceived);
     cache = put ∙ ap (λ (cache : CacheContents). record cache { credentials = put_first ticket cache.credentials }) same;
     path = stays ∙ at;
+    kept = λ same. absurd (true_false (sym changed ∙ same));
   }
-  collected_one (Err fault) first asked last ticket put kept stays is same at =
-      record { tickets = []; came = All-nil IsReceived; cache = kept ∙ same; path = stays ∙ at }
+  collected_one (Err fault) first asked last ticket put kept changed unchanged stays is same at before = record {
+    tickets = [];
+    came = All-nil IsReceived;
+    cache = kept ∙ same;
+    path = stays ∙ at;
+    kept = λ no. (sym (unchanged ∙ before) ∙ no, kept ∙ same);
+  }
 
   -- its cache is written, or not
   pub added : (before asked after : Option World) (first last : CacheSession)
@@ -151,24 +165,6 @@ module _ (IsReceived : Credential → Type 0) where
     };
   })
 
-  pub served : {A E : Type 0} (result : Result A E) (IsPath : List ℕ → Type 0) (before read after : Option World)
-      (path : List ℕ) (cache : CacheContents) → (after ≡ read) ⊎ Added IsReceived path cache read after → IsPath path
-      → HasCache before path cache → read ≡ before → OnOk result (Served IsReceived IsPath before after)
-  served (Ok x) IsPath before read after path cache (inl same) named holds kept =
-      record { path = path; named = named; cache = cache; held = holds; left = inl (same ∙ kept) }
-  served (Ok x) IsPath before read after path cache (inr is) named holds kept = record {
-    path = path;
-    named = named;
-    cache = cache;
-    held = holds;
-    left = inr (record {
-      tickets = is.tickets;
-      came = is.came;
-      written = is.written ∙ ap (option_map (with_file path (cache_text (with_tickets is.tickets cache)))) kept;
-    });
-  }
-  served (Err fault) IsPath before read after path cache added named holds kept = tt
-
 pub written_or_kept : {A E : Type 0} (result : Result A E) (before written after : Option World)
     → OnOk result (after ≡ written) → OnErr result (after ≡ before) → (after ≡ before) ⊎ (after ≡ written)
 written_or_kept (Ok x) before written after is kept = inr is
@@ -176,47 +172,48 @@ written_or_kept (Err fault) before written after is kept = inl kept
 
 -- ---- a command
 
-module _ (First Further : Credential → Type 0) (command : Command) (host : Host) (before after : Option World) where
+module _ (First Further : Credential → Type 0) (now : ℤ) (command : Command) (host : Host) (before after : Option World) where
   did : (kind : CommandKind) (status : Status) → command.kind ≡ kind → status ≡ Done
-      → IsKindDone First Further (IsCacheOf command host) kind before after
-      → IsCommandEnd First Further command host before status after
+      → IsKindDone First Further now command host kind before after
+      → IsCommandEnd First Further now command host before status after
   did kind status is done left =
-      subst (λ s. IsCommandEnd First Further command host before s after) (sym done)
-      (subst (λ k. IsKindDone First Further (IsCacheOf command host) k before after) (sym is) left)
+      subst (λ s. IsCommandEnd First Further now command host before s after) (sym done)
+      (subst (λ k. IsKindDone First Further now command host k before after) (sym is) left)
 
   pub did_make_first : {E : Type 0} (result : Result Printed E) → command.kind ≡ Kinit
-      → OnOk result (Made First (IsCacheOf command host) before after) → IfOk result (λ p. p.status ≡ Done)
-      → IfOk result (λ p. IsCommandEnd First Further command host before p.status after)
+      → OnOk result (Made (IsFirstOf First (texts command.names.items) (text_of command.realm) host before)
+      (IsCacheOf command host) before after) → IfOk result (λ p. p.status ≡ Done)
+      → IfOk result (λ p. IsCommandEnd First Further now command host before p.status after)
   did_make_first (Ok p) is made done = did Kinit p.status is done made
   did_make_first (Err fault) is made done = tt
 
   pub did_make_further : {E : Type 0} (result : Result Printed E) (again : Renewal) → command.kind ≡ Renew again
-      → OnOk result (Made Further (IsCacheOf command host) before after) → IfOk result (λ p. p.status ≡ Done)
-      → IfOk result (λ p. IsCommandEnd First Further command host before p.status after)
+      → OnOk result (Made (λ path. Further) (IsCacheOf command host) before after) → IfOk result (λ p. p.status ≡ Done)
+      → IfOk result (λ p. IsCommandEnd First Further now command host before p.status after)
   did_make_further (Ok p) again is made done = did (Renew again) p.status is done made
   did_make_further (Err fault) again is made done = tt
 
   pub did_serve : {E : Type 0} (result : Result Printed E) → command.kind ≡ Kvno
-      → OnOk result (Served Further (IsCacheOf command host) before after) → IfOk result (λ p. p.status ≡ Done)
-      → IfOk result (λ p. IsCommandEnd First Further command host before p.status after)
+      → OnOk result (Served Further now (texts command.names.items) (IsCacheOf command host) before after) → IfOk result (λ p. p.status ≡ Done)
+      → IfOk result (λ p. IsCommandEnd First Further now command host before p.status after)
   did_serve (Ok p) is served done = did Kvno p.status is done served
   did_serve (Err fault) is served done = tt
 
   pub did_remove : {E : Type 0} (result : Result Printed E) → command.kind ≡ Kdestroy
       → OnOk result (Removed (IsCacheOf command host) before after) → IfOk result (λ p. p.status ≡ Done)
-      → IfOk result (λ p. IsCommandEnd First Further command host before p.status after)
+      → IfOk result (λ p. IsCommandEnd First Further now command host before p.status after)
   did_remove (Ok p) is removed done = did Kdestroy p.status is done removed
   did_remove (Err fault) is removed done = tt
 
   listed : (status : Status) → command.kind ≡ Klist → after ≡ before
-      → IsCommandEnd First Further command host before status after
-  listed Done is same = subst (λ k. IsKindDone First Further (IsCacheOf command host) k before after) (sym is) same
+      → IsCommandEnd First Further now command host before status after
+  listed Done is same = subst (λ k. IsKindDone First Further now command host k before after) (sym is) same
   listed Refused is same = same
   listed Usage is same = same
   listed Failed is same = same
 
   pub did_list : {E : Type 0} (result : Result Printed E) → command.kind ≡ Klist → after ≡ before
-      → IfOk result (λ p. IsCommandEnd First Further command host before p.status after)
+      → IfOk result (λ p. IsCommandEnd First Further now command host before p.status after)
   did_list (Ok p) is same = listed p.status is same
   did_list (Err fault) is same = tt
 

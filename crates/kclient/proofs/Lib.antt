@@ -1,2 +1,6 @@
 mod Doing
 mod Ending
+mod Giving
+mod Making
+mod Naming
+mod Serving

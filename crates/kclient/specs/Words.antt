@@ -1,5 +1,5 @@
 -- The words of a command line, and the command that they spell.
-use Rattle.std.specs.Prelude.{◌≡◌, ◌==◌, ◌&&◌, ◌||◌, ℕ, Bool, true, false, not, List, [], ◌∷◌, length, map, nat_lt, slice_get}
+use Rattle.std.specs.Prelude.{◌≡◌, ◌==◌, ◌&&◌, ◌||◌, ◌++◌, ℕ, Bool, true, false, not, List, [], ◌∷◌, length, map, nat_lt, slice_get}
 use Rattle.std.specs.Prelude.{Option, Some, None, option_map, codes, bytes_eq, if◌then◌else◌}
 use Rattle.std.specs.Borrow.{Bor}
 use Rattle.std.specs.List.{before_first, after_first, position_or_len}
@@ -51,11 +51,77 @@ value_of [] option = None
 value_of (word ∷ others) option =
     if bytes_eq word (codes "--") then None else first_of (value_at option word others) (value_of others option)
 
+-- what is there, as a list
+abbrev pub listed : {A : Type 0} → Option A → List A
+listed None = []
+listed (Some one) = one ∷ []
+
+-- all values of an option, in their order
+abbrev pub values_of : List Text → Text → List Text
+values_of [] option = []
+values_of (word ∷ others) option =
+    if bytes_eq word (codes "--") then [] else listed (value_at option word others) ++ values_of others option
+
 -- the option is there, as a flag without a value
 abbrev pub has_flag : List Text → Text → Bool
 has_flag [] flag = false
 has_flag (word ∷ others) flag =
     if bytes_eq word (codes "--") then false else bytes_eq word flag || has_flag others flag
+
+-- ---- the names among them
+
+-- the options whose value is the next word
+abbrev pub takes_file : Text → Bool
+takes_file word =
+    bytes_eq word (codes "--cache") || (bytes_eq word (codes "--keytab") || (bytes_eq word (codes "--password-file")
+    || bytes_eq word (codes "--seed")))
+
+abbrev pub takes_value : Text → Bool
+takes_value word =
+    bytes_eq word (codes "--kdc") || (bytes_eq word (codes "--realm") || (bytes_eq word (codes "--name")
+    || (bytes_eq word (codes "--service") || (bytes_eq word (codes "--life") || (bytes_eq word (codes "--start")
+    || (bytes_eq word (codes "--least-count") || takes_file word))))))
+
+-- a word of more than a hyphen that begins with one
+abbrev pub is_option : Text → Bool
+is_option (octet ∷ other ∷ octets) = octet == 0x2D
+is_option (octet ∷ []) = false
+is_option [] = false
+
+-- a word that is neither an option nor the value of one is a name; behind the word `--` each is one
+abbrev pub is_end : Bool → Text → Bool
+is_end is_value word = not is_value && bytes_eq word (codes "--")
+
+abbrev pub name_at : Bool → Text → List Text
+name_at is_value word = if not is_value && not (is_option word) then word ∷ [] else []
+
+abbrev pub is_value_next : Bool → Text → Bool
+is_value_next is_value word = not is_value && takes_value word
+
+abbrev pub plain_words : Bool → List Text → List Text
+plain_words is_value [] = []
+plain_words is_value (word ∷ others) =
+    if is_end is_value word then others
+    else name_at is_value word ++ plain_words (is_value_next is_value word) others
+
+-- the names of principals: the plain words after the command, and the values of --name
+abbrev pub names_of : List Text → List Text
+names_of (program ∷ command ∷ others) = plain_words false others ++ values_of others (codes "--name")
+names_of (program ∷ []) = []
+names_of [] = []
+
+-- a realm follows the name, after an `@` (40)
+abbrev pub has_realm : Text → Bool
+has_realm word = nat_lt (position_or_len (λ b. b == 0x40) word) (length word)
+
+abbrev pub name_in : Text → Text
+name_in word = if has_realm word then before_first (λ b. b == 0x40) word else word
+
+-- the realm behind the name, or else the value of --realm
+abbrev pub realm_in : Text → Option Text → Option Text
+realm_in word option = if has_realm word then Some (after_first (λ b. b == 0x40) word) else option
+
+-- ---- the help
 
 -- the help or the version is asked for
 abbrev pub asks_help : List Text → Bool
@@ -84,6 +150,8 @@ IsKindSpelled words Kdestroy = command_of words ≡ Some (codes "kdestroy")
 pub record Spells (words : List Text) (command : Command) : Type 0 where
   pub kind : IsKindSpelled words command.kind
   pub cache : text_of command.cache ≡ value_of words (codes "--cache")
+  pub names : texts command.names.items ≡ names_of words
+  pub realm : text_of command.realm ≡ value_of words (codes "--realm")
 
 -- ---- the path of its cache
 

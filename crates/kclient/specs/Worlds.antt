@@ -11,6 +11,8 @@ use Rattle.client_login.specs.Logins.{IsFirst, IsFurther}
 use Rattle.client_login.specs.Replies.{IsExchanged}
 use Rattle.client_login.specs.declared.kdc_places.KdcPlace.{KdcPlace}
 use Rattle.client_login.specs.declared.secrets.Secret.{Secret}
+use Rattle.kclient.specs.Principals.{IsServed}
+use Rattle.kclient.specs.Words.{Text}
 
 -- ---- the tickets that came
 
@@ -34,13 +36,13 @@ pub record CameFurther (finds : List ℕ → ℕ → SocketAddr → Type 0) (car
 
 -- ---- the effect of each command, from the world before it to the one after it. `IsPath` says which path it works on
 
--- the path has a new cache of one ticket that came, and every other path is unchanged
-pub record Made (IsReceived : Credential → Type 0) (IsPath : List ℕ → Type 0) (before after : Option World)
+-- the path has a new cache of one ticket that came for it, and every other path is unchanged
+pub record Made (IsReceived : List ℕ → Credential → Type 0) (IsPath : List ℕ → Type 0) (before after : Option World)
     : Type 0 where
   pub path : List ℕ
   pub named : IsPath path
   pub ticket : Credential
-  pub came : IsReceived ticket
+  pub came : IsReceived path ticket
   pub written : after ≡ option_map (with_file path (cache_text (new_cache ticket))) before
 
 -- each of these tickets in place of the first one of the same service, else at the end
@@ -65,14 +67,23 @@ pub record Filled (IsReceived : Credential → Type 0) (IsPath : List ℕ → Ty
   pub held : HasCache before path cache
   pub added : Added IsReceived path cache before after
 
--- the path has a cache, as it was if no ticket came
-pub record Served (IsReceived : Credential → Type 0) (IsPath : List ℕ → Type 0) (before after : Option World)
-    : Type 0 where
+-- the path has this cache in place of the one before, and every other path is unchanged
+abbrev pub IsLeft : List ℕ → CacheContents → CacheContents → Option World → Option World → Type 0
+IsLeft path cache last before after =
+    ((last ≡ cache) × (after ≡ before)) ⊎ (after ≡ option_map (with_file path (cache_text last)) before)
+
+-- the path has the cache that it had, with tickets that came, and in it is a ticket for the service of each name: one
+-- that came, or that can still be used
+pub record Served (IsReceived : Credential → Type 0) (now : ℤ) (names : List Text) (IsPath : List ℕ → Type 0)
+    (before after : Option World) : Type 0 where
   pub path : List ℕ
   pub named : IsPath path
   pub cache : CacheContents
   pub held : HasCache before path cache
-  pub left : (after ≡ before) ⊎ Added IsReceived path cache before after
+  pub tickets : List Credential
+  pub came : All IsReceived tickets
+  pub left : IsLeft path cache (with_tickets tickets cache) before after
+  pub served : All (IsServed IsReceived now (with_tickets tickets cache).credentials) names
 
 -- the path has no file, and every other path is unchanged
 pub record Removed (IsPath : List ℕ → Type 0) (before after : Option World) : Type 0 where

@@ -2,16 +2,21 @@
 ghost use Rattle.std.specs.Prelude.{◌≡◌, IfOk, Some, codes};
 ghost use Rattle.kclient.specs.Words.{IsKindSpelled, Spells, command_of, texts};
 
-use crate::values::{CACHE, command_of, has_flag, value_of};
+use crate::values::{CACHE, REALM, command_of, has_flag, names_of, value_of};
 use client_files::Fault;
 use client_login::Renewal;
+use std::alloc::Global;
 
 /// What a command line asks for.
-#[derive(Clone, Copy)]
+#[derive(Drop)]
 pub(crate) struct Command<'a> {
     pub kind: CommandKind,
     /// The name of the cache; absent: the default one.
     pub cache: Option<&'a str>,
+    /// The names of principals: the client of `kinit`, the services of `kvno`.
+    pub names: Vec<&'a str>,
+    /// The realm's name, if it has an option of its own.
+    pub realm: Option<&'a str>,
 }
 
 /// What a command does.
@@ -36,9 +41,9 @@ pub(crate) const NO_COMMAND: &str = "a command is missing";
 const TWO_WAYS: &str = "--renew and --validate don't go together";
 
 /// Returns the command that the words spell.
-pub(crate) fn read_command<'a>(words: &[&'a str]) -> Result<Command<'a>, Fault>
+pub(crate) fn read_command<'a>(alloc: Global, words: &[&'a str]) -> Result<Command<'a>, Fault>
     // Promise: the command is the second word; the value of an option is the next word, or what follows `=`; behind
-    // `--` there is no option.
+    // `--` there is no option; a name is a word that is neither, or the value of `--name`.
     ensures { IfOk result (λ command. Spells (texts words.now) command) }
 {
     let Some(name) = command_of(words) else {
@@ -48,6 +53,8 @@ pub(crate) fn read_command<'a>(words: &[&'a str]) -> Result<Command<'a>, Fault>
     Ok(Command {
         kind,
         cache: value_of(words, CACHE),
+        realm: value_of(words, REALM),
+        names: names_of(alloc, words)?,
     })
 }
 

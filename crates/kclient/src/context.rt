@@ -29,6 +29,7 @@ impl<T, X> Context<T, X> {
     /// Begins a command: forgets what the one before noted.
     pub(crate) fn begin(&mut self)
         ensures store { self.new.store ≡ self.old.store }
+        ensures clock { self.new.client.at.sec ≡ self.old.client.at.sec }
     {
         self.notes.clear();
     }

@@ -1,18 +1,22 @@
 //! `kinit`: gets a first ticket, and makes a cache from it.
-ghost use Rattle.std.specs.Prelude.{◌≡◌, IfOk, OnErr, OnOk, option_map, string_bytes};
+ghost use Rattle.std.specs.Prelude.{◌≡◌, ◌⊎◌, IfOk, OnErr, OnOk, option_map, string_bytes};
 ghost use Rattle.command_line.specs.declared.status.Status.TheVariants.{Done};
 ghost use Rattle.cred_files.specs.Cache.{cache_text};
 ghost use Rattle.client_files.specs.Caches.{new_cache};
 ghost use Rattle.file_store.specs.World.{with_file};
-ghost use Rattle.kclient.specs.Words.{IsCacheNamed, text_of};
+ghost use Rattle.client_core.specs.Taken.{AreSame};
+ghost use Rattle.kclient.specs.Given.{IsClientFound, IsClientOf, IsGiven, IsRealmRead};
+ghost use Rattle.kclient.specs.Principals.{IsCached, IsFirstOf, IsUser};
+ghost use Rattle.kclient.specs.Words.{IsCacheNamed, text_of, texts};
 ghost use Rattle.kclient.specs.Worlds.{CameFirst, Made};
 
+use crate::commands::Command;
 use crate::context::Context;
 use crate::places::{cache_path, configured_request, find_realm, use_given_kdcs, use_kdcs_of};
 use crate::run::Printed;
 use crate::words::{
-    ClientWords, FirstWords, NO_NAME, SecretWords, first_words, read_name, read_realm,
-    with_configured,
+    ClientWords, FirstWords, NO_NAME, SecretWords, client_words, first_words, read_name,
+    read_realm, with_configured,
 };
 use clap::ArgMatches;
 use client_files::{
@@ -37,23 +41,27 @@ struct First {
 }
 
 /// Gets a first ticket, and writes a cache with it. After an `Err` no file is changed.
-#[tactic(auto, using(crate::proofs::Doing::made))]
+#[tactic(auto, using(crate::proofs::Making::made_first))]
 pub(crate) fn get_first<T: ClientStore, X: AnyMessage>(
     context: &mut Context<T, X>,
-    cache: Option<&str>,
+    command: &Command<'_>,
     options: &ArgMatches<'_>,
     host: &Host<'_>,
 ) -> Result<Printed, Fault>
     // Promise (made, status, unchanged): `kinit` that succeeds makes a cache of the first ticket that came, under a key
     // of the client; a refused one changes no file.
-    ensures made { OnOk result (Made (CameFirst X.finds X.carries X.answers)
-        (IsCacheNamed (text_of cache.entry) host.now) (T.world context.old.store) (T.world context.new.store)) }
+    // Promise (made): the ticket of `kinit` is the client's that its words name, or else that of the cache, or the
+    // user's of the default realm.
+    ensures made { OnOk result (Made (IsFirstOf (CameFirst X.finds X.carries X.answers)
+        (texts command.now.names.items) (text_of command.now.realm) host.now (T.world context.old.store))
+        (IsCacheNamed (text_of command.now.cache) host.now) (T.world context.old.store) (T.world context.new.store)) }
     ensures status { IfOk result (λ printed. printed.status ≡ Done) }
     ensures unchanged { OnErr result (T.world context.new.store ≡ T.world context.old.store) }
 {
+    let client = client_words(command, options)?;
     let words = first_words(options)?;
-    let path = cache_path(context.alloc, cache, host)?;
-    let mut first = prepare(context, path, options, host, &words)?;
+    let path = cache_path(context.alloc, command.cache, host)?;
+    let mut first = prepare(context, path, options, host, client, &words)?;
     let credential = match log_in(context, words.secret.source(), &mut first) {
         Ok(credential) => credential,
         Err(fault) => return Err(words.secret.explained(fault)),
@@ -69,6 +77,8 @@ fn log_in<T, X: AnyMessage>(
     first: &mut First,
 ) -> Result<Credential, Fault>
     ensures came { IfOk result (λ ticket. CameFirst X.finds X.carries X.answers ticket) }
+    ensures client { IfOk result (λ ticket. AreSame ticket.client.realm ticket.client.name
+        first.old.login.client.realm first.old.login.client.name) }
     ensures path { first.new.path ≡ first.old.path }
     ensures store { context.new.store ≡ context.old.store }
 {
@@ -89,13 +99,16 @@ fn prepare<T: ClientStore, X>(
     path: String,
     options: &ArgMatches<'_>,
     host: &Host<'_>,
+    client: Option<ClientWords<'_>>,
     words: &FirstWords<'_>,
 ) -> Result<First, Fault>
     ensures path { IfOk result (λ first. first.path ≡ path) }
+    ensures client { IfOk result (λ first. IsClientOf client.entry host.now (T.world context.old.store)
+        (string_bytes path) first.login.client) }
     ensures unchanged { T.world context.new.store ≡ T.world context.old.store }
 {
     use_given_kdcs(context.alloc, &mut context.client.kdcs, options)?;
-    let login = read_login(context, host, words, path.as_str())?;
+    let login = read_login(context, host, client, words, path.as_str())?;
     let secret = read_secret(context.alloc, &mut context.store, words, &login.client)?;
     let rng = generator(context.alloc, &mut context.store, options)?;
     Ok(First {
@@ -135,34 +148,54 @@ pub(crate) fn generator<T: ClientStore>(
 }
 
 /// Reads the names, and finds the realm if no word names it.
+#[tactic(auto, using(crate::proofs::Giving::login_for))]
 fn read_login<T: ClientStore, X>(
     context: &mut Context<T, X>,
     host: &Host<'_>,
+    client: Option<ClientWords<'_>>,
     words: &FirstWords<'_>,
     path: &str,
 ) -> Result<Login, Fault>
+    ensures client { IfOk result (λ login. IsClientOf client.entry host.now (T.world context.old.store)
+        path.now login.client) }
     ensures unchanged { T.world context.new.store ≡ T.world context.old.store }
 {
     let alloc = context.alloc;
-    let given = given_client(alloc, words.client)?;
+    let given = given_client(alloc, client)?;
     let service = given_service(alloc, words.service)?;
-    let client = match given {
-        Some(GivenClient { name, realm }) => {
-            let realm = find_realm(context, host, realm)?;
-            Principal { realm, name }
-        }
-        None => cached_client(context, host, path)?,
-    };
+    let client = find_client(context, host, given, path)?;
     let request = with_configured(words.request, configured_request(context, host)?);
     login_of(alloc, client, service, request)
 }
 
+/// Returns the client that words give, or else that of the cache.
+fn find_client<T: ClientStore, X>(
+    context: &mut Context<T, X>,
+    host: &Host<'_>,
+    given: Option<GivenClient>,
+    path: &str,
+) -> Result<Principal, Fault>
+    ensures client { IfOk result (λ client. IsClientFound given host.now (T.world context.old.store) path.now client) }
+    ensures unchanged { T.world context.new.store ≡ T.world context.old.store }
+{
+    match given {
+        Some(GivenClient { name, realm }) => {
+            let realm = find_realm(context, host, realm)?;
+            Ok(Principal { realm, name })
+        }
+        None => cached_client(context, host, path),
+    }
+}
+
 /// Returns the client of the cache, and sets the KDCs to those of its realm. Without a cache it is the user's own name.
+#[tactic(auto, using(crate::proofs::Giving::cached, crate::proofs::Giving::user_found))]
 fn cached_client<T: ClientStore, X>(
     context: &mut Context<T, X>,
     host: &Host<'_>,
     path: &str,
 ) -> Result<Principal, Fault>
+    ensures client { IfOk result (λ client.
+        IsCached (T.world context.old.store) path.now client ⊎ IsUser host.now client) }
     ensures unchanged { T.world context.new.store ≡ T.world context.old.store }
 {
     let cache = match read_cache(context.alloc, &mut context.store, path) {
@@ -179,6 +212,7 @@ fn cached_client<T: ClientStore, X>(
 
 /// Returns the client with the user's own name, in the default realm.
 fn own_client<T, X>(context: &mut Context<T, X>, host: &Host<'_>) -> Result<Principal, Fault>
+    ensures client { IfOk result (λ client. IsUser host.now client) }
     ensures store { context.new.store ≡ context.old.store }
 {
     let Variable::Text(user) = host.defaults.user else {
@@ -199,7 +233,9 @@ struct GivenClient {
 fn given_client(
     alloc: Global,
     words: Option<ClientWords<'_>>,
-) -> Result<Option<GivenClient>, Fault> {
+) -> Result<Option<GivenClient>, Fault>
+    ensures { IfOk result (λ given. IsGiven words.entry given) }
+{
     let Some(words) = words else {
         return Ok(None);
     };
@@ -213,7 +249,9 @@ fn login_of(
     client: Principal,
     service: Option<Name>,
     request: TicketRequest,
-) -> Result<Login, Fault> {
+) -> Result<Login, Fault>
+    ensures { IfOk result (λ login. login.client ≡ client) }
+{
     let service = match service {
         Some(service) => service,
         None => tgs_name(alloc, client.realm.as_slice())?,
@@ -225,7 +263,9 @@ fn login_of(
     })
 }
 
-fn given_realm(alloc: Global, words: &ClientWords<'_>) -> Result<Option<KerberosString>, Fault> {
+fn given_realm(alloc: Global, words: &ClientWords<'_>) -> Result<Option<KerberosString>, Fault>
+    ensures { IfOk result (λ realm. IsRealmRead (text_of words.now.realm) realm) }
+{
     let Some(realm) = words.realm else {
         return Ok(None);
     };

@@ -1,15 +1,17 @@
 //! `kvno`: gets tickets for services, one after another.
-ghost use Rattle.std.specs.Prelude.{◌≡◌, ◌⊎◌, IfOk, IfSome, OnErr, OnOk, option_map};
+ghost use Rattle.std.specs.Prelude.{◌≡◌, ◌⊎◌, All, IfOk, IfSome, OnErr, OnOk, false, map, option_map, true};
 ghost use Rattle.std.specs.String.{string_bytes};
 ghost use Rattle.command_line.specs.declared.status.Status.TheVariants.{Done};
 ghost use Rattle.cred_files.specs.Cache.{cache_text, put_first};
 ghost use Rattle.client_files.specs.Caches.{HasCache};
 ghost use Rattle.client_login.specs.Verifying.{IsTicketOf};
 ghost use Rattle.file_store.specs.World.{with_file};
-ghost use Rattle.kclient.specs.CacheSessions.{Collected};
-ghost use Rattle.kclient.specs.Words.{IsCacheNamed, text_of};
+ghost use Rattle.kclient.specs.CacheSessions.{Answered, Collected, IsGoodIn, IsHeld, IsSpelled, IsWritten};
+ghost use Rattle.kclient.specs.Principals.{HasTicket};
+ghost use Rattle.kclient.specs.Words.{IsCacheNamed, text_of, texts};
 ghost use Rattle.kclient.specs.Worlds.{Added, CameFurther, Filled, Served};
 
+use crate::commands::Command;
 use crate::context::Context;
 use crate::kinit::generator;
 use crate::places::{Granting, cache_path, use_given_kdcs, use_kdcs_of};
@@ -50,47 +52,62 @@ struct CacheSession {
 
 /// Gets a ticket for each service, unless the cache has one that can be used, and puts it into the cache. It prints the
 /// key versions of the tickets, in the order of the names. A name that ends the command keeps the tickets before it.
-#[tactic(auto, using(crate::proofs::Doing::filled, crate::proofs::Doing::unfilled, crate::proofs::Doing::served))]
+#[tactic(auto, using(crate::proofs::Doing::filled, crate::proofs::Doing::unfilled, crate::proofs::Serving::served))]
 pub(crate) fn get_tickets<T: ClientStore, X: AnyMessage>(
     context: &mut Context<T, X>,
-    cache: Option<&str>,
+    command: &Command<'_>,
     options: &ArgMatches<'_>,
     host: &Host<'_>,
 ) -> Result<Printed, Fault>
     // Promise (world, served, status): `kvno`, refused or not, writes nothing, or the user's own cache with the tickets
     // that came.
     ensures world { (T.world context.new.store ≡ T.world context.old.store)
-        ⊎ Filled (CameFurther X.finds X.carries X.answers) (IsCacheNamed (text_of cache.entry) host.now)
+        ⊎ Filled (CameFurther X.finds X.carries X.answers) (IsCacheNamed (text_of command.now.cache) host.now)
         (T.world context.old.store) (T.world context.new.store) }
-    ensures served { OnOk result (Served (CameFurther X.finds X.carries X.answers)
-        (IsCacheNamed (text_of cache.entry) host.now) (T.world context.old.store) (T.world context.new.store)) }
+    // Promise (served): after a `kvno` that succeeds the cache has a ticket for each name of its words: one that came,
+    // or one that can still be used by the clock that it began with.
+    ensures served { OnOk result (Served (CameFurther X.finds X.carries X.answers) context.old.client.at.sec
+        (texts command.now.names.items) (IsCacheNamed (text_of command.now.cache) host.now)
+        (T.world context.old.store) (T.world context.new.store)) }
     ensures status { IfOk result (λ printed. printed.status ≡ Done) }
 {
-    let names = service_words(context.alloc, options)?;
+    let at = context.client.at;
+    check_some(&command.names)?;
     let keytab = keytab_path(options)?;
-    let path = cache_path(context.alloc, cache, host)?;
+    let path = cache_path(context.alloc, command.cache, host)?;
     use_given_kdcs(context.alloc, &mut context.client.kdcs, options)?;
-    let services = read_services(context, &names)?;
+    let services = read_services(context, &command.names)?;
     let mut session = read_session(context, options, path, keytab)?;
-    fill(context, host, &mut session, &services)
+    fill(context, host, &mut session, &services, at)
+}
+
+/// Checks that there is a name.
+fn check_some(names: &[&str]) -> Result<(), Fault> {
+    if names.is_empty() {
+        return Err(Fault::usage(NO_SERVICE));
+    }
+    Ok(())
 }
 
 /// Gets a ticket for each service, until one fails, and writes the cache with those that came. Prints a line for each.
 /// Asks for none unless the cache serves the realms of all.
-#[tactic(auto, using(crate::proofs::Doing::added))]
+#[tactic(auto, using(crate::proofs::Doing::added, crate::proofs::Serving::answered))]
 fn fill<T: ClientStore, X: AnyMessage>(
     context: &mut Context<T, X>,
     host: &Host<'_>,
     session: &mut CacheSession,
     services: &[Service],
+    at: Moment,
 ) -> Result<Printed, Fault>
     ensures world { (T.world context.new.store ≡ T.world context.old.store)
         ⊎ Added (CameFurther X.finds X.carries X.answers) (string_bytes session.old.path) session.old.cache
         (T.world context.old.store) (T.world context.new.store) }
+    ensures answered { OnOk result (Answered (CameFurther X.finds X.carries X.answers) at.sec services.now
+        (string_bytes session.old.path) session.old.cache (T.world context.old.store) (T.world context.new.store)) }
     ensures status { IfOk result (λ printed. printed.status ≡ Done) }
 {
     check_realms(context, services, &session.cache)?;
-    let lines = get_each(context, host, session, services);
+    let lines = get_each(context, host, session, services, at);
     let written = write_changed(context.alloc, &mut context.store, session);
     // Why the command ends is what counts, not whether the tickets before can be written.
     let lines = lines?;
@@ -99,19 +116,22 @@ fn fill<T: ClientStore, X: AnyMessage>(
 }
 
 /// Gets a ticket for each service, until one fails. Returns a line for each.
-#[tactic(auto, using(crate::proofs::Doing::collected_none, crate::proofs::Doing::collected_more))]
+#[tactic(auto, using(crate::proofs::Doing::collected_none, crate::proofs::Doing::collected_more, crate::proofs::Serving::held_more))]
 fn get_each<T: ClientStore, X: AnyMessage>(
     context: &mut Context<T, X>,
     host: &Host<'_>,
     session: &mut CacheSession,
     services: &[Service],
+    at: Moment,
 ) -> Result<String, Fault>
     ensures collected { Collected (CameFurther X.finds X.carries X.answers) session.old session.new }
+    ensures held { OnOk result (All (IsHeld (CameFurther X.finds X.carries X.answers) at.sec
+        session.new.cache.credentials) services.now) }
     ensures unchanged { T.world context.new.store ≡ T.world context.old.store }
 {
     let mut lines = String::new(context.alloc);
     for service in services {
-        match get_ticket(context, host, session, &service.name) {
+        match get_ticket(context, host, session, &service.name, at) {
             Ok(version) => push_line(&mut lines, service, version, session.checks.is_some())?,
             Err(fault) => return Err(at_name(
                 context,
@@ -148,7 +168,7 @@ fn read_session<T: ClientStore, X>(
     })
 }
 
-#[tactic(auto, using(crate::proofs::Doing::written_or_kept))]
+#[tactic(auto, using(crate::proofs::Doing::written_or_kept, crate::proofs::Serving::not_written, crate::proofs::Serving::written))]
 fn write_changed<T: ClientStore>(
     alloc: Global,
     store: &mut T,
@@ -156,6 +176,7 @@ fn write_changed<T: ClientStore>(
 ) -> Result<(), Fault>
     ensures world { (T.world store.new ≡ T.world store.old) ⊎ (T.world store.new
         ≡ option_map (with_file (string_bytes session.now.path) (cache_text session.now.cache)) (T.world store.old)) }
+    ensures written { OnOk result (IsWritten session.now (T.world store.old) (T.world store.new)) }
 {
     if !session.is_changed {
         return Ok(());
@@ -171,18 +192,10 @@ struct Service {
     realm: Option<KerberosString>,
 }
 
-/// Returns the names of services: the plain words, and those of options.
-fn service_words<'a>(alloc: Global, options: &ArgMatches<'a>) -> Result<Vec<&'a str>, Fault> {
-    let mut names = Vec::new(alloc);
-    names.extend_from_slice(options.get_strs("service").unwrap_or(&[]))?;
-    names.extend_from_slice(options.get_strs("name").unwrap_or(&[]))?;
-    if names.is_empty() {
-        return Err(Fault::usage(NO_SERVICE));
-    }
-    Ok(names)
-}
-
+#[tactic(auto, using(crate::proofs::Serving::words_more, crate::proofs::Serving::spelled_more))]
 fn read_services<T, X>(context: &mut Context<T, X>, names: &[&str]) -> Result<Vec<Service>, Fault>
+    ensures words { IfOk result (λ services. map (λ service. string_bytes service.word) services.items ≡ texts names.now) }
+    ensures spelled { IfOk result (λ services. All IsSpelled services.items) }
     ensures store { context.new.store ≡ context.old.store }
 {
     let mut services = Vec::new(context.alloc);
@@ -195,7 +208,10 @@ fn read_services<T, X>(context: &mut Context<T, X>, names: &[&str]) -> Result<Ve
     Ok(services)
 }
 
-fn read_service(alloc: Global, word: &str) -> Result<Service, Fault> {
+fn read_service(alloc: Global, word: &str) -> Result<Service, Fault>
+    ensures word { IfOk result (λ service. string_bytes service.word ≡ word.now) }
+    ensures spelled { IfOk result (λ service. IsSpelled service) }
+{
     let Some((name, realm)) = word.split_once('@') else {
         return Ok(Service {
             word: String::from_str(alloc, word)?,
@@ -281,18 +297,21 @@ const OPENED: &str = ", keytab entry valid";
 
 /// Returns the key version of the service's ticket: of the cache's own, if it need not be requested again, or of a new
 /// one. Only a request needs KDCs.
-#[tactic(auto, using(crate::proofs::Doing::collected_none, crate::proofs::Doing::collected_one))]
+#[tactic(auto, using(crate::proofs::Doing::collected_none, crate::proofs::Doing::collected_one, crate::proofs::Serving::held_there, crate::proofs::Serving::put_there))]
 fn get_ticket<T: ClientStore, X: AnyMessage>(
     context: &mut Context<T, X>,
     host: &Host<'_>,
     session: &mut CacheSession,
     service: &Name,
+    at: Moment,
 ) -> Result<i64, Fault>
     ensures collected { Collected (CameFurther X.finds X.carries X.answers) session.old session.new }
+    ensures held { OnOk result (HasTicket (CameFurther X.finds X.carries X.answers) at.sec service.now.components
+        session.new.cache.credentials) }
     ensures unchanged { T.world context.new.store ≡ T.world context.old.store }
 {
     let alloc = context.alloc;
-    if let Some(version) = held_version(alloc, session, service, context.client.at)? {
+    if let Some(version) = held_version(alloc, session, service, at)? {
         return Ok(version);
     }
     let path = session.path.as_str();
@@ -306,7 +325,7 @@ fn get_ticket<T: ClientStore, X: AnyMessage>(
 }
 
 /// Returns a new ticket for a service. It is requested once more if the KDC's time is taken.
-#[tactic(auto, using(crate::proofs::Doing::came_further))]
+#[tactic(auto, using(crate::proofs::Doing::came_further, crate::proofs::Serving::came_for))]
 fn requested<T, X: AnyMessage>(
     context: &mut Context<T, X>,
     rng: &mut ChaCha20Rng,
@@ -314,6 +333,7 @@ fn requested<T, X: AnyMessage>(
     service: &Name,
 ) -> Result<Credential, Fault>
     ensures came { IfOk result (λ ticket. CameFurther X.finds X.carries X.answers ticket) }
+    ensures service { IfOk result (λ ticket. ticket.server.name.components ≡ service.now.components) }
     ensures store { context.new.store ≡ context.old.store }
 {
     match context
@@ -333,16 +353,20 @@ fn requested<T, X: AnyMessage>(
 }
 
 /// Returns the key version of the cache's own ticket, if it need not be requested again.
+#[tactic(auto, using(crate::proofs::Serving::good_there))]
 fn held_version(
     alloc: Global,
     session: &CacheSession,
     service: &Name,
-    now: Moment,
-) -> Result<Option<i64>, Fault> {
+    at: Moment,
+) -> Result<Option<i64>, Fault>
+    ensures { IfOk result (λ held. IfSome held (λ version. IsGoodIn at.sec session.now.cache.credentials
+        service.now.components)) }
+{
     if session.fresh {
         return Ok(None);
     }
-    match good_credential(&session.cache, service, now) {
+    match good_credential(&session.cache, service, at) {
         Some(credential) => Ok(Some(checked_version(alloc, &session.checks, credential)?)),
         None => Ok(None),
     }
@@ -367,7 +391,9 @@ fn unended<'c>(
 fn keep(alloc: Global, session: &mut CacheSession, credential: &Credential) -> Result<i64, Fault>
     ensures put { OnOk result (session.new.cache
         ≡ record session.old.cache { credentials = put_first credential.now session.old.cache.credentials }) }
+    ensures changed { OnOk result (session.new.is_changed ≡ true) }
     ensures unchanged { OnErr result (session.new.cache ≡ session.old.cache) }
+    ensures same { OnErr result (session.new.is_changed ≡ session.old.is_changed) }
     ensures path { session.new.path ≡ session.old.path }
 {
     let version = checked_version(alloc, &session.checks, credential)?;

@@ -1,11 +1,12 @@
 //! Where a command works: its cache, and the KDCs of its realm, from its words or else from the environment.
 ghost use Rattle.std.specs.Prelude.{◌≡◌, IfOk, string_bytes};
+ghost use Rattle.kclient.specs.Given.{IsRealmFound, IsRealmOf};
 ghost use Rattle.kclient.specs.Words.{IsCacheNamed, text_of};
 
 use crate::context::Context;
 use crate::words::word_fault;
 use clap::ArgMatches;
-use client_files::{Cause, Fault, Host, NameOf, path_in};
+use client_files::{Cause, Config, Fault, Host, NameOf, path_in};
 use client_login::{KdcPlace, Kdcs, TicketRequest, Transports};
 use cred_files::Credential;
 use krb_elements::KerberosString;
@@ -68,6 +69,7 @@ pub(crate) fn find_realm<T, X>(
     host: &Host<'_>,
     given: Option<KerberosString>,
 ) -> Result<KerberosString, Fault>
+    ensures realm { IfOk result (λ realm. IsRealmFound given host.now realm) }
     ensures store { context.new.store ≡ context.old.store }
 {
     match given {
@@ -76,23 +78,35 @@ pub(crate) fn find_realm<T, X>(
     }
 }
 
+#[tactic(auto, using(crate::proofs::Giving::found_realm))]
 fn configure<T, X>(
     context: &mut Context<T, X>,
     host: &Host<'_>,
     given: Option<KerberosString>,
 ) -> Result<KerberosString, Fault>
+    ensures realm { IfOk result (λ realm. IsRealmFound given host.now realm) }
     ensures store { context.new.store ≡ context.old.store }
 {
     let config = host.config(context.alloc)?;
     context.note_lines(config.notes())?;
-    let realm = match given {
-        Some(realm) => realm,
-        None => config.default_realm(context.alloc)?,
-    };
+    let realm = realm_or_default(context.alloc, config, given)?;
     if !has_kdcs(context) {
         context.client.kdcs.places = config.kdcs(context.alloc, realm.as_slice())?;
     }
     Ok(realm)
+}
+
+fn realm_or_default(
+    alloc: Global,
+    config: &Config,
+    given: Option<KerberosString>,
+) -> Result<KerberosString, Fault>
+    ensures { IfOk result (λ realm. IsRealmOf given config.now realm) }
+{
+    match given {
+        Some(realm) => Ok(realm),
+        None => config.default_realm(alloc),
+    }
 }
 
 /// Returns the first ticket that the `krb5.conf` asks for, if there is one.

@@ -27,7 +27,7 @@ pub(crate) fn renew_ticket<T: ClientStore, X: AnyMessage>(
 ) -> Result<Printed, Fault>
     // Promise (made, status, unchanged): `kinit --renew` and `--validate` make a cache of the ticket that came under
     // the session key of the cache's; a refused one changes no file.
-    ensures made { OnOk result (Made (CameFurther X.finds X.carries X.answers)
+    ensures made { OnOk result (Made (λ path. CameFurther X.finds X.carries X.answers)
         (IsCacheNamed (text_of cache.entry) host.now) (T.world context.old.store) (T.world context.new.store)) }
     ensures status { IfOk result (λ printed. printed.status ≡ Done) }
     ensures unchanged { OnErr result (T.world context.new.store ≡ T.world context.old.store) }
@@ -70,7 +70,8 @@ fn renew_from<T: ClientStore, X: AnyMessage>(
     granting: &Granting<'_>,
     renewal: Renewal,
 ) -> Result<Printed, Fault>
-    ensures made { OnOk result (Made (CameFurther X.finds X.carries X.answers) (λ path. path ≡ granting.now.path.now)
+    ensures made { OnOk result (Made (λ path. CameFurther X.finds X.carries X.answers)
+        (λ path. path ≡ granting.now.path.now)
         (T.world context.old.store) (T.world context.new.store)) }
     ensures status { IfOk result (λ printed. printed.status ≡ Done) }
     ensures unchanged { OnErr result (T.world context.new.store ≡ T.world context.old.store) }

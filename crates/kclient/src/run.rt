@@ -72,10 +72,13 @@ pub fn kclient_run<T: ClientStore, X: AnyMessage, W: Write + Drop, E: Write + Dr
     // cache that they or the computer name, or the help is asked for.
     // Promise: with another status the files are as before, or `kvno` keeps the tickets before the name that stopped
     // it; with 3 all may be done, and the printing failed.
+    // Promise: `kinit` gets the ticket of the client that the words name, and after `kvno` the cache has a ticket for
+    // each name of the words: one that came, or one that can still be used.
     // Promise: what is done leaves a new cache of the one ticket; or the cache that the path had, with the tickets that
     // came, each in place of the first one of its service, else at the end; or no file. No other path changes.
     ensures ended { IsEnd (CameFirst X.finds X.carries X.answers) (CameFurther X.finds X.carries X.answers)
-        (texts words.now) host.now (T.world context.old.store) result (T.world context.new.store) }
+        context.old.client.at.sec (texts words.now) host.now
+        (T.world context.old.store) result (T.world context.new.store) }
 {
     let Ok(mut errors) = BufWriter::new(context.alloc, errors) else {
         return Status::Failed;
@@ -119,7 +122,7 @@ fn run_words<T: ClientStore, X: AnyMessage>(
     host: &Host<'_>,
 ) -> Result<Printed, Fault>
     ensures done { IfOk result (λ printed. IsEnd (CameFirst X.finds X.carries X.answers)
-        (CameFurther X.finds X.carries X.answers) (texts words.now) host.now
+        (CameFurther X.finds X.carries X.answers) context.old.client.at.sec (texts words.now) host.now
         (T.world context.old.store) printed.status (T.world context.new.store)) }
     ensures stopped { IfErr result (λ fault. IsStopped (CameFurther X.finds X.carries X.answers)
         (texts words.now) host.now (T.world context.old.store) (T.world context.new.store)) }
@@ -131,7 +134,7 @@ fn run_words<T: ClientStore, X: AnyMessage>(
     let Some((_, options)) = matches.subcommand() else {
         return Err(Fault::usage(NO_COMMAND));
     };
-    let command = read_command(words)?;
+    let command = read_command(context.alloc, words)?;
     run_command(context, &command, options, host)
 }
 
@@ -144,7 +147,7 @@ fn run_command<T: ClientStore, X: AnyMessage>(
     host: &Host<'_>,
 ) -> Result<Printed, Fault>
     ensures done { IfOk result (λ printed. IsCommandEnd (CameFirst X.finds X.carries X.answers)
-        (CameFurther X.finds X.carries X.answers) command.now host.now
+        (CameFurther X.finds X.carries X.answers) context.old.client.at.sec command.now host.now
         (T.world context.old.store) printed.status (T.world context.new.store)) }
     ensures stopped { IfErr result (λ fault. (T.world context.new.store ≡ T.world context.old.store)
         ⊎ IsTried (CameFurther X.finds X.carries X.answers) command.now host.now
@@ -152,12 +155,12 @@ fn run_command<T: ClientStore, X: AnyMessage>(
 {
     let cache = command.cache;
     match command.kind {
-        CommandKind::Kinit => get_first(context, cache, options, host),
+        CommandKind::Kinit => get_first(context, command, options, host),
         CommandKind::Renew(renewal) => {
             check_renewal(options)?;
             renew_ticket(context, cache, options, host, renewal)
         }
-        CommandKind::Kvno => get_tickets(context, cache, options, host),
+        CommandKind::Kvno => get_tickets(context, command, options, host),
         CommandKind::Klist => list(context, cache, options, host),
         CommandKind::Kdestroy => destroy(context, cache, host),
     }

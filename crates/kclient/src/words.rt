@@ -1,6 +1,13 @@
 //! Reading the words of a command line.
+ghost use Rattle.std.specs.Prelude.{◌≡◌, IfOk, None};
+ghost use Rattle.krb_fields.specs.NameText.{IsComponentText, IsNameText};
+ghost use Rattle.kclient.specs.Given.{AreClientWords};
+ghost use Rattle.kclient.specs.Words.{listed, name_in, realm_in, text_of, texts};
+
+use crate::commands::Command;
 use crate::context::NO_WORD;
 use crate::options::asks_for_first;
+use crate::values::NAME;
 use clap::ArgMatches;
 use client_files::{Cause, Fault, NameOf, path_in};
 use client_login::TicketRequest;
@@ -13,8 +20,6 @@ use text_fields::{lifetime, number_u32};
 /// The words for a first ticket.
 #[derive(Clone, Copy)]
 pub(crate) struct FirstWords<'a> {
-    /// The client; absent: that of the cache.
-    pub client: Option<ClientWords<'a>>,
     pub secret: SecretWords<'a>,
     /// The name of the service; absent: the ticket-granting service.
     pub service: Option<&'a str>,
@@ -115,7 +120,6 @@ pub(crate) fn check_renewal(options: &ArgMatches<'_>) -> Result<(), Fault> {
 /// Returns the words for a first ticket.
 pub(crate) fn first_words<'a>(options: &ArgMatches<'a>) -> Result<FirstWords<'a>, Fault> {
     Ok(FirstWords {
-        client: client_words(options)?,
         secret: secret_words(options)?,
         service: options.get_str("service"),
         least_count: number_in(options, "least-count").ok_or(Fault::usage(NO_COUNT))?,
@@ -123,36 +127,79 @@ pub(crate) fn first_words<'a>(options: &ArgMatches<'a>) -> Result<FirstWords<'a>
     })
 }
 
-/// Returns the words for the client, if one is named.
-fn client_words<'a>(options: &ArgMatches<'a>) -> Result<Option<ClientWords<'a>>, Fault> {
-    let realm = options.get_str("realm");
-    let (option, given) = match (options.get_str("client"), options.get_str("name")) {
-        (Some(_), Some(_)) => return Err(Fault::usage(TWO_NAMES)),
-        (Some(given), None) => ("", given),
-        (None, Some(given)) => ("--name", given),
-        (None, None) if realm.is_some() => return Err(Fault::usage(NO_NAME)),
-        (None, None) => return Ok(None),
+/// Returns the words for the client of `kinit`, if they name one.
+#[tactic(auto, using(crate::proofs::Giving::no_words, crate::proofs::Giving::some_words))]
+pub(crate) fn client_words<'a>(
+    command: &Command<'a>,
+    options: &ArgMatches<'_>,
+) -> Result<Option<ClientWords<'a>>, Fault>
+    ensures { IfOk result (λ client.
+        AreClientWords (texts command.now.names.items) (text_of command.now.realm) client) }
+{
+    let Some(given) = one_name(&command.names)? else {
+        return no_client(command.realm);
     };
-    let has_realm_option = realm.is_some();
-    let (name, realm) = name_and_realm(given, realm)?;
-    Ok(Some(ClientWords {
-        option,
-        given,
-        name,
-        realm,
-        has_realm_option,
-    }))
+    let option = option_of_name(options);
+    Ok(Some(named_client(option, given, command.realm)?))
 }
 
-/// Returns a client's name and its realm, which follows an `@` or `--realm`.
-fn name_and_realm<'a>(
-    name: &'a str,
+/// Returns no words, unless a realm alone is given.
+fn no_client<'a>(realm: Option<&str>) -> Result<Option<ClientWords<'a>>, Fault>
+    ensures { IfOk result (λ client. client ≡ None) }
+{
+    if realm.is_some() {
+        return Err(Fault::usage(NO_NAME));
+    }
+    Ok(None)
+}
+
+/// Returns the option of the client's name; it is empty if the name is a plain word.
+fn option_of_name(options: &ArgMatches<'_>) -> &'static str {
+    if options.get_str("name").is_some() {
+        NAME
+    } else {
+        ""
+    }
+}
+
+/// Returns the only name, if there is one.
+#[tactic(auto, using(crate::proofs::Giving::only_listed))]
+fn one_name<'a>(names: &[&'a str]) -> Result<Option<&'a str>, Fault>
+    ensures { IfOk result (λ name. listed (text_of name) ≡ texts names.now) }
+{
+    if names.len() > 1 {
+        return Err(Fault::usage(TWO_NAMES));
+    }
+    Ok(names.first().copied())
+}
+
+/// Returns the words for a client with this name. Its realm follows an `@`, or `--realm`.
+fn named_client<'a>(
+    option: &'static str,
+    given: &'a str,
     realm: Option<&'a str>,
-) -> Result<(&'a str, Option<&'a str>), Fault> {
-    match (name.split_once('@'), realm) {
-        (Some(_), Some(_)) => Err(Fault::usage(TWO_REALMS)),
-        (Some((name, realm)), None) => Ok((name, Some(realm))),
-        (None, realm) => Ok((name, realm)),
+) -> Result<ClientWords<'a>, Fault>
+    ensures given { IfOk result (λ client. client.given.now ≡ given.now) }
+    ensures name { IfOk result (λ client. client.name.now ≡ name_in given.now) }
+    ensures realm { IfOk result (λ client. text_of client.realm ≡ realm_in given.now (text_of realm.entry)) }
+{
+    let has_realm_option = realm.is_some();
+    match given.split_once('@') {
+        Some(_) if has_realm_option => Err(Fault::usage(TWO_REALMS)),
+        Some((name, realm)) => Ok(ClientWords {
+            option,
+            given,
+            name,
+            realm: Some(realm),
+            has_realm_option,
+        }),
+        None => Ok(ClientWords {
+            option,
+            given,
+            name: given,
+            realm,
+            has_realm_option,
+        }),
     }
 }
 
@@ -214,7 +261,9 @@ pub(crate) fn read_name(
     option: &str,
     word: &str,
     text: &str,
-) -> Result<Name, Fault> {
+) -> Result<Name, Fault>
+    ensures { IfOk result (λ name. IsNameText name.components text.now) }
+{
     match Name::from_text(alloc, text) {
         Ok(name) => Ok(name),
         Err(fault) => Err(word_fault(alloc, option, word, Cause::from(fault))),
@@ -227,7 +276,9 @@ pub(crate) fn read_realm(
     option: &str,
     word: &str,
     text: &str,
-) -> Result<KerberosString, Fault> {
+) -> Result<KerberosString, Fault>
+    ensures { IfOk result (λ realm. IsComponentText realm text.now) }
+{
     match component_from_text(alloc, text) {
         Ok(realm) => Ok(realm),
         Err(fault) => Err(word_fault(alloc, option, word, Cause::from(fault))),
