@@ -83,7 +83,7 @@ def at_the_realms_kdc(trial):
     )
     log_in(
         trial, "the realm's KDC, and a service that it has not", "v nobody keys", "password",
-        rf"{server.udp}: error 7: .*"
+        rf"{server.udp}: nobody: error 7: .*"
     )
     log_in(trial, "the realm's KDC, and a client with its realm", "v@A.B h keys", "password", None)
     log_in(

@@ -27,7 +27,7 @@ use krb_elements::Octets;
 use krb_fields::{Moment, Name, component_to_text, tgs_name};
 use rand_chacha::ChaCha20Rng;
 use rand_core::SeedableRng;
-use std::alloc::Global;
+use std::alloc::{AllocError, Global};
 use std::env;
 use std::marker::Model;
 
@@ -211,7 +211,7 @@ impl<X: AnyMessage + Drop, T: ClientStore + Drop> Client<X, T> {
         };
         match self.kdc.service_ticket(&mut self.rng, tgt, &name) {
             Ok(credential) => Ok(credential),
-            Err(fault) => Err(Fault::of_login(alloc, &self.kdc.kdcs, service, fault)),
+            Err(fault) => Err(ticket_fault(alloc, &self.kdc.kdcs, service, fault)),
         }
     }
 
@@ -307,8 +307,31 @@ fn fault_of(alloc: Global, principal: &Principal, cause: Cause) -> Fault {
 
 fn service_fault<X>(alloc: Global, kdcs: &Kdcs<X>, service: &Name, fault: LoginFault) -> Fault {
     match service.to_text(alloc) {
-        Ok(service) => Fault::of_login(alloc, kdcs, service.as_str(), fault),
+        Ok(service) => ticket_fault(alloc, kdcs, service.as_str(), fault),
         Err(error) => Fault::from(error),
+    }
+}
+
+/// Returns the fault for a ticket that could not be got. It names the service, behind the KDC that is to blame.
+fn ticket_fault<X>(alloc: Global, kdcs: &Kdcs<X>, service: &str, fault: LoginFault) -> Fault {
+    let Fault { subject, cause } = Fault::of_login(alloc, kdcs, service, fault);
+    match subject {
+        Some(subject) => match with_service(alloc, subject.as_str(), service) {
+            Ok(subject) => Fault::of(subject, cause),
+            Err(error) => Fault::from(error),
+        },
+        None => Fault {
+            subject: None,
+            cause,
+        },
+    }
+}
+
+fn with_service(alloc: Global, subject: &str, service: &str) -> Result<String, AllocError> {
+    if subject == service {
+        String::from_str(alloc, service)
+    } else {
+        format!(in alloc; "{subject}: {service}")
     }
 }
 
