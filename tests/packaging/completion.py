@@ -6,6 +6,7 @@ import shutil
 import subprocess
 import sys
 
+from harness.checks import differs
 from harness.programs import TOP
 from harness.tests import test
 
@@ -25,10 +26,6 @@ VALUES = (
     ("kdcd serve --log-format j", "json"), ("kdcd serve --udp ", ""), ("kadm ad", "add"),
     ("kadm check w", "www.keytab"), ("kadm restore --from w", "www.keytab"), ("kclient k", "kinit kvno klist kdestroy"),
 )
-
-
-def differs(found, wanted):
-    return f"{found} and not {wanted}" * (found != wanted)
 
 
 def make(trial):

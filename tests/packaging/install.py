@@ -10,6 +10,7 @@ import shutil
 import subprocess
 import sys
 
+from harness.checks import differs
 from harness.programs import TOP
 from harness.terminal import expect_hidden
 from harness.tests import test
@@ -31,10 +32,6 @@ PROVED, UNPROVED = "#!/bin/sh\necho 'kdcd 0.9.0'\n", "#!/bin/sh\necho 'kdcd 0.9.
 def modes(folder):
     """The files of a folder with their modes."""
     return {str(each.relative_to(folder)): each.stat().st_mode & 0o777 for each in folder.rglob("*") if each.is_file()}
-
-
-def differs(found, wanted):
-    return f"{found} and not {wanted}" * (found != wanted)
 
 
 def stand_ins(folder, **texts):

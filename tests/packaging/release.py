@@ -10,8 +10,9 @@ from c_library import shared_name
 from install import Refused
 from make_release import passed, release
 
+from harness.checks import differs
 from harness.tests import test
-from packaging.install import UNPROVED, differs, stand_ins
+from packaging.install import UNPROVED, stand_ins
 
 GATE = "echo '3 passed, 0 failed'\n"
 # Gates that a tree does not pass: one that fails, one that ends early, one with nothing to pass, and one that changes

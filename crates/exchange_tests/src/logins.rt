@@ -1,8 +1,8 @@
 //! Logins of one client, one after another.
 use crate::network::{HOST, SECOND_PORT, Said, SaidNetwork};
-use client_login::{KdcClient, KdcPlace, Kdcs, Login, Password, Secret, TicketRequest, Transports};
+use client_login::{KdcClient, KdcPlace, Kdcs, Login, Secret, TicketRequest, Transports};
 use cred_files::Principal;
-use krb_elements::{KerberosString, Octets};
+use krb_elements::KerberosString;
 use krb_fields::{Moment, Name, component_from_text, tgs_name};
 use rand_chacha::ChaCha20Rng;
 use rand_core::SeedableRng;
@@ -42,10 +42,7 @@ fn login(alloc: Global) -> Result<Login, Fail> {
 /// Logs in, and returns why there is no ticket.
 fn fault(alloc: Global, client: &mut Client) -> Result<String, Fail> {
     let login = login(alloc)?;
-    let secret = Secret::Password(Password {
-        octets: Octets::from_slice(alloc, b"password")?,
-        least_count: None,
-    });
+    let secret = Secret::password(alloc, "password")?;
     let mut rng = ChaCha20Rng::from_seed([7; 32]);
     match client.log_in(&mut rng, &login, &secret) {
         Ok(_) => Ok(String::from_str(alloc, "a ticket")?),

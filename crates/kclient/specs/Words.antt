@@ -57,10 +57,18 @@ has_flag [] flag = false
 has_flag (word ∷ others) flag =
     if bytes_eq word (codes "--") then false else bytes_eq word flag || has_flag others flag
 
+-- the subcommand is `help`
+abbrev pub is_help : Option Text → Bool
+is_help (Some command) = bytes_eq command (codes "help")
+is_help None = false
+
+abbrev pub begins_help : List Text → Bool
+begins_help words = is_help (command_of words)
+
 -- the help or the version is asked for
 abbrev pub asks_help : List Text → Bool
 asks_help words =
-    has_flag words (codes "help") || (has_flag words (codes "--help") || (has_flag words (codes "-h")
+    begins_help words || (has_flag words (codes "--help") || (has_flag words (codes "-h")
     || (has_flag words (codes "--version") || has_flag words (codes "-V"))))
 
 -- ---- the command

@@ -1,6 +1,6 @@
 //! The words of a command line, and the values of the options among them.
 ghost use Rattle.std.specs.Prelude.{◌≡◌, IfOk, map, option_map, string_bytes};
-ghost use Rattle.kclient.specs.Words.{asks_help, command_of, has_flag, texts, value_at, value_of};
+ghost use Rattle.kclient.specs.Words.{asks_help, begins_help, command_of, has_flag, texts, value_at, value_of};
 
 use std::alloc::{AllocError, Global};
 
@@ -78,12 +78,22 @@ pub(crate) fn has_flag(words: &[&str], flag: &str) -> bool
     false
 }
 
+/// Checks whether the subcommand is `help`.
+fn begins_help(words: &[&str]) -> bool
+    ensures { result ≡ begins_help (texts words.now) }
+{
+    match command_of(words) {
+        Some(command) => command == "help",
+        None => false,
+    }
+}
+
 /// Checks whether the words ask for the help or the version.
 pub(crate) fn asks_help(words: &[&str]) -> bool
     // Promise, as read_command: the command is the ..
     ensures { result ≡ asks_help (texts words.now) }
 {
-    has_flag(words, "help")
+    begins_help(words)
         || has_flag(words, "--help")
         || has_flag(words, "-h")
         || has_flag(words, "--version")
