@@ -3,10 +3,11 @@
 
     python3 dev/demo.py [--seconds N] [--port N] [--programs FOLDER]
 
-It first builds kdcd, kadm and kclient without proof, where out/unproved at the top of the repository has none or a
-source is newer: two minutes. Then it prints each command with what it says, and the server's log as it happens. At the
-end it serves the realm to other clients until Ctrl-C, or for N seconds. The realm is in a folder of its own, which goes
-with it; its password is public. If the port is taken it uses another one. It needs Linux and Python 3."""
+It first builds kdcd, kadm and kclient without proof, if out/unproved at the top of the repository lacks one or a source
+is newer: a minute or two. Then it explains and prints each command, what the command prints, and the server's log as it
+happens. At the end it serves the realm to other clients until Ctrl-C, or for N seconds. The realm is in a folder of its
+own, which is removed at the end; its password is public. If the port is taken, the realm gets another one. It needs
+Linux and Python 3."""
 
 import argparse
 import contextlib
@@ -24,8 +25,24 @@ import time
 TOP = pathlib.Path(__file__).resolve().parent.parent
 PROGRAMS = ("kdcd", "kadm", "kclient")
 REALM, USER, SERVICE, PASSWORD = "EXAMPLE.COM", "alice", "host/www.example.com", "a password"
+# These are built without optimizing, which takes less time. `kadm` would then take ten seconds for keys of a password.
+UNOPTIMIZED = ("kdcd", "kclient")
 # How long the server's lines about a command may take.
 MOMENT = 0.2
+# What is printed before the commands that it explains.
+EXPLAINED = {
+    "realm": "The database gets the realm's own key, a user with a password, and a service with a random key, which\n"
+    "# the service's host gets in a keytab. `ok` means that it is done.",
+    "server": "The KDC. (--first: there was none in this realm before.) It prints its version, its addresses, its\n"
+    "# database, and its limits: the defaults of its options, in seconds where they are times.",
+    "login": "alice logs in. The KDC first refuses with 25, so that her client proves that it has her key; then it\n"
+    "# issues a ticket. A line of the log has the time, the client's address, `as` for a login, the client, the\n"
+    "# service (krbtgt is the KDC itself), and the outcome. Behind a refusal it has the rule that refused; behind a\n"
+    "# ticket its encryption types, its flags (I: initial, A: preauthenticated), and when it ends.",
+    "service": "With that ticket she gets one for the service (`tgs`). `kvno` prints the version of the service's\n"
+    "# key, and decrypts the ticket with the keytab.",
+    "cache": "The tickets that she has now, with their times (renew -: not renewable), flags and encryption types.",
+}
 
 
 class Failed(Exception):
@@ -34,6 +51,10 @@ class Failed(Exception):
 
 def say(line=""):
     print(line, flush=True)
+
+
+def explain(what):
+    say(f"\n# {EXPLAINED[what]}")
 
 
 # ---- the programs
@@ -49,7 +70,7 @@ def build(folder):
     missing = [name for name in PROGRAMS if not is_new(folder / name, newest)]
     if not missing:
         return
-    say(f"Building {', '.join(missing)} without proof: two minutes of a processor each.")
+    say(f"Building {', '.join(missing)} without proof, side by side: a minute or two.")
     begun = time.monotonic()
     building = {name: builder(name, folder) for name in missing}
     try:
@@ -59,10 +80,13 @@ def build(folder):
                 if not (folder / name).is_file():
                     raise Failed(f"{name} was not built:\n{out}")
                 say(f"  {name}: {time.monotonic() - begun:.0f} s")
+            if sys.stdout.isatty():
+                print(f"  {time.monotonic() - begun:.0f} s", end="\r", flush=True)
             time.sleep(0.1)
     finally:
         for process in building.values():
-            process.terminate()
+            with contextlib.suppress(ProcessLookupError):
+                os.killpg(process.pid, signal.SIGTERM)
 
 
 def is_new(program, newest):
@@ -70,9 +94,11 @@ def is_new(program, newest):
 
 
 def builder(name, folder):
+    """Starts to build a program, in a session of its own, which ends as a whole."""
+    words = ["--unoptimized"] * (name in UNOPTIMIZED) + ["--out", folder, name]
     return subprocess.Popen(
-        [sys.executable, TOP / "dev" / "quick_build.py", "--out", folder, name], stdin=subprocess.DEVNULL,
-        stdout=subprocess.PIPE, stderr=subprocess.STDOUT, text=True
+        [sys.executable, TOP / "dev" / "quick_build.py", *words], stdin=subprocess.DEVNULL, stdout=subprocess.PIPE,
+        stderr=subprocess.STDOUT, text=True, start_new_session=True
     )
 
 
@@ -101,6 +127,7 @@ class Realm:
             raise Failed(f"`{words}` ended with status {ran.returncode}")
 
     def make(self):
+        explain("realm")
         self.run(f"kadm init --db database --realm {REALM}")
         self.run(f"kadm add --db database --name {USER}", PASSWORD)
         self.run(f"kadm add --db database --name {SERVICE} --random")
@@ -113,6 +140,7 @@ class Realm:
         """Starts the server, and prints what it says as it comes."""
         address = f"127.0.0.1:{self.port}"
         words = f"kdcd serve --db database --udp {address} --tcp {address} --first --log"
+        explain("server")
         say(f"$ {words} &")
         self.server = subprocess.Popen(
             words.split(), cwd=self.folder, env=self.environment, stdin=subprocess.DEVNULL, stdout=subprocess.DEVNULL,
@@ -132,10 +160,13 @@ class Realm:
         is_serving.set()
 
     def log_in(self):
+        explain("login")
         self.run(f"kclient kinit {USER}", PASSWORD)
         time.sleep(MOMENT)
+        explain("service")
         self.run(f"kclient kvno {SERVICE} --keytab www.keytab")
         time.sleep(MOMENT)
+        explain("cache")
         self.run("kclient klist")
 
     def stop(self):
@@ -160,12 +191,12 @@ def show(folder, programs, words):
     port = free_port(words.port)
     realm = Realm(folder, programs, port)
     try:
-        say(f"A realm in {folder}. Lines behind | are the server's.")
+        say(f"A realm in {folder}. `#` explains, `$` is a command, `|` is a line of the server.")
         realm.make()
         realm.serve()
         realm.log_in()
         say()
-        say(f"In another terminal, with MIT's clients and the password `{PASSWORD}`:")
+        say(f"To log in from another terminal, with MIT's clients (Debian: krb5-user) and the password `{PASSWORD}`:")
         say(f"    export KRB5_CONFIG={folder}/krb5.conf KRB5CCNAME=FILE:{folder}/others")
         say(f"    kinit {USER}")
         say(f"    kvno -k {folder}/www.keytab {SERVICE}")
@@ -185,12 +216,12 @@ def main():
     parser.add_argument("--programs", type=pathlib.Path, help="takes built programs from this folder")
     words = parser.parse_args()
     signal.signal(signal.SIGTERM, lambda *_: sys.exit(1))
-    os.umask(0o077)
     folder = pathlib.Path(tempfile.mkdtemp(prefix="realm-"))
     try:
         programs = words.programs or TOP / "out" / "unproved"
         if not words.programs:
             build(programs)
+        os.umask(0o077)
         show(folder, programs.resolve(), words)
     except KeyboardInterrupt:
         say()

@@ -17,7 +17,7 @@ TOP = pathlib.Path(__file__).resolve().parent.parent
 # Where each program has its tables.
 TABLES = {
     "kadm": [f"kadm/src/{name}.rt" for name in ("commands", "changing", "writing", "restoring", "printing", "options")],
-    "kclient": ["kclient/src/options.rt"], "kdcd": ["kdcd/src/args.rt"],
+    "kclient": ["kclient/src/options.rt"], "kdcd": ["kdcd/src/options.rt"],
 }
 # The tables of a program whose commands are in several files, in the order of its help.
 PARTS = ("INIT", "CHANGES", "PRINTS", "LATER_CHANGES")
@@ -26,6 +26,8 @@ PARTS = ("INIT", "CHANGES", "PRINTS", "LATER_CHANGES")
 ADDED = {"kinit": ("KINIT_OPTIONS", "KINIT_FLAGS"), "serve": ("journal_option",)}
 # The words that may stand for a placeholder; `FIELD` has those of a policy besides.
 WORDS = {"FORMAT": "text json", "TYPES": "18,17,20,19 20,19", "VALUE": "true false never"}
+# The placeholders of paths.
+FILES = ("FILE", "FOLDER")
 # The program whose names are principals, and its commands that give a principal a new name.
 NAMING, NEWCOMERS = "kadm", ("add", "import")
 # Its command that takes a word alone as a file.
@@ -199,7 +201,7 @@ def bash_values(program, command, option):
     its place."""
     if option.is_optional:
         done = f"[[ $word == -* ]] || {{ {BASH_FILES}; }}"
-    elif option.shape == "FILE":
+    elif option.shape in FILES:
         done = BASH_FILES
     elif has_names(program, command, option):
         done = "_kadm_names"
@@ -263,7 +265,7 @@ def zsh_text(text):
 def zsh_option(program, command, option):
     """The specification of an option for `_arguments`."""
     value = ""
-    if option.shape == "FILE":
+    if option.shape in FILES:
         value = f"{':' * option.is_optional}:FILE:_files"
     elif has_names(program, command, option):
         value = ":NAME:_kadm_names"

@@ -22,24 +22,37 @@ The prose is Markdown, with these lines of its own:
     @rows CRATE/FILE.rt CRATE ..    the promises of these files, in this order and in each file's; a crate stands for
                                     those of its files that no such line names, and FILE:FUNCTION for one function;
                                     lines that begin with four spaces go on with it
-    @bodies                         the table of wrong bodies; rows right below are its last ones
+    @bodies                         the table of wrong bodies but for those of THEOREMS
 
-No row has more than 300 characters: a sentence with too many functions has several, by their files. --check makes
-nothing: its status is 1 if the page differs. The gate compares it, too (`tests/pages/promises.py`)."""
+No row has more than 300 characters. It has as many promises of one crate as there is room for, also later ones if no
+other sentence goes on with them (GOES_ON); a sentence with too many functions has several rows, by their files.
+--check makes nothing: its status is 1 if the page differs. The gate compares it, too (`tests/pages/promises.py`)."""
 
 import argparse
 import itertools
 import re
 import sys
+import typing
 
 from promised import INVARIANT, ONLY, TOP, Fault, promises, with_sentences
 from try_edits import every_edit
 
 PAGE, PROSE = TOP / "docs" / "PROMISES.md", TOP / "dev" / "promises.txt"
+# The prose of THEOREMS.md, which has the wrong bodies of its theorems as lines `CRATE/NAME | WHAT`.
+THEOREMS = TOP / "dev" / "theorems.txt"
 COMMAND = "python3 dev/make_promises.py"
 LONGEST_ROW = 300
 # The sentence of a row that goes on with the row above.
 SAME = "the same"
+# How a sentence begins that speaks of what the one before it says.
+GOES_ON = re.compile(
+    r"(so|such|these|that|those|this|they|besides|it|its|else|not so|the same|if it|if that|each later|a later start"
+    r"|other processes|of the|of these|of a start|without it|with another|with an entry|the bytes may|the raised"
+    r"|the set of names|two such|the two runs|the second request|whatever was|one ticket per|in the AS exchange"
+    r"|the encoding that is|the service is|the request names the same|a state that resumes|the hub is also"
+    r"|after memory ran out a"
+    r"|what `run_server|the log has an entry|the sockets have recorded|the first process|each process kept)\b"
+)
 # A line `@rows`, with the lines that go on with it.
 ROWS = re.compile(r"^@rows .*(?:\n    .*)*", re.M)
 # The comment of an edit that is a row of the table of wrong bodies.
@@ -51,18 +64,18 @@ def code(words):
 
 
 def clauses_in_words(carrier, clauses):
-    """How the page names a carrier's clauses."""
+    """How the page names a carrier's clauses; a contract's only clause not at all."""
     if carrier.kind == "fn":
-        return ", ".join(ONLY if each == ONLY else code([each]) for each in clauses)
+        return "" if clauses == (ONLY,) else f": {code(clauses)}"
     if clauses == (INVARIANT,):
-        return "its invariant"
+        return ": its invariant"
     what = "invariant" if carrier.kind == "struct" else "law"
-    return f"the {what}{'s' * (len(clauses) > 1)} {code(clauses)}"
+    return f": the {what}{'s' * (len(clauses) > 1)} {code(clauses)}"
 
 
 def carried_by(carried):
-    """The cell of functions and clauses. Of those that have the same clauses, functions without a type come first, and
-    a type is named once."""
+    """The functions and clauses in words. Of those that have the same clauses, functions without a type come first,
+    and a type is named once."""
     groups, cells = {}, []
     for carrier, clauses in carried:
         _, group = groups.setdefault((carrier.kind, *sorted(clauses)), (clauses_in_words(carrier, clauses), []))
@@ -73,7 +86,7 @@ def carried_by(carried):
         for owner, label in sorted(named, key=lambda pair: types.index(pair[0])):
             labels.append(label.removeprefix(f"{owner[0]}::") if owner and owner == before else label)
             before = owner
-        cells.append(f"{code(labels)}: {words}")
+        cells.append(f"{code(labels)}{words}")
     return "; ".join(cells)
 
 
@@ -87,8 +100,30 @@ def files_of(carried):
     return code(names)
 
 
+class Row(typing.NamedTuple):
+    """Some promises of one crate, as texts, and all that carry them."""
+
+    texts: tuple
+    carried: tuple
+
+    def line(self, before=None):
+        """The line of the page, below that of another row: its cell of files is empty if that row's is the same."""
+        files = files_of(self.carried)
+        return f"| {'<br>'.join(self.texts)} | {files if before is None or files_of(before.carried) != files else ''} |"
+
+    def joined(self, other):
+        return Row(self.texts + other.texts, self.carried + other.carried)
+
+    def crate(self):
+        return self.carried[0][0].crate
+
+    def goes_on(self):
+        """Whether it speaks of what the row before it says."""
+        return GOES_ON.match(self.texts[0]) is not None
+
+
 def row(text, carried):
-    return f"| {text} | {carried_by(carried)} | {files_of(carried)} |"
+    return Row((f"{text} ({carried_by(carried)})",), tuple(carried))
 
 
 def checked(line):
@@ -99,16 +134,39 @@ def checked(line):
 
 def rows_of(text, carried):
     """The rows of a sentence: one, or some, each with as many of the files as it has room for."""
-    if len(whole := row(text, carried)) <= LONGEST_ROW:
+    if len((whole := row(text, carried)).line()) <= LONGEST_ROW:
         return [whole]
     made, waiting = [], []
     for _, group in itertools.groupby(sorted_by_file(carried), key=lambda each: each[0].place()):
         more = list(group)
-        if waiting and len(row(text, waiting + more)) > LONGEST_ROW:
-            made.append(checked(row(text, waiting)))
+        if waiting and len(row(text, waiting + more).line()) > LONGEST_ROW:
+            made.append(row(text, waiting))
             text, waiting = SAME, []
         waiting += more
-    return [*made, checked(row(text, waiting))]
+    return [*made, row(text, waiting)]
+
+
+def has_room(made, at, more):
+    """Whether the row at this place has room for another one of its crate, with the row below it as it is."""
+    if made[at].crate() != more.crate():
+        return False
+    both, above = made[at].joined(more), made[at - 1] if at else None
+    lines = [both.line(above), *(row.line(both) for row in made[at + 1:at + 2])]
+    return all(len(line) <= LONGEST_ROW for line in lines)
+
+
+def packed(rows):
+    """The lines of these rows: each goes into the first row of its crate that has room for it. One that goes on with
+    the row before it, or with which the next one goes on, stays where it is."""
+    made = []
+    for each, after in itertools.zip_longest(rows, rows[1:]):
+        moves = not each.goes_on() and not (after and after.goes_on())
+        places = range(0 if moves else max(0, len(made) - 1), len(made))
+        if (at := next((at for at in places if has_room(made, at, each)), None)) is None:
+            made.append(each)
+        else:
+            made[at] = made[at].joined(each)
+    return [checked(each.line(above)) for above, each in zip([None, *made], made)]
 
 
 def sorted_by_file(carried):
@@ -153,17 +211,20 @@ class Page:
         for own, *others in sorted(here, key=lambda each: self.order_of(each[0])):
             carrying = [own, *sorted(others, key=self.order_of)]
             made += rows_of(own.text, [(each.carrier, each.clauses) for each in carrying])
-        return ["| promise | carried by | in |", "|---|---|---|", *made]
+        return ["| promises, each with what carries it | in |", "|---|---|", *packed(made)]
 
 
 def bodies():
-    """The table of the wrong bodies that were tried."""
-    made = []
+    """The table of the wrong bodies that were tried, but for those of THEOREMS.md: some of a crate in a row."""
+    made, elsewhere = [], set(re.findall(r"^(\w+/\w+) \|", THEOREMS.read_text(), re.M))
     for crate, name, _, edit in sorted(every_edit(), key=lambda each: each[0]):
-        if found := BODY.search(edit):
+        if (found := BODY.search(edit)) and f"{crate}/{name}" not in elsewhere:
             what, refused = (each.replace("\n#  ", "").removesuffix(".") for each in found.groups())
-            made.append(checked(f"| {what} | `{crate}/{name}` | {refused} |"))
-    return ["| wrong body | edit or test | refused by |", "|---|---|---|", *made]
+            cell = f"{what} (`{name}`; {refused.replace(f': {ONLY}', '')})"
+            if made and made[-1].startswith(f"| `{crate}` |") and len(made[-1]) + len(cell) + 4 <= LONGEST_ROW:
+                cell = f"{made.pop().removeprefix(f'| `{crate}` | ').removesuffix(' |')}<br>{cell}"
+            made.append(checked(f"| `{crate}` | {cell} |"))
+    return ["| crate | wrong bodies, each with its edit and what refuses it |", "|---|---|", *made]
 
 
 def page():

@@ -6,11 +6,14 @@ library for C and its header, the manual pages, units, completion and pages, and
 
 It first runs the gate, `bash .ci/run`: a quarter of an hour if this machine keeps what passed, else an hour or more. So
 a release is of a tree that the gate has passed. It refuses a tree with changes that are not committed, one that the
-gate doesn't pass or changes, and an unproved program. The files are in FOLDER, by default out/release:
+gate doesn't pass or changes, and an unproved program. Before the gate it removes the library for C that an earlier
+commit may have left. The files are in FOLDER, by default out/release:
 
     plovertrunk_VERSION_ARCHITECTURE.deb
     plovertrunk-VERSION-ARCHITECTURE.tar.gz     unpack it by `tar -C / --strip-components=1 -xzf`
     SHA256SUMS                                  of both; `sha256sum -c SHA256SUMS` compares them
+
+What is installed from the archive is compared by `cd / && sha256sum -c usr/share/doc/plovertrunk/SHA256SUMS`.
 
 Two runs of one commit make the same .tar.gz of the same programs. It needs git, Python 3, dpkg-deb and a C compiler.
 The status is 1 if it refuses; it makes nothing then."""
@@ -25,10 +28,14 @@ import subprocess
 import sys
 import tarfile
 
-from c_library import LIBRARY, installed
-from install import PROGRAMS, TOP, Refused, contents, program_in, version, write
+from c_library import LIBRARY, PROVED, installed
+from install import MARK, PROGRAMS, TOP, Refused, contents, program_in, version, write
 from make_deb import NAME, control, machine, make, packed
 
+# Where a release says of itself what it is.
+DOC = f"/usr/share/doc/{NAME}"
+# How many changed files a refusal names.
+MOST = 5
 LAST_LINE = re.compile(r"([1-9]\d*) passed, 0 failed")
 
 
@@ -40,13 +47,22 @@ def commit_of(tree):
     """The commit of a tree that nothing was changed in."""
     changed = git(tree, "status", "--porcelain").splitlines()
     if changed:
-        raise Refused(f"the tree is not that of a commit: {len(changed)} changes, the first is {changed[0].strip()}")
+        raise Refused(f"changes are not committed: {', '.join(map(str.strip, changed[:MOST]))}")
     return git(tree, "rev-parse", "HEAD")
 
 
+def remove_library(library):
+    """Removes the library for C, its shared objects, and the proved functions that it is made of: they may be of
+    another commit, and nothing of their bytes shows that."""
+    old = (library, library.with_name(PROVED.name), *library.parent.glob(f"{library.stem}.so*"))
+    for each in old:
+        each.unlink(missing_ok=True)
+
+
 def passed(tree):
-    """The commit of a tree, and the last line of the gate, which has passed it now."""
+    """The commit of a tree, and the last line of the gate, which has passed it now without an earlier library for C."""
     commit = commit_of(tree)
+    remove_library(tree / LIBRARY.relative_to(TOP))
     gate = subprocess.Popen(["bash", ".ci/run"], cwd=tree, stdin=subprocess.DEVNULL, stdout=subprocess.PIPE, text=True)
     last = ""
     for line in gate.stdout:
@@ -65,15 +81,18 @@ def files_of(programs, library, commit, gate):
         raise Refused(f"{library} is not there: dev/c_library.py builds it")
     found = packed(contents(programs, "/usr", False) | installed("/usr", library))
     said = f"commit {commit}\ngate {gate}\n"
-    return found | {f"/usr/share/doc/{NAME}/COMMIT": (said.encode(), 0o644)}
+    return found | {f"{DOC}/COMMIT": (said.encode(), 0o644)}
 
 
 def number_of(programs):
-    """The version of the programs, which is the same for all."""
-    said = {version(program_in(programs, name, False)).split()[1] for name in PROGRAMS}
-    if len(said) != 1:
-        raise Refused(f"the programs have several versions: {', '.join(sorted(said))}")
-    return said.pop()
+    """The version of the programs, which is the same for all. All are proved."""
+    said = {name: version(program_in(programs, name, True)) for name in PROGRAMS}
+    if unproved := [name for name, line in said.items() if MARK in line]:
+        raise Refused(f"nothing was proved of {', '.join(unproved)}, and a release has proved programs alone")
+    numbers = {line.split()[1] for line in said.values()}
+    if len(numbers) != 1:
+        raise Refused(f"the programs have several versions: {', '.join(sorted(numbers))}")
+    return numbers.pop()
 
 
 def tar(files, name, seconds):
@@ -81,7 +100,7 @@ def tar(files, name, seconds):
     sums = "".join(f"{hashlib.sha256(octets).hexdigest()}  {path[1:]}\n" for path, (octets, _) in sorted(files.items()))
     written = io.BytesIO()
     with tarfile.open(fileobj=written, mode="w", format=tarfile.USTAR_FORMAT) as made:
-        for path, (octets, mode) in sorted((files | {"/SHA256SUMS": (sums.encode(), 0o644)}).items()):
+        for path, (octets, mode) in sorted((files | {f"{DOC}/SHA256SUMS": (sums.encode(), 0o644)}).items()):
             entry = tarfile.TarInfo(f"{name}{path}")
             entry.size, entry.mode, entry.mtime, entry.uname, entry.gname = len(octets), mode, seconds, "root", "root"
             made.addfile(entry, io.BytesIO(octets))

@@ -5,26 +5,30 @@
 
 The prose is Markdown, with these lines of its own:
 
-    @clauses CRATE/FILE.rt FUNCTION CLAUSE ..    clauses word for word, with their place; `-` is one without a name
-    @definitions CRATE/FILE.antt NAME ..         definitions word for word, with their place
+    @quote CRATE/FILE.rt FUNCTION CLAUSE ..      clauses word for word, with their places; `-` is one without a name
+    @quote CRATE/FILE.antt NAME ..               definitions word for word, with their places; lines that follow one
+                                                 another make one block
     @rests on CRATE/FILE.rt FUNCTION CLAUSE ..   clauses that count for what has to be believed, and aren't shown
-    @believe         a table of the lines `CRATE/FILE.antt NAME | meaning` below it; and how many definitions, files and
-                     lines all clauses of this theorem rest on
-    @places          a table of the lines `STEP | WORDS | CRATE/FILE.rt FUNCTION CLAUSE ..; ..` below it
-    @bodies          a table of the lines `CRATE/EDIT | what the wrong body does` below it
+    @believe         the lines `CRATE/FILE.antt NAME | meaning` below it; and how many definitions, files and lines all
+                     clauses of this theorem rest on
+    @bodies          the lines `CRATE/EDIT | what the wrong body does` below it
+    @places          the lines `STEP | WORDS | CRATE/FILE.rt FUNCTION CLAUSE ..; ..` below it
 
-A name that is no longer in the sources ends the run with an error; so does a definition in the table of `@believe` that
-the clauses don't rest on. --check makes nothing: its status is 1 if the page differs. The gate compares it, too
-(`tests/pages/theorems.py`)."""
+`@believe`, `@bodies` and `@places` follow one another, and make one table. A name that is no longer in the sources ends
+the run with an error; so does a definition of `@believe` that the clauses don't rest on. --check makes nothing: its
+status is 1 if the page differs. The gate compares it, too (`tests/pages/theorems.py`)."""
 
 import argparse
 import sys
+import textwrap
 
 from definitions import CRATES, TOP, clause, closure, definition
 from try_edits import edits_of
 
 PAGE, PROSE = TOP / "docs" / "THEOREMS.md", TOP / "dev" / "theorems.txt"
 COMMAND = "python3 dev/make_theorems.py"
+# The widest line of the page, and its longest row.
+WIDEST, LONGEST_ROW = 120, 300
 
 
 class Fault(Exception):
@@ -58,6 +62,23 @@ def find(file, name):
     return found
 
 
+def packed(head, cells):
+    """Rows with as many of the cells as each has room for. The first one has this head."""
+    rows, line = [], ""
+    for cell in cells:
+        if line and len(f"| {head} | {line}; {cell} |") > LONGEST_ROW:
+            rows.append(f"| {head} | {line} |")
+            head, line = "", ""
+        line += f"; {cell}" if line else cell
+    return [*rows, f"| {head} | {line} |"]
+
+
+def place_of(found):
+    """The links to the first of some clauses or definitions of one file, and the lines of the others."""
+    others = ", ".join(str(each.place.line) for each in found[1:])
+    return link(found[0].place) + (f" and line{'s' * (len(found) > 2)} {others}" if others else "")
+
+
 class Page:
     """The page as it is made. `rests_on` has the clauses of the theorem that is being made."""
 
@@ -77,78 +98,70 @@ class Page:
         return "\n".join(self.made)
 
     def rows(self):
-        """The cells of the lines up to the next blank one."""
+        """The cells of the lines up to the next blank one, or the next that begins with `@`."""
         found = []
-        while self.waiting and self.waiting[0].strip():
+        while self.waiting and self.waiting[0].strip() and not self.waiting[0].startswith("@"):
             found.append([cell.strip() for cell in self.waiting.pop(0).split(" | ")])
         return found
 
-    def clauses(self, words):
-        found = clauses_of(words)
-        self.rests_on += found
-        lines = [line for each in found for line in each.lines]
-        others = ", ".join(str(each.place.line) for each in found[1:])
-        others = f" and line{'s' * (len(found) > 2)} {others}" if others else ""
-        head, place = f"`{words.split()[1]}`", f"{link(found[0].place)}{others}"
-        self.show(f"{head},\n{place}:" if len(head) + len(place) > 110 else f"{head}, {place}:", lines)
+    def quote(self, words):
+        """A block of all that this line and the `@quote` right after it name, below their places."""
+        lines, heads = [], []
+        for each in [words, *self.more_quotes()]:
+            file, *names = each.split()
+            if file.endswith(".antt"):
+                found = [find(file, name) for name in names]
+                heads.append(f"{', '.join(f'`{name}`' for name in names)} {place_of(found)}")
+            else:
+                found = clauses_of(each)
+                self.rests_on += found
+                heads.append(f"`{names[0]}` {place_of(found)}")
+            lines += [line for one in found for line in one.lines]
+        head = textwrap.wrap(f"{'; '.join(heads)}:", WIDEST, break_long_words=False, break_on_hyphens=False)
+        self.made += [*head, "", "```text", *lines, "```"]
 
-    def definitions(self, words):
-        file, *names = words.split()
-        found = [find(file, name) for name in names]
-        lines = [line for each in found for line in ("", *each.lines)][1:]
-        head, place = ", ".join(f"`{name}`" for name in names), link(found[0].place)
-        self.show(f"{head},\n{place}:" if len(head) + len(place) > 110 else f"{head}, {place}:", lines)
-
-    def show(self, head, lines):
-        """Shows lines word for word, with a blank line on either side."""
-        blank = [""] if self.made[-1] else []
-        self.made += [*blank, head, "", "```text", *lines, "```"]
+    def more_quotes(self):
+        while self.waiting and self.waiting[0].startswith("@quote "):
+            yield self.waiting.pop(0).removeprefix("@quote ")
 
     def rests(self, words):
         self.rests_on += clauses_of(words.removeprefix("on "))
 
     def believe(self, _):
-        whole, rows = closure(self.rests_on), []
+        whole, cells = closure(self.rests_on), []
         for name, meaning in self.rows():
             file, name = name.split()
             found = find(file, name)
             if (found.place.file, found.name) not in whole.items():
                 raise Fault(f"the clauses do not rest on {name} of {file}")
-            rows.append(f"| `{name}` | {meaning} | {link(found.place)} |")
-        self.made += ["| definition | what it says | in |", "|---|---|---|", *rows, "", counted(whole)]
-
-    def places(self, _):
-        rows = []
-        for step, words, places in self.rows():
-            rows.append(f"| {step} | {words} | {'; '.join(map(stands_in, filter(None, places.split('; '))))} |")
-        self.made += ["| of | what | clause |", "|---|---|---|", *rows]
+            cells.append(f"`{name}` ({file}:{found.place.line}): {meaning}")
+        self.made += ["| | |", "|---|---|", *packed("to believe", cells), *packed("in all", [counted(whole)])]
 
     def bodies(self, _):
-        rows = []
-        for name, words in self.rows():
-            rows.append(f"| {words} | {edit_link(name)} |")
-        self.made += ["| wrong body | the edit that is refused |", "|---|---|", *rows]
+        self.made += packed("refused", [f"{words} (`{name}`{by_hand(name)})" for name, words in self.rows()])
+
+    def places(self, _):
+        for step, words, places in self.rows():
+            cells = list(map(stands_in, filter(None, places.split("; "))))
+            self.made += packed(step, [f"{words}: {cells[0]}", *cells[1:]])
 
 
 def stands_in(words):
-    """A function's clauses, with a link to the first."""
+    """A function's clauses, with the place of the first."""
     found = clauses_of(words)
     _, function, *names = words.split()
     shown = "" if names == ["-"] else ": " + ", ".join(f"`{name}`" for name in names)
-    return f"`{function}`{shown} ({link(found[0].place)})"
+    return f"`{function}`{shown} ({found[0].place.short()})"
 
 
-def edit_link(name):
-    """A link to the edit CRATE/NAME: a file of must-fail/, or a part of a file of dev/edits."""
+def by_hand(name):
+    """Says of an edit CRATE/NAME of dev/edits that it is tried by hand; the gate tries those of must-fail/."""
     crate, _, edit = name.partition("/")
-    file = CRATES / crate / "must-fail" / f"{edit}.edit"
-    if file.exists():
-        return f"[{edit}](../{file.relative_to(TOP)})"
+    if (CRATES / crate / "must-fail" / f"{edit}.edit").exists():
+        return ""
     if edit not in edits_of(crate):
         raise Fault(f"there is no edit {name}")
-    file = TOP / "dev" / "edits" / f"{crate}.edits"
-    line = file.read_text().split("\n").index(f"= {edit}") + 1
-    return f"[{edit}](../dev/edits/{crate}.edits#L{line})"
+    return ", by hand"
 
 
 def counted(whole):
@@ -156,8 +169,8 @@ def counted(whole):
     kit = sorted(whole.kit)
     kit = ", ".join(f"`{name}`" for name in kit[:-1]) + f" and `{kit[-1]}`" if len(kit) > 1 else f"`{kit[0]}`"
     return (
-        f"In all {len(whole.items())} definitions in {len(whole.files())} files, {whole.lines()} lines with their"
-        f" comments;\n{len(whole.code)} types and constants of the code; and words of the toolchain's\n{kit}."
+        f"{len(whole.items())} definitions in {len(whole.files())} files, {whole.lines()} lines with their comments;"
+        f" {len(whole.code)} types and constants of the code; words of the toolchain's {kit}"
     )
 
 

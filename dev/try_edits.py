@@ -16,7 +16,7 @@ edit was not refused. --list prints the names.
 that this does not refuse. Its last line is `DATE COMMIT: N refused, M not refused`.
 
 --stale tries nothing. It names the edits, of the gate too, whose old text is no longer in its file exactly once, and
-those in the table of wrong bodies of docs/PROMISES.md that there are not. The last line is `N passed, M failed`. The
+those that docs/PROMISES.md and docs/THEOREMS.md name and that there are not. The last line is `N passed, M failed`. The
 gate tries this (`tests/pages/edits.py`)."""
 
 import argparse
@@ -30,6 +30,8 @@ import sys
 import tempfile
 
 TOP = pathlib.Path(__file__).resolve().parent.parent
+# How many wrong bodies each of the two pages names at least.
+LEAST_NAMED = 30
 FUNCTION = re.compile(r"^( *)(?:pub(?:\(\w+\))? )?(?:const )?(?:unsafe )?fn (\w+)", re.M)
 IMPL = re.compile(r"^impl(?:<.*?>)? (?:(\w+)(?:<.*>)? for )?(\w+)", re.M)
 
@@ -197,20 +199,26 @@ def every_edit():
 
 
 def named_edits():
-    """The edits that the table of wrong bodies names: those of the gate by their crate and name."""
+    """The edits that PROMISES and THEOREMS name as wrong bodies, by their crate and name, each with its page."""
     table = (TOP / "docs" / "PROMISES.md").read_text().partition("\n## Wrong bodies\n")[2].partition("\n## ")[0]
-    return [name for line in table.splitlines() if line.startswith("|") for name in re.findall(r"`(\w+/\w+)`", line)]
+    for crate, cell in re.findall(r"^\| `(\w+)` \| (.*) \|$", table, re.M):
+        yield from (("PROMISES.md", f"{crate}/{name}") for name in re.findall(r"\(`(\w+)`; ", cell))
+    theorems = (TOP / "docs" / "THEOREMS.md").read_text()
+    yield from (("THEOREMS.md", name) for name in re.findall(r"\(`(\w+/\w+)`(?:, by hand)?\)", theorems))
 
 
 def stale():
-    """Each edit, and each that PROMISES names, with what is wrong: nothing, that it can't be applied, or that it
-    doesn't exist."""
+    """Each edit, and each that a page names, with what is wrong: nothing, that it can't be applied, or that it doesn't
+    exist; and the pages that name few."""
     known = list(every_edit())
     for crate, _, place, edit in known:
         yield place, "" if applied(crate, edit) else "an old text is not in its file exactly once"
     names = {f"{crate}/{name}" for crate, name, _, _ in known}
-    for name in named_edits():
-        yield f"docs/PROMISES.md: {name}", "" if name in names else "there is no such edit"
+    named = list(named_edits())
+    for page, name in named:
+        yield f"docs/{page}: {name}", "" if name in names else "there is no such edit"
+    for page in ("PROMISES.md", "THEOREMS.md"):
+        yield f"docs/{page}: its edits", "there are few" * (sum(page == each for each, _ in named) < LEAST_NAMED)
 
 
 def find_stale():

@@ -8,7 +8,7 @@ import sys
 import threading
 
 from c_library import LIBRARY
-from harness.programs import TOP
+from harness.programs import TOP, places_of
 from harness.stock_kdcs import fetched, unpacked
 from harness.tests import Given
 from harness.tracer import lacking
@@ -45,7 +45,7 @@ class Machine:
             roots = {name: root or unpacked_roots.get(name, "") for name, root in roots.items()}
         self.roots = {name: root for name, root in roots.items() if root}
         self.environment = unpacked(*self.roots.values())
-        self.scratch, self.groups, self.alone = scratch, groups, threading.Lock()
+        self.scratch, self.groups, self.alone, self.folder = scratch, groups, threading.Lock(), programs
         self.library, self.lacks_sanitizers = programs / LIBRARY.name if programs else LIBRARY, False
         made = {name: str(scratch / name) for name in (*OVER_KRB5, *OVER_OURS, *OVER_BOTH, WITH_THREADS)}
         self.given = Given(str(programs or TOP / "crates"), self.roots, made)
@@ -55,8 +55,12 @@ class Machine:
         path = f"{os.environ['PATH']}:/usr/sbin:/usr/lib/heimdal-servers"
         return all(shutil.which(program, path=path) for program in programs)
 
-    def prepare(self, needs):
-        """Makes what a test needs, or raises Missing."""
+    def prepare(self, needs, programs):
+        """Makes what a test needs, or raises Missing. The folder of --programs may lack some of the programs; without
+        that option each has to be there."""
+        for name in programs if self.folder else ():
+            if not any(map(os.path.isfile, places_of(self.folder, name))):
+                raise Missing(f"{name}, which is not in {self.folder}")
         for need in needs:
             if need in STOCK:
                 if need not in self.roots:
@@ -125,7 +129,9 @@ class Machine:
             if not self.can_compile(PROBE):
                 raise Missing("a C compiler cc that makes programs")
             self.lacks_sanitizers = not self.can_compile(PROBE, *SANITIZERS)
-            if self.library == LIBRARY and not LIBRARY.exists():
+            if self.folder and not self.library.exists():
+                raise Missing(f"{LIBRARY.name}, which is not in {self.folder}")
+            if not self.library.exists():
                 ran = self.groups.ran([sys.executable, TOP / "dev" / "c_library.py"])
                 if ran.returncode:
                     raise RuntimeError(f"the library for C is not built: {ran.stdout[-600:]}")

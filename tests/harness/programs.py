@@ -16,11 +16,16 @@ SCRATCH = "TESTS_SCRATCH"
 SERVICE_EXAMPLE, LOGIN_EXAMPLE = "example_service", "example_login"
 
 
+def places_of(folder, name):
+    """Where a program may be: in this folder, or as built in the folder of the crates."""
+    return [f"{folder}/{name}", f"{folder}/{name}/out/{name}"]
+
+
 def programs_in(folder, names):
-    """The paths of the programs, in this folder or as built in the folder of the crates."""
+    """The paths of the programs in this folder."""
     found = {}
     for name in names:
-        places = [f"{folder}/{name}", f"{folder}/{name}/out/{name}"]
+        places = places_of(folder, name)
         found[name] = next((os.path.abspath(each) for each in places if os.path.isfile(each)), None)
         if not found[name]:
             sys.exit(f"{name} is not there: {' or '.join(places)}")

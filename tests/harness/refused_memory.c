@@ -5,7 +5,7 @@
  *
  *     LD_PRELOAD=./refused_memory.so COUNTED=counted REFUSED=7 kadm list --db database
  *     LD_PRELOAD=./refused_memory.so REPORT=1 crates/base_tests/out/base_tests_tests \
- *         messages::fields::names_work_after_memory_ran_out
+ *         messages::fields::names_are_read_and_written
  *
  * A setting is a variable of the environment.
  *

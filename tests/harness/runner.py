@@ -118,7 +118,7 @@ class Run:
             return Outcome(test, lines=["left  it takes minutes: --slow runs it"])
         begun = time.monotonic()
         try:
-            self.machine.prepare(test.needs)
+            self.machine.prepare(test.needs, test.programs)
             return self.counted(test, *self.ran(test), time.monotonic() - begun)
         except Missing as missing:
             return Outcome(test, lines=[f"left  it needs {missing}"])

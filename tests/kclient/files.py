@@ -205,6 +205,7 @@ FILES = {
     "tokens":
         "[libdefaults]\ndefault_realm = A.B\nticket_lifetime = 2 hours\n"
         "default_ccache_name = /tmp/%{username}\n" + REALMS,
+    "temp": "[libdefaults]\ndefault_ccache_name = FILE:%{TEMP}/a%b%{TEMP}/none\n",
     "bare": "[realms]\n",
     "site": SITE,
     "nothing": "", "unclosed": "[libdefaults", "twice": "[libdefaults\ndefault_realm = A = B",

@@ -12,15 +12,21 @@ from harness.tests import test
 PROGRAMS = ("kdcd", "kadm", "kclient")
 # What it prints, in this order: commands, what they say, and lines of the log.
 SHOWN = (
+    "\n# The database gets ",
     "$ kadm init --db database --realm EXAMPLE.COM\nok\n",
     "$ printf 'a password\\n' | kadm add --db database --name alice\nok\n",
+    "\n# The KDC. ",
     "$ kdcd serve --db database --udp 127.0.0.1:",
     "  | kdcd: serving on udp 127.0.0.1:",
+    "\n# alice logs in. ",
     "$ printf 'a password\\n' | kclient kinit alice\n",
     " as alice krbtgt/EXAMPLE.COM ticket ",
+    "\n# With that ticket ",
     "$ kclient kvno host/www.example.com --keytab www.keytab\n",
     " tgs alice host/www.example.com ticket ",
-    "In another terminal, ",
+    "\n# The tickets that she has now",
+    "$ kclient klist\nprincipal alice@EXAMPLE.COM\n",
+    "To log in from another terminal, ",
     "Serving for 0.3 seconds.\n",
 )
 

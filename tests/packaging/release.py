@@ -35,6 +35,7 @@ def tree(folder, gate):
     """A repository of one commit, with this gate."""
     (folder / ".ci").mkdir(parents=True)
     (folder / ".ci/run").write_text(gate)
+    (folder / ".gitignore").write_text("out/\n")
     git(folder, "init", "-q")
     for key, value in (("user.name", "a"), ("user.email", "a@example.com")):
         git(folder, "config", key, value)
@@ -56,8 +57,15 @@ def refusal(call, *words):
 def trees(trial):
     """A release is of a commit that the gate passes, and of no other tree."""
     trial.enter("trees")
-    good = tree(trial.folder / "good", GATE)
+    good = tree(trial.folder / "good", f"ls crates/ap_accept_c/out > out/seen\n{GATE}")
+    built = good / "crates/ap_accept_c/out"
+    for place in (good / "out", built):
+        place.mkdir(parents=True)
+    stale = ("libap_accept.a", "libap_accept_c.a", "libap_accept.so.2", shared_name())
+    for name in (*stale, "kept"):
+        (built / name).touch()
     found = passed(good)
+    trial.same("the gate finds no library for C of before", (good / "out/seen").read_text(), "kept\n")
     trial.note("a tree that passes", differs(found, (git(good, "rev-parse", "HEAD"), "3 passed, 0 failed")))
     (good / "new").touch()
     trial.note("a file that is not committed is refused", "it is not" * (not refusal(passed, good)))
@@ -80,17 +88,19 @@ def files(trial):
     (trial.folder / shared_name()).write_bytes(b"\x7fELF")
     unproved = stand_ins(trial.folder / "unproved", kdcd=UNPROVED)
     refused = refusal(release, trial.folder, unproved, library, *words)
-    trial.note("an unproved kdcd is refused", "it is not" * (not refused))
+    wanted = "nothing was proved of kdcd, and a release has proved programs alone"
+    trial.same("an unproved kdcd is refused", refused, wanted)
     trial.note("nothing is made then", differs(list(trial.folder.glob("plovertrunk*")), []))
     package, archive, sums = release(trial.folder / "one", programs, library, *words)
-    check_sums(trial, sums)
+    check_sums(trial, sums, sums.parent)
     trial.expect(["dpkg-deb", "-x", package, trial.folder / "package"], 0, what="the package is unpacked")
     with tarfile.open(archive) as made:
         made.extractall(trial.folder / "archive", filter="data")
     folder = next((trial.folder / "archive").iterdir())
     trial.note("the archive's folder", differs(folder.name.rsplit("-", 1)[0], "plovertrunk-0.9.0"))
-    check_sums(trial, folder / "SHA256SUMS")
-    (folder / "SHA256SUMS").unlink()
+    sums = folder / "usr/share/doc/plovertrunk/SHA256SUMS"
+    check_sums(trial, sums, folder)
+    sums.unlink()
     trial.note("both have the same files", differs(octets_in(folder), octets_in(trial.folder / "package")))
     said = (folder / "usr/share/doc/plovertrunk/COMMIT").read_text()
     trial.note("the commit", differs(said, f"commit {COMMIT}\ngate 3 passed, 0 failed\n"))
@@ -104,9 +114,9 @@ def octets_in(folder):
     return {str(each.relative_to(folder)): each.read_bytes() for each in folder.rglob("*") if each.is_file()}
 
 
-def check_sums(trial, sums):
-    """Each line of a list of sums is that of its file."""
+def check_sums(trial, sums, folder):
+    """Each line of a list of sums is that of its file in this folder."""
     lines = sums.read_text().splitlines()
-    wrong = [line for line in lines if hashlib.sha256((sums.parent / line[66:]).read_bytes()).hexdigest() != line[:64]]
+    wrong = [line for line in lines if hashlib.sha256((folder / line[66:]).read_bytes()).hexdigest() != line[:64]]
     fault = ", ".join(wrong) or "there are few" * (len(lines) < 2)
-    trial.note(f"{sums.parent.name}/SHA256SUMS, {len(lines)} lines", fault)
+    trial.note(f"the sums of {folder.name}, {len(lines)} lines", fault)

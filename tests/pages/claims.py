@@ -35,10 +35,10 @@ NEVER = {"kclient.1": {"NoLogin", "NotValid"}, "kadm.8": {"Memory", "TooLate"}}
 MANUALS = {"kadm": ("kadm.8", set()), "kclient": ("kclient.1", {"--name"}), "kdcd": ("kdcd.8", set())}
 # Pages whose names of items and files are those of this repository, and names there of other ones.
 OF_CODE = (
-    "CONTRIBUTING.md", "docs/CLIENT_LIBRARY.md", "docs/DECISIONS.md", "docs/FORMATS.md", "docs/MAP.md",
+    "CONTRIBUTING.md", "SECURITY.md", "docs/CLIENT_LIBRARY.md", "docs/DECISIONS.md", "docs/FORMATS.md", "docs/MAP.md",
     "docs/PERFORMANCE.md", "docs/PROMISES.md", "docs/PROTOCOL.md", "docs/PROVING.md", "docs/SERVICES.md",
 )
-OF_OTHERS = {"array::from_fn", "krb5.h", "krb5_verify_init_creds"}
+OF_OTHERS = {"array::from_fn", "krb5.h", "krb5_verify_init_creds", "pam_krb5", "tcp_max_orphans"}
 # Options that each command has, and those of other programs that a page names alone.
 GENERAL = {"--help", "--version"}
 OTHERS = {"--allow-holes", "--canonicalize", "--collector"}
@@ -121,7 +121,7 @@ def service_rules():
 def page_rules(title):
     """The rules of a table of PROTOCOL.md: the name, and the code's name and number."""
     found = []
-    for first, *_, code, number in rows(section("docs/PROTOCOL.md", title)):
+    for first, _, code, number, *_ in (cells for cells in rows(section("docs/PROTOCOL.md", title)) if len(cells) > 3):
         if re.search(r"\d", number):
             found.append((first.strip("*").lower().replace("-", " "), (code.strip("()`"), int(number.strip("()")))))
     return found
@@ -133,12 +133,6 @@ def rules(trial):
     for title, wanted in (("The rules of an AS-REQ", as_rules()), ("The rules of a TGS-REQ", tgs_rules()),
                           ("What a service accepts", spaced(service_rules()))):
         trial.note(f"PROTOCOL.md, {title!r}: the rules, their order and codes", differs(page_rules(title), wanted))
-    found = []
-    for names, numbers, _ in rows(section("docs/SERVICES.md", "Refusals"))[1:]:
-        names, numbers = re.findall(r"`(\w+)`", names), re.findall(r"\d+", numbers)
-        found += [(name, int(numbers[min(at, len(numbers) - 1)])) for at, name in enumerate(names)]
-    wanted = sorted((name, number) for name, (_, number) in service_rules())
-    trial.note("SERVICES.md, 'Refusals': the rules and their codes", differs(sorted(found), wanted))
     known = {*logged("AsRefusal").values(), *logged("TgsRefusal").values(), *logged("ApRefusal").values()}
     named = {(page.name, word) for page in pages() for word in re.findall(r"\brule=([a-z-]+)", page.read_text())}
     unknown = [f"{page}: {word}" for page, word in sorted(named) if word not in known]
@@ -146,10 +140,6 @@ def rules(trial):
 
 
 # What pages count.
-
-def count_edits(pattern):
-    return len(list(CRATES.glob(f"{pattern}/must-fail/*.edit")))
-
 
 def setting_number(name):
     """A number among the constants of `text_fields`, in the file with the fields of a policy."""
@@ -162,7 +152,7 @@ def settings():
 
 def default(option):
     """The default of an option of `kdcd serve`."""
-    found = re.search(rf'\bargs,\s*"{option}",\s*([\d_]+),', read("crates/kdcd/src/args.rt"))
+    found = re.search(rf'\bargs,\s*"{option}",\s*([\d_]+),', read("crates/kdcd/src/options.rt"))
     return int(found[1].replace("_", ""))
 
 
@@ -191,16 +181,12 @@ def lines_of_code():
 # A page, how it says a number, and that number.
 COUNTS = (
     ("README.md", r"in (\d+) crates\.", lambda: len(list(CRATES.glob("*/src")))),
-    ("README.md", r"This is version ([\d.]+):", version),
+    ("README.md", r"This is ([\d.]+):", version),
+    ("README.md", r"plovertrunk_([\d.]+)_amd64", version),
     ("CHANGELOG.md", r"version of all programs is ([\d.]+) ", version),
     ("docs/FORMATS.md", r"object with these (\w+) members", lambda: settings() + 1),
     ("docs/FORMATS.md", r"Rows of version \d have the other (\w+) members", settings),
     ("docs/FORMATS.md", r"and `version`, (\d+)\.", lambda: setting_number("NEWEST_VERSION")),
-    ("CONTRIBUTING.md", r"edits, (\d+) in \w+ crates", lambda: count_edits("*")),
-    ("CONTRIBUTING.md", r"edits, \d+ in (\w+) crates", lambda: len(list(CRATES.glob("*/must-fail")))),
-    ("CONTRIBUTING.md", r"`kdc_core` and `tgs_exchange` (\d+)", lambda: count_edits("kdc_core")),
-    ("CONTRIBUTING.md", r"`kdc_core` and `tgs_exchange` (\d+)", lambda: count_edits("tgs_exchange")),
-    ("CONTRIBUTING.md", r"`kdc_hub` (\d+)\)", lambda: count_edits("kdc_hub")),
     ("docs/REFERENCE.md", r"`--remembered`, ([\d,]+);", lambda: default("remembered")),
     ("docs/REFERENCE.md", r"limits: remembered (\d+)", lambda: default("remembered")),
     ("docs/REFERENCE.md", r"kept (\d+), lock-after", lambda: default("kept")),
@@ -213,7 +199,7 @@ COUNTS = (
 
 # A page, how it says a size, and that size: the two differ by a twentieth at most.
 SIZES = (
-    ("README.md", r"its contracts \(([\d,]+) lines\)", lines_of_code),
+    ("README.md", r"code and contracts \(([\d,]+) lines\)", lines_of_code),
     ("README.md", r"that contracts name \(([\d,]+)\)", lambda: lines_of("*/specs/*.antt")),
     ("README.md", r"proofs \(([\d,]+)\)", lambda: lines_of("*/proofs/**/*.antt")),
 )
@@ -283,7 +269,9 @@ def items(trial):
     files = [*sources(), *scripts()]
     texts = (f"{file.stem} {file.read_text(errors='ignore')}" for file in files)
     known = {word for text in texts for word in re.findall(r"\w+", text)} | {each.name for each in CRATES.iterdir()}
-    more = (*CRATES.glob("*/*"), *CRATES.glob("*/*/*.edit"), *TOP.iterdir())
+    edits = [*CRATES.glob("*/*/*.edit")]
+    known |= {file.stem for file in edits}
+    more = (*CRATES.glob("*/*"), *edits, *TOP.iterdir())
     there = {file.name for file in (*files, *more)}
     for page in OF_CODE:
         spans = re.findall(r"`([^`\n]+)`", re.sub(r"^    .*$", "", read(page), flags=re.M))

@@ -8,6 +8,7 @@ from harness.tests import test
 
 @test()
 def texts(trial):
-    """The old text of each edit stands in its file exactly once, and PROMISES names no edit that there is not."""
+    """The old text of each edit stands in its file exactly once, and PROMISES and THEOREMS name no edit that there is
+    not."""
     for what, fault in stale():
         trial.note(what, fault)

@@ -1,15 +1,24 @@
-"""The page of promises is the one that its generator makes of the sources, of the edits and of its prose, and the edits
-name functions and clauses that there are."""
+"""The page of promises is the one that its generator makes of the sources, of the edits and of its prose. What the page
+itself names, read again without the generator, are functions and clauses that there are; and each clause of a public
+function is among them, or in the list of those left out (`contracts.py`)."""
 
 import collections
 import difflib
 import re
 
+from list_undocumented import PRIVATE
 from make_promises import BODY, COMMAND, PAGE, page
-from promised import CRATES, Fault, carriers, promises
+from promised import CRATES, INVARIANT, ONLY, Fault, carriers, promises
 from try_edits import every_edit
 
 from harness.tests import test
+from pages.contracts import beyond, left_out
+
+# A row of promises, and what carries a promise: at its end, in brackets.
+ROW, CARRIED = re.compile(r"^\| (.*) \| (.*?) ?\|$"), re.compile(r"\(([^()]*)\)$")
+HEAD = "| promises, each with what carries it | in |"
+# A clause of a function as prose names it.
+IN_PROSE = re.compile(r"`((?:\w+::)?[a-z]\w*)`: `(\w+)`")
 
 
 @test(seconds=10)
@@ -35,6 +44,80 @@ def unknown_in(refused, carriers):
             lacking = [each for each in re.findall(r"`([^`]+)`", clauses) if not any(one.has(each) for one in known)]
             unknown += [f"{name}: {each}" for each in lacking] if known else [name]
     return unknown
+
+
+def places(cell):
+    """The files of a cell. A crate is named once for those that follow one another."""
+    found, crate = [], ""
+    for name in re.findall(r"`([^`]+)`", cell):
+        first, _, rest = name.partition("/")
+        crate, file = (first, rest) if rest and (CRATES / first).is_dir() else (crate, name)
+        found.append(f"{crate}/{file}")
+    return found
+
+
+def carried_in(text):
+    """The functions and types in a promise's brackets, each with its clauses or laws; None without a name."""
+    for piece in text.split("; "):
+        names, _, clauses = piece.partition(": ")
+        named, owner = re.findall(r"`([^`]+)`", clauses) or ([INVARIANT] if "invariant" in clauses else [ONLY]), ""
+        for name in re.findall(r"`([^`]+)`", names):
+            owner = name.rpartition("::")[0] or (owner if "::" not in name and name[:1].islower() else "")
+            yield (f"{owner}::{name}" if owner and "::" not in name else name), named
+
+
+def rows_of_promises():
+    """The texts of the rows of promises, each with its files."""
+    is_in, files = False, []
+    for line in PAGE.read_text().splitlines():
+        is_in = line == HEAD or is_in and line.startswith("|")
+        if is_in and (row := ROW.match(line)) and line != HEAD and not line.startswith("|---"):
+            files = places(row[2]) or files
+            yield row[1], files
+
+
+def on_page():
+    """What the page names, as (file, function, clauses); and the promises that name nothing."""
+    found, bare = [], []
+    for texts, files in rows_of_promises():
+        for text in texts.split("<br>"):
+            if not (carried := CARRIED.search(text)):
+                bare.append(text)
+                continue
+            found += [(tuple(files), label, clauses) for label, clauses in carried_in(carried[1])]
+    return found, bare
+
+
+@test(seconds=10)
+def named(trial):
+    """Each function and clause that the page names is in one of the files of its row; and each clause of a public
+    function is named, or left out by the list."""
+    by_label, found = collections.defaultdict(list), collections.defaultdict(set)
+    for each in carriers():
+        by_label[each.label()].append(each)
+    listed, bare = on_page()
+    unknown = []
+    for files, label, clauses in listed:
+        there = [each for each in by_label[label] if each.place() in files]
+        for clause in clauses:
+            having = [each for each in there if each.has(clause)]
+            unknown += [] if having else [f"{label}: {clause} in {', '.join(files)}"]
+            for each in having:
+                found[each.crate, each.label()].add(clause.partition(".")[0])
+    trial.note(f"functions and clauses of {len(listed)} that promises name", "; ".join(unknown))
+    trial.note("each promise names what carries it", "; ".join(bare) or "there are few" * (len(listed) < 500))
+    public = collections.defaultdict(set)
+    for each in carriers():
+        if each.is_public and not PRIVATE.search(each.crate):
+            public[each.crate, each.label()] |= set(each.clauses)
+    listed = left_out()
+    lacking = beyond(public, {key: found[key] | listed.get(key, set()) for key in public})
+    trial.note("clauses of public functions that the page and the list lack", lacking)
+    prose = re.sub(r"^\|.*$", "", PAGE.read_text(), flags=re.M)
+    unknown = [f"{name}: {clause}" for name, clause in IN_PROSE.findall(" ".join(prose.split())) if not any(
+        each.has(clause) for label, some in by_label.items() for each in some if name in (label, each.name)
+    )]
+    trial.note("clauses that the prose names", "; ".join(unknown))
 
 
 @test(seconds=10)

@@ -7,9 +7,9 @@ ghost use Rattle.aes_cts.specs.Words.{octets};
 use crate::words::{add_round_key, inverse_round, last_inverse_round, last_round, round};
 
 /// Encrypts the state in place (CIPHER), with 10 or 14 rounds: the first, then groups of four, then the last.
-// The rounds are unrolled: as a loop they take a fifth more instructions, because words change registers at its end.
-// They are also inlined into each loop over blocks, each round with them, so that the words of a block stay in
-// registers: calls of `round` take a third more instructions.
+// The rounds are unrolled: a loop takes a fifth more instructions, because words change registers at its end. This
+// function and each round are inlined into each loop over blocks, so that the words of a block stay in registers. Calls
+// of `round` take a third more instructions.
 #[inline(always)]
 pub fn cipher(state: &mut [u32; 4], schedule: &[u32], round_count: usize)
     requires some { 10 ≤ round_count }

@@ -7,7 +7,7 @@ ghost use Rattle.aes_cts.specs.Words.{octets};
 
 use crate::cipher::{cipher, inverse_cipher};
 use crate::key_expansion::{expand, inverse_schedule};
-use crate::words::{octets_of, words_of};
+use crate::words::{join_words, split_block};
 use std::marker::Model;
 
 /// A key for AES-128 or AES-256, with its schedule of round keys. Contracts see the key's bytes.
@@ -49,8 +49,8 @@ impl Model for DecryptionSchedule {
 impl AesKey {
     /// Returns the key with these bytes: 16 for AES-128, 32 for AES-256, and `None` for any other length.
     pub fn new(octets: &[u8]) -> Option<AesKey>
-        // Promise (some, key): a key is made exactly of 16 or 32 bytes; each word of the tables by which the rounds go
-        // is a column times the S-box's byte.
+        // Promise (some, key): a key is made exactly from 16 or 32 bytes; each word of the rounds' tables is a column
+        // of a matrix times a byte of the S-box or of its inverse.
         ensures some { IsSome result ↔ ((length octets.now ≡ 16) ⊎ (length octets.now ≡ 32)) }
         ensures key { IfSome result (λ key. key ≡ octets.now) }
     {
@@ -83,9 +83,9 @@ impl AesKey {
         ensures inverse { aes_inverse self.now result ≡ block.now }
         ensures permutes { PermutesBlocks self.now }
     {
-        let mut state = words_of(block);
+        let mut state = split_block(block);
         self.encipher(&mut state);
-        octets_of(&state)
+        join_words(&state)
     }
 
     // Encrypts the block with these words.
@@ -131,9 +131,9 @@ impl AesKey {
         ensures inverse { aes self.now result ≡ block.now }
         ensures permutes { PermutesBlocks self.now }
     {
-        let mut state = words_of(block);
+        let mut state = split_block(block);
         self.decipher(inverse_schedule, &mut state);
-        octets_of(&state)
+        join_words(&state)
     }
 
     // Decrypts the block with these words, with the decryption schedule.

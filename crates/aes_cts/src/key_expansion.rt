@@ -8,7 +8,7 @@ ghost use Rattle.aes_cts.specs.Words.{octets};
 ghost use Rattle.std.specs.Int.{w32, to_be_bytes};
 
 use crate::s_box::substitute;
-use crate::words::{added, unmixed, word_at, word_of};
+use crate::words::{added, join_bytes, unmixed, word_at};
 
 // The powers of x in the field, from x^0: the first bytes of the round constants.
 const POWERS_OF_X: [u8; 14] = [
@@ -32,9 +32,9 @@ fn passed_on<const N: usize>(word: u32, i: usize) -> u32
     let [a, b, c, d] = word.to_be_bytes();
     if i % N == 0 {
         let first = substitute(b) ^ power_of_x(i / N - 1);
-        word_of(first, substitute(c), substitute(d), substitute(a))
+        join_bytes(first, substitute(c), substitute(d), substitute(a))
     } else if N > 6 && i % N == 4 {
-        word_of(substitute(a), substitute(b), substitute(c), substitute(d))
+        join_bytes(substitute(a), substitute(b), substitute(c), substitute(d))
     } else {
         word
     }

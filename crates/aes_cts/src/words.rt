@@ -178,7 +178,7 @@ fn substituted_column(key: u32, a: u8, b: u8, c: u8, d: u8) -> u32
     ensures { to_be_bytes w32 result
         ≡ added_cells (to_be_bytes w32 key) (s_box a) (s_box b) (s_box c) (s_box d) }
 {
-    word_of(substitute(a), substitute(b), substitute(c), substitute(d)) ^ key
+    join_bytes(substitute(a), substitute(b), substitute(c), substitute(d)) ^ key
 }
 
 // Computes InvSubBytes on the column (a, b, c, d), and adds the key's word.
@@ -186,7 +186,7 @@ fn inverse_substituted_column(key: u32, a: u8, b: u8, c: u8, d: u8) -> u32
     ensures { to_be_bytes w32 result ≡ added_cells (to_be_bytes w32 key)
         (inverse_s_box a) (inverse_s_box b) (inverse_s_box c) (inverse_s_box d) }
 {
-    word_of(
+    join_bytes(
         inverse_substitute(a),
         inverse_substitute(b),
         inverse_substitute(c),
@@ -210,8 +210,9 @@ pub fn unmixed(column: u32) -> u32
 }
 
 /// Returns the word of four bytes.
-// A sum rather than an array: the compiler makes a vector of an array from a table, and then of the whole state.
-pub fn word_of(a: u8, b: u8, c: u8, d: u8) -> u32
+// It adds the bytes up. If it made an array of them, the compiler would put that into a vector register, and then the
+// whole state.
+pub fn join_bytes(a: u8, b: u8, c: u8, d: u8) -> u32
     ensures word { result ≡ word a b c d }
     ensures octets { to_be_bytes w32 result ≡ a ∷ b ∷ c ∷ d ∷ [] }
 {
@@ -240,32 +241,32 @@ pub fn words_at(text: &[u8], at: usize) -> [u32; 4]
 }
 
 /// Returns the words of a block.
-pub fn words_of(block: &[u8; 16]) -> [u32; 4]
+pub fn split_block(block: &[u8; 16]) -> [u32; 4]
     ensures { octets result ≡ block.now }
 {
     words_at(block, 0)
 }
 
-// Returns the bytes of two words. Writing four words one by one would make them a vector first (see `word_of`).
-fn octets_of_two(a: u32, b: u32) -> [u8; 8]
+// Returns the bytes of two words. Writing four words one by one would make them a vector first (see `join_bytes`).
+fn join_two(a: u32, b: u32) -> [u8; 8]
     ensures { result ≡ to_be_bytes w32 a ++ to_be_bytes w32 b }
 {
     (u64::from(a) * 0x1_0000_0000 + u64::from(b)).to_be_bytes()
 }
 
 /// Returns the bytes of four words.
-pub fn octets_of(words: &[u32; 4]) -> [u8; 16]
+pub fn join_words(words: &[u32; 4]) -> [u8; 16]
     ensures { result ≡ octets words.now }
 {
     let [a, b, c, d] = *words;
     let mut octets = [0; 16];
-    octets[..8].copy_from_slice(&octets_of_two(a, b));
-    octets[8..].copy_from_slice(&octets_of_two(c, d));
+    octets[..8].copy_from_slice(&join_two(a, b));
+    octets[8..].copy_from_slice(&join_two(c, d));
     octets
 }
 
 /// Adds two blocks in the field (xor).
-pub fn sum_of(a: &[u32; 4], b: &[u32; 4]) -> [u32; 4]
+pub fn xor_words(a: &[u32; 4], b: &[u32; 4]) -> [u32; 4]
     ensures { octets result ≡ xor_blocks (octets a.now) (octets b.now) }
 {
     let mut sum = *a;

@@ -27,7 +27,7 @@ use Rattle.ap_accept.specs.declared.state.State.{State}
 use Rattle.ap_req.specs.Refusal.{code_of}
 use Rattle.ap_req.specs.declared.refusal.ApRefusal.{ApRefusal}
 
--- ---- what the table says of a request
+-- ---- what the table says about a request
 
 -- the row that refuses it, if one does
 abbrev pub refused_by : State → ℤ → ApReq → Option Row
@@ -108,7 +108,7 @@ pub record Answer : Type 0 where
   pub answer : Result Accepted ApFault
   pub state : State
 
--- by the refusal, and by what is recorded
+-- the answer and the state afterwards, given the refusal and what is recorded
 abbrev pub answered : State → ℤ → List ℕ → Bool → Option ApRefusal → Option Presented → Answer
 answered state now confounder wanted refusal p = record {
   answer = answer_by confounder wanted refusal p;
@@ -167,7 +167,7 @@ abbrev pub IsService : Components → Option Presented → Type 0
 IsService service (Some p) = p.service.components ≡ service
 IsService service None = ⊥
 
--- that service, and its client
+-- the service and the client whose cache may change
 abbrev pub IsParty : Components → Components → Option Presented → Type 0
 IsParty service client (Some p) = (p.service.components ≡ service) × (p.ticket.cname.components ≡ client)
 IsParty service client None = ⊥

@@ -1,8 +1,7 @@
 -- The authenticator's checksum over the application's data (RFC 4120, section 5.5.1).
-use Rattle.std.specs.Prelude.{ℕ, Bool, not, nat_eq, List, [], ◌∷◌, Option, Some, None}
+use Rattle.std.specs.Prelude.{ℕ, Bool, not, nat_eq, if◌then◌else◌, List, Option, Some, None}
 use Rattle.std.specs.Cmp.Lexicographic.{pointwise}
 use Rattle.std.specs.Ordering.{int_eq}
-use Rattle.rule_lists.specs.Refusals.{Rule, first_holding}
 use Rattle.enctypes.specs.Etype.{checksum_type}
 use Rattle.enctypes.specs.KeyUsage.{usage_number}
 use Rattle.enctypes.specs.Sealing.{mac}
@@ -11,8 +10,8 @@ use Rattle.enctypes.specs.declared.key_usage.KeyUsage.TheVariants.{ApReqAuthenti
 use Rattle.krb_fields.specs.Typed.{Typed}
 use Rattle.krb_fields.specs.declared.code.Code.{Code}
 use Rattle.krb_fields.specs.declared.code.Code.TheVariants as codes
-use Rattle.ap_accept.specs.declared.checksum.ChecksumFault.{ChecksumFault}
-use Rattle.ap_accept.specs.declared.checksum.ChecksumFault.TheVariants.{Absent, OtherType, Modified}
+use Rattle.ap_accept.specs.declared.checksum.ChecksumVerdict.{ChecksumVerdict}
+use Rattle.ap_accept.specs.declared.checksum.ChecksumVerdict.TheVariants.{Matches, Absent, OtherType, Modified}
 
 abbrev pub is_other_type : Key → Typed → Bool
 is_other_type key cksum = not (int_eq cksum.number (checksum_type key.etype))
@@ -22,19 +21,20 @@ abbrev pub is_modified : Key → List ℕ → Typed → Bool
 is_modified key octets cksum =
     not (pointwise nat_eq cksum.octets (mac key.etype key.bytes (usage_number ApReqAuthenticatorChecksum) octets))
 
-abbrev pub checksum_rules : Key → List ℕ → Typed → List (Rule ChecksumFault)
-checksum_rules key octets cksum =
-    (is_other_type key cksum, OtherType)
-    ∷ (is_modified key octets cksum, Modified)
-    ∷ []
+abbrev pub verdict_by : Key → List ℕ → Typed → ChecksumVerdict
+verdict_by key octets cksum =
+    if is_other_type key cksum then OtherType
+    else if is_modified key octets cksum then Modified
+    else Matches
 
--- what is wrong with it as one of these bytes, by the session key
-abbrev pub checksum_fault : Key → Option Typed → List ℕ → Option ChecksumFault
-checksum_fault key (Some cksum) octets = first_holding (checksum_rules key octets cksum)
-checksum_fault key None octets = Some Absent
+-- what it is, as a checksum of these bytes with the session key
+abbrev pub checksum_verdict : Key → Option Typed → List ℕ → ChecksumVerdict
+checksum_verdict key (Some cksum) octets = verdict_by key octets cksum
+checksum_verdict key None octets = Absent
 
 -- section 7.5.9
-abbrev pub code_of_fault : ChecksumFault → Code
-code_of_fault Absent = codes.KrbApErrInappCksum
-code_of_fault OtherType = codes.KrbApErrInappCksum
-code_of_fault Modified = codes.KrbApErrModified
+abbrev pub code_of_verdict : ChecksumVerdict → Option Code
+code_of_verdict Matches = None
+code_of_verdict Absent = Some codes.KrbApErrInappCksum
+code_of_verdict OtherType = Some codes.KrbApErrInappCksum
+code_of_verdict Modified = Some codes.KrbApErrModified

@@ -44,7 +44,7 @@ lasts floor m = int_lt floor m.floor || nat_le 1 (map.len (map.retain_keys m.pai
 abbrev pub raised_to : ℤ → Clients → Clients
 raised_to floor clients = record { floor = floor; caches = retain_values clients.caches (lasts floor) }
 
--- in seconds
+-- an hour, in seconds
 abbrev pub hour : ℕ
 hour = 3600
 

@@ -1,6 +1,6 @@
--- The rules by which an acceptor refuses an AP-REQ: one table in the order in which they are asked (RFC 4120, section
--- 3.2.3). It is stated by itself, apart from the rules in `ap_req`, by which the code decides. So a mistake in
--- those is no mistake here.
+-- The rules by which an acceptor refuses an AP-REQ: one table, in the order in which they are checked (RFC 4120,
+-- section 3.2.3). It is stated apart from the rules in `ap_req`, by which the code decides. So a mistake in those rules
+-- is not repeated here.
 use Rattle.std.specs.Prelude.{ℤ, pos, ◌+ℤ◌, ◌-ℤ◌, ⊤, Bool, true, false, not, ◌&&◌, ◌||◌, nat_eq, int_lt, is_some}
 use Rattle.std.specs.Prelude.{is_none, if◌then◌else◌, List, [], ◌∷◌, Option, Some, None}
 use Rattle.std.specs.Cmp.Lexicographic.{pointwise}

@@ -24,7 +24,7 @@ pub record Call : Type 0 where
   pub confounder : List ℕ
   pub octets : List ℕ
 
--- a call; a call for the service of a name alone; a keytab that replaces the keys; or a later process with a keytab and
+-- a call; a call for one named service alone; a keytab that replaces the keys; or a later process with a keytab and
 -- options, which resumes with what this one saved
 pub data Event : Type 0 where
   Accept : Call → Event
@@ -35,7 +35,7 @@ pub data Event : Type 0 where
 abbrev pub after_call : State → Call → State
 after_call state call = (accepts state call.at call.confounder call.octets).state
 
--- the state after a call for the service of a name alone, where `after` returns that after a call for each service
+-- the state after a call for one named service alone, where `after` returns the state after a call for each service
 abbrev pub after_named : (State → Call → State) → Components → State → Call → State
 after_named after name state call =
     if is_for_another name (request_of call.octets)
@@ -79,9 +79,9 @@ accepted_at service client state (AcceptFor name call) = accepted_named service 
 accepted_at service client state (Replace keytab) = None
 accepted_at service client state (Resume keytab options) = None
 
--- In every list of calls, for each service or for one, at any moments, and with any keytabs that replace the keys and any
--- processes that resume between them, no authenticator is accepted twice for the same ticket realm, service and client. An authenticator is
--- known by its ctime and cusec.
+-- No authenticator is accepted twice for the same ticket realm, service and client. This holds for every list of calls,
+-- for each service or for one, at any moments, and with any keytabs that replace the keys and any processes that resume
+-- between them. An authenticator is known by its ctime and cusec.
 abbrev pub AcceptedOnce : Type 0
 AcceptedOnce =
     (state : State) (realm : List ℕ) (sname client : Components) (events : List Event)

@@ -8,8 +8,8 @@ use Rattle.sha2.specs.Sha256.{sha256}
 use Rattle.cred_files.specs.Form.{◌>>=◌, part, several}
 use Rattle.cred_files.specs.Format.{signed32, word32}
 use Rattle.cred_files.specs.Wide.{signed64, word64}
-use Rattle.cred_files.specs.declared.fault.Cut.{Cut}
-use Rattle.cred_files.specs.declared.fault.Cut.TheVariants as cuts
+use Rattle.cred_files.specs.declared.fault.CredError.{CredError}
+use Rattle.cred_files.specs.declared.fault.CredError.TheVariants.{BadMagic, Truncated, Memory}
 use Rattle.cred_files.specs.declared.keytab_entry.KeytabEntry.{KeytabEntry}
 use Rattle.krb_fields.specs.PrincipalName.{Name}
 use Rattle.principal_rows.specs.NameMap.{pairs}
@@ -18,8 +18,6 @@ use Rattle.replay.specs.Stamp.{Stamp}
 use Rattle.replay.specs.declared.cache.ReplayCache.{ReplayCache}
 use Rattle.ap_accept.specs.Stamps.{cache_with}
 use Rattle.ap_accept.specs.declared.clients.Clients.{Clients}
-use Rattle.ap_accept.specs.declared.fault.ResumeFault.{ResumeFault}
-use Rattle.ap_accept.specs.declared.fault.ResumeFault.TheVariants.{NotSaved, Memory}
 use Rattle.ap_accept.specs.declared.options.AcceptorOptions.{AcceptorOptions}
 use Rattle.ap_accept.specs.declared.saving.Held.{Held}
 use Rattle.ap_accept.specs.declared.state.State.{State}
@@ -49,7 +47,7 @@ list at bytes = word bytes >>= λ n. several at n.0 n.1
 abbrev pub both : {A B : Type 0} → Reading A → Reading B → Reading (A × B)
 both f g bytes = f bytes >>= λ x. g x.1 >>= λ y. Some ((x.0, y.0), y.1)
 
--- what is made of a value
+-- a value made from another
 abbrev pub made : {A B : Type 0} → (A → B) → Reading A → Reading B
 made to f bytes = f bytes >>= λ x. Some (to x.0, x.1)
 
@@ -86,7 +84,7 @@ held =
     made (λ v. record { mark = v.0; floor = v.1.0; services = map.from_entries (pairs v.1.1) })
     (both word (both second (list (entry clients))))
 
--- nothing is left
+-- what was read, if no bytes are left and its mark is the right one
 abbrev pub marked : Option (Held × List ℕ) → Option Held
 marked (Some (h, [])) = if h.mark == mark then Some h else None
 marked (Some (h, b ∷ rest)) = None
@@ -96,7 +94,7 @@ marked None = None
 abbrev pub check_of : List ℕ → List ℕ
 check_of text = take 16 (sha256 text)
 
--- the check, and the text that it is of
+-- what the text holds, if the check is that of the text
 abbrev pub checked : Option (List ℕ × List ℕ) → Option Held
 checked (Some (check, text)) = if bytes_eq check (check_of text) then marked (held text) else None
 checked None = None
@@ -114,16 +112,14 @@ resumed keytab options bytes =
 -- ---- what calls did
 
 -- the bytes are not those of a saved acceptor, or memory ran out
-abbrev pub Fails : {Y : Type 0} → ResumeFault → Option Y → Type 0
-Fails NotSaved read = read ≡ None
+abbrev pub Fails : {Y : Type 0} → CredError → Option Y → Type 0
+Fails BadMagic read = read ≡ None
+Fails Truncated read = read ≡ None
 Fails Memory read = ⊤
-
-abbrev pub resume_fault : Cut → ResumeFault
-resume_fault cuts.End = NotSaved
-resume_fault cuts.Memory = Memory
+Fails fault read = ⊥
 
 -- the value is what the bytes hold, unless memory ran out
-abbrev pub IsFound : {X : Type 0} → Result X ResumeFault → Option X → Type 0
+abbrev pub IsFound : {X : Type 0} → Result X CredError → Option X → Type 0
 IsFound (Ok x) found = found ≡ Some x
 IsFound (Err fault) found = Fails fault found
 

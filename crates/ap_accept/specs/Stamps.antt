@@ -8,12 +8,12 @@ use Rattle.replay.specs.declared.cache.ReplayCache.{ReplayCache}
 abbrev pub Stamps : Type 0
 Stamps = map.FinMap stamp_cmp ⊤
 
--- these stamps too
+-- the stamps of a map, and these
 unfoldable pub with_stamps : Stamps → List Stamp → Stamps
 with_stamps m [] = m
 with_stamps m (s ∷ stamps) = with_stamps (map.insert m s tt) stamps
 
--- of these stamps those that are not below the floor
+-- those of these stamps that are not below the floor
 abbrev pub listed : ℤ → List Stamp → Stamps
 listed floor stamps = map.retain_keys (with_stamps map.empty stamps) (is_from floor)
 

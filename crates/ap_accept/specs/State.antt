@@ -35,6 +35,6 @@ with_clients state service clients = record state { services = map.insert state.
 abbrev pub with_keytab : State → List KeytabEntry → State
 with_keytab state keytab = record state { keytab = keytab }
 
--- the state with other keys and options, as a later process has it that resumes
+-- the state with other keys and options, as in a later process that resumes
 abbrev pub renewed : State → List KeytabEntry → AcceptorOptions → State
 renewed state keytab options = record state { keytab = keytab; options = options }

@@ -33,8 +33,8 @@ pub struct Accepted {
     pub ap_rep: Option<Octets>,
 }
 
-/// Debug output may end up in logs, so it shows no key and nothing that is for the application: the client, when the
-/// ticket ends, and the encryption types of the keys.
+/// Debug output may end up in logs, so it shows no key and nothing that is for the application. It shows the client,
+/// when the ticket ends, and the encryption types of the keys.
 impl fmt::Debug for Accepted {
     fn fmt<W: fmt::Write>(&self, f: &mut fmt::Formatter<W>) -> fmt::Result {
         write!(

@@ -113,7 +113,8 @@ fn cache_refusal(
 ) -> Option<ApRefusal>
     ensures value { result ≡ cache_refusal state.now at.sec presented.now }
     ensures timely { IfNone result
-        (is_beyond_clock_skew (cache_for state.now presented.now).floor at.sec presented.now.authenticator.ctime ≡ false) }
+        (is_beyond_clock_skew (cache_for state.now presented.now).floor at.sec presented.now.authenticator.ctime
+        ≡ false) }
     ensures new { IfNone result (map.get (cache_for state.now presented.now).pairs (stamp_of presented.now) ≡ None) }
 {
     let opened = Clients::opened(alloc, state.floor);

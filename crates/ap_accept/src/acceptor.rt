@@ -12,11 +12,11 @@ ghost use Rattle.ap_accept.specs.State.{clients_of, cache_of, opened, with_keyta
 
 use crate::accepted::Accepted;
 use crate::accepting::accept;
-use crate::fault::{ApFault, ResumeFault};
+use crate::fault::ApFault;
 use crate::naming::accept_for;
 use crate::options::AcceptorOptions;
 use crate::state::State;
-use cred_files::Keytab;
+use cred_files::{CredError, Keytab};
 use krb_fields::{Moment, Name};
 use replay::Opening;
 use std::alloc::{AllocError, Global};
@@ -58,8 +58,8 @@ impl Acceptor {
 
     /// Returns the bytes from which a later process resumes, as long as this one accepts nothing more.
     pub fn save(&self, alloc: Global) -> Result<Vec<u8>, AllocError>
-        // Promise: from the bytes that an acceptor saves, one with any keys and options resumes as that acceptor with
-        // these.
+        // Promise: an acceptor that resumes from the saved bytes equals the one that saved them, but with the keys and
+        // options that it is given.
         ensures { IfOk result (λ bytes. Saves self.now bytes.items) }
     {
         self.state.save(alloc)
@@ -68,17 +68,18 @@ impl Acceptor {
     /// Returns an acceptor that goes on with what another saved, also with other keys and options. It refuses what that
     /// one would refuse as a repeat.
     ///
-    /// Bytes may be used once, and only if nothing was accepted since they were made: what is accepted in between can
-    /// be accepted again. So remove the file that holds them before the first [`Acceptor::accept`]. Where there are no
-    /// such bytes, or they are damaged, call [`Acceptor::open`] with [`Opening::Restart`].
+    /// Bytes may be used only once, and only if nothing was accepted since they were made: what was accepted in between
+    /// could be accepted again. So remove the file that holds them before the first [`Acceptor::accept`]. Where there
+    /// are no such bytes, or they are damaged (`BadMagic` or `Truncated`), call [`Acceptor::open`] with
+    /// [`Opening::Restart`].
     pub fn resume(
         alloc: Global,
         keytab: Keytab,
         options: AcceptorOptions,
         bytes: &[u8],
-    ) -> Result<Acceptor, ResumeFault>
-        // Promise (resumed, fault): from any bytes an acceptor resumes as they say, or fails because they are none of a
-        // saved acceptor, or memory ran out.
+    ) -> Result<Acceptor, CredError>
+        // Promise (resumed, fault): an acceptor resumes with what the bytes hold, or fails because they are not those
+        // of a saved acceptor or memory ran out.
         ensures resumed { IfOk result (λ acceptor. resumed keytab options bytes.now ≡ Some acceptor) }
         ensures fault { IfErr result (λ fault. Fails fault (resumed keytab options bytes.now)) }
     {
@@ -90,7 +91,7 @@ impl Acceptor {
 
     /// Replaces the keys with those of this keytab, and allocates nothing.
     ///
-    /// The replay caches stay as they are. So nobody is refused for the change, and nothing that was accepted is
+    /// The replay caches stay as they are. So nobody is refused because of the change, and nothing that was accepted is
     /// accepted again.
     pub fn replace(&mut self, keytab: Keytab)
         // Promise: an acceptor starts with its keys, its options and no stored replay cache; replacing the keys changes
@@ -116,12 +117,12 @@ impl Acceptor {
         // Promise: the AP-REQ is the one that the bytes spell.
         ensures request { (r : trees.ApReq) → (request_of ap_req.now ≡ Some r) ↔ trees.ap_req.Spells r ap_req.now }
         // The answer and the state afterwards are those that the rules prescribe.
-        // Promise: what is accepted, or which error or refusal it is: the first row that holds of one table (`rows`),
-        // which is stated apart from the rules that the KDC shares.
+        // Promise: what is accepted, or which error or refusal is returned, is decided by the first row that holds in
+        // one table (`rows`), which is stated apart from the rules that the KDC shares.
         ensures answer { IsAnswer result (accepts self.old at confounder.now ap_req.now).answer }
-        // Promise (state, services, keytab, options): the replay caches afterwards; no replay cache changes but those
-        // of the service whose authenticator is recorded, nor the keys or the options; nothing changes when memory runs
-        // out.
+        // Promise (state, services, keytab, options): the replay caches afterwards are those of the definition: only
+        // those of the service whose authenticator is recorded change. The keys and the options don't change. Nothing
+        // changes if memory runs out.
         ensures state { IsAfter result self.old self.new (accepts self.old at confounder.now ap_req.now).state }
         // The code of a refusal is the one in the row of the table that refuses.
         // Promise: the code of a refusal is the one in the row that refuses.
@@ -168,8 +169,8 @@ impl Acceptor {
         confounder: &[u8; 16],
         ap_req: &[u8],
     ) -> Result<Accepted, ApFault>
-        // Promise (answer, state): what is accepted for one service alone, and the state afterwards: as `accept`, or,
-        // if the ticket is for a service of another name, as an acceptor without keys answers.
+        // Promise (answer, state): for one service alone, what is accepted and the state afterwards are those of
+        // `accept`; if the ticket is for a service of another name, they are those of an acceptor without keys.
         ensures answer { IsAnswer result
             (accepts_for service.now.components self.old at confounder.now ap_req.now).answer }
         ensures state { IsAfter result self.old self.new

@@ -8,7 +8,7 @@ use krb_types::{Authenticator, EncTicketPart};
 use rule_lists::decide;
 
 /// Returns the subkey of an authenticator, after checking that the authenticator matches the ticket.
-pub fn subkey_of(
+pub fn checked_subkey(
     part: &EncTicketPart,
     authenticator: &Authenticator,
 ) -> Result<Option<Key>, ApRefusal>

@@ -9,13 +9,13 @@ ghost use Rattle.ap_accept.specs.Saved.{cache};
 ghost use Rattle.ap_accept.specs.Stamps.{cache_with, listed, with_stamps};
 
 use crate::saved::{Saved, put_list, put_second, take_list};
-use cred_files::{Cut, Reader};
+use cred_files::{CredError, Reader};
 use krb_fields::Moment;
 use replay::{Failures, Pairs, ReplayCache};
 use std::alloc::{AllocError, Global};
 use std::marker::Model;
 
-/// Stamps that the cache dropped stay in the list until there are this many, and twice as many as the cache has.
+/// The list keeps stamps that the cache dropped until it has this many stamps, and twice as many as the cache.
 const FEW: usize = 64;
 
 /// A client's replay cache. Contracts see the cache.
@@ -89,7 +89,7 @@ impl Client {
         Ok(())
     }
 
-    /// Drops the stamps that the cache dropped, if they are half of many.
+    /// Drops the stamps that the cache dropped, once the list is long and half of it are such stamps.
     fn shorten(&mut self)
         ensures { self.new ≡ self.old }
     {
@@ -104,13 +104,13 @@ impl Client {
 fn listed(alloc: Global, floor: i64, stamps: &[(i64, u32)]) -> Result<Pairs<()>, AllocError>
     ensures { IfOk result (λ pairs. pairs ≡ listed floor stamps.now) }
 {
-    let mut pairs = pairs_of(alloc, stamps)?;
+    let mut pairs = collect_pairs(alloc, stamps)?;
     let _ = pairs.drop_before(floor, floor);
     Ok(pairs)
 }
 
 /// Returns these stamps as pairs.
-fn pairs_of(alloc: Global, stamps: &[(i64, u32)]) -> Result<Pairs<()>, AllocError>
+fn collect_pairs(alloc: Global, stamps: &[(i64, u32)]) -> Result<Pairs<()>, AllocError>
     ensures { IfOk result (λ pairs. pairs ≡ with_stamps map.empty stamps.now) }
 {
     let mut pairs = Pairs::new(alloc);
@@ -137,7 +137,7 @@ fn drop_below(stamps: &mut Vec<(i64, u32)>, floor: i64)
 impl Saved for Client {
     ghost at = { cache };
 
-    fn take(alloc: Global, reader: &mut Reader<'_>) -> Result<Client, Cut> {
+    fn take(alloc: Global, reader: &mut Reader<'_>) -> Result<Client, CredError> {
         let floor = reader.read_i64()?;
         let stamps = take_list(alloc, reader)?;
         Ok(Client::of(alloc, floor, stamps)?)

@@ -11,14 +11,14 @@ ghost use Rattle.ap_accept.specs.Saved.{clients};
 use crate::client::Client;
 use crate::presented::Presented;
 use crate::saved::{Saved, put_list, put_second, take_list};
-use cred_files::{Cut, Reader};
+use cred_files::{CredError, Reader};
 use krb_fields::{Moment, Name, SKEW};
 use principal_rows::{NameMap, ValueTest};
 use replay::ReplayCache;
 use std::alloc::{AllocError, Global};
 
-/// In seconds. At most once an hour, the acceptor drops entries that can't be replayed any more. It drops only what is
-/// older than an hour plus the clock skew.
+/// An hour, in seconds. At most once an hour, the acceptor drops entries that can't be replayed any more. It drops only
+/// what is older than an hour plus the clock skew.
 const HOUR: i64 = 3_600;
 
 /// The clients of a service.
@@ -165,7 +165,7 @@ impl ValueTest<Client> for Lasting {
 impl Saved for Clients {
     ghost at = { clients };
 
-    fn take(alloc: Global, reader: &mut Reader<'_>) -> Result<Clients, Cut> {
+    fn take(alloc: Global, reader: &mut Reader<'_>) -> Result<Clients, CredError> {
         let floor = reader.read_i64()?;
         let caches = take_list(alloc, reader)?;
         Ok(Clients {

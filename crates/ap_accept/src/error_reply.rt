@@ -12,15 +12,16 @@ use std::alloc::{AllocError, Global};
 impl TicketLabel {
     /// Returns the bytes of the KRB-ERROR for a refusal at this moment: the rule's code, the service and the time.
     ///
-    /// There are none for a service that can't be a principal: one whose name has more than 16 components, or one of
-    /// more than 255 bytes or of none, or whose realm is such a one.
+    /// Returns `None` for a service that can't be a principal: its name doesn't have 1 to 16 components, or one of
+    /// them, or the realm, doesn't have 1 to 255 bytes.
     pub fn error(
         &self,
         alloc: Global,
         at: Moment,
         refusal: ApRefusal,
     ) -> Result<Option<Vec<u8>>, AllocError>
-        // Promise (value, spelled): the KRB-ERROR for a refusal: its bytes, and what they spell.
+        // Promise (value, spelled): the KRB-ERROR for a refusal is written as the definition says, in bytes that spell
+        // it.
         ensures value { IfOk result (λ found.
             option_map (λ octets. octets.items) found ≡ error_bytes self.now at refusal) }
         // The bytes are those of that error.
@@ -30,7 +31,7 @@ impl TicketLabel {
         if !self.is_nameable() {
             return Ok(None);
         }
-        let error = error_of(alloc, self, at, refusal)?;
+        let error = make_error(alloc, self, at, refusal)?;
         Ok(Some(encode_krb_error(alloc, &error)?))
     }
 
@@ -42,7 +43,7 @@ impl TicketLabel {
     }
 }
 
-fn error_of(
+fn make_error(
     alloc: Global,
     label: &TicketLabel,
     at: Moment,

@@ -1,16 +1,13 @@
 //! Errors of calls of an acceptor.
 ghost use Rattle.std.specs.Prelude.{◌≡◌};
-ghost use Rattle.ap_accept.specs.Saved.{resume_fault};
 ghost use Rattle.ap_accept.specs.declared.fault.ApFault.TheVariants.{Refused, Memory};
-ghost use Rattle.ap_accept.specs.declared.fault.ResumeFault.TheVariants as resuming;
 
 use ap_req::ApRefusal;
-use cred_files::Cut;
 use std::alloc::AllocError;
 use std::error::Error;
 use std::fmt;
 
-/// Why a call accepted nothing.
+/// The reason why a call accepted nothing.
 #[derive(Clone, Copy, Debug, PartialEq, Eq)]
 pub enum ApFault {
     /// The bytes do not encode an AP-REQ.
@@ -46,45 +43,5 @@ impl From<AllocError> for ApFault {
 
     fn from(_error: AllocError) -> ApFault {
         ApFault::Memory
-    }
-}
-
-/// Why an acceptor did not resume.
-#[derive(Clone, Copy, Debug, PartialEq, Eq)]
-pub enum ResumeFault {
-    /// The bytes are not those of a saved acceptor, or they are damaged.
-    NotSaved,
-    /// Memory ran out.
-    Memory,
-}
-
-impl fmt::Display for ResumeFault {
-    fn fmt<W: fmt::Write>(&self, f: &mut fmt::Formatter<W>) -> fmt::Result {
-        f.write_str(match self {
-            ResumeFault::NotSaved => "the bytes are not those of a saved acceptor",
-            ResumeFault::Memory => "out of memory",
-        })
-    }
-}
-
-impl Error for ResumeFault {}
-
-impl From<AllocError> for ResumeFault {
-    ghost from_gives = { λ _ fault. fault ≡ resuming.Memory };
-
-    fn from(_error: AllocError) -> ResumeFault {
-        ResumeFault::Memory
-    }
-}
-
-/// The bytes end too early, or memory ran out.
-impl From<Cut> for ResumeFault {
-    ghost from_gives = { λ cut fault. fault ≡ resume_fault cut };
-
-    fn from(cut: Cut) -> ResumeFault {
-        match cut {
-            Cut::End => ResumeFault::NotSaved,
-            Cut::Memory => ResumeFault::Memory,
-        }
     }
 }

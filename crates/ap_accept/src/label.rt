@@ -25,8 +25,8 @@ pub struct TicketLabel {
 impl TicketLabel {
     /// Reads the label of the ticket from the bytes of an AP-REQ. Fails with `NotAnApReq` or `Memory`.
     pub fn read(alloc: Global, ap_req: &[u8]) -> Result<TicketLabel, ApFault>
-        // Promise (label, fault): what an AP-REQ says of its ticket in clear; the bytes are refused only if they are no
-        // AP-REQ, or memory ran out.
+        // Promise (label, fault): a label has what the AP-REQ says about its ticket in clear; the bytes are refused
+        // only if they are no AP-REQ, or memory ran out.
         ensures label { IfOk result (λ label. option_map label_of (request_of ap_req.now) ≡ Some label) }
         ensures fault { IfErr result (λ fault. IsUnlabeled fault (request_of ap_req.now)) }
     {

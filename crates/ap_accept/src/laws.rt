@@ -5,16 +5,16 @@ ghost use Rattle.ap_accept.specs.Run.{AcceptedOnce, DropsUnseen};
 /// No authenticator is accepted twice for the same ticket realm, service and client, whatever comes in and whenever,
 /// and however often the keys are replaced.
 pub fn accepted_once()
-    // Promise: no authenticator is accepted twice for one ticket realm, sname and client, over every list of calls of
-    // one acceptor, `accept` and `accept_for`, and at any moments.
+    // Promise: no authenticator is accepted twice for one ticket realm, sname and client, in every list of calls of one
+    // acceptor, of `accept` and `accept_for`, at any moments.
     // Promise: each authenticator is accepted once with any keytabs that replace the acceptor's keys between the calls,
     // and with any processes that resume with what it saved. Any other restart is another acceptor, with
     // `Opening::Restart`.
     ensures { AcceptedOnce }
 {}
 
-/// The same through restarts: where each process resumes with the bytes that the one before saved when it ended, no
-/// authenticator is accepted twice, by one of them or by two.
+/// No authenticator is accepted twice through restarts either, by one process or by two, if each process resumes with
+/// the bytes that the one before saved when it ended.
 pub fn resumed_once()
     // Promise: where each process resumes with the bytes that the one before saved in the end, with any keys and
     // options, no authenticator is accepted twice, by one of them or by two.

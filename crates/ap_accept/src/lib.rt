@@ -16,7 +16,7 @@
 //! | [`Acceptor::accept_for`] | the same, for one service of the keytab alone |
 //! | [`TicketLabel::read`] | the service, key version and encryption type of the ticket, for a log |
 //! | [`TicketLabel::error`] | the bytes of the KRB-ERROR for a refusal |
-//! | [`Accepted::checksum_fault`] | checks the authenticator's checksum over the application's data |
+//! | [`Accepted::judge_checksum`] | judges the authenticator's checksum over the application's data |
 //! | [`Acceptor::replace`] | replaces the keytab; the replay caches stay |
 //! | [`Acceptor::save`], [`Acceptor::resume`] | bytes of the replay caches; an acceptor that goes on with them |
 //!
@@ -51,8 +51,8 @@ mod validity;
 pub use accepted::Accepted;
 pub use acceptor::Acceptor;
 pub use ap_req::ApRefusal;
-pub use checksum::ChecksumFault;
-pub use fault::{ApFault, ResumeFault};
+pub use checksum::ChecksumVerdict;
+pub use fault::ApFault;
 pub use label::TicketLabel;
 pub use laws::{accepted_once, drops_unseen, resumed_once};
 pub use options::AcceptorOptions;

@@ -5,9 +5,9 @@ ghost use Rattle.ap_req.specs.Tickets.{shown_ticket};
 ghost use Rattle.ap_accept.specs.Fault.{Gives};
 ghost use Rattle.ap_accept.specs.Presented.{authenticated, full_name, presented};
 
-use crate::authenticators::subkey_of;
+use crate::authenticators::checked_subkey;
 use crate::fault::ApFault;
-use ap_req::{ApRefusal, Authenticated, authenticator_of, held_in, session_key_of};
+use ap_req::{ApRefusal, Authenticated, checked_session_key, held_in, open_authenticator};
 use cred_files::Keytab;
 use enctypes::{Key, KeyUsage};
 use krb_elements::{KerberosString, Seq};
@@ -83,15 +83,15 @@ fn authenticated(
 ) -> Result<Authenticated, ApFault>
     ensures { Gives result (authenticated request.now ticket.now) }
 {
-    let session_key = session_key_of(request.ticket.realm.as_slice(), ticket)?;
-    let authenticator = authenticator_of(
+    let session_key = checked_session_key(request.ticket.realm.as_slice(), ticket)?;
+    let authenticator = open_authenticator(
         alloc,
         None,
         KeyUsage::ApReqAuthenticator,
         &session_key,
         &request.authenticator,
     )??;
-    let subkey = subkey_of(ticket, &authenticator)?;
+    let subkey = checked_subkey(ticket, &authenticator)?;
     Ok(Authenticated {
         session_key,
         authenticator,

@@ -13,10 +13,10 @@ impl Accepted {
     /// Returns the key that client and service share: the client's subkey, or the session key if it chose none (RFC
     /// 4120, section 5.5.1).
     ///
-    /// Both sides seal and check with it. So give each direction usages of its own: else what one side sent can be sent
-    /// back to it. Nothing here numbers messages or finds one that is missing or repeated.
+    /// Both sides seal and check with it. So give each direction usages of its own. Otherwise a message can be sent
+    /// back to the side that sent it. Nothing here numbers messages or finds one that is missing or repeated.
     pub fn shared_key(&self) -> &Key
-        // Promise: what both sides say afterwards is sealed and opened with the client's subkey, or else with the
+        // Promise: later messages of both sides are sealed and opened with the client's subkey, or else with the
         // session key, for a usage.
         ensures { result.now ≡ shared_key self.now }
     {
@@ -35,7 +35,7 @@ impl Accepted {
         confounder: &[u8; 16],
         text: &[u8],
     ) -> Result<Vec<u8>, AllocError>
-        // Promise (value, len, most, opened), as Accepted::shared_key: what both sides say ..
+        // Promise (value, len, most, opened), as Accepted::shared_key: later messages of both ..
         ensures value { IfOk result (λ sealed. sealed.items
             ≡ seal (shared_key self.now).etype (shared_key self.now).bytes usage.number confounder.now text.now) }
         ensures len { IfOk result (λ sealed.
@@ -55,7 +55,7 @@ impl Accepted {
         usage: ApplicationUsage,
         cipher: &[u8],
     ) -> Result<Option<Vec<u8>>, AllocError>
-        // Promise (value, opened, none), as Accepted::shared_key: what both sides say ..
+        // Promise (value, opened, none), as Accepted::shared_key: later messages of both ..
         ensures value { IfOk result (λ found. option_map (λ text. text.items) found
             ≡ opened (shared_key self.now).etype (shared_key self.now).bytes usage.number cipher.now) }
         ensures opened { IfOk result (λ found. IfSome found (λ text.
@@ -68,7 +68,7 @@ impl Accepted {
 
     /// Returns the checksum of a text by the shared key, of the checksum type for the key's encryption type.
     pub fn checksum(&self, usage: ApplicationUsage, text: &[u8]) -> Mac
-        // Promise (value, len): what both sides say afterwards is checked with that key.
+        // Promise (value, len): checksums of later messages are made and checked with the same key.
         ensures value { result ≡ mac (shared_key self.now).etype (shared_key self.now).bytes usage.number text.now }
         ensures len { length result ≡ mac_len (shared_key self.now).etype }
     {
@@ -77,7 +77,7 @@ impl Accepted {
 
     /// Checks whether the bytes are the checksum of the text by the shared key.
     pub fn verify(&self, usage: ApplicationUsage, text: &[u8], octets: &[u8]) -> bool
-        // Promise, as Accepted::checksum: what both sides say ..
+        // Promise, as Accepted::checksum: checksums of later messages ..
         ensures { IsTrue result
             ↔ (octets.now ≡ mac (shared_key self.now).etype (shared_key self.now).bytes usage.number text.now) }
     {

@@ -30,11 +30,11 @@ pub fn reply_if(
         return Ok(None);
     }
     let key = &presented.session_key;
-    let reply = reply_of(alloc, key, &receipt.confounder, &presented.authenticator)?;
+    let reply = seal_reply(alloc, key, &receipt.confounder, &presented.authenticator)?;
     Ok(Some(Octets::new(encode_ap_rep(alloc, &reply)?)))
 }
 
-fn reply_of(
+fn seal_reply(
     alloc: Global,
     key: &Key,
     confounder: &[u8; 16],

@@ -5,7 +5,7 @@ ghost use Rattle.cred_files.specs.Format.{signed32, word32};
 ghost use Rattle.cred_files.specs.Reading.{Reads, ReadsBy};
 ghost use Rattle.ap_accept.specs.Saved.{entry, list, name, octets, second, stamp, word, Puts};
 
-use cred_files::{Cut, Reader};
+use cred_files::{CredError, Reader};
 use krb_elements::{KerberosString, Seq};
 use krb_fields::Name;
 use principal_rows::Entry;
@@ -19,7 +19,7 @@ pub trait Saved: Sized + Drop {
     ghost at: { Reading Self };
 
     /// Reads a value from the front.
-    fn take(alloc: Global, reader: &mut Reader<'_>) -> Result<Self, Cut>
+    fn take(alloc: Global, reader: &mut Reader<'_>) -> Result<Self, CredError>
         ensures { Reads result reader.new (Self.at reader.old) };
 
     /// Appends the value. After an `Err` a part of it may have been appended.
@@ -56,7 +56,7 @@ fn put_i32(out: &mut Vec<u8>, number: i32) -> Result<(), AllocError>
 }
 
 /// Reads bytes after their length.
-fn read_octets<'a>(reader: &mut Reader<'a>) -> Result<&'a [u8], Cut>
+fn read_octets<'a>(reader: &mut Reader<'a>) -> Result<&'a [u8], CredError>
     ensures { ReadsBy (λ part. part.now) result reader.new (octets reader.old) }
 {
     let len = reader.read_u64()?;
@@ -73,7 +73,11 @@ pub fn append(out: &mut Vec<u8>, octets: &[u8]) -> Result<(), AllocError>
 // ---- lists
 
 /// Reads this many values.
-fn take_several<T: Saved>(alloc: Global, reader: &mut Reader<'_>, count: u64) -> Result<Vec<T>, Cut>
+fn take_several<T: Saved>(
+    alloc: Global,
+    reader: &mut Reader<'_>,
+    count: u64,
+) -> Result<Vec<T>, CredError>
     ensures { ReadsBy (λ v. v.items) result reader.new (several T.at count reader.old) }
 {
     let mut values = Vec::new(alloc);
@@ -85,7 +89,7 @@ fn take_several<T: Saved>(alloc: Global, reader: &mut Reader<'_>, count: u64) ->
 }
 
 /// Reads values after their number.
-pub fn take_list<T: Saved>(alloc: Global, reader: &mut Reader<'_>) -> Result<Vec<T>, Cut>
+pub fn take_list<T: Saved>(alloc: Global, reader: &mut Reader<'_>) -> Result<Vec<T>, CredError>
     ensures { ReadsBy (λ v. v.items) result reader.new (list T.at reader.old) }
 {
     let count = reader.read_u64()?;
@@ -116,7 +120,7 @@ pub fn put_list<T: Saved>(out: &mut Vec<u8>, values: &[T]) -> Result<(), AllocEr
 impl Saved for (i64, u32) {
     ghost at = { stamp };
 
-    fn take(_alloc: Global, reader: &mut Reader<'_>) -> Result<(i64, u32), Cut> {
+    fn take(_alloc: Global, reader: &mut Reader<'_>) -> Result<(i64, u32), CredError> {
         let ctime = reader.read_i64()?;
         let cusec = reader.read_u32()?;
         Ok((ctime, cusec))
@@ -132,7 +136,7 @@ impl Saved for (i64, u32) {
 impl Saved for KerberosString {
     ghost at = { octets };
 
-    fn take(alloc: Global, reader: &mut Reader<'_>) -> Result<KerberosString, Cut> {
+    fn take(alloc: Global, reader: &mut Reader<'_>) -> Result<KerberosString, CredError> {
         let octets = read_octets(reader)?;
         Ok(KerberosString::from_slice(alloc, octets)?)
     }
@@ -144,7 +148,7 @@ impl Saved for KerberosString {
     }
 }
 
-fn take_name(alloc: Global, reader: &mut Reader<'_>) -> Result<Name, Cut>
+fn take_name(alloc: Global, reader: &mut Reader<'_>) -> Result<Name, CredError>
     ensures { Reads result reader.new (name reader.old) }
 {
     let name_type = reader.read_i32()?;
@@ -165,7 +169,7 @@ fn put_name(out: &mut Vec<u8>, value: &Name) -> Result<(), AllocError>
 impl<V: Saved> Saved for Entry<V> {
     ghost at = { entry V.at };
 
-    fn take(alloc: Global, reader: &mut Reader<'_>) -> Result<Entry<V>, Cut> {
+    fn take(alloc: Global, reader: &mut Reader<'_>) -> Result<Entry<V>, CredError> {
         let name = take_name(alloc, reader)?;
         let value = V::take(alloc, reader)?;
         Ok(Entry { name, value })

@@ -4,25 +4,24 @@ ghost use Rattle.cred_files.specs.Reading.{Reads};
 ghost use Rattle.ap_accept.specs.Saved.{check_of, held, held_in, mark, marked, resumed, Fails, IsFound, Puts, Saves};
 
 use crate::clients::Clients;
-use crate::fault::ResumeFault;
 use crate::options::AcceptorOptions;
 use crate::saved::{append, put_list, put_second, put_word, take_list};
 use crate::state::State;
-use cred_files::{Cut, Keytab, Reader};
+use cred_files::{CredError, Keytab, Reader};
 use principal_rows::NameMap;
 use sha2::{Digest, Sha256};
 use std::alloc::{AllocError, Global};
 
-/// The text `ap-seen1`, behind the check of a saved acceptor.
+/// The text `ap-seen1`, after the check of a saved acceptor.
 const MARK: u64 = 0x61702d7365656e31;
 
 /// How many bytes the check has.
 const CHECK: usize = 16;
 
-/// What the bytes of a saved acceptor hold behind their check.
+/// What the bytes of a saved acceptor hold after their check.
 #[derive(Drop)]
 pub struct Held {
-    /// [`MARK`], or the bytes are of something else.
+    /// [`MARK`]; with any other value the bytes are no saved acceptor.
     pub mark: u64,
     /// The floor of a service without an entry in `services`.
     pub floor: i64,
@@ -52,13 +51,13 @@ impl State {
         Ok(text)
     }
 
-    /// Returns the state that these bytes are of, with these keys and options.
+    /// Returns the state that these bytes hold, with these keys and options.
     pub fn resume(
         alloc: Global,
         keytab: Keytab,
         options: AcceptorOptions,
         bytes: &[u8],
-    ) -> Result<State, ResumeFault>
+    ) -> Result<State, CredError>
         ensures resumed { IfOk result (λ state. resumed keytab options bytes.now ≡ Some state) }
         ensures fault { IfErr result (λ fault. Fails fault (resumed keytab options bytes.now)) }
     {
@@ -86,30 +85,30 @@ fn joined(alloc: Global, first: &[u8], second: &[u8]) -> Result<Vec<u8>, AllocEr
 
 /// Returns what the bytes of a saved acceptor hold.
 #[tactic(auto, unfolding(crate::specs::Saved::held_in))]
-fn held_in(alloc: Global, bytes: &[u8]) -> Result<Held, ResumeFault>
+fn held_in(alloc: Global, bytes: &[u8]) -> Result<Held, CredError>
     ensures { IsFound result (held_in bytes.now) }
 {
     let mut reader = Reader::new(bytes);
     let check = reader.read_part(CHECK)?;
     let text = reader.rest();
     if check != check_of(text).as_slice() {
-        return Err(ResumeFault::NotSaved);
+        return Err(CredError::BadMagic);
     }
     marked(alloc, text)
 }
 
-fn marked(alloc: Global, text: &[u8]) -> Result<Held, ResumeFault>
+fn marked(alloc: Global, text: &[u8]) -> Result<Held, CredError>
     ensures { IsFound result (marked (held text.now)) }
 {
     let mut reader = Reader::new(text);
     let held = take_held(alloc, &mut reader)?;
     if held.mark != MARK || !reader.is_empty() {
-        return Err(ResumeFault::NotSaved);
+        return Err(CredError::BadMagic);
     }
     Ok(held)
 }
 
-fn take_held(alloc: Global, reader: &mut Reader<'_>) -> Result<Held, Cut>
+fn take_held(alloc: Global, reader: &mut Reader<'_>) -> Result<Held, CredError>
     ensures { Reads result reader.new (held reader.old) }
 {
     let mark = reader.read_u64()?;

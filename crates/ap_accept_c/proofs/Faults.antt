@@ -2,19 +2,19 @@
 use Rattle.std.proofs.Common.{◌≡◌, ℕ, List, Err}
 use Rattle.cred_files.specs.Keytab.{IsKeytab}
 use Rattle.cred_files.specs.Reading.{IsReadUnlessMemory}
-use Rattle.cred_files.specs.declared.fault.CredFault.{CredFault}
-use Rattle.cred_files.specs.declared.fault.CredFault.TheVariants.{BadMagic, Truncated, BadEntry, TooLate, Absent, Memory}
+use Rattle.cred_files.specs.declared.fault.CredError.{CredError}
+use Rattle.cred_files.specs.declared.fault.CredError.TheVariants.{BadMagic, Truncated, BadEntry, TooLate, Absent, Memory}
 use Rattle.cred_files.specs.declared.keytab_entry.KeytabEntry.{KeytabEntry}
 use Rattle.ap_accept_c.specs.Service.{IsKeytabFault, IsOpenFault, IsRekeyed, IsResumeFault}
-use Rattle.ap_accept_c.specs.Status.{status_of_keytab}
+use Rattle.ap_accept_c.specs.Status.{status_of_unread}
 use Rattle.ap_accept_c.specs.declared.service.Service.{Service}
 use Rattle.ap_accept_c.specs.declared.status.Status.{Status}
 use Rattle.ap_accept_c.specs.declared.status.Status.TheVariants as statuses
 
 -- an error that is not the keytab's is out of memory
-pub not_read : (fault : CredFault) (octets : List ℕ)
+pub not_read : (fault : CredError) (octets : List ℕ)
     → ((keytab : List KeytabEntry) → IsKeytab keytab octets → IsReadUnlessMemory {X = List KeytabEntry} (Err fault) keytab)
-    → IsKeytabFault (status_of_keytab fault) octets
+    → IsKeytabFault (status_of_unread fault statuses.BadKeytab) octets
 not_read BadMagic octets only = only
 not_read Truncated octets only = only
 not_read BadEntry octets only = only

@@ -66,7 +66,8 @@ IsTakenBy status old None at confounder octets numbers = ⊥
 -- a closed acceptor accepts nothing
 abbrev pub IsAccepted : Status → Option Service → Option Service → Moment → List ℕ → List ℕ → Numbers → Type 0
 IsAccepted status (Some old) new at confounder octets numbers = IsTakenBy status old new at confounder octets numbers
-IsAccepted status None new at confounder octets numbers = (status ≡ Closed) × (new ≡ None) × (numbers ≡ numbers_in nothing)
+IsAccepted status None new at confounder octets numbers = (status ≡ Closed) × (new ≡ None)
+    × (numbers ≡ numbers_in nothing)
 
 -- ---- the service that it accepts for
 

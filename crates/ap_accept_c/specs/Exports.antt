@@ -7,7 +7,8 @@ use Rattle.krb_fields.specs.declared.moment.Moment.{Moment}
 use Rattle.replay.specs.declared.opening.Opening.{Opening}
 use Rattle.replay.specs.declared.opening.Opening.TheVariants.{First, Restart}
 use Rattle.ap_accept_c.specs.Buffers.{texted}
-use Rattle.ap_accept_c.specs.Calls.{IsAccepted, IsChecked, IsClosing, IsFetched, IsNaming, IsOpening, IsReplacing, IsResuming}
+use Rattle.ap_accept_c.specs.Calls.{IsAccepted, IsChecked, IsClosing, IsFetched, IsNaming, IsOpening, IsReplacing}
+use Rattle.ap_accept_c.specs.Calls.{IsResuming}
 use Rattle.ap_accept_c.specs.Calls.{IsSaving, Numbered}
 use Rattle.ap_accept_c.specs.Elements.{IsElement}
 use Rattle.ap_accept_c.specs.Part.{part_numbered}
@@ -57,7 +58,8 @@ IsOpenCall n old new keytab remembered is_first sec usec =
     Numbered n (λ status. IsOpenAt status old new keytab remembered is_first sec usec)
 
 abbrev pub IsResumeCall : ℤ → Option Service → Option Service → List ℕ → ℕ → List ℕ → Type 0
-IsResumeCall n old new keytab remembered saved = Numbered n (λ status. IsResuming status old new keytab remembered saved)
+IsResumeCall n old new keytab remembered saved =
+    Numbered n (λ status. IsResuming status old new keytab remembered saved)
 
 abbrev pub IsSaveCall : ℤ → Option Service → List ℕ → List ℕ → ℕ → Type 0
 IsSaveCall n service old new len = Numbered n (λ status. IsSaving status service old new len)

@@ -1,10 +1,10 @@
--- What the last AP-REQ came to.
+-- The result of the last AP-REQ.
 use Rattle.std.specs.Prelude.{ℕ, List, [], Option, Some, None, Result, Ok, Err, option_map}
 use Rattle.std.specs.Result.{result_ok}
 use Rattle.krb_fields.specs.declared.moment.Moment.{Moment}
 use Rattle.ap_req.specs.Refusal.{word_of}
 use Rattle.ap_accept.specs.Accepts.{request_of}
-use Rattle.ap_accept.specs.Checksum.{checksum_fault}
+use Rattle.ap_accept.specs.Checksum.{checksum_verdict}
 use Rattle.ap_accept.specs.Label.{error_bytes, label_of}
 use Rattle.ap_accept.specs.declared.accepted.Accepted.{Accepted}
 use Rattle.ap_accept.specs.declared.fault.ApFault.{ApFault}
@@ -48,5 +48,5 @@ error_in None refusal = None
 
 -- the status for the authenticator's checksum over these bytes
 abbrev pub check_of : Option Accepted → List ℕ → Status
-check_of (Some accepted) octets = status_of_checksum (checksum_fault accepted.session_key accepted.cksum octets)
+check_of (Some accepted) octets = status_of_checksum (checksum_verdict accepted.session_key accepted.cksum octets)
 check_of None octets = Absent

@@ -1,5 +1,6 @@
 -- Bytes that are sealed, opened and checked with a key, as C hands it over.
-use Rattle.std.specs.Prelude.{◌≡◌, ℕ, ℤ, Bool, true, false, nat_eq, List, length, take, Option, Some, None, option_and_then}
+use Rattle.std.specs.Prelude.{◌≡◌, ℕ, ℤ, Bool, true, false, nat_eq, List, length, take, Option, Some, None}
+use Rattle.std.specs.Prelude.{option_and_then}
 use Rattle.std.specs.Cmp.Lexicographic.{pointwise}
 use Rattle.enctypes.specs.ApplicationUsage.{IsApplicationUsage}
 use Rattle.enctypes.specs.Etype.{key_len}
@@ -23,7 +24,8 @@ key_in number octets = option_and_then (λ e. key_of number (take (key_len e) oc
 
 -- it is the key that the service shares with the client that it accepted last, if it accepted one; else nothing changes
 abbrev pub IsSharedKeyOf : Status → Option Accepted → RawKey → RawKey → Type 0
-IsSharedKeyOf status (Some accepted) old new = (status ≡ Done) × (key_in new.number new.octets ≡ Some (shared_key accepted))
+IsSharedKeyOf status (Some accepted) old new = (status ≡ Done)
+    × (key_in new.number new.octets ≡ Some (shared_key accepted))
 IsSharedKeyOf status None old new = (status ≡ Absent) × (new ≡ old)
 
 abbrev pub IsSharedKey : Status → Option Service → RawKey → RawKey → Type 0
@@ -32,7 +34,7 @@ IsSharedKey status None old new = (status ≡ Closed) × (new ≡ old)
 
 -- ---- what a key and a usage are for
 
--- the caller's fault
+-- a mistake of the caller, which changes nothing
 abbrev pub IsRefused : Status → List ℕ → List ℕ → ℕ → Type 0
 IsRefused status old new len = (status ≡ BadArgument) × (new ≡ old) × (len ≡ 0)
 

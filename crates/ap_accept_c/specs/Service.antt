@@ -1,4 +1,4 @@
--- An acceptor with what its last AP-REQ came to: how it opens, and what a call does to it.
+-- An acceptor with the result of its last AP-REQ: how it opens, and what a call does to it.
 use Rattle.std.specs.Prelude.{◌≡◌, ◌≤◌, ℕ, List, length, Option, Some, None, Result, Err, IsSome, IsUtf8}
 use Rattle.std.specs.Result.{result_ok}
 use Rattle.cred_files.specs.Keytab.{IsKeytab}
@@ -51,7 +51,7 @@ pub record IsResumed (service : Service) (octets : List ℕ) (limit : ℕ) (save
   pub only : service.only ≡ None
   pub last : service.last ≡ nothing
 
--- the same as for opening, or nothing was saved as these bytes
+-- the same as for opening, or the bytes are not those of a saved acceptor
 abbrev pub IsResumeFault : Status → List ℕ → ℕ → List ℕ → Type 0
 IsResumeFault BadSaved octets remembered saved = held_in saved ≡ None
 IsResumeFault status octets remembered saved = IsOpenFault status octets remembered

@@ -1,17 +1,15 @@
 -- The numbers by which C knows the results of calls.
 use Rattle.std.specs.Prelude.{ℤ, pos, negsuc, Option, Some, None, Result, Ok, Err}
 use Rattle.krb_fields.specs.Code as codes
+use Rattle.krb_fields.specs.declared.code.Code.TheVariants.{KrbApErrInappCksum, KrbApErrModified}
 use Rattle.ap_req.specs.Refusal.{code_of}
-use Rattle.ap_accept.specs.Checksum.{code_of_fault}
 use Rattle.ap_accept.specs.declared.accepted.Accepted.{Accepted}
-use Rattle.ap_accept.specs.declared.checksum.ChecksumFault.{ChecksumFault}
-use Rattle.ap_accept.specs.declared.checksum.ChecksumFault.TheVariants as checksums
+use Rattle.ap_accept.specs.declared.checksum.ChecksumVerdict.{ChecksumVerdict}
+use Rattle.ap_accept.specs.declared.checksum.ChecksumVerdict.TheVariants as checksums
 use Rattle.ap_accept.specs.declared.fault.ApFault.{ApFault}
 use Rattle.ap_accept.specs.declared.fault.ApFault.TheVariants as faults
-use Rattle.ap_accept.specs.declared.fault.ResumeFault.{ResumeFault}
-use Rattle.ap_accept.specs.declared.fault.ResumeFault.TheVariants as resuming
-use Rattle.cred_files.specs.declared.fault.CredFault.{CredFault}
-use Rattle.cred_files.specs.declared.fault.CredFault.TheVariants as files
+use Rattle.cred_files.specs.declared.fault.CredError.{CredError}
+use Rattle.cred_files.specs.declared.fault.CredError.TheVariants as files
 use Rattle.ap_accept_c.specs.declared.status.Status.{Status}
 use Rattle.ap_accept_c.specs.declared.status.Status.TheVariants.{Done, NotAnApReq, NoMemory, BadArgument, TooSmall}
 use Rattle.ap_accept_c.specs.declared.status.Status.TheVariants.{BadKeytab, Closed, Absent, BadSaved, Refused}
@@ -36,27 +34,23 @@ status_of faults.NotAnApReq = NotAnApReq
 status_of (faults.Refused refusal) = Refused refusal
 status_of faults.Memory = NoMemory
 
--- of an AP-REQ
+-- the status for the answer to an AP-REQ
 abbrev pub status_of_answer : Result Accepted ApFault → Status
 status_of_answer (Ok accepted) = Done
 status_of_answer (Err fault) = status_of fault
 
--- of the authenticator's checksum
-abbrev pub status_of_checksum : Option ChecksumFault → Status
-status_of_checksum None = Done
-status_of_checksum (Some checksums.Absent) = Absent
-status_of_checksum (Some checksums.OtherType) = Failed (code_of_fault checksums.OtherType)
-status_of_checksum (Some checksums.Modified) = Failed (code_of_fault checksums.Modified)
+-- the status for a check of the authenticator's checksum
+abbrev pub status_of_checksum : ChecksumVerdict → Status
+status_of_checksum checksums.Matches = Done
+status_of_checksum checksums.Absent = Absent
+status_of_checksum checksums.OtherType = Failed KrbApErrInappCksum
+status_of_checksum checksums.Modified = Failed KrbApErrModified
 
-abbrev pub status_of_resuming : ResumeFault → Status
-status_of_resuming resuming.NotSaved = BadSaved
-status_of_resuming resuming.Memory = NoMemory
-
--- why a keytab could not be read
-abbrev pub status_of_keytab : CredFault → Status
-status_of_keytab files.Memory = NoMemory
-status_of_keytab files.BadMagic = BadKeytab
-status_of_keytab files.Truncated = BadKeytab
-status_of_keytab files.BadEntry = BadKeytab
-status_of_keytab files.TooLate = BadKeytab
-status_of_keytab files.Absent = BadKeytab
+-- the status for a keytab, or a saved acceptor, that could not be read
+abbrev pub status_of_unread : CredError → Status → Status
+status_of_unread files.Memory unread = NoMemory
+status_of_unread files.BadMagic unread = unread
+status_of_unread files.Truncated unread = unread
+status_of_unread files.BadEntry unread = unread
+status_of_unread files.TooLate unread = unread
+status_of_unread files.Absent unread = unread

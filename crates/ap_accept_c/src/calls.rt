@@ -1,7 +1,8 @@
 //! The calls from C, as operations on a `Holder`.
 ghost use Rattle.std.specs.Prelude.{◌≡◌, None, IfOk, IfErr, length};
 ghost use Rattle.ap_accept_c.specs.Buffers.{texted};
-ghost use Rattle.ap_accept_c.specs.Calls.{IsAccepted, IsChecked, IsClosing, IsFetched, IsNaming, IsOpening, IsReplacing, IsResuming};
+ghost use Rattle.ap_accept_c.specs.Calls.{IsAccepted, IsChecked, IsClosing, IsFetched, IsNaming, IsOpening};
+ghost use Rattle.ap_accept_c.specs.Calls.{IsReplacing, IsResuming};
 ghost use Rattle.ap_accept_c.specs.Calls.{IsSaving, word_of_held};
 ghost use Rattle.ap_accept_c.specs.Elements.{IsElement};
 ghost use Rattle.ap_accept_c.specs.Exports.{opening_at, IsAcceptedAt, IsFetchPart, IsOpenAt, IsTextCall};
@@ -18,7 +19,7 @@ use crate::part::Part;
 use crate::raw_key::RawKey;
 use crate::service::Service;
 use crate::status::Status;
-use crate::texts::text_of;
+use crate::texts::status_text;
 use ap_accept::Opening;
 use krb_fields::Moment;
 use std::alloc::Global;
@@ -33,11 +34,11 @@ pub struct Time {
     pub usec: u32,
 }
 
-/// The `struct ap_start` of the header: what C says of an acceptor that opens, besides its keys.
+/// The `struct ap_start` of the header: what C says about an acceptor that opens, besides its keys.
 #[repr(C)]
 #[derive(Clone, Copy)]
 pub struct Start {
-    /// How many authenticators of each client it remembers.
+    /// The size of each client's replay cache, in authenticators.
     pub remembered: u32,
     /// Whether the service never ran before.
     pub is_first: bool,
@@ -45,7 +46,7 @@ pub struct Start {
     pub time: Time,
 }
 
-/// What accepting an AP-REQ came to.
+/// The result of accepting an AP-REQ.
 #[derive(Clone, Copy)]
 pub struct Outcome {
     /// [`Status::Done`] if the AP-REQ is accepted; otherwise why not.
@@ -55,7 +56,7 @@ pub struct Outcome {
 }
 
 /// Opens a closed acceptor at the moment that C names, if it names one.
-pub fn open_at(holder: &mut Holder, alloc: Global, keytab: &[u8], start: &Start) -> Status
+pub fn open_service(holder: &mut Holder, alloc: Global, keytab: &[u8], start: &Start) -> Status
     requires { IsHolder holder.old }
     ensures holder { IsHolder holder.new }
     ensures opened { IsOpenAt result holder.old.held.value holder.new.held.value
@@ -201,7 +202,7 @@ pub fn name(holder: &mut Holder, alloc: Global, text: &[u8]) -> Status
 }
 
 /// Accepts the bytes of an AP-REQ at the moment that C names, or returns the reason to refuse it.
-pub fn accept_at(
+pub fn accept_request(
     holder: &mut Holder,
     alloc: Global,
     time: Time,
@@ -337,9 +338,9 @@ pub fn text(holder: &mut Holder, alloc: Global, number: i32, to: &mut [u8]) -> u
     ensures text { IsTextCall result to.old to.new }
 {
     let Some(service) = holder.take(alloc) else {
-        return give_text(text_of(number).as_bytes(), to);
+        return give_text(status_text(number).as_bytes(), to);
     };
-    let text = service.text_of(number);
+    let text = service.status_text(number);
     holder.put(service);
     give_text(text.as_bytes(), to)
 }

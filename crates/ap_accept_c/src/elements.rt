@@ -24,7 +24,7 @@ pub struct Place {
 /// The result of a call that copies an element into a buffer.
 #[derive(Clone, Copy)]
 pub struct Element {
-    /// What became of its bytes.
+    /// The result of copying its bytes.
     pub given: Given,
     /// Its type, or 0 if there is no such element.
     pub number: i32,

@@ -6,7 +6,8 @@ ghost use Rattle.std.specs.Prelude.{◌≡◌, None, length};
 ghost use Rattle.ap_accept_c.specs.Buffers.{texted};
 ghost use Rattle.ap_accept_c.specs.Calls.{word_of_held};
 ghost use Rattle.ap_accept_c.specs.Exports.{IsAcceptCall, IsCheckCall, IsCloseCall, IsElementCall, IsFetchCall};
-ghost use Rattle.ap_accept_c.specs.Exports.{IsNameCall, IsOpenCall, IsReplaceCall, IsResumeCall, IsSaveCall, IsTextCall};
+ghost use Rattle.ap_accept_c.specs.Exports.{IsNameCall, IsOpenCall, IsReplaceCall, IsResumeCall, IsSaveCall};
+ghost use Rattle.ap_accept_c.specs.Exports.{IsTextCall};
 ghost use Rattle.ap_accept_c.specs.Exports.{IsChecksumCall, IsKeyCall, IsSealCall, IsUnsealCall, IsVerifyCall};
 ghost use Rattle.ap_accept_c.specs.Holder.{IsHolder};
 
@@ -23,7 +24,7 @@ use std::alloc::Global;
 /// older header is not linked.
 const VERSION: u32 = 3;
 
-/// What is found of an element.
+/// The type and the length of an element.
 #[repr(C)]
 #[derive(Clone, Copy)]
 pub struct Found {
@@ -43,13 +44,13 @@ pub extern "C" fn ap_accept_c_v3_open(
 ) -> i32
     requires { IsHolder holder.old }
     ensures holder { IsHolder holder.new }
-    // Promise: in C, over what the caller's struct holds: an acceptor that is opened, or resumes, has the keys of the
-    // keytab that the bytes are.
+    // Promise: in C: an acceptor that is opened, or resumes, in the caller's struct has the keys of the keytab that the
+    // bytes encode.
     // Promise: in C: bytes are refused only if they are no keytab.
     ensures opened { IsOpenCall result holder.old.held.value holder.new.held.value
         keytab.now start.now.remembered start.now.is_first start.now.time.sec start.now.time.usec }
 {
-    calls::open_at(holder, alloc, keytab, start).number()
+    calls::open_service(holder, alloc, keytab, start).number()
 }
 
 /// Opens a closed acceptor with the bytes of a keytab, to go on with what another one saved.
@@ -63,7 +64,7 @@ pub extern "C" fn ap_accept_c_v3_resume(
 ) -> i32
     requires { IsHolder holder.old }
     ensures holder { IsHolder holder.new }
-    // Promise, as ap_accept_c_v3_open: in C, over what ..
+    // Promise, as ap_accept_c_v3_open: in C: an acceptor ..
     // Promise, as ap_accept_c_v3_open: in C: bytes are ..
     ensures resumed { IsResumeCall result holder.old.held.value holder.new.held.value keytab.now remembered saved.now }
 {
@@ -97,7 +98,7 @@ pub extern "C" fn ap_accept_c_v3_replace_keytab(
 ) -> i32
     requires { IsHolder holder.old }
     ensures holder { IsHolder holder.new }
-    // Promise: in C: an acceptor whose keys are replaced has the keys of the keytab that the bytes are, and nothing
+    // Promise: in C: an acceptor whose keys are replaced has the keys of the keytab that the bytes encode, and nothing
     // else changes.
     // Promise, as ap_accept_c_v3_open: in C: bytes are ..
     ensures replaced { IsReplaceCall result holder.old.held.value holder.new.held.value keytab.now }
@@ -111,7 +112,7 @@ pub extern "C" fn ap_accept_c_v3_name(alloc: Global, holder: &mut Holder, text: 
     requires { IsHolder holder.old }
     ensures holder { IsHolder holder.new }
     // Promise: in C: an acceptor that is given a service's name accepts for this service alone, and for each of the
-    // keytab if the text is empty; what is returned.
+    // keytab if the text is empty; the status says whether it does, or why not.
     ensures named { IsNameCall result holder.old.held.value holder.new.held.value text.now }
 {
     calls::name(holder, alloc, text).number()
@@ -129,12 +130,12 @@ pub extern "C" fn ap_accept_c_v3_accept(
 ) -> i32
     requires { IsHolder holder.old }
     ensures holder { IsHolder holder.new }
-    // Promise: in C: the returned number, the replay caches afterwards and the numbers that are given are those that
-    // the rules say; nothing changes when memory runs out.
+    // Promise: in C: the returned status, the replay caches afterwards and the numbers that are given are those that
+    // the rules prescribe; nothing changes if memory runs out.
     ensures accepted { IsAcceptCall result holder.old.held.value holder.new.held.value
         time.now.sec time.now.usec confounder.now ap_req.now numbers.new }
 {
-    let outcome = calls::accept_at(holder, alloc, *time, confounder, ap_req);
+    let outcome = calls::accept_request(holder, alloc, *time, confounder, ap_req);
     *numbers = outcome.numbers;
     outcome.status.number()
 }
@@ -149,7 +150,8 @@ pub extern "C" fn ap_accept_c_v3_octets(
     len: &mut usize,
 ) -> i32
     requires { IsHolder holder.old }
-    // Promise (holder, fetched): in C: what a buffer holds afterwards, and how long that is, of a refused AP-REQ too.
+    // Promise (holder, fetched): in C: the requested part, also of a refused AP-REQ, is copied to the buffer, and its
+    // length is returned.
     ensures holder { IsHolder holder.new × (holder.new.held.value ≡ holder.old.held.value) }
     ensures fetched { IsFetchCall result holder.old.held.value part to.old to.new len.new }
 {
@@ -162,7 +164,7 @@ pub extern "C" fn ap_accept_c_v3_octets(
 #[unsafe(no_mangle)]
 pub extern "C" fn ap_accept_c_v3_close(alloc: Global, holder: &mut Holder) -> i32
     requires { IsHolder holder.old }
-    // Promise (holder, closed): in C: what closing returns, and that afterwards there is no acceptor; a struct that was
+    // Promise (holder, closed): in C: closing leaves no acceptor, and returns whether there was one; a struct that was
     // opened, or is zero, stays one that each call may be given.
     ensures holder { IsHolder holder.new × (holder.new.held.value ≡ None) }
     ensures closed { IsCloseCall result holder.old.held.value }
@@ -183,7 +185,8 @@ pub extern "C" fn ap_accept_c_v3_version() -> u32
 pub extern "C" fn ap_accept_c_v3_rule(alloc: Global, holder: &mut Holder, to: &mut [u8]) -> usize
     requires { IsHolder holder.old }
     ensures holder { IsHolder holder.new × (holder.new.held.value ≡ holder.old.held.value) }
-    // Promise (given, len): in C: the name of the rule that refused; a text is cut, and ended by a zero.
+    // Promise (given, len): in C: the buffer gets the name of the rule that refused; the text is cut to fit, and ends
+    // with a NUL.
     ensures given { to.new ≡ texted (word_of_held holder.old.held.value) to.old }
     ensures len { result ≡ length (word_of_held holder.old.held.value) }
 {
@@ -200,7 +203,7 @@ pub extern "C" fn ap_accept_c_v3_text(
 ) -> usize
     requires { IsHolder holder.old }
     ensures holder { IsHolder holder.new × (holder.new.held.value ≡ holder.old.held.value) }
-    // Promise, as ap_accept_c_v3_rule: in C: the name ..
+    // Promise, as ap_accept_c_v3_rule: in C: the buffer ..
     ensures text { IsTextCall result to.old to.new }
 {
     calls::text(holder, alloc, number, to)
@@ -216,7 +219,7 @@ pub extern "C" fn ap_accept_c_v3_element(
     found: &mut Found,
 ) -> i32
     requires { IsHolder holder.old }
-    // Promise (holder, fetched), as ap_accept_c_v3_octets: in C: what a ..
+    // Promise (holder, fetched), as ap_accept_c_v3_octets: in C: the requested ..
     ensures holder { IsHolder holder.new × (holder.new.held.value ≡ holder.old.held.value) }
     ensures fetched { IsElementCall result holder.old.held.value place.now to.old to.new found.new }
 {
@@ -233,7 +236,7 @@ pub extern "C" fn ap_accept_c_v3_element(
 pub extern "C" fn ap_accept_c_v3_check(alloc: Global, holder: &mut Holder, octets: &[u8]) -> i32
     requires { IsHolder holder.old }
     ensures holder { IsHolder holder.new × (holder.new.held.value ≡ holder.old.held.value) }
-    // Promise: in C: whether the authenticator's checksum is that of these bytes.
+    // Promise: in C: the status says whether the authenticator's checksum is that of these bytes.
     ensures checked { IsCheckCall result holder.old.held.value octets.now }
 {
     calls::check(holder, alloc, octets).number()
@@ -243,7 +246,8 @@ pub extern "C" fn ap_accept_c_v3_check(alloc: Global, holder: &mut Holder, octet
 #[unsafe(no_mangle)]
 pub extern "C" fn ap_accept_c_v3_key(alloc: Global, holder: &mut Holder, key: &mut RawKey) -> i32
     requires { IsHolder holder.old }
-    // Promise (holder, given): in C: the key that is shared with the client that was accepted last.
+    // Promise (holder, given): in C: the key that is copied is the one that is shared with the client that was accepted
+    // last.
     ensures holder { IsHolder holder.new × (holder.new.held.value ≡ holder.old.held.value) }
     ensures given { IsKeyCall result holder.old.held.value key.old key.new }
 {
@@ -260,7 +264,8 @@ pub extern "C" fn ap_accept_c_v3_seal(
     to: &mut [u8],
     len: &mut usize,
 ) -> i32
-    // Promise: in C: what is sealed, opened and checked with a key for a usage; without one of them nothing is done.
+    // Promise: in C: sealing, opening and checking with a key for a usage give what the definitions say; without a key
+    // or a usage nothing is done.
     ensures { IsSealCall result key.now sealing.now text.now to.old to.new len.new }
 {
     let given = protection::seal(alloc, key, sealing, text, to);
@@ -278,7 +283,7 @@ pub extern "C" fn ap_accept_c_v3_unseal(
     to: &mut [u8],
     len: &mut usize,
 ) -> i32
-    // Promise, as ap_accept_c_v3_seal: in C: what is ..
+    // Promise, as ap_accept_c_v3_seal: in C: sealing, opening ..
     ensures { IsUnsealCall result key.now usage sealed.now to.old to.new len.new }
 {
     let given = protection::unseal(alloc, key, usage, sealed, to);
@@ -295,7 +300,7 @@ pub extern "C" fn ap_accept_c_v3_checksum(
     to: &mut [u8],
     len: &mut usize,
 ) -> i32
-    // Promise, as ap_accept_c_v3_seal: in C: what is ..
+    // Promise, as ap_accept_c_v3_seal: in C: sealing, opening ..
     ensures { IsChecksumCall result key.now usage text.now to.old to.new len.new }
 {
     let given = protection::checksum(key, usage, text, to);
@@ -306,7 +311,7 @@ pub extern "C" fn ap_accept_c_v3_checksum(
 /// Checks whether the bytes are the checksum of a text.
 #[unsafe(no_mangle)]
 pub extern "C" fn ap_accept_c_v3_verify(key: &RawKey, usage: u32, text: &[u8], octets: &[u8]) -> i32
-    // Promise, as ap_accept_c_v3_seal: in C: what is ..
+    // Promise, as ap_accept_c_v3_seal: in C: sealing, opening ..
     ensures { IsVerifyCall result key.now usage text.now octets.now }
 {
     protection::verify(key, usage, text, octets).number()

@@ -1,4 +1,4 @@
-//! What the last AP-REQ came to.
+//! The result of the last AP-REQ.
 ghost use Rattle.std.specs.Prelude.{◌≡◌, None, Some, IfOk, option_map};
 ghost use Rattle.ap_accept_c.specs.Last.{check_of, error_in, nothing, word_in};
 ghost use Rattle.ap_accept_c.specs.Protection.{IsSharedKeyOf};
@@ -18,12 +18,12 @@ pub struct Refusal {
     pub at: Moment,
 }
 
-/// What the last AP-REQ came to. All is `None` before the first one, and after bytes that encode none.
+/// The result of the last AP-REQ. All is `None` before the first one, and after bytes that encode none.
 #[derive(Drop)]
 pub struct Last {
     /// What was accepted, if anything was.
     pub accepted: Option<Accepted>,
-    /// What the AP-REQ says of its ticket in clear.
+    /// What the AP-REQ says about its ticket in clear.
     pub label: Option<TicketLabel>,
     /// Why it was refused, if it was.
     pub refusal: Option<Refusal>,
@@ -53,7 +53,8 @@ impl Last {
 
     /// Returns the bytes of the KRB-ERROR for the refusal, if there is one and it can name the ticket's service.
     pub fn error(&self, alloc: Global) -> Result<Option<Vec<u8>>, AllocError>
-        ensures { IfOk result (λ found. option_map (λ octets. octets.items) found ≡ error_in self.now.label self.now.refusal) }
+        ensures { IfOk result (λ found. option_map (λ octets. octets.items) found
+            ≡ error_in self.now.label self.now.refusal) }
     {
         match (&self.label, self.refusal) {
             (Some(label), Some(refusal)) => label.error(alloc, refusal.at, refusal.rule),
@@ -66,7 +67,7 @@ impl Last {
         ensures { result ≡ check_of self.now.accepted octets.now }
     {
         match &self.accepted {
-            Some(accepted) => Status::of_checksum_fault(accepted.checksum_fault(octets)),
+            Some(accepted) => Status::of_checksum(accepted.judge_checksum(octets)),
             None => Status::Absent,
         }
     }

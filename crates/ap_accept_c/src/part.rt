@@ -55,13 +55,13 @@ impl Part {
     {
         match self {
             Part::ClientRealm => copied(alloc, client_realm(last)),
-            Part::ClientName => text_of(alloc, client_name(last)),
+            Part::ClientName => name_octets(alloc, client_name(last)),
             Part::SessionKey => copied(alloc, session_key(last)),
             Part::Subkey => copied(alloc, subkey(last)),
             Part::Checksum => copied(alloc, checksum(last)),
             Part::ApRep => copied(alloc, ap_rep(last)),
             Part::ServiceRealm => copied(alloc, service_realm(last)),
-            Part::ServiceName => text_of(alloc, service_name(last)),
+            Part::ServiceName => name_octets(alloc, service_name(last)),
             Part::Error => last.error(alloc),
         }
     }
@@ -76,7 +76,7 @@ fn copied(alloc: Global, octets: Option<&[u8]>) -> Result<Option<Vec<u8>>, Alloc
     }
 }
 
-fn text_of(alloc: Global, name: Option<&Name>) -> Result<Option<Vec<u8>>, AllocError>
+fn name_octets(alloc: Global, name: Option<&Name>) -> Result<Option<Vec<u8>>, AllocError>
     ensures { IfOk result (λ text. option_map (λ o. o.items) text
         ≡ option_map (λ n. text_of n.components) (option_copied name.entry)) }
 {

@@ -11,7 +11,7 @@ use enctypes::ApplicationUsage;
 use krb_fields::Code;
 use std::alloc::Global;
 
-/// How a text is sealed.
+/// The usage and the confounder with which a text is sealed.
 #[repr(C)]
 #[derive(Clone, Copy)]
 pub struct Sealing {

@@ -2,7 +2,7 @@
 ghost use Rattle.std.specs.Prelude.{◌≡◌, ◌≤◌, Some, length, take};
 ghost use Rattle.ap_accept_c.specs.Protection.{key_in};
 
-use encrypted_data::{key_of, type_numbered};
+use encrypted_data::{supported_key, type_numbered};
 use enctypes::Key;
 
 /// The `struct ap_key` of the header.
@@ -11,12 +11,12 @@ use enctypes::Key;
 pub struct RawKey {
     /// The number of its encryption type.
     pub number: i32,
-    /// Its bytes. Those behind them don't count.
+    /// Its bytes come first. The rest doesn't count.
     pub octets: [u8; 32],
 }
 
 impl RawKey {
-    /// Returns this key as C sees it, with zeros behind its bytes.
+    /// Returns this key as C sees it, with zeros after its bytes.
     pub fn of(key: &Key) -> RawKey
         ensures { key_in result.number result.octets ≡ Some key.now }
     {
@@ -31,7 +31,7 @@ impl RawKey {
         ensures { result ≡ key_in self.now.number self.now.octets }
     {
         let etype = type_numbered(self.number)?;
-        key_of(self.number, &self.octets[..etype.key_len()])
+        supported_key(self.number, &self.octets[..etype.key_len()])
     }
 }
 

@@ -1,4 +1,4 @@
-//! An acceptor and what its last AP-REQ came to.
+//! An acceptor and the result of its last AP-REQ.
 ghost use Rattle.std.specs.Prelude.{◌≡◌, None, IfOk, IfErr, option_copied};
 ghost use Rattle.ap_accept.specs.Accepts.{IsAfter, IsAnswer};
 ghost use Rattle.cred_files.specs.Keytab.{IsKeytab};
@@ -6,13 +6,14 @@ ghost use Rattle.ap_accept_c.specs.Calls.{IsFetchedOf};
 ghost use Rattle.ap_accept_c.specs.Part.{octets_of};
 ghost use Rattle.ap_accept_c.specs.Status.{status_of_answer};
 ghost use Rattle.ap_accept_c.specs.Service.{IsKeytabFault, IsOpened, IsOpenFault, IsRekeyed, IsResumed, IsResumeFault};
-ghost use Rattle.ap_accept_c.specs.Service.{IsNamed, IsName, IsNameFault, IsNamed, IsSaved, IsTaken, judged, judged_by, keeping};
+ghost use Rattle.ap_accept_c.specs.Service.{IsNamed, IsName, IsNameFault, IsNamed, IsSaved, IsTaken, judged, judged_by};
+ghost use Rattle.ap_accept_c.specs.Service.{keeping};
 
 use crate::buffers::{Given, give};
 use crate::last::{Last, Refusal};
 use crate::part::Part;
 use crate::status::Status;
-use crate::texts::text_of;
+use crate::texts::status_text;
 use ap_accept::{Accepted, Acceptor, AcceptorOptions, ApFault, Opening, TicketLabel};
 use cred_files::Keytab;
 use krb_fields::{Moment, Name, NameFault};
@@ -25,7 +26,7 @@ pub struct Service {
     pub acceptor: Acceptor,
     /// The name of the service that it accepts for; if there is none, for each of the keytab.
     pub only: Option<Name>,
-    /// What the last AP-REQ came to. The caller may read it any number of times, until the next one.
+    /// The result of the last AP-REQ. The caller may read it any number of times, until the next one.
     pub last: Last,
 }
 
@@ -80,7 +81,7 @@ impl Service {
                 only: None,
                 last: Last::nothing(),
             }),
-            Err(fault) => Err(Status::of_resume_fault(fault)),
+            Err(fault) => Err(Status::of_cred_fault(fault, Status::BadSaved)),
         }
     }
 
@@ -112,7 +113,7 @@ impl Service {
     pub fn name(&mut self, alloc: Global, text: &[u8]) -> Status
         ensures { IsNamed result self.old self.new text.now }
     {
-        match name_in(alloc, text) {
+        match parse_name(alloc, text) {
             Ok(only) => {
                 self.only = only;
                 Status::Done
@@ -147,7 +148,7 @@ impl Service {
         self.keep(at, label, answer)
     }
 
-    /// Keeps what an AP-REQ came to, unless memory ran out.
+    /// Keeps the result of an AP-REQ, unless memory ran out.
     fn keep(&mut self, at: Moment, label: TicketLabel, answer: Result<Accepted, ApFault>) -> Status
         ensures status { result ≡ status_of_answer answer }
         ensures kept { self.new ≡ keeping self.old at label answer }
@@ -193,10 +194,10 @@ impl Service {
     }
 
     /// Returns the text for a status number: of a refusal, if it is the last one, that of its rule.
-    pub fn text_of(&self, number: i32) -> &'static str {
+    pub fn status_text(&self, number: i32) -> &'static str {
         match self.last.refusal {
             Some(refusal) if refusal.rule.code().number() == number => refusal.rule.text(),
-            _ => text_of(number),
+            _ => status_text(number),
         }
     }
 }
@@ -207,12 +208,12 @@ fn keytab_in(alloc: Global, octets: &[u8]) -> Result<Keytab, Status>
 {
     match Keytab::read(alloc, octets) {
         Ok(keytab) => Ok(keytab),
-        Err(fault) => Err(Status::of_cred_fault(fault)),
+        Err(fault) => Err(Status::of_cred_fault(fault, Status::BadKeytab)),
     }
 }
 
 /// Returns the name that the text spells, or `None` if it is empty.
-fn name_in(alloc: Global, text: &[u8]) -> Result<Option<Name>, Status>
+fn parse_name(alloc: Global, text: &[u8]) -> Result<Option<Name>, Status>
     ensures named { IfOk result (λ name. IsName name text.now) }
     ensures fault { IfErr result (λ status. IsNameFault status text.now) }
 {

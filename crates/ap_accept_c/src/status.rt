@@ -1,10 +1,10 @@
 //! The results of calls from C.
 ghost use Rattle.std.specs.Prelude.{◌≡◌};
-ghost use Rattle.ap_accept_c.specs.Status.{number_of, status_of, status_of_checksum, status_of_keytab, status_of_resuming};
+ghost use Rattle.ap_accept_c.specs.Status.{number_of, status_of, status_of_checksum, status_of_unread};
 ghost use Rattle.ap_accept_c.specs.declared.status.Status.TheVariants as statuses;
 
-use ap_accept::{ApFault, ApRefusal, ChecksumFault, ResumeFault};
-use cred_files::CredFault;
+use ap_accept::{ApFault, ApRefusal, ChecksumVerdict};
+use cred_files::CredError;
 use krb_fields::Code;
 use std::alloc::AllocError;
 
@@ -67,38 +67,28 @@ impl Status {
     }
 
     /// Returns the status for the authenticator's checksum.
-    pub fn of_checksum_fault(fault: Option<ChecksumFault>) -> Status
-        ensures { result ≡ status_of_checksum fault }
+    pub fn of_checksum(verdict: ChecksumVerdict) -> Status
+        ensures { result ≡ status_of_checksum verdict }
     {
-        match fault {
-            None => Status::Done,
-            Some(ChecksumFault::Absent) => Status::Absent,
-            Some(ChecksumFault::OtherType) => Status::Failed(ChecksumFault::OtherType.code()),
-            Some(ChecksumFault::Modified) => Status::Failed(ChecksumFault::Modified.code()),
+        match verdict {
+            ChecksumVerdict::Matches => Status::Done,
+            ChecksumVerdict::Absent => Status::Absent,
+            ChecksumVerdict::OtherType => Status::Failed(Code::KrbApErrInappCksum),
+            ChecksumVerdict::Modified => Status::Failed(Code::KrbApErrModified),
         }
     }
 
-    /// Returns the status for an acceptor that did not resume.
-    pub fn of_resume_fault(fault: ResumeFault) -> Status
-        ensures { result ≡ status_of_resuming fault }
+    /// Returns the status for a keytab, or a saved acceptor, that could not be read: `unread`, unless memory ran out.
+    pub fn of_cred_fault(fault: CredError, unread: Status) -> Status
+        ensures { result ≡ status_of_unread fault unread }
     {
         match fault {
-            ResumeFault::NotSaved => Status::BadSaved,
-            ResumeFault::Memory => Status::NoMemory,
-        }
-    }
-
-    /// Returns the status for a keytab that could not be read.
-    pub fn of_cred_fault(fault: CredFault) -> Status
-        ensures { result ≡ status_of_keytab fault }
-    {
-        match fault {
-            CredFault::Memory => Status::NoMemory,
-            CredFault::BadMagic
-            | CredFault::Truncated
-            | CredFault::BadEntry
-            | CredFault::TooLate
-            | CredFault::Absent => Status::BadKeytab,
+            CredError::Memory => Status::NoMemory,
+            CredError::BadMagic
+            | CredError::Truncated
+            | CredError::BadEntry
+            | CredError::TooLate
+            | CredError::Absent => unread,
         }
     }
 }

@@ -4,7 +4,7 @@ use ap_accept::ApRefusal;
 use krb_fields::numbers;
 
 /// Returns the text for a status number, with the name from RFC 4120, section 7.5.9, in capitals.
-pub fn text_of(number: i32) -> &'static str {
+pub fn status_text(number: i32) -> &'static str {
     match number {
         0 => "done",
         -1 => "the bytes do not encode an AP-REQ",
@@ -26,12 +26,12 @@ pub fn text_of(number: i32) -> &'static str {
         numbers::KRB_AP_ERR_MODIFIED => "KRB_AP_ERR_MODIFIED: the checksum is that of other bytes",
         numbers::KRB_AP_ERR_INAPP_CKSUM =>
             "KRB_AP_ERR_INAPP_CKSUM: the checksum's type is not the one for the session key",
-        _ => text_of_rule(number),
+        _ => rule_text(number),
     }
 }
 
 /// Returns the sentence of the rule that has this code. Each of the codes that are left has one rule.
-fn text_of_rule(number: i32) -> &'static str {
+fn rule_text(number: i32) -> &'static str {
     for rule in ApRefusal::ALL.as_slice() {
         if rule.code().number() == number {
             return rule.text();

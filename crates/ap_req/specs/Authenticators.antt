@@ -30,7 +30,7 @@ part_rules realm part =
     ∷ (is_some part.caddr, BoundAddress)  -- 3.2.3
     ∷ []
 
--- the key in the ticket, or else the last reason (section 3.2.3)
+-- the key in the ticket, or the first reason to refuse it; the last one is a bad key (section 3.2.3)
 abbrev pub session_key_of : List ℕ → EncTicketPart → Result Key ApRefusal
 session_key_of realm part = decided (part_rules realm part) (key_of part.key.number part.key.octets) BadSessionKey
 

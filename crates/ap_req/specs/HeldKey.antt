@@ -3,8 +3,9 @@ use Rattle.std.specs.Prelude.{Bool, not, ◌&&◌, ◌||◌, is_some, is_none, O
 use Rattle.enctypes.specs.declared.key.Key.{Key}
 use Rattle.krb_fields.specs.EncryptedData.{EncryptedData}
 
--- Whether a ticket is for a service of this server, whether that has a key of the ticket's encryption type, and its key
--- of that type in the version that the ticket names, or else in the current one.
+-- What a server holds for a ticket: whether it is for one of its services, whether that service has a key of the
+-- ticket's encryption type, and the service's key of that type. The key is that of the version that the ticket names,
+-- or else of the current one.
 pub record HeldKey : Type 0 where
   pub is_for_us : Bool
   pub has_type : Bool

@@ -41,6 +41,6 @@ opened_with c usage None cipher = None
 abbrev pub part_of : HeldKey → EncryptedData → Option EncTicketPart
 part_of held sealed = opened_with enc_ticket_part (usage_number TicketUsage) held.key sealed.cipher
 
--- that the ticket can't be decrypted is the last reason
+-- the decrypted ticket, or the first reason to refuse it; the last one is that it can't be decrypted
 abbrev pub shown_ticket : HeldKey → ApReq → Result EncTicketPart ApRefusal
 shown_ticket held ap = decided (ticket_rules held ap) (part_of held ap.ticket.enc_part) TicketNotOpened

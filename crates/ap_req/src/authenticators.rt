@@ -4,7 +4,7 @@ ghost use Rattle.ap_req.specs.Authenticators.{authenticator_in, authenticator_of
 
 use crate::decryption::open_by;
 use crate::refusal::ApRefusal;
-use encrypted_data::{ReadyKeys, key_of};
+use encrypted_data::{ReadyKeys, supported_key};
 use enctypes::{Key, KeyUsage};
 use krb_fields::{EncryptedDataRef, Typed};
 use krb_types::{Authenticator, EncTicketPart};
@@ -14,14 +14,14 @@ use std::cmp::Ordering;
 
 /// Decrypts the authenticator with the session key. The key usage is that of the message with the AP-REQ (RFC 4120,
 /// section 7.5.1).
-pub fn authenticator_of(
+pub fn open_authenticator(
     alloc: Global,
     ready: Option<&ReadyKeys>,
     usage: KeyUsage,
     key: &Key,
     sealed: &EncryptedDataRef<'_>,
 ) -> Attempt<Authenticator, ApRefusal>
-    // Promise, as session_key_of: an AP-REQ's session key ..
+    // Promise, as checked_session_key: an AP-REQ's session key ..
     ensures { IfOk result (λ found. found ≡ authenticator_of usage key.now sealed.now) }
 {
     let found = authenticator_in(alloc, ready, usage, key, sealed)?;
@@ -45,7 +45,8 @@ fn authenticator_in(
 
 /// Checks whether the authenticator names another client than the ticket.
 pub fn is_mismatched(part: &EncTicketPart, authenticator: &Authenticator) -> bool
-    // Promise: whether the authenticator is of the ticket's client, and its subkey.
+    // Promise: `is_mismatched` says whether an authenticator names another client than the ticket; `subkey_in` returns
+    // its subkey, and `None` if that is no key.
     ensures { result ≡ is_mismatched part.now authenticator.now }
 {
     authenticator.crealm.as_slice() != part.crealm.as_slice()
@@ -54,11 +55,11 @@ pub fn is_mismatched(part: &EncTicketPart, authenticator: &Authenticator) -> boo
 
 /// Returns the subkey of an authenticator, `Some(None)` if there is none, and `None` if it is not a valid key.
 pub fn subkey_in(subkey: Option<&Typed>) -> Option<Option<Key>>
-    // Promise, as is_mismatched: whether the authenticator is ..
+    // Promise, as is_mismatched: `is_mismatched` says whether an ..
     ensures { result ≡ subkey_in (option_copied subkey.entry) }
 {
     match subkey {
-        Some(subkey) => Some(Some(key_of(subkey.number, subkey.octets.as_slice())?)),
+        Some(subkey) => Some(Some(supported_key(subkey.number, subkey.octets.as_slice())?)),
         None => Some(None),
     }
 }

@@ -14,7 +14,7 @@ use krb_types::TicketRef;
 /// Returns what the keytab holds for a ticket with this service.
 pub fn held_in<'k>(keytab: &'k Keytab, ticket: &TicketRef<'_>, service: &Name) -> HeldKey<'k>
     requires { service.now ≡ ticket.now.sname }
-    // Promise: what a keytab holds for a ticket.
+    // Promise: what a keytab holds for a ticket is that of the definition.
     ensures { result ≡ held_in keytab.now ticket.now }
 {
     HeldKey {

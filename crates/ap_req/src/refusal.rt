@@ -49,10 +49,10 @@ pub enum ApRefusal {
 }
 
 impl ApRefusal {
-    /// How many there are.
+    /// The number of these rules.
     pub const COUNT: usize = 18;
 
-    /// All of them, each at its place.
+    /// All of these rules, each at its place.
     pub const ALL: [ApRefusal; ApRefusal::COUNT] = [
         ApRefusal::BadVersion,
         ApRefusal::BadMessageType,
@@ -76,7 +76,7 @@ impl ApRefusal {
 
     /// Returns the code that a service answers with.
     pub fn code(self) -> Code
-        // Promise, as AsRefusal::code of as_exchange: the code of each ..
+        // Promise, as AsRefusal::code of as_exchange: each refusal has its ..
         ensures { result ≡ code_of self }
     {
         self.code_by(Code::KrbApPathNotAccepted)
@@ -84,7 +84,7 @@ impl ApRefusal {
 
     /// Returns the code that a server answers with. Servers differ in the one for a foreign client.
     pub fn code_by(self, foreign_client: Code) -> Code
-        // Promise, as AsRefusal::code of as_exchange: the code of each ..
+        // Promise, as AsRefusal::code of as_exchange: each refusal has its ..
         ensures { result ≡ code_by foreign_client self }
     {
         match self {
@@ -111,7 +111,7 @@ impl ApRefusal {
 
     /// Returns its name in the log and among the counters.
     pub fn word(self) -> &'static str
-        // Promise, as AsRefusal::word of as_exchange: the name of each ..
+        // Promise, as AsRefusal::word of as_exchange: each refusal has its ..
         ensures { result.now ≡ word_of self }
     {
         match self {
@@ -136,9 +136,9 @@ impl ApRefusal {
         }
     }
 
-    /// Returns its place among those of every AP-REQ.
+    /// Returns its place among these rules.
     pub fn place(self) -> usize
-        // Promise (value, range), as AsRefusal::word of as_exchange: the name of each ..
+        // Promise (value, range), as AsRefusal::word of as_exchange: each refusal has its ..
         ensures value { result ≡ place_of self }
         ensures range { result < refusal_count }
     {

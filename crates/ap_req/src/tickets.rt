@@ -26,14 +26,14 @@ pub fn shown_ticket(
     held: &HeldKey<'_>,
     ap: &ApReqRef<'_>,
 ) -> Attempt<EncTicketPart, ApRefusal>
-    // Promise (value, within): what an AP-REQ's ticket holds, or the first rule that refuses it, unless memory runs
-    // out; the ticket's part is spelled by no more bytes than its cipher has.
+    // Promise (value, within): an AP-REQ's ticket is decrypted, or the first rule that refuses it is returned, unless
+    // memory runs out; the encoding of what was decrypted is no longer than the cipher.
     ensures value { IfOk result (λ found. found ≡ shown_ticket held.now ap.now) }
     ensures within { IfOk result (λ found.
         IfOk found (λ part. IsSpelledWithin enc_ticket_part part ap.now.ticket.enc_part.cipher)) }
 {
     let rules = ticket_rules(held, ap);
-    let part = part_of(alloc, ready, held.key, &ap.ticket.enc_part)?;
+    let part = open_ticket_part(alloc, ready, held.key, &ap.ticket.enc_part)?;
     Ok(decide(&rules, part, ApRefusal::TicketNotOpened))
 }
 
@@ -63,7 +63,7 @@ fn is_other_version(ap: &ApReqRef<'_>) -> bool
 }
 
 /// Decrypts the part with the key, if there is one.
-fn part_of(
+fn open_ticket_part(
     alloc: Global,
     ready: Option<&ReadyKeys>,
     key: Option<&Key>,

@@ -8,7 +8,7 @@ use ticket_times::TicketTerms;
 
 /// Returns the flags and times of a ticket.
 pub fn ticket_terms(part: &EncTicketPart) -> TicketTerms
-    // Promise: whether the ticket started or ended outside the clock skew.
+    // Promise: `has_not_started` and `has_ended` say whether a ticket starts or ended outside the clock skew.
     ensures { result ≡ ticket_terms part.now }
 {
     TicketTerms {
@@ -22,7 +22,7 @@ pub fn ticket_terms(part: &EncTicketPart) -> TicketTerms
 
 /// Checks whether the ticket starts later than the clock skew allows.
 pub fn has_not_started(ticket: &TicketTerms, at: Moment) -> bool
-    // Promise, as ticket_terms: whether the ticket started ..
+    // Promise, as ticket_terms: `has_not_started` and `has_ended` say ..
     ensures { result ≡ has_not_started ticket.now at.sec }
 {
     at.sec + SKEW < ticket.start()
@@ -30,7 +30,7 @@ pub fn has_not_started(ticket: &TicketTerms, at: Moment) -> bool
 
 /// Checks whether the ticket ended before the clock skew.
 pub fn has_ended(ticket: &TicketTerms, at: Moment) -> bool
-    // Promise, as ticket_terms: whether the ticket started ..
+    // Promise, as ticket_terms: `has_not_started` and `has_ended` say ..
     ensures { result ≡ has_ended ticket.now at.sec }
 {
     ticket.endtime.seconds() < at.sec - SKEW

@@ -50,7 +50,7 @@ pub record AsAnswer : Type 0 where
   pub reply : List ℕ
   pub failures : Option Failures
 
--- what a refusal causes beside its error code
+-- what a refusal causes besides its error code
 abbrev pub sequel_of : AsRefusal → Effect
 sequel_of BadVersion = Nothing
 sequel_of BadMessageType = Nothing

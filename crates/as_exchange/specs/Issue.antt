@@ -26,7 +26,8 @@ grant_by v at random body admission = record {
   service = admission.terms.service.name;
   session_key = session_key admission.terms.service.session_type random;
   flags =
-      as_flags body admission.terms.client_policy admission.terms.service.policy (is_good admission.timestamp) admission.times;
+      as_flags body admission.terms.client_policy admission.terms.service.policy
+      (is_good admission.timestamp) admission.times;
   authtime = at.sec;
   times = admission.times;
   authorization_data = None;

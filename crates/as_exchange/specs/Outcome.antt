@@ -59,7 +59,8 @@ as_outcome v incoming message = outcome_by v incoming message.body.value (decisi
 -- ---- what the bytes encode, by cases on the outcome
 
 abbrev pub OutcomeSpelledBy : AsView → Moment → List ℕ → ReqBody → AsOutcome → Decision → List ℕ → Type 0
-OutcomeSpelledBy v at random body (Refused refusal) decided octets = krb_error.Spells (as_error v at body refusal) octets
+OutcomeSpelledBy v at random body (Refused refusal) decided octets =
+    krb_error.Spells (as_error v at body refusal) octets
 OutcomeSpelledBy v at random body TooBig decided octets = krb_error.Spells (too_big v.realm at body) octets
 OutcomeSpelledBy v at random body (Issued granted) (Refuses refusal timestamp) octets = ⊥
 OutcomeSpelledBy v at random body (Issued granted) (Issues admission) octets =

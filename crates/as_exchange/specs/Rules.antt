@@ -106,7 +106,7 @@ is_good Good = true
 abbrev pub lacks_preauth : Option Row → Outcome → Bool
 lacks_preauth row timestamp = is_absent timestamp && needs_preauth row
 
--- by the outcome of the timestamp, the terms, and the times of a ticket
+-- all rules in order, given the outcome of the timestamp, the terms, and the times of a ticket
 abbrev pub rules_by : AsView → ℤ → Received → Outcome → Option Terms → Option Times → List (Rule AsRefusal)
 rules_by v now message timestamp found times =
     (is_bad_version message, BadVersion)  -- 3.1.2, 5.4.1

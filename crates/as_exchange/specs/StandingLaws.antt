@@ -56,7 +56,7 @@ module _ (v : AsView) (message : Received) where
         NeverValid admission is)
     admitted_standing timestamp (Err refusal) is = tt
 
-    -- of what is issued
+    -- the client and the service of an issued ticket are in good standing
     pub issued_standing : IfSome (issued v at random message)
         (λ _. AreInGoodStanding v.realm (service_name message) v.client v.service at.sec)
     issued_standing =

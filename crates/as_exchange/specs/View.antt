@@ -1,4 +1,4 @@
--- What the AS exchange needs beside the request.
+-- What the AS exchange needs besides the request.
 use Rattle.std.specs.Prelude.{ℕ, List, Option, Some, None}
 use Rattle.preauth.specs.Lock.{counted_for}
 use Rattle.principal_rows.specs.Versions.{current}

@@ -47,18 +47,18 @@ pub fn as_answer(
     message: &KdcReqRef<'_>,
 ) -> Result<AsAnswer, AllocError>
     requires { IsKnown view.now message.now.body.value }
-    // Promise (reply, failures): the answer to an AS-REQ, and the client's failures for its current key version
-    // afterwards.
+    // Promise (reply, failures): the answer to an AS-REQ is that of the definition, and so are the client's failures
+    // for its current key version afterwards.
     ensures reply { IfOk result (λ answer. answer.reply.items ≡ (as_answer view.now incoming.now message.now).reply) }
     ensures failures { IfOk result (λ answer.
         answer.failures ≡ (as_answer view.now incoming.now message.now).failures) }
     // The outcome follows from the decision and from whether the reply fits.
-    // Promise (outcome, outcome_spelled): the outcome of an AS-REQ is what was decided, and whether the reply had room;
-    // the bytes spell what it says.
+    // Promise (outcome, outcome_spelled): the outcome of an AS-REQ says what was decided, and whether the reply fits;
+    // the bytes spell what the outcome says.
     ensures outcome { IfOk result (λ answer. answer.outcome ≡ as_outcome view.now incoming.now message.now) }
     // The bytes encode the right message: the error of the rule that refuses, or the reply with the ticket.
-    // Promise (spelled, same): the bytes of the answer to an AS-REQ spell the due message; if that has a ticket, client
-    // and service find the same inside, with the keys that the parts name.
+    // Promise (spelled, same): the answer to an AS-REQ spells the message that the rules prescribe; if that has a
+    // ticket, the client and the service decrypt it to the same contents, with the keys that the encrypted parts name.
     ensures spelled { IfOk result (λ answer.
         Spelled view.now incoming.now.at incoming.now.random message.now answer.reply.items) }
     // They encode what the outcome says.

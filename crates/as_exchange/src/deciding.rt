@@ -4,7 +4,7 @@ ghost use Rattle.as_exchange.specs.Decision.{by_admission, decision};
 
 use crate::decision::Decision;
 use crate::refusal::AsRefusal;
-use crate::rules::{admitted, timestamp_of};
+use crate::rules::{admitted, timestamp_outcome};
 use crate::terms::{Admission, find_terms};
 use crate::view::AsView;
 use kdc_replies::Incoming;
@@ -21,7 +21,7 @@ pub fn decision(
 ) -> Result<Decision, AllocError>
     ensures { IfOk result (λ decided. decided ≡ decision view.now incoming.now.at.sec message.now) }
 {
-    let timestamp = timestamp_of(alloc, view.client, incoming, message)?;
+    let timestamp = timestamp_outcome(alloc, view.client, incoming, message)?;
     let terms = find_terms(alloc, view, &message.body.value)?;
     let admitted = admitted(view, incoming.at, message, timestamp, terms);
     Ok(by_admission(timestamp, admitted))

@@ -13,7 +13,7 @@ use kdc_replies::error_reply;
 use krb_elements::{KerberosString, Octets};
 use krb_fields::{Moment, NameRef};
 use krb_types::ReqBodyRef;
-use preauth::{method_data, types_of};
+use preauth::{method_data, usable_types};
 use principal_rows::Row;
 use std::alloc::{AllocError, Global};
 
@@ -29,7 +29,7 @@ pub fn as_error(
     ensures written { IfOk result (λ octets. octets.items ≡ written krb_error (as_error view.now at body.now refusal)) }
     ensures spelled { IfOk result (λ octets. krb_error.Spells (as_error view.now at body.now refusal) octets.items) }
 {
-    let e_data = e_data_of(alloc, view, body, refusal.effect())?;
+    let e_data = error_data(alloc, view, body, refusal.effect())?;
     error_reply(
         alloc,
         view.realm,
@@ -40,7 +40,7 @@ pub fn as_error(
     )
 }
 
-fn e_data_of(
+fn error_data(
     alloc: Global,
     view: &AsView<'_>,
     body: &ReqBodyRef<'_>,
@@ -73,7 +73,7 @@ fn methods_for(
         return Ok(None);
     };
     let salt = salt_of(alloc, view.realm, name)?;
-    let types = types_of(alloc, &row.versions.current().keys, &body.etype)?;
+    let types = usable_types(alloc, &row.versions.current().keys, &body.etype)?;
     Ok(Some(method_data(alloc, salt.as_slice(), &types)?))
 }
 

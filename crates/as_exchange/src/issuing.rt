@@ -85,14 +85,14 @@ fn grant_by<'g>(
         client: Lent::new(&terms.client_name),
         service: Lent::new(&terms.service.name),
         session_key: session_key(terms.service.session_type, incoming.random),
-        flags: flags_of(body, admission),
+        flags: issued_flags(body, admission),
         authtime: incoming.at.time(),
         times: *times,
         authorization_data: None,
     }
 }
 
-fn flags_of(body: &ReqBodyRef<'_>, admission: &Admission) -> Flags
+fn issued_flags(body: &ReqBodyRef<'_>, admission: &Admission) -> Flags
     ensures { result
         ≡ as_flags body.now admission.now.terms.client_policy admission.now.terms.service.policy
         (is_good admission.now.timestamp) admission.now.times }
@@ -120,7 +120,7 @@ pub fn granted_by(at: Moment, body: &ReqBodyRef<'_>, admission: &Admission) -> G
         reply_type: terms.reply_key.etype(),
         ticket_type: terms.service.key.key.etype(),
         session_type: terms.service.session_type,
-        flags: flags_of(body, admission),
+        flags: issued_flags(body, admission),
         authtime: at.time(),
         times: *times,
     }

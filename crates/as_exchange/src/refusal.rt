@@ -16,7 +16,7 @@ pub enum AsRefusal {
     ClientUnknown,
     /// There is no sname, or it has no row.
     ServiceUnknown,
-    /// No tickets are for the service, and it is not the ticket-granting service.
+    /// No tickets may be issued for the service, and it is not the ticket-granting service.
     ServiceDenied,
     /// The client is disabled.
     ClientDisabled,
@@ -49,10 +49,10 @@ pub enum AsRefusal {
     NeverValid,
 }
 
-/// What a refusal causes beside its error code.
+/// What a refusal causes besides its error code.
 #[derive(Clone, Copy, PartialEq, Eq)]
 pub enum Effect {
-    /// The error code is all.
+    /// Nothing but the error code.
     Nothing,
     /// Counts a failure of the client.
     CountsFailure,
@@ -63,10 +63,10 @@ pub enum Effect {
 }
 
 impl AsRefusal {
-    /// How many there are.
+    /// The number of these reasons.
     pub const COUNT: usize = 19;
 
-    /// All of them, each at its place.
+    /// All of these reasons, each at its place.
     pub const ALL: [AsRefusal; AsRefusal::COUNT] = [
         AsRefusal::BadVersion,
         AsRefusal::BadMessageType,
@@ -91,7 +91,7 @@ impl AsRefusal {
 
     /// Returns the error code of the KRB-ERROR that answers it (RFC 4120, section 7.5.9).
     pub fn code(self) -> Code
-        // Promise: the code of each refusal, and what else goes with it.
+        // Promise: each refusal has its error code, and causes what the definition says besides.
         ensures { result ≡ code_of self }
     {
         match self {
@@ -116,9 +116,9 @@ impl AsRefusal {
         }
     }
 
-    /// Returns what it causes beside its error code.
+    /// Returns what it causes besides its error code.
     pub fn effect(self) -> Effect
-        // Promise, as AsRefusal::code: the code of each ..
+        // Promise, as AsRefusal::code: each refusal has its ..
         ensures { result ≡ sequel_of self }
     {
         match self {
@@ -133,7 +133,7 @@ impl AsRefusal {
 
     /// Returns its name in the log and among the counters.
     pub fn word(self) -> &'static str
-        // Promise: the name of each refusal in the log, and its place among the counters.
+        // Promise: each refusal has its name in the log and its place among the counters.
         ensures { result.now ≡ word_of self }
     {
         match self {
@@ -161,7 +161,7 @@ impl AsRefusal {
 
     /// Returns its place among those of its exchange.
     pub fn place(self) -> usize
-        // Promise (value, range), as AsRefusal::word: the name of each ..
+        // Promise (value, range), as AsRefusal::word: each refusal has its ..
         ensures value { result ≡ place_of self }
         ensures range { result < refusal_count }
     {

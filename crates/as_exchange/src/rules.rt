@@ -8,7 +8,7 @@ ghost use Rattle.as_exchange.specs.Rules.{timestamp_of};
 ghost use Rattle.as_exchange.specs.Rules.{rules_by, admitted_by};
 
 use crate::refusal::AsRefusal;
-use crate::terms::{Admission, Terms, admission_of, times_of};
+use crate::terms::{Admission, Terms, allowed_times, complete_admission};
 use crate::view::AsView;
 use kdc_replies::{Incoming, denies_tickets, has_come, is_disabled, is_expired};
 use krb_fields::numbers::{AS_REQ, PVNO};
@@ -30,9 +30,9 @@ pub fn admitted(
 ) -> Result<Admission, AsRefusal>
     ensures { result ≡ admitted_by view.now at.sec message.now timestamp terms }
 {
-    let times = times_of(view.limits, at, &message.body.value, &terms);
+    let times = allowed_times(view.limits, at, &message.body.value, &terms);
     let rules = rules_by(view, at, message, timestamp, &terms, &times);
-    let admission = admission_of(timestamp, terms, times);
+    let admission = complete_admission(timestamp, terms, times);
     // If no rule refuses, there are terms and times. So this fallback is never the reason.
     decide(&rules, admission, AsRefusal::NeverValid)
 }
@@ -82,7 +82,7 @@ fn rules_by(
 }
 
 /// Returns the outcome of the timestamp, for a client that has a row.
-pub fn timestamp_of(
+pub fn timestamp_outcome(
     alloc: Global,
     client: Option<&Row>,
     incoming: &Incoming<'_>,

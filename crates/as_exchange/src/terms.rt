@@ -89,7 +89,7 @@ fn common_terms(
 }
 
 /// Returns the times of a ticket with these terms, or `None` if there are no terms or it would not end after it starts.
-pub fn times_of(
+pub fn allowed_times(
     limits: &Limits,
     at: Moment,
     body: &ReqBodyRef<'_>,
@@ -110,7 +110,7 @@ pub fn times_of(
 }
 
 /// Returns the admission, if there are terms and times.
-pub fn admission_of(
+pub fn complete_admission(
     timestamp: Outcome,
     terms: Option<Terms>,
     times: Option<Times>,

@@ -1,4 +1,4 @@
-//! What the AS exchange needs beside the request.
+//! What the AS exchange needs besides the request.
 ghost use Rattle.std.specs.Prelude.{◌≡◌, option_copied};
 ghost use Rattle.as_exchange.specs.View.{current_number, current_failures};
 

@@ -39,7 +39,7 @@ has_room part = is_short_type part.key && are_short_types part.caddr
 abbrev pub address_of : Typed → TypedOctets
 address_of address = record { data_type = in_16_bits address.number; octets = address.octets }
 
--- none if none are sent
+-- no addresses if none are sent
 abbrev pub addresses_of : Option (List Typed) → List TypedOctets
 addresses_of (Some list) = map address_of list
 addresses_of None = []

@@ -11,8 +11,8 @@ use Rattle.krb_fields.specs.PrincipalName.{Name}
 use Rattle.krb_fields.specs.Salt.{default_salt}
 use Rattle.krb_types.specs.EtypeInfo2Entry.{EtypeInfo2Entry}
 use Rattle.encrypted_data.specs.Keys.{type_numbered}
-use Rattle.client_core.specs.declared.fault.ClientFault.{ClientFault}
-use Rattle.client_core.specs.declared.fault.ClientFault.TheVariants.{CannotOpen, CountTooLarge}
+use Rattle.client_core.specs.declared.fault.ReplyError.{ReplyError}
+use Rattle.client_core.specs.declared.fault.ReplyError.TheVariants.{CannotOpen, CountTooLarge}
 
 -- ---- the count of iterations: four bytes, the most significant first; without them the type's own
 
@@ -31,11 +31,11 @@ salt_of realm name entry = unwrap_or entry.salt (default_salt realm name.compone
 
 -- ---- the key
 
-abbrev pub key_by : Etype → List ℕ → List ℕ → Option ℕ → Result Key ClientFault
+abbrev pub key_by : Etype → List ℕ → List ℕ → Option ℕ → Result Key ReplyError
 key_by etype pass salt (Some count) = Ok (record { etype = etype; bytes = string_key etype pass salt count })
 key_by etype pass salt None = Err CountTooLarge
 
-abbrev pub key_as : List ℕ → List ℕ → Name → EtypeInfo2Entry → Option Etype → Result Key ClientFault
+abbrev pub key_as : List ℕ → List ℕ → Name → EtypeInfo2Entry → Option Etype → Result Key ReplyError
 key_as pass realm name entry (Some etype) =
     key_by etype pass (salt_of realm name entry) (count_of etype entry.s2kparams)
 key_as pass realm name entry None = Err CannotOpen
@@ -44,9 +44,9 @@ key_as pass realm name entry None = Err CannotOpen
 abbrev pub entry_of : List EtypeInfo2Entry → Option EtypeInfo2Entry
 entry_of info = find (λ entry. is_some (type_numbered entry.etype)) info
 
-abbrev pub key_in : List ℕ → List ℕ → Name → Option EtypeInfo2Entry → Result Key ClientFault
+abbrev pub key_in : List ℕ → List ℕ → Name → Option EtypeInfo2Entry → Result Key ReplyError
 key_in pass realm name (Some entry) = key_as pass realm name entry (type_numbered entry.etype)
 key_in pass realm name None = Err CannotOpen
 
-abbrev pub password_key : List ℕ → List ℕ → Name → List EtypeInfo2Entry → Result Key ClientFault
+abbrev pub password_key : List ℕ → List ℕ → Name → List EtypeInfo2Entry → Result Key ReplyError
 password_key pass realm name info = key_in pass realm name (entry_of info)

@@ -24,7 +24,7 @@ abbrev pub number_part : Option ℕ → Option ℤ
 number_part (Some number) = Some (pos number)
 number_part None = None
 
--- of this client, at this moment, without authorization data
+-- the authenticator of this client at this moment, without authorization data
 abbrev pub authenticator_of : Principal → Moment → Option Typed → Option Key → Option ℕ → Authenticator
 authenticator_of client at cksum subkey seq_number = record {
   crealm = client.realm;

@@ -29,12 +29,12 @@ use Rattle.krb_types.specs.Ticket.{Ticket}
 use Rattle.encrypted_data.specs.Encrypted.{decrypted}
 use Rattle.encrypted_data.specs.Parts.{ok_of}
 use Rattle.client_core.specs.declared.asked.Asked.{Asked}
-use Rattle.client_core.specs.declared.fault.ClientFault.{ClientFault}
-use Rattle.client_core.specs.declared.fault.ClientFault.TheVariants.{NotAReply, Refused}
+use Rattle.client_core.specs.declared.fault.ReplyError.{ReplyError}
+use Rattle.client_core.specs.declared.fault.ReplyError.TheVariants.{NotAReply, Refused}
 use Rattle.client_core.specs.declared.fault.Mismatch.TheVariants as mismatches
-use Rattle.client_core.specs.declared.fault.Rejection.{Rejection}
+use Rattle.client_core.specs.declared.fault.ReplyRefusal.{ReplyRefusal}
 use Rattle.client_core.specs.declared.fault.ServerError.{ServerError}
-use Rattle.client_core.specs.declared.fault.Rejection.TheVariants.{Mismatched, Unopened}
+use Rattle.client_core.specs.declared.fault.ReplyRefusal.TheVariants.{Mismatched, Unopened}
 use Rattle.client_core.specs.declared.key_role.KeyRole.{KeyRole}
 use Rattle.client_core.specs.declared.key_role.KeyRole.TheVariants.{Client, Subkey, Session}
 use Rattle.client_core.specs.Credentials.{credential_in}
@@ -47,11 +47,11 @@ abbrev pub server_error : KrbError → ServerError
 server_error error = record { code = error.error_code; stime = error.stime }
 
 -- the refusal in a KRB-ERROR; other bytes are not a reply
-abbrev pub refusal_of : Option KrbError → ClientFault
+abbrev pub refusal_of : Option KrbError → ReplyError
 refusal_of (Some error) = Refused (record { error = server_error error; e_data = error.e_data })
 refusal_of None = NotAReply
 
-abbrev pub refusal_in : List ℕ → ClientFault
+abbrev pub refusal_in : List ℕ → ReplyError
 refusal_in bytes = refusal_of (ok_of (whole krb_error.at bytes))
 
 -- the ticket has the version of the protocol, like the reply
@@ -63,8 +63,8 @@ of_version type None = None
 abbrev pub ticket_reply_in : (type : ℕ) → List ℕ → Option (KdcRep type)
 ticket_reply_in type bytes = of_version type (ok_of (whole (kdc_rep type).at bytes))
 
--- that, or what the bytes are instead
-abbrev pub reply_in : (type : ℕ) → List ℕ → Result (KdcRep type) ClientFault
+-- the AS-REP or TGS-REP, or what the bytes are instead
+abbrev pub reply_in : (type : ℕ) → List ℕ → Result (KdcRep type) ReplyError
 reply_in type bytes = unless_found (ticket_reply_in type bytes) (refusal_in bytes)
 
 -- ---- the encrypted part
@@ -95,14 +95,14 @@ abbrev pub is_principal : List ℕ → Name → List ℕ → Name → Bool
 is_principal realm name other_realm other_name =
     pointwise nat_eq realm other_realm && eq_by_cmp name_cmp name.components other_name.components
 
-abbrev pub reply_rules : (type : ℕ) → Asked → Key → KdcRep type → List (Rule Rejection)
+abbrev pub reply_rules : (type : ℕ) → Asked → Key → KdcRep type → List (Rule ReplyRefusal)
 reply_rules type asked key reply =
     (not (is_principal reply.crealm reply.cname asked.realm asked.client), Mismatched mismatches.Client)
     ∷ (not (int_eq reply.enc_part.etype (number key.etype)), Unopened)
     ∷ []
 
 -- the decrypted part, if it is this client's and under this key
-abbrev pub part_of : (type : ℕ) → Asked → Key → KdcRep type → Option EncKdcRepPart → Result EncKdcRepPart Rejection
+abbrev pub part_of : (type : ℕ) → Asked → Key → KdcRep type → Option EncKdcRepPart → Result EncKdcRepPart ReplyRefusal
 part_of type asked key reply opened = decided (reply_rules type asked key reply) opened Unopened
 
 -- ---- the contents of the part
@@ -111,7 +111,7 @@ part_of type asked key reply opened = decided (reply_rules type asked key reply)
 abbrev pub is_other_nonce : Asked → EncKdcRepPart → Bool
 is_other_nonce asked part = not (int_eq part.nonce (pos asked.nonce))
 
--- the part's service, or the ticket's
+-- the part's service, or the ticket's, is not the requested one
 abbrev pub is_other_service : Asked → Ticket → EncKdcRepPart → Bool
 is_other_service asked ticket part =
     not (is_principal part.srealm part.sname asked.realm asked.service)
@@ -135,42 +135,43 @@ is_skewed now time = nat_lt skew (unsigned_abs (time -ℤ now))
 abbrev pub starts_elsewhere : Asked → ℤ → EncKdcRepPart → Bool
 starts_elsewhere asked now part = not (may_start_elsewhere asked) && holds_of (is_skewed now) part.starttime
 
-abbrev pub part_rules : Asked → ℤ → Ticket → EncKdcRepPart → List (Rule Rejection)
+abbrev pub part_rules : Asked → ℤ → Ticket → EncKdcRepPart → List (Rule ReplyRefusal)
 part_rules asked now ticket part =
     (is_other_nonce asked part, Mismatched mismatches.Nonce)
     ∷ (is_other_service asked ticket part, Mismatched mismatches.Service)
     ∷ (ends_too_late asked part || starts_elsewhere asked now part, Mismatched mismatches.Times)
     ∷ []
 
-abbrev pub taken : (type : ℕ) → Asked → ℤ → KdcRep type → EncKdcRepPart → Result Credential Rejection
+abbrev pub taken : (type : ℕ) → Asked → ℤ → KdcRep type → EncKdcRepPart → Result Credential ReplyRefusal
 taken type asked now reply part =
     decided (part_rules asked now reply.ticket part) (credential_in type reply part) Unopened
 
 -- ---- all stages
 
-abbrev pub if_part : (type : ℕ) → Asked → ℤ → KdcRep type → Result EncKdcRepPart Rejection → Result Credential Rejection
+abbrev pub if_part : (type : ℕ) → Asked → ℤ → KdcRep type → Result EncKdcRepPart ReplyRefusal
+    → Result Credential ReplyRefusal
 if_part type asked now reply (Ok part) = taken type asked now reply part
 if_part type asked now reply (Err rejection) = Err rejection
 
 -- the credential in a reply, or the first fault
-abbrev pub judged : (type : ℕ) → KeyRole → Asked → Key → ℤ → KdcRep type → Result Credential ClientFault
+abbrev pub judged : (type : ℕ) → KeyRole → Asked → Key → ℤ → KdcRep type → Result Credential ReplyError
 judged type role asked key now reply =
     unless_rejected (if_part type asked now reply (part_of type asked key reply (opened_as role key reply.enc_part)))
 
-abbrev pub if_reply : (type : ℕ) → KeyRole → Asked → Key → ℤ → Result (KdcRep type) ClientFault
-    → Result Credential ClientFault
+abbrev pub if_reply : (type : ℕ) → KeyRole → Asked → Key → ℤ → Result (KdcRep type) ReplyError
+    → Result Credential ReplyError
 if_reply type role asked key now (Ok reply) = judged type role asked key now reply
 if_reply type role asked key now (Err fault) = Err fault
 
 -- the credential in the reply, or the first fault
-abbrev pub reads : (type : ℕ) → KeyRole → Asked → Key → ℤ → List ℕ → Result Credential ClientFault
+abbrev pub reads : (type : ℕ) → KeyRole → Asked → Key → ℤ → List ℕ → Result Credential ReplyError
 reads type role asked key now bytes = if_reply type role asked key now (reply_in type bytes)
 
-abbrev pub reads_as : Asked → Key → ℤ → List ℕ → Result Credential ClientFault
+abbrev pub reads_as : Asked → Key → ℤ → List ℕ → Result Credential ReplyError
 reads_as asked key now bytes = reads AS_REP Client asked key now bytes
 
 abbrev pub tgs_role : Bool → KeyRole
 tgs_role subkey = if subkey then Subkey else Session
 
-abbrev pub reads_tgs : Asked → Key → Bool → ℤ → List ℕ → Result Credential ClientFault
+abbrev pub reads_tgs : Asked → Key → Bool → ℤ → List ℕ → Result Credential ReplyError
 reads_tgs asked key subkey now bytes = reads TGS_REP (tgs_role subkey) asked key now bytes

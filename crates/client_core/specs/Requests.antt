@@ -74,7 +74,7 @@ asks_with_timestamp asked key at confounder = asks_as (Some (timestamp_data key 
 
 -- ---- TGS-REQ: it names no client, but presents a client's ticket
 
--- over the body's bytes, under the session key
+-- the checksum of the body's bytes, by the session key
 abbrev pub body_checksum : Key → ReqBody → Typed
 body_checksum key body = record {
   number = checksum_type key.etype;

@@ -31,5 +31,5 @@ pub record IsTaken (type : ℕ) (role : KeyRole) (asked : Asked) (key : Key) (no
   pub ticket_service : AreSame reply.ticket.realm reply.ticket.sname asked.realm asked.service
   pub ends : ends_too_late asked part ≡ false
   pub starts : starts_elsewhere asked now part ≡ false
-  -- and this is its credential
+  -- the credential is the one in this reply
   pub is : credential ≡ credential_of type reply part

@@ -20,9 +20,9 @@ use Rattle.rule_lists.specs.RefusalLaws.{decided_found}
 use Rattle.rule_lists.specs.Refusals.{unless_found}
 use Rattle.encrypted_data.specs.Parts.{ok_of}
 use Rattle.client_core.specs.declared.asked.Asked.{Asked}
-use Rattle.client_core.specs.declared.fault.ClientFault.{ClientFault}
-use Rattle.client_core.specs.declared.fault.Rejection.{Rejection}
-use Rattle.client_core.specs.declared.fault.Rejection.TheVariants.{Unopened}
+use Rattle.client_core.specs.declared.fault.ReplyError.{ReplyError}
+use Rattle.client_core.specs.declared.fault.ReplyRefusal.{ReplyRefusal}
+use Rattle.client_core.specs.declared.fault.ReplyRefusal.TheVariants.{Unopened}
 use Rattle.client_core.specs.declared.key_role.KeyRole.{KeyRole}
 use Rattle.client_core.specs.Credentials.{credential_in, credential_of, has_room}
 use Rattle.client_core.specs.Faults.{Gives, unless_rejected}
@@ -99,17 +99,17 @@ module _ (type : ℕ) (role : KeyRole) (asked : Asked) (key : Key) (now : ℤ) (
 
   by_taken : (reply : KdcRep type) (part : EncKdcRepPart) → whole (kdc_rep type).at bytes ≡ Ok reply
       → part_of type asked key reply (opened_as role key reply.enc_part) ≡ Ok part
-      → (r : Result Credential Rejection) → taken type asked now reply part ≡ r → unless_rejected r ≡ Ok credential
+      → (r : Result Credential ReplyRefusal) → taken type asked now reply part ≡ r → unless_rejected r ≡ Ok credential
       → IsTaken type role asked key now bytes credential
   by_taken reply part read found (Ok c) gives e =
-      by_credential reply part read found (gives ∙ ap (λ (r : Result Credential ClientFault). again r) e)
+      by_credential reply part read found (gives ∙ ap (λ (r : Result Credential ReplyError). again r) e)
     where
-      again : Result Credential ClientFault → Result Credential Rejection
+      again : Result Credential ReplyError → Result Credential ReplyRefusal
       again (Ok x) = Ok x
       again (Err fault) = Ok c
   by_taken reply part read found (Err rejection) gives e = absurd cc
 
-  by_part : (reply : KdcRep type) → whole (kdc_rep type).at bytes ≡ Ok reply → (r : Result EncKdcRepPart Rejection)
+  by_part : (reply : KdcRep type) → whole (kdc_rep type).at bytes ≡ Ok reply → (r : Result EncKdcRepPart ReplyRefusal)
       → part_of type asked key reply (opened_as role key reply.enc_part) ≡ r
       → unless_rejected (if_part type asked now reply r) ≡ Ok credential
       → IsTaken type role asked key now bytes credential
@@ -135,7 +135,7 @@ module _ (type : ℕ) (role : KeyRole) (asked : Asked) (key : Key) (now : ℤ) (
 
 -- the same for what a call returned
 pub taken_if : (type : ℕ) (role : KeyRole) (asked : Asked) (key : Key) (now : ℤ) (bytes : List ℕ)
-    (r : Result Credential ClientFault) → Gives r (reads type role asked key now bytes)
+    (r : Result Credential ReplyError) → Gives r (reads type role asked key now bytes)
     → IfOk r (λ credential. IsTaken type role asked key now bytes credential)
 taken_if type role asked key now bytes (Ok credential) gives = taken_is type role asked key now bytes credential gives
 taken_if type role asked key now bytes (Err fault) gives = tt

@@ -19,7 +19,7 @@ pub const MAX_ETYPES: usize = 64;
 /// A ticket that a client requests.
 #[derive(Drop)]
 pub struct Asked {
-    /// Its named bits are those of `krb_fields::KdcOption`.
+    /// The options. `krb_fields::KdcOption` names the bits.
     pub options: Flags,
     /// The client's name. The KDC-REQ-BODY has it only in an AS-REQ.
     pub client: Name,
@@ -43,7 +43,8 @@ impl Asked {
     /// Checks whether it can be requested: the realm has 1 to 255 bytes, the names are within the limits of a database,
     /// and there are at most [`MAX_ETYPES`] encryption types.
     pub fn is_askable(&self) -> bool
-        // Promise: whether a request can be made, and whether a credential can be presented.
+        // Promise: `is_askable` says whether a request can be made, and `is_presentable` whether a credential can be
+        // presented.
         ensures { result ≡ is_askable self.now }
     {
         is_component(self.realm.as_slice())

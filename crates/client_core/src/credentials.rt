@@ -26,10 +26,10 @@ pub fn credential_in<const TYPE: u8>(
     if !has_room(part) {
         return Ok(None);
     }
-    Ok(Some(credential_of(alloc, reply, part)?))
+    Ok(Some(make_credential(alloc, reply, part)?))
 }
 
-fn credential_of<const TYPE: u8>(
+fn make_credential<const TYPE: u8>(
     alloc: Global,
     reply: &KdcRepRef<'_, TYPE>,
     part: &EncKdcRepPart,
@@ -37,9 +37,9 @@ fn credential_of<const TYPE: u8>(
     requires { length (ticket.text reply.now.ticket) < 2 ^ 32 }
     ensures { IfOk result (λ credential. credential ≡ credential_of TYPE reply.now part.now) }
 {
-    let addresses = addresses_of(alloc, &part.caddr)?;
+    let addresses = copy_addresses(alloc, &part.caddr)?;
     let ticket = ticket_octets(alloc, &reply.ticket)?;
-    let parties = parties_of(alloc, reply, part)?;
+    let parties = copy_parties(alloc, reply, part)?;
     Ok(Credential {
         client: parties.client,
         server: parties.server,
@@ -61,7 +61,7 @@ struct Parties {
     key: SessionKey,
 }
 
-fn parties_of<const TYPE: u8>(
+fn copy_parties<const TYPE: u8>(
     alloc: Global,
     reply: &KdcRepRef<'_, TYPE>,
     part: &EncKdcRepPart,
@@ -69,13 +69,13 @@ fn parties_of<const TYPE: u8>(
     ensures { IfOk result (λ parties. parties ≡ parties_of TYPE reply.now part.now) }
 {
     Ok(Parties {
-        client: client_of(alloc, reply)?,
-        server: server_of(alloc, part)?,
-        key: key_of(alloc, &part.key)?,
+        client: copy_client(alloc, reply)?,
+        server: copy_server(alloc, part)?,
+        key: copy_session_key(alloc, &part.key)?,
     })
 }
 
-fn client_of<const TYPE: u8>(
+fn copy_client<const TYPE: u8>(
     alloc: Global,
     reply: &KdcRepRef<'_, TYPE>,
 ) -> Result<Principal, AllocError>
@@ -87,7 +87,7 @@ fn client_of<const TYPE: u8>(
     })
 }
 
-fn server_of(alloc: Global, part: &EncKdcRepPart) -> Result<Principal, AllocError>
+fn copy_server(alloc: Global, part: &EncKdcRepPart) -> Result<Principal, AllocError>
     ensures { IfOk result (λ server. server ≡ record { realm = part.now.srealm; name = part.now.sname }) }
 {
     Ok(Principal {
@@ -97,7 +97,7 @@ fn server_of(alloc: Global, part: &EncKdcRepPart) -> Result<Principal, AllocErro
 }
 
 /// Returns the session key, with its type cut to 16 bits.
-fn key_of(alloc: Global, key: &Typed) -> Result<SessionKey, AllocError>
+fn copy_session_key(alloc: Global, key: &Typed) -> Result<SessionKey, AllocError>
     ensures { IfOk result (λ made. made ≡ key_of key.now) }
 {
     Ok(SessionKey {
@@ -127,7 +127,7 @@ fn ticket_octets(alloc: Global, found: &TicketRef<'_>) -> Result<Octets, AllocEr
     Ok(Octets::new(write(alloc, &owned)?))
 }
 
-fn addresses_of(alloc: Global, caddr: &Option<Seq<Typed>>) -> Result<Seq<TypedOctets>, AllocError>
+fn copy_addresses(alloc: Global, caddr: &Option<Seq<Typed>>) -> Result<Seq<TypedOctets>, AllocError>
     ensures { IfOk result (λ addresses. addresses ≡ addresses_of caddr.now) }
 {
     match caddr {

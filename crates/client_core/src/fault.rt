@@ -1,7 +1,7 @@
 //! Why a reply is rejected.
 ghost use Rattle.std.specs.Prelude.{◌≡◌};
 ghost use Rattle.client_core.specs.Faults.{IsGiven, fault_of, unless_rejected};
-ghost use Rattle.client_core.specs.declared.fault.ClientFault.TheVariants.{Memory};
+ghost use Rattle.client_core.specs.declared.fault.ReplyError.TheVariants.{Memory};
 
 use krb_elements::Octets;
 use rule_lists::Attempt;
@@ -11,7 +11,7 @@ use std::fmt;
 
 /// What a client finds wrong with a reply, or with a KDC's information about its key.
 #[derive(Debug, Drop)]
-pub enum ClientFault {
+pub enum ReplyError {
     /// The bytes encode neither the reply nor a KRB-ERROR.
     NotAReply,
     /// The bytes encode a KRB-ERROR.
@@ -19,7 +19,7 @@ pub enum ClientFault {
     /// The reply answers another request.
     Mismatch(Mismatch),
     /// The encrypted part has another encryption type than the key, or the key doesn't decrypt it to the part of such a
-    /// reply; or its session key, or an address, has a type for which a credential has no room. For a password: no
+    /// reply. Or the session key or an address in it has a type for which a credential has no room. For a password: no
     /// entry has one of the four types.
     CannotOpen,
     /// The parameters of string-to-key are not four bytes, or their count is 0 or above [`crate::MAX_COUNT`].
@@ -46,7 +46,7 @@ pub struct ServerError {
     pub stime: i64,
 }
 
-/// How a reply differs from the request.
+/// The difference between a reply and the request.
 #[derive(Clone, Copy, Debug, PartialEq, Eq)]
 pub enum Mismatch {
     /// The client's realm or name.
@@ -60,68 +60,68 @@ pub enum Mismatch {
     Times,
 }
 
-/// Why a KDC's or a service's reply is rejected.
+/// The reason why a KDC's or a service's reply is rejected.
 #[derive(Clone, Copy, Debug, PartialEq, Eq)]
-pub enum Rejection {
+pub enum ReplyRefusal {
     /// The reply answers another request.
     Mismatched(Mismatch),
     /// The key does not decrypt the reply.
     Unopened,
 }
 
-impl From<Rejection> for ClientFault {
+impl From<ReplyRefusal> for ReplyError {
     ghost from_gives = { λ rejection e. e ≡ fault_of rejection };
 
-    fn from(rejection: Rejection) -> ClientFault {
+    fn from(rejection: ReplyRefusal) -> ReplyError {
         match rejection {
-            Rejection::Mismatched(what) => ClientFault::Mismatch(what),
-            Rejection::Unopened => ClientFault::CannotOpen,
+            ReplyRefusal::Mismatched(what) => ReplyError::Mismatch(what),
+            ReplyRefusal::Unopened => ReplyError::CannotOpen,
         }
     }
 }
 
 /// Returns what is found, or the fault for the rejection.
-pub fn unless_rejected<T: Drop>(found: Result<T, Rejection>) -> Result<T, ClientFault>
+pub fn unless_rejected<T: Drop>(found: Result<T, ReplyRefusal>) -> Result<T, ReplyError>
     ensures { result ≡ unless_rejected found }
 {
     Ok(found?)
 }
 
 /// Returns what is given, unless memory ran out.
-pub fn given<T: Drop>(found: Attempt<T, ClientFault>) -> Result<T, ClientFault>
+pub fn given<T: Drop>(found: Attempt<T, ReplyError>) -> Result<T, ReplyError>
     ensures { IsGiven found result }
 {
     match found {
         Ok(found) => found,
-        Err(AllocError) => Err(ClientFault::Memory),
+        Err(AllocError) => Err(ReplyError::Memory),
     }
 }
 
-impl From<AllocError> for ClientFault {
+impl From<AllocError> for ReplyError {
     ghost from_gives = { λ _ e. e ≡ Memory };
 
-    fn from(_error: AllocError) -> ClientFault {
-        ClientFault::Memory
+    fn from(_error: AllocError) -> ReplyError {
+        ReplyError::Memory
     }
 }
 
-impl<T: Drop> From<AllocFailed<T>> for ClientFault {
+impl<T: Drop> From<AllocFailed<T>> for ReplyError {
     ghost from_gives = { λ _ e. e ≡ Memory };
 
-    fn from(_error: AllocFailed<T>) -> ClientFault {
-        ClientFault::Memory
+    fn from(_error: AllocFailed<T>) -> ReplyError {
+        ReplyError::Memory
     }
 }
 
-impl fmt::Display for ClientFault {
+impl fmt::Display for ReplyError {
     fn fmt<W: fmt::Write>(&self, f: &mut fmt::Formatter<W>) -> fmt::Result {
         match self {
-            ClientFault::NotAReply => f.write_str("the octets are no reply"),
-            ClientFault::Refused(refusal) => write!(f, "refused with code {}", refusal.error.code),
-            ClientFault::Mismatch(what) => write!(f, "the reply has another {what}"),
-            ClientFault::CannotOpen => f.write_str("the key does not open the reply"),
-            ClientFault::CountTooLarge => f.write_str("the count of iterations is out of range"),
-            ClientFault::Memory => f.write_str("out of memory"),
+            ReplyError::NotAReply => f.write_str("the octets are no reply"),
+            ReplyError::Refused(refusal) => write!(f, "refused with code {}", refusal.error.code),
+            ReplyError::Mismatch(what) => write!(f, "the reply has another {what}"),
+            ReplyError::CannotOpen => f.write_str("the key does not open the reply"),
+            ReplyError::CountTooLarge => f.write_str("the count of iterations is out of range"),
+            ReplyError::Memory => f.write_str("out of memory"),
         }
     }
 }
@@ -137,4 +137,4 @@ impl fmt::Display for Mismatch {
     }
 }
 
-impl Error for ClientFault {}
+impl Error for ReplyError {}

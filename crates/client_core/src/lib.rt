@@ -43,9 +43,9 @@ mod sessions;
 mod tgs_requests;
 
 pub use asked::{Asked, MAX_ETYPES};
-pub use fault::{ClientFault, Mismatch, Refusal, ServerError};
+pub use fault::{Mismatch, Refusal, ReplyError, ServerError};
 pub use key_role::KeyRole;
-pub use passwords::{EtypeInfo2, MAX_COUNT, count_of, entry_of, password_key};
+pub use passwords::{EtypeInfo2, MAX_COUNT, iteration_count, password_key, usable_entry};
 pub use replies::{
     judge_as_reply, judge_tgs_reply, read_as_reply, read_tgs_reply, refusal_in, ticket_reply_in,
 };

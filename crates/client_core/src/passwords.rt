@@ -4,7 +4,7 @@ ghost use Rattle.encrypted_data.specs.Keys as keys;
 ghost use Rattle.client_core.specs.Faults.{Gives};
 ghost use Rattle.client_core.specs.Passwords.{count_if, count_in, count_of, entry_of, key_as, password_key, salt_of};
 
-use crate::fault::{ClientFault, given};
+use crate::fault::{ReplyError, given};
 use encrypted_data::type_numbered;
 use enctypes::{Etype, Key, string_to_key};
 use krb_elements::{KerberosString, Octets, Seq};
@@ -27,8 +27,8 @@ pub fn password_key(
     realm: &[u8],
     name: &Name,
     info: &EtypeInfo2,
-) -> Result<Key, ClientFault>
-    // Promise, as read_ap_reply: what the service says ..
+) -> Result<Key, ReplyError>
+    // Promise, as read_ap_reply: the contents of an ..
     ensures { Gives result (password_key pass.now realm.now name.now info.now) }
 {
     given(key_in(alloc, pass, realm, name, info))
@@ -40,17 +40,17 @@ fn key_in(
     realm: &[u8],
     name: &Name,
     info: &EtypeInfo2,
-) -> Attempt<Key, ClientFault>
+) -> Attempt<Key, ReplyError>
     ensures { IfOk result (λ found. found ≡ password_key pass.now realm.now name.now info.now) }
 {
-    match entry_of(info.as_slice()) {
-        Some(entry) => key_as(alloc, pass, realm, name, entry),
-        None => Ok(Err(ClientFault::CannotOpen)),
+    match usable_entry(info.as_slice()) {
+        Some(entry) => entry_key(alloc, pass, realm, name, entry),
+        None => Ok(Err(ReplyError::CannotOpen)),
     }
 }
 
 /// Returns the entry that a password's key is derived from: the first one with one of the four types.
-pub fn entry_of(info: &[EtypeInfo2Entry]) -> Option<&EtypeInfo2Entry>
+pub fn usable_entry(info: &[EtypeInfo2Entry]) -> Option<&EtypeInfo2Entry>
     ensures { option_copied result ≡ entry_of info.now }
 {
     for entry in info {
@@ -61,29 +61,29 @@ pub fn entry_of(info: &[EtypeInfo2Entry]) -> Option<&EtypeInfo2Entry>
     None
 }
 
-fn key_as(
+fn entry_key(
     alloc: Global,
     pass: &[u8],
     realm: &[u8],
     name: &Name,
     entry: &EtypeInfo2Entry,
-) -> Attempt<Key, ClientFault>
+) -> Attempt<Key, ReplyError>
     ensures { IfOk result (λ found.
         found ≡ key_as pass.now realm.now name.now entry.now (keys.type_numbered entry.now.etype)) }
 {
     let Some(etype) = type_numbered(entry.etype) else {
-        return Ok(Err(ClientFault::CannotOpen));
+        return Ok(Err(ReplyError::CannotOpen));
     };
-    let Some(count) = count_of(etype, &entry.s2kparams) else {
-        return Ok(Err(ClientFault::CountTooLarge));
+    let Some(count) = iteration_count(etype, &entry.s2kparams) else {
+        return Ok(Err(ReplyError::CountTooLarge));
     };
-    let salt = salt_of(alloc, realm, name, entry)?;
+    let salt = entry_salt(alloc, realm, name, entry)?;
     let key = string_to_key(alloc, etype, pass, salt.as_slice(), count)?;
     Ok(Ok(key))
 }
 
 /// Returns the entry's salt, else the default one.
-fn salt_of(
+fn entry_salt(
     alloc: Global,
     realm: &[u8],
     name: &Name,
@@ -99,7 +99,7 @@ fn salt_of(
 
 /// Returns the count of iterations in an entry: that of its parameters, or else the type's own. `None` if the
 /// parameters are not four bytes, or the count is 0 or above [`MAX_COUNT`].
-pub fn count_of(etype: Etype, params: &Option<Octets>) -> Option<u32>
+pub fn iteration_count(etype: Etype, params: &Option<Octets>) -> Option<u32>
     ensures value { result ≡ count_of etype params.now }
     ensures some { IfSome result (λ count. 1 ≤ count) }
 {
@@ -120,10 +120,10 @@ fn count_in(params: &[u8]) -> Option<u32>
     if !rest.is_empty() {
         return None;
     }
-    count_if(u32::from_be_bytes(*octets))
+    accepted_count(u32::from_be_bytes(*octets))
 }
 
-fn count_if(count: u32) -> Option<u32>
+fn accepted_count(count: u32) -> Option<u32>
     ensures value { result ≡ count_if count }
     ensures some { IfSome result (λ count. 1 ≤ count) }
 {

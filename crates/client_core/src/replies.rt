@@ -16,7 +16,7 @@ ghost use Rattle.client_core.specs.declared.key_role.KeyRole.TheVariants as role
 use crate::asked::Asked;
 use crate::credentials::credential_in;
 use crate::fault::{
-    ClientFault, Mismatch, Refusal, Rejection, ServerError, given, unless_rejected,
+    Mismatch, Refusal, ReplyError, ReplyRefusal, ServerError, given, unless_rejected,
 };
 use crate::key_role::KeyRole;
 use cred_files::Credential;
@@ -39,14 +39,14 @@ pub fn read_as_reply(
     key: &Key,
     at: Moment,
     bytes: &[u8],
-) -> Result<Credential, ClientFault>
-    // Promise: a reply becomes exactly the credential of its definition, or the first error, unless memory runs out.
+) -> Result<Credential, ReplyError>
+    // Promise: reading a reply gives the credential of the definition, or the first error, unless memory runs out.
     ensures value { Gives result (reads_as asked.now key.now at.sec bytes.now) }
     // So the bytes are the reply to this request.
-    // Promise: a reply is taken only if client, nonce and service are those that were asked for, and the ticket ends by
-    // the time asked for, if any.
-    // Promise: a reply whose ticket says when it starts is taken only if that is within 300 seconds of now, unless
-    // POSTDATED, RENEW or VALIDATE was asked for.
+    // Promise: a reply is accepted only if its client, nonce and service are the requested ones, and the ticket ends no
+    // later than requested.
+    // Promise: a reply whose ticket says when it starts is accepted only if that is within 300 seconds of now, unless
+    // POSTDATED, RENEW or VALIDATE was requested.
     ensures taken { IfOk result (λ credential.
         IsTaken AS_REP roles.Client asked.now key.now at.sec bytes.now credential) }
 {
@@ -63,11 +63,11 @@ pub fn read_tgs_reply(
     subkey: bool,
     at: Moment,
     bytes: &[u8],
-) -> Result<Credential, ClientFault>
-    // Promise, as read_as_reply: a reply becomes exactly ..
+) -> Result<Credential, ReplyError>
+    // Promise, as read_as_reply: reading a reply gives ..
     ensures value { Gives result (reads_tgs asked.now key.now subkey at.sec bytes.now) }
     // So the bytes are the reply to this request.
-    // Promise, as read_as_reply: a reply is taken ..
+    // Promise, as read_as_reply: a reply is accepted ..
     // Promise, as read_as_reply: a reply whose ticket ..
     ensures taken { IfOk result (λ credential.
         IsTaken TGS_REP (tgs_role subkey) asked.now key.now at.sec bytes.now credential) }
@@ -82,14 +82,14 @@ pub fn judge_as_reply(
     key: &Key,
     at: Moment,
     reply: &KdcRepRef<'_, AS_REP>,
-) -> Result<Credential, ClientFault>
+) -> Result<Credential, ReplyError>
     requires { length (ticket.text reply.now.ticket) < 2 ^ 32 }
     ensures { Gives result (judged AS_REP roles.Client asked.now key.now at.sec reply.now) }
 {
     given(judged(alloc, KeyRole::Client, asked, key, at, reply))
 }
 
-/// Does the same for a TGS-REP.
+/// Returns the credential in a TGS-REP, like [`read_tgs_reply`], for a caller that has already read the bytes.
 pub fn judge_tgs_reply(
     alloc: Global,
     asked: &Asked,
@@ -97,7 +97,7 @@ pub fn judge_tgs_reply(
     subkey: bool,
     at: Moment,
     reply: &KdcRepRef<'_, TGS_REP>,
-) -> Result<Credential, ClientFault>
+) -> Result<Credential, ReplyError>
     requires { length (ticket.text reply.now.ticket) < 2 ^ 32 }
     ensures { Gives result (judged TGS_REP (tgs_role subkey) asked.now key.now at.sec reply.now) }
 {
@@ -121,7 +121,7 @@ fn read_reply<const TYPE: u8>(
     key: &Key,
     at: Moment,
     bytes: &[u8],
-) -> Attempt<Credential, ClientFault>
+) -> Attempt<Credential, ReplyError>
     ensures { IfOk result (λ found. found ≡ reads TYPE role asked.now key.now at.sec bytes.now) }
 {
     let reply = reply_in::<TYPE>(alloc, bytes)?;
@@ -134,8 +134,8 @@ fn if_reply<const TYPE: u8>(
     asked: &Asked,
     key: &Key,
     at: Moment,
-    reply: Result<KdcRepRef<'_, TYPE>, ClientFault>,
-) -> Attempt<Credential, ClientFault>
+    reply: Result<KdcRepRef<'_, TYPE>, ReplyError>,
+) -> Attempt<Credential, ReplyError>
     requires { IfOk reply (λ reply. length (ticket.text reply.ticket) < 2 ^ 32) }
     ensures { IfOk result (λ found. found ≡ if_reply TYPE role asked.now key.now at.sec reply.entry) }
 {
@@ -152,12 +152,12 @@ fn judged<const TYPE: u8>(
     key: &Key,
     at: Moment,
     reply: &KdcRepRef<'_, TYPE>,
-) -> Attempt<Credential, ClientFault>
+) -> Attempt<Credential, ReplyError>
     requires { length (ticket.text reply.now.ticket) < 2 ^ 32 }
     ensures { IfOk result (λ found. found ≡ judged TYPE role asked.now key.now at.sec reply.now) }
 {
-    let opened = opened_as(alloc, role, key, &reply.enc_part)?;
-    let part = part_of(asked, key, reply, opened);
+    let opened = open_reply_part(alloc, role, key, &reply.enc_part)?;
+    let part = checked_part(asked, key, reply, opened);
     let found = if_part(alloc, asked, at, reply, part)?;
     Ok(unless_rejected(found))
 }
@@ -166,7 +166,7 @@ fn judged<const TYPE: u8>(
 fn reply_in<'a, const TYPE: u8>(
     alloc: Global,
     bytes: &'a [u8],
-) -> Attempt<KdcRepRef<'a, TYPE>, ClientFault>
+) -> Attempt<KdcRepRef<'a, TYPE>, ReplyError>
     ensures value { IfOk result (λ found. found ≡ reply_in TYPE bytes.now) }
     ensures short { IfOk result (λ found. IfOk found (λ reply. length (ticket.text reply.ticket) < 2 ^ 32)) }
 {
@@ -192,13 +192,13 @@ pub fn ticket_reply_in<const TYPE: u8>(bytes: &[u8]) -> Option<KdcRepRef<'_, TYP
 }
 
 /// Returns the refusal in a KRB-ERROR. Other bytes are not a reply.
-pub fn refusal_in(alloc: Global, bytes: &[u8]) -> Result<ClientFault, AllocError>
+pub fn refusal_in(alloc: Global, bytes: &[u8]) -> Result<ReplyError, AllocError>
     ensures { IfOk result (λ fault. fault ≡ refusal_in bytes.now) }
 {
     let Ok(error) = read::<KrbErrorRef<'_>>(bytes) else {
-        return Ok(ClientFault::NotAReply);
+        return Ok(ReplyError::NotAReply);
     };
-    Ok(ClientFault::Refused(Refusal {
+    Ok(ReplyError::Refused(Refusal {
         error: ServerError {
             code: error.error_code,
             stime: error.stime.seconds(),
@@ -217,7 +217,7 @@ fn copied(alloc: Global, found: &Option<OctetsRef<'_>>) -> Result<Option<Octets>
 }
 
 /// Decrypts the reply's part.
-fn opened_as(
+fn open_reply_part(
     alloc: Global,
     role: KeyRole,
     key: &Key,
@@ -282,8 +282,8 @@ fn if_part<const TYPE: u8>(
     asked: &Asked,
     at: Moment,
     reply: &KdcRepRef<'_, TYPE>,
-    part: Result<EncKdcRepPart, Rejection>,
-) -> Attempt<Credential, Rejection>
+    part: Result<EncKdcRepPart, ReplyRefusal>,
+) -> Attempt<Credential, ReplyRefusal>
     requires { length (ticket.text reply.now.ticket) < 2 ^ 32 }
     ensures { IfOk result (λ found. found ≡ if_part TYPE asked.now at.sec reply.now part) }
 {
@@ -294,33 +294,33 @@ fn if_part<const TYPE: u8>(
 }
 
 /// Returns the part of a reply to this client, under this key.
-fn part_of<const TYPE: u8>(
+fn checked_part<const TYPE: u8>(
     asked: &Asked,
     key: &Key,
     reply: &KdcRepRef<'_, TYPE>,
     opened: Option<EncKdcRepPart>,
-) -> Result<EncKdcRepPart, Rejection>
+) -> Result<EncKdcRepPart, ReplyRefusal>
     ensures { result ≡ part_of TYPE asked.now key.now reply.now opened }
 {
     let rules = reply_rules(asked, key, reply);
-    decide(&rules, opened, Rejection::Unopened)
+    decide(&rules, opened, ReplyRefusal::Unopened)
 }
 
 fn reply_rules<const TYPE: u8>(
     asked: &Asked,
     key: &Key,
     reply: &KdcRepRef<'_, TYPE>,
-) -> [(bool, Rejection); 2]
+) -> [(bool, ReplyRefusal); 2]
     ensures { result ≡ reply_rules TYPE asked.now key.now reply.now }
 {
     [
         (
             is_other_client(asked, reply),
-            Rejection::Mismatched(Mismatch::Client),
+            ReplyRefusal::Mismatched(Mismatch::Client),
         ),
         (
             reply.enc_part.etype != key.etype().number(),
-            Rejection::Unopened,
+            ReplyRefusal::Unopened,
         ),
     ]
 }
@@ -339,13 +339,13 @@ fn taken<const TYPE: u8>(
     at: Moment,
     reply: &KdcRepRef<'_, TYPE>,
     part: &EncKdcRepPart,
-) -> Attempt<Credential, Rejection>
+) -> Attempt<Credential, ReplyRefusal>
     requires { length (ticket.text reply.now.ticket) < 2 ^ 32 }
     ensures { IfOk result (λ found. found ≡ taken TYPE asked.now at.sec reply.now part.now) }
 {
     let rules = part_rules(asked, at, &reply.ticket, part);
     let credential = credential_in(alloc, reply, part)?;
-    Ok(decide(&rules, credential, Rejection::Unopened))
+    Ok(decide(&rules, credential, ReplyRefusal::Unopened))
 }
 
 fn part_rules(
@@ -353,21 +353,21 @@ fn part_rules(
     at: Moment,
     ticket: &TicketRef<'_>,
     part: &EncKdcRepPart,
-) -> [(bool, Rejection); 3]
+) -> [(bool, ReplyRefusal); 3]
     ensures { result ≡ part_rules asked.now at.sec ticket.now part.now }
 {
     [
         (
             is_other_nonce(asked, part),
-            Rejection::Mismatched(Mismatch::Nonce),
+            ReplyRefusal::Mismatched(Mismatch::Nonce),
         ),
         (
             is_other_service(asked, ticket, part),
-            Rejection::Mismatched(Mismatch::Service),
+            ReplyRefusal::Mismatched(Mismatch::Service),
         ),
         (
             ends_too_late(asked, part) || starts_elsewhere(asked, at, part),
-            Rejection::Mismatched(Mismatch::Times),
+            ReplyRefusal::Mismatched(Mismatch::Times),
         ),
     ]
 }

@@ -27,7 +27,7 @@ use std::alloc::{AllocError, Global};
 /// Returns the bytes of an AS-REQ without preauthentication.
 pub fn as_request(alloc: Global, asked: &Asked) -> Result<Vec<u8>, AllocError>
     requires { IsAskable asked.now }
-    // Promise (written, spelled): a request is the one encoding of what is asked, which spells it.
+    // Promise (written, spelled): a request is written as the definition says, in bytes that spell what is requested.
     ensures written { IfOk result (λ v. v.items ≡ written (message As) (asks_as None asked.now)) }
     ensures spelled { IfOk result (λ v. SpellsKdcReq (As, asks_as None asked.now) v.items) }
 {
@@ -44,7 +44,7 @@ pub fn with_timestamp(
     confounder: &[u8; 16],
 ) -> Result<Vec<u8>, AllocError>
     requires { IsAskable asked.now }
-    // Promise (written, spelled), as as_request: a request is the ..
+    // Promise (written, spelled), as as_request: a request is written ..
     ensures written { IfOk result (λ v.
         v.items ≡ written (message As) (asks_with_timestamp asked.now key.now at confounder.now)) }
     ensures spelled { IfOk result (λ v.

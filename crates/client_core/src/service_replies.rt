@@ -6,7 +6,7 @@ ghost use Rattle.client_core.specs.Faults.{Gives};
 ghost use Rattle.client_core.specs.ServiceReplies.{ap_part, ap_part_rules, ap_reply_in, ap_rules, if_ap_part};
 ghost use Rattle.client_core.specs.ServiceReplies.{if_ap_reply, reads_ap, repeated};
 
-use crate::fault::{ClientFault, Mismatch, Rejection, given, unless_rejected};
+use crate::fault::{Mismatch, ReplyError, ReplyRefusal, given, unless_rejected};
 use crate::replies::refusal_in;
 use encrypted_data::open_part;
 use enctypes::{Key, KeyUsage};
@@ -22,20 +22,20 @@ pub fn read_ap_reply(
     key: &Key,
     sent: Moment,
     bytes: &[u8],
-) -> Result<EncApRepPart, ClientFault>
-    // Promise: what the service says in an AP-REP is returned, if it repeats the moment that was sent; a password's key
-    // is that of the definition, or the first error.
+) -> Result<EncApRepPart, ReplyError>
+    // Promise: the contents of an AP-REP are returned if they repeat the moment that was sent; a password's key is that
+    // of the definition, or the first error is returned.
     ensures value { Gives result (reads_ap key.now sent bytes.now) }
 {
-    given(ap_reply(alloc, key, sent, bytes))
+    given(judged_ap_reply(alloc, key, sent, bytes))
 }
 
-fn ap_reply(
+fn judged_ap_reply(
     alloc: Global,
     key: &Key,
     sent: Moment,
     bytes: &[u8],
-) -> Attempt<EncApRepPart, ClientFault>
+) -> Attempt<EncApRepPart, ReplyError>
     ensures { IfOk result (λ found. found ≡ reads_ap key.now sent bytes.now) }
 {
     let reply = ap_reply_in(alloc, bytes)?;
@@ -46,8 +46,8 @@ fn if_ap_reply(
     alloc: Global,
     key: &Key,
     sent: Moment,
-    reply: Result<ApRepRef<'_>, ClientFault>,
-) -> Attempt<EncApRepPart, ClientFault>
+    reply: Result<ApRepRef<'_>, ReplyError>,
+) -> Attempt<EncApRepPart, ReplyError>
     ensures { IfOk result (λ found. found ≡ if_ap_reply key.now sent reply.entry) }
 {
     match reply {
@@ -60,7 +60,7 @@ fn if_ap_reply(
 }
 
 /// Returns the AP-REP, or what the bytes are instead.
-fn ap_reply_in<'a>(alloc: Global, bytes: &'a [u8]) -> Attempt<ApRepRef<'a>, ClientFault>
+fn ap_reply_in<'a>(alloc: Global, bytes: &'a [u8]) -> Attempt<ApRepRef<'a>, ReplyError>
     ensures { IfOk result (λ found. found ≡ ap_reply_in bytes.now) }
 {
     match read::<ApRepRef<'a>>(bytes) {
@@ -70,29 +70,29 @@ fn ap_reply_in<'a>(alloc: Global, bytes: &'a [u8]) -> Attempt<ApRepRef<'a>, Clie
 }
 
 /// Decrypts the part with the session key.
-fn ap_part(alloc: Global, key: &Key, reply: &ApRepRef<'_>) -> Attempt<EncApRepPart, Rejection>
+fn ap_part(alloc: Global, key: &Key, reply: &ApRepRef<'_>) -> Attempt<EncApRepPart, ReplyRefusal>
     ensures { IfOk result (λ found. found ≡ ap_part key.now reply.now) }
 {
     let rules = ap_rules(key, reply);
     let cipher = reply.enc_part.cipher.as_slice();
     let opened = open_part(alloc, key, KeyUsage::ApRepEncPart, cipher)?;
-    Ok(decide(&rules, opened, Rejection::Unopened))
+    Ok(decide(&rules, opened, ReplyRefusal::Unopened))
 }
 
-fn ap_rules(key: &Key, reply: &ApRepRef<'_>) -> [(bool, Rejection); 1]
+fn ap_rules(key: &Key, reply: &ApRepRef<'_>) -> [(bool, ReplyRefusal); 1]
     ensures { result ≡ ap_rules key.now reply.now }
 {
     [(
         reply.enc_part.etype != key.etype().number(),
-        Rejection::Unopened,
+        ReplyRefusal::Unopened,
     )]
 }
 
 /// Returns the part, if it repeats the moment that was sent.
 fn if_ap_part(
     sent: Moment,
-    part: Result<EncApRepPart, Rejection>,
-) -> Result<EncApRepPart, Rejection>
+    part: Result<EncApRepPart, ReplyRefusal>,
+) -> Result<EncApRepPart, ReplyRefusal>
     ensures { result ≡ if_ap_part sent part }
 {
     match part {
@@ -101,18 +101,18 @@ fn if_ap_part(
     }
 }
 
-fn repeated(sent: Moment, part: EncApRepPart) -> Result<EncApRepPart, Rejection>
+fn repeated(sent: Moment, part: EncApRepPart) -> Result<EncApRepPart, ReplyRefusal>
     ensures { result ≡ repeated sent part }
 {
     let rules = ap_part_rules(sent, &part);
-    decide(&rules, Some(part), Rejection::Unopened)
+    decide(&rules, Some(part), ReplyRefusal::Unopened)
 }
 
-fn ap_part_rules(sent: Moment, part: &EncApRepPart) -> [(bool, Rejection); 1]
+fn ap_part_rules(sent: Moment, part: &EncApRepPart) -> [(bool, ReplyRefusal); 1]
     ensures { result ≡ ap_part_rules sent part.now }
 {
     [(
         part.ctime.seconds() != sent.sec || part.cusec.get() != sent.usec,
-        Rejection::Mismatched(Mismatch::Times),
+        ReplyRefusal::Mismatched(Mismatch::Times),
     )]
 }

@@ -31,7 +31,7 @@ pub fn ap_request(
 ) -> Result<Vec<u8>, AllocError>
     requires presentable { definitions.IsPresentable credential.now }
     requires checksum { IsShortChecksum asked.now.checksum }
-    // Promise (written, spelled), as as_request: a request is the ..
+    // Promise (written, spelled), as as_request: a request is written ..
     ensures written { IfSome (definitions.session credential.now) (λ session. IfOk result (λ v.
         v.items ≡ written ap_req (asks_ap credential.now.client session at asked.now confounder.now))) }
     ensures spelled { IfSome (definitions.session credential.now) (λ session. IfOk result (λ v.

@@ -5,7 +5,7 @@ ghost use Rattle.client_core.specs.Sessions.{IsPresentable, is_presentable, sess
 ghost use Rattle.client_core.specs.Sessions as definitions;
 
 use cred_files::Credential;
-use encrypted_data::key_of;
+use encrypted_data::supported_key;
 use enctypes::Key;
 use krb_elements::read;
 use krb_fields::is_component;
@@ -26,10 +26,10 @@ pub struct Session {
 
 /// Returns the credential's session key; `None` if its type isn't one of the four, or its length doesn't fit its type.
 pub fn session_key(credential: &Credential) -> Option<Key>
-    // Promise, as Asked::is_askable: whether a request can ..
+    // Promise, as Asked::is_askable: `is_askable` says whether a ..
     ensures { result ≡ session_key credential.now }
 {
-    key_of(
+    supported_key(
         i32::from(credential.key.key_type),
         credential.key.octets.as_slice(),
     )
@@ -38,7 +38,7 @@ pub fn session_key(credential: &Credential) -> Option<Key>
 /// Checks whether the credential can be presented: its key has one of the four types, its ticket encodes a Ticket and
 /// has at most [`MAX_OCTETS_SENT`] bytes, and the client's realm and name are within the limits of a database.
 pub fn is_presentable(credential: &Credential) -> bool
-    // Promise, as Asked::is_askable: whether a request can ..
+    // Promise, as Asked::is_askable: `is_askable` says whether a ..
     ensures { result ≡ is_presentable credential.now }
 {
     let ticket = credential.ticket.as_slice();

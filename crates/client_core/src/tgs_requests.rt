@@ -38,14 +38,15 @@ pub fn tgs_request(
 ) -> Result<Vec<u8>, AllocError>
     requires askable { IsAskable asked.now }
     requires presentable { definitions.IsPresentable credential.now }
-    // Promise (written, spelled), as as_request: a request is the ..
+    // Promise (written, spelled), as as_request: a request is written ..
     ensures written { IfSome (definitions.session credential.now) (λ session. IfOk result (λ v.
         v.items ≡ written (message Tgs)
         (asks_tgs asked.now credential.now.client session at subkey confounder.now))) }
     ensures spelled { IfSome (definitions.session credential.now) (λ session. IfOk result (λ v.
         SpellsKdcReq (Tgs, asks_tgs asked.now credential.now.client session at subkey confounder.now) v.items)) }
     // The session key decrypts the authenticator in it to the one of this client and moment.
-    // Promise: the session key decrypts the authenticator of a TGS-REQ and of an AP-REQ to what the client says.
+    // Promise: the session key decrypts the authenticator of a TGS-REQ and of an AP-REQ to the one of this client and
+    // moment.
     ensures opens { IfSome (definitions.session credential.now) (λ session. IfOk result (λ v.
         decrypted parts.authenticator session.key (usage_number TgsReqAuthenticator)
         (tgs_presents credential.now.client session at subkey confounder.now (body_of None asked.now)).authenticator

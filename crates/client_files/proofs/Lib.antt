@@ -2,3 +2,4 @@ mod ConfigLaws
 mod HeldCaches
 mod NamedCaches
 mod NewCaches
+mod Tokens

@@ -1,7 +1,9 @@
 -- The path of a cache that a name or the environment gives.
-use Rattle.std.specs.Prelude.{◌≡◌, ◌==◌, ◌&&◌, ◌++◌, ℕ, Bool, true, false, List, length, nat_lt, slice_get, codes, decimal, bytes_eq}
+use Rattle.std.specs.Prelude.{◌≡◌, ◌==◌, ◌<◌, ◌&&◌, ◌||◌, ◌++◌, ℕ, Bool, List, length, nat_lt, slice_get, take, drop}
+use Rattle.std.specs.Prelude.{codes, decimal, bytes_eq}
 use Rattle.std.specs.Prelude.{Option, Some, None, Result, Ok, Err, if◌then◌else◌}
 use Rattle.std.specs.List.{after_first, before_first, position_or_len}
+use Rattle.std.specs.Str.Pattern.{FindsText}
 use Rattle.file_store.specs.declared.variable.Variable.{Variable}
 use Rattle.file_store.specs.declared.variable.Variable.TheVariants as variables
 use Rattle.krb5_conf.specs.Values.{library_values}
@@ -25,22 +27,30 @@ path_in name = if is_file name then after_first (λ b. b == 0x3A) name else name
 abbrev pub own_path : ℕ → List ℕ
 own_path user = codes "/tmp/krb5cc_" ++ decimal user
 
--- there are tokens such as %{uid} in a text (25 is the percent sign)
-abbrev pub has_tokens : List ℕ → Bool
-has_tokens text = nat_lt (position_or_len (λ b. b == 0x25) text) (length text)
+-- what a token stands for: the user's number, or the folder of temporary files
+abbrev pub token_text : ℕ → List ℕ → Option (List ℕ)
+token_text user token =
+    if bytes_eq token (codes "uid") || bytes_eq token (codes "euid") then Some (decimal user)
+    else if bytes_eq token (codes "TEMP") then Some (codes "/tmp")
+    else None
 
--- the path of a name with tokens is any; that of another one is in the name
-abbrev pub IsExpandedIf : Bool → List ℕ → List ℕ → Type 0
-IsExpandedIf true name path = Unit {0}
-IsExpandedIf false name path = path ≡ name
+-- a token stands between `%{` and the next `}` (7D)
+pub record HasToken (token after text : List ℕ) : Type 0 where
+  pub closes : position_or_len (λ b. b == 0x7D) text < length text
+  pub token_is : token ≡ before_first (λ b. b == 0x7D) text
+  pub after_is : after ≡ after_first (λ b. b == 0x7D) text
 
-abbrev pub IsExpanded : List ℕ → List ℕ → Type 0
-IsExpanded name path = IsExpandedIf (has_tokens name) name path
+-- the path of a name: from the first `%{` on, each token's text in place of the token
+pub data IsExpanded (user : ℕ) : List ℕ → List ℕ → Type 0 where
+  plain : (name : List ℕ) → FindsText (codes "%{") name None → IsExpanded user name name
+  with_token : (name token text after rest : List ℕ) (i j : ℕ) → FindsText (codes "%{") name (Some (i, j))
+      → HasToken token after (drop j name) → token_text user token ≡ Some text → IsExpanded user after rest
+      → IsExpanded user name (take i name ++ text ++ rest)
 
 -- by the value of `default_ccache_name`
 abbrev pub IsSettingCache : ℕ → Option (List ℕ) → List ℕ → Type 0
 IsSettingCache user None path = path ≡ own_path user
-IsSettingCache user (Some name) path = IsExpanded (path_in name) path
+IsSettingCache user (Some name) path = IsExpanded user (path_in name) path
 
 abbrev pub IsConfigCache : ℕ → FoundConfig → List ℕ → Type 0
 IsConfigCache user (Read config) path =

@@ -6,16 +6,20 @@ ghost use Rattle.client_files.specs.Caches.{HasCache, new_cache};
 ghost use Rattle.file_store.specs.World.{with_file, without_file};
 
 use crate::client_store::{ClientStore, PathKind};
-use crate::faults::{Cause, Fault, at, at_file};
-use cred_files::{Cache, CredFault, Credential, Keytab};
-use file_store::{FileCause, read_file, write_unsynced};
+use crate::faults::{ClientError, StepError, at, at_file};
+use cred_files::{Cache, CredError, Credential, Keytab};
+use file_store::{FileError, read_file, write_unsynced};
 use std::alloc::Global;
 use std::io;
 use std::io::{Error, ErrorKind};
 
 /// Reads the user's own cache.
 #[tactic(auto, using(crate::proofs::HeldCaches::held))]
-pub fn read_cache<T: ClientStore>(alloc: Global, store: &mut T, path: &str) -> Result<Cache, Fault>
+pub fn read_cache<T: ClientStore>(
+    alloc: Global,
+    store: &mut T,
+    path: &str,
+) -> Result<Cache, ClientError>
     ensures read { IfOk result (λ cache. HasCache (T.world store.old) path.now cache) }
     // Promise: reading a cache, a keytab or a `krb5.conf` with what it includes, and finding the cache's path, changes
     // no file.
@@ -24,11 +28,11 @@ pub fn read_cache<T: ClientStore>(alloc: Global, store: &mut T, path: &str) -> R
     at(alloc, path, check_cache(store.path_kind(path)))?;
     let octets = match read_file(alloc, store, path) {
         Ok(octets) => octets,
-        Err(fault) => return Err(Fault::of_file(alloc, fault)),
+        Err(fault) => return Err(ClientError::of_file(alloc, fault)),
     };
     match Cache::read(alloc, &octets) {
         Ok(cache) => Ok(cache),
-        Err(fault) => Err(Fault::new(alloc, path, Cause::from(fault))),
+        Err(fault) => Err(ClientError::new(alloc, path, StepError::from(fault))),
     }
 }
 
@@ -37,7 +41,7 @@ pub fn read_keytab<T: ClientStore>(
     alloc: Global,
     store: &mut T,
     path: &str,
-) -> Result<Keytab, Fault>
+) -> Result<Keytab, ClientError>
     // Promise, as read_cache: reading a cache, a ..
     ensures unchanged { T.world store.new ≡ T.world store.old }
 {
@@ -46,31 +50,31 @@ pub fn read_keytab<T: ClientStore>(
     at(
         alloc,
         path,
-        Keytab::read(alloc, &octets).map_err(Cause::of_keytab),
+        Keytab::read(alloc, &octets).map_err(StepError::of_keytab),
     )
 }
 
 /// Checks whether the path has a file, or nothing.
-fn check_plain(found: io::Result<PathKind>) -> Result<(), Cause> {
+fn check_plain(found: io::Result<PathKind>) -> Result<(), StepError> {
     match found {
-        Ok(PathKind::NoFile) => Err(Cause::File(FileCause::Failed(no_file()))),
+        Ok(PathKind::NoFile) => Err(StepError::File(FileError::Failed(no_file()))),
         Ok(_) => Ok(()),
-        Err(error) => Err(Cause::File(FileCause::Failed(error))),
+        Err(error) => Err(StepError::File(FileError::Failed(error))),
     }
 }
 
 /// Checks whether the path has a cache, and whether it is the user's own.
-fn check_cache(found: io::Result<PathKind>) -> Result<(), Cause> {
+fn check_cache(found: io::Result<PathKind>) -> Result<(), StepError> {
     match found {
-        Ok(PathKind::Free) => Err(Cause::NoCache),
+        Ok(PathKind::Free) => Err(StepError::NoCache),
         found => check_ours(found),
     }
 }
 
 /// Checks whether the cache at the path is the user's own, or there is none.
-fn check_ours(found: io::Result<PathKind>) -> Result<(), Cause> {
+fn check_ours(found: io::Result<PathKind>) -> Result<(), StepError> {
     match found {
-        Ok(PathKind::Others) => Err(Cause::NotOurs),
+        Ok(PathKind::Others) => Err(StepError::NotOurs),
         found => check_plain(found),
     }
 }
@@ -84,12 +88,12 @@ fn no_file() -> Error {
 
 /// Makes a new cache for the credential's client, with the credential.
 #[tactic(auto, unfolding(cred_files::specs::Cache::cache_head))]
-fn make_cache(alloc: Global, credential: &Credential) -> Result<Cache, Cause>
+fn make_cache(alloc: Global, credential: &Credential) -> Result<Cache, StepError>
     // Promise: the cache that `kinit` makes holds its credential alone.
     ensures { IfOk result (λ cache. cache ≡ new_cache credential.now) }
 {
     if !credential.has_room() {
-        return Err(Cause::Cache(CredFault::BadEntry));
+        return Err(StepError::Cache(CredError::BadEntry));
     }
     let client = &credential.client;
     let mut cache = Cache::new(alloc, client.realm.as_slice(), &client.name)?;
@@ -102,14 +106,14 @@ pub fn put_credential(
     alloc: Global,
     cache: &mut Cache,
     credential: &Credential,
-) -> Result<(), Cause>
+) -> Result<(), StepError>
     // Promise (ok, err): a credential is put in place of the first one of the same service, else at the end.
     ensures ok { OnOk result (
         cache.new ≡ record cache.old { credentials = put_first credential.now cache.old.credentials }) }
     ensures err { OnErr result (cache.new ≡ cache.old) }
 {
     if !credential.has_room() {
-        return Err(Cause::Cache(CredFault::BadEntry));
+        return Err(StepError::Cache(CredError::BadEntry));
     }
     Ok(cache.put(alloc, credential)?)
 }
@@ -121,7 +125,7 @@ pub fn write_new_cache<T: ClientStore>(
     store: &mut T,
     path: &str,
     credential: &Credential,
-) -> Result<(), Fault>
+) -> Result<(), ClientError>
     // Promise (written, unchanged), as write_cache: **a cache is written ..
     ensures written { OnOk result (T.world store.new
         ≡ option_map (with_file path.now (cache_text (new_cache credential.now))) (T.world store.old)) }
@@ -138,7 +142,7 @@ pub fn write_cache<T: ClientStore>(
     store: &mut T,
     path: &str,
     cache: &Cache,
-) -> Result<(), Fault>
+) -> Result<(), ClientError>
     // Promise (written, unchanged): **a cache is written whole, or nothing changes**: its file then has the bytes of
     // the cache (of a new cache, of the credential alone), and every other path is as it was.
     ensures written { OnOk result (T.world store.new
@@ -148,12 +152,16 @@ pub fn write_cache<T: ClientStore>(
     let octets = cache.write(alloc)?;
     match write_unsynced(alloc, store, path, &octets) {
         Ok(()) => Ok(()),
-        Err(fault) => Err(Fault::of_file(alloc, fault)),
+        Err(fault) => Err(ClientError::of_file(alloc, fault)),
     }
 }
 
 /// Removes the user's own cache. After an `Err` the path is unchanged.
-pub fn remove_cache<T: ClientStore>(alloc: Global, store: &mut T, path: &str) -> Result<(), Fault>
+pub fn remove_cache<T: ClientStore>(
+    alloc: Global,
+    store: &mut T,
+    path: &str,
+) -> Result<(), ClientError>
     // Promise (removed, unchanged): a cache is removed, or nothing changes: then there is no file, and every other path
     // is as it was.
     ensures removed { OnOk result (
@@ -162,11 +170,11 @@ pub fn remove_cache<T: ClientStore>(alloc: Global, store: &mut T, path: &str) ->
 {
     match remove_ours(alloc, store, path) {
         Ok(()) => Ok(()),
-        Err(cause) => Err(Fault::new(alloc, path, cause)),
+        Err(cause) => Err(ClientError::new(alloc, path, cause)),
     }
 }
 
-fn remove_ours<T: ClientStore>(alloc: Global, store: &mut T, path: &str) -> Result<(), Cause>
+fn remove_ours<T: ClientStore>(alloc: Global, store: &mut T, path: &str) -> Result<(), StepError>
     ensures removed { OnOk result (
         T.world store.new ≡ option_map (without_file path.now) (T.world store.old)) }
     ensures unchanged { OnErr result (T.world store.new ≡ T.world store.old) }
@@ -174,6 +182,6 @@ fn remove_ours<T: ClientStore>(alloc: Global, store: &mut T, path: &str) -> Resu
     check_cache(store.path_kind(path))?;
     match store.remove(alloc, path) {
         Ok(()) => Ok(()),
-        Err(error) => Err(Cause::File(FileCause::Failed(error))),
+        Err(error) => Err(StepError::File(FileError::Failed(error))),
     }
 }

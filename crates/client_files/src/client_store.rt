@@ -1,5 +1,5 @@
-//! What a client requires of its files beyond a [`Store`]: who owns them, what a folder contains, how to remove a file,
-//! and the clock's moment.
+//! The store of a client. Beyond a [`Store`] it knows who owns a file and what a folder contains, removes files, and
+//! has a clock.
 ghost use Rattle.std.specs.Prelude.{◌≡◌, IfOk, OnErr, OnOk, option_map};
 ghost use Rattle.client_files.specs.Clocks.{IsShown};
 ghost use Rattle.file_store.specs.World.{without_file};
@@ -72,7 +72,7 @@ where
     R::Reader: IsTerminal,
 {
     fn path_kind(&mut self, path: &str) -> io::Result<PathKind> {
-        path_kind_of(self.files(), path)
+        find_path_kind(self.files(), path)
     }
 
     fn user(&mut self) -> io::Result<u32> {
@@ -88,11 +88,11 @@ where
     }
 
     fn names_in(&mut self, alloc: Global, path: &str) -> io::Result<Vec<String>> {
-        names_of(alloc, self.files(), path)
+        list_names(alloc, self.files(), path)
     }
 }
 
-fn names_of<R: Files + Alloc + Clone + Drop>(
+fn list_names<R: Files + Alloc + Clone + Drop>(
     alloc: Global,
     files: &R,
     path: &str,
@@ -110,7 +110,7 @@ fn push_name(alloc: Global, names: &mut Vec<String>, name: &str) -> Result<(), A
     Ok(names.push(String::from_str(alloc, name)?)?)
 }
 
-fn path_kind_of(files: &impl Files, path: &str) -> io::Result<PathKind> {
+fn find_path_kind(files: &impl Files, path: &str) -> io::Result<PathKind> {
     let there = match fs::metadata(files, path) {
         Ok(there) => there,
         Err(error) if error.kind() == ErrorKind::NotFound => return Ok(PathKind::Free),

@@ -1,7 +1,8 @@
 //! A `krb5.conf`: its text with the files that it includes, its default realm, and the KDCs of a realm.
 ghost use Rattle.std.specs.Prelude.{◌≡◌, ◌==◌, ◌<◌, ◌^◌, ◌↔◌, IfOk, IfSome, IsSome, map, option_map, slice_get};
 ghost use Rattle.std.specs.Str.Parse.{IsNumeral, digits_value};
-ghost use Rattle.client_files.specs.Configs.{ArePlaces, ArePlacesOf, IsDefaultRealm, IsHostPlace, IsHostText, IsNamed, IsPlace};
+ghost use Rattle.client_files.specs.Configs.{ArePlaces, ArePlacesOf, IsDefaultRealm, IsHostPlace, IsHostText, IsNamed};
+ghost use Rattle.client_files.specs.Configs.{IsPlace};
 ghost use Rattle.client_files.specs.Configs.{HasPort, IsShownAs};
 ghost use Rattle.krb_fields.specs.NameText.{component_text};
 ghost use Rattle.krb5_conf.specs.Values.{library_values};
@@ -9,11 +10,11 @@ ghost use Rattle.std.specs.List.{after_first, before_first};
 
 use crate::client_store::{ClientStore, PathKind};
 use crate::environment::Defaults;
-use crate::faults::{Cause, Fault, at_file};
-use crate::principals::{name_of, principal_of};
+use crate::faults::{ClientError, StepError, at_file};
+use crate::principals::{make_principal, parse_name};
 use client_login::KdcPlace;
 use cred_files::Principal;
-use file_store::{FileCause, LONGEST_FILE, read_file};
+use file_store::{FileError, LONGEST_FILE, read_file};
 use krb_elements::KerberosString;
 use krb_fields::{component_to_text, is_component};
 use krb5_conf::{Included, default_realm, kdc_address, kdcs, library_settings};
@@ -26,7 +27,7 @@ use text_fields::number_u32;
 pub struct Config {
     path: String,
     text: Vec<u8>,
-    /// What was passed over, a line for each.
+    /// A line for each file that was passed over.
     notes: String,
 }
 
@@ -52,13 +53,13 @@ struct Reading {
 }
 
 impl Config {
-    /// Reads the file that the environment names, or else the system's, with the files that it includes. What is no
-    /// plain file is passed over, and so is what is included more than three deep; `notes` says so.
+    /// Reads the file that the environment names, or else the system's, with the files that it includes. It passes over
+    /// what is not a plain file, and files that are included more than three deep; `notes` lists both.
     pub fn read<T: ClientStore>(
         alloc: Global,
         store: &mut T,
         defaults: &Defaults<'_>,
-    ) -> Result<Config, Fault>
+    ) -> Result<Config, ClientError>
         // Promise, as read_cache: reading a cache, a ..
         ensures unchanged { T.world store.new ≡ T.world store.old }
     {
@@ -93,50 +94,50 @@ impl Config {
         Ok(found.first().copied())
     }
 
-    /// Returns what was passed over, a line for each.
+    /// Returns a line for each file that was passed over.
     pub fn notes(&self) -> &str {
         self.notes.as_str()
     }
 
     /// Returns the default realm.
-    pub fn default_realm(&self, alloc: Global) -> Result<KerberosString, Fault>
+    pub fn default_realm(&self, alloc: Global) -> Result<KerberosString, ClientError>
         // Promise, as Client::over of client_sockets: **a client is the ..
         ensures { IfOk result (λ realm. IsDefaultRealm self.now realm) }
     {
         match default_realm(alloc, &self.text)? {
             Some(realm) if is_component(realm) => Ok(KerberosString::from_slice(alloc, realm)?),
-            Some(_) => Err(Fault::new(alloc, self.path.as_str(), Cause::BadRealm)),
-            None => Err(Fault::new(alloc, self.path.as_str(), Cause::NoRealm)),
+            Some(_) => Err(ClientError::new(alloc, self.path.as_str(), StepError::BadRealm)),
+            None => Err(ClientError::new(alloc, self.path.as_str(), StepError::NoRealm)),
         }
     }
 
     /// Returns the principal that a text names: `alice@EXAMPLE.COM`, or `alice` of the default realm.
-    pub fn principal(&self, alloc: Global, text: &str) -> Result<Principal, Fault>
+    pub fn principal(&self, alloc: Global, text: &str) -> Result<Principal, ClientError>
         // Promise, as Client::over of client_sockets: **a client is the ..
         ensures { IfOk result (λ principal. IsNamed self.now text.now principal) }
     {
         match text.split_once('@') {
-            Some((name, realm)) => principal_of(alloc, text, name, realm),
+            Some((name, realm)) => make_principal(alloc, text, name, realm),
             None => Ok(Principal {
                 realm: self.default_realm(alloc)?,
-                name: name_of(alloc, text)?,
+                name: parse_name(alloc, text)?,
             }),
         }
     }
 
     /// Returns where the KDCs of a realm are, at least one. It looks up no name.
-    pub fn kdcs(&self, alloc: Global, realm: &[u8]) -> Result<Vec<KdcPlace>, Fault>
+    pub fn kdcs(&self, alloc: Global, realm: &[u8]) -> Result<Vec<KdcPlace>, ClientError>
         // Promise, as Client::over of client_sockets: the KDCs that a ..
         ensures { IfOk result (λ places. ArePlacesOf self.now realm.now places.items) }
     {
-        let places = places_of(alloc, &kdcs(alloc, &self.text, realm)?)?;
+        let places = parse_places(alloc, &kdcs(alloc, &self.text, realm)?)?;
         if !places.is_empty() {
             return Ok(places);
         }
         let realm = component_to_text(alloc, realm)?;
         let path = self.path.as_str();
         let subject = format!(in alloc; "{path}: {realm}")?;
-        Err(Fault::of(subject, Cause::NoKdc))
+        Err(ClientError::of(subject, StepError::NoKdc))
     }
 }
 
@@ -144,7 +145,7 @@ fn with_included<T: ClientStore>(
     alloc: Global,
     store: &mut T,
     reading: Reading,
-) -> Result<Reading, Fault>
+) -> Result<Reading, ClientError>
     ensures unchanged { T.world store.new ≡ T.world store.old }
 {
     let Reading { text, notes } = reading;
@@ -169,7 +170,7 @@ fn push_line<T: ClientStore>(
     store: &mut T,
     whole: &mut Reading,
     line: &[u8],
-) -> Result<(), Fault>
+) -> Result<(), ClientError>
     ensures unchanged { T.world store.new ≡ T.world store.old }
 {
     match Included::read(line) {
@@ -182,12 +183,12 @@ fn push_line<T: ClientStore>(
 }
 
 /// Returns the path that a line includes.
-fn included_path(alloc: Global, path: &[u8]) -> Result<&str, Fault> {
+fn included_path(alloc: Global, path: &[u8]) -> Result<&str, ClientError> {
     match str::from_utf8(path) {
         Ok(path) => Ok(path),
         Err(_) => {
             let shown = component_to_text(alloc, path)?;
-            Err(Fault::of(shown, Cause::BadSetting(PATH_NOT_UTF8)))
+            Err(ClientError::of(shown, StepError::BadSetting(PATH_NOT_UTF8)))
         }
     }
 }
@@ -207,10 +208,10 @@ fn note_deeper(alloc: Global, reading: &mut Reading) -> Result<(), AllocError> {
 }
 
 /// Appends a text and a line feed.
-fn push_text(alloc: Global, whole: &mut Reading, text: &[u8]) -> Result<(), Fault> {
+fn push_text(alloc: Global, whole: &mut Reading, text: &[u8]) -> Result<(), ClientError> {
     if whole.text.len() > LONGEST_FILE {
-        let cause = Cause::File(FileCause::LongFile);
-        return Err(Fault::new(alloc, "the krb5.conf with all that it includes", cause));
+        let cause = StepError::File(FileError::LongFile);
+        return Err(ClientError::new(alloc, "the krb5.conf with all that it includes", cause));
     }
     whole.text.extend_from_slice(text)?;
     Ok(whole.text.push(b'\n')?)
@@ -221,12 +222,16 @@ fn push_folder<T: ClientStore>(
     store: &mut T,
     whole: &mut Reading,
     folder: &str,
-) -> Result<(), Fault>
+) -> Result<(), ClientError>
     ensures unchanged { T.world store.new ≡ T.world store.old }
 {
     match store.names_in(alloc, folder) {
         Ok(names) => push_files(alloc, store, whole, folder, &names),
-        Err(error) => Err(Fault::new(alloc, folder, Cause::File(FileCause::Failed(error)))),
+        Err(error) => Err(ClientError::new(
+            alloc,
+            folder,
+            StepError::File(FileError::Failed(error)),
+        )),
     }
 }
 
@@ -236,7 +241,7 @@ fn push_files<T: ClientStore>(
     whole: &mut Reading,
     folder: &str,
     names: &[String],
-) -> Result<(), Fault>
+) -> Result<(), ClientError>
     ensures unchanged { T.world store.new ≡ T.world store.old }
 {
     for name in names {
@@ -257,13 +262,13 @@ fn has_plain_name(name: &str) -> bool {
     name.bytes().all(|octet| octet.is_ascii_alphanumeric() || octet == b'-' || octet == b'_')
 }
 
-/// Appends the text of a file. What is no plain file is passed over: opening it may wait forever.
+/// Appends the text of a file. It passes over what is not a plain file: opening that may wait forever.
 fn push_file<T: ClientStore>(
     alloc: Global,
     store: &mut T,
     whole: &mut Reading,
     path: &str,
-) -> Result<(), Fault>
+) -> Result<(), ClientError>
     ensures unchanged { T.world store.new ≡ T.world store.old }
 {
     if let Ok(PathKind::NoFile) = store.path_kind(path) {
@@ -282,18 +287,18 @@ fn push_file<T: ClientStore>(
 const KDC_PORT: u16 = 88;
 
 /// Returns where the KDCs are that texts name.
-fn places_of(alloc: Global, texts: &[&[u8]]) -> Result<Vec<KdcPlace>, AllocError>
+fn parse_places(alloc: Global, texts: &[&[u8]]) -> Result<Vec<KdcPlace>, AllocError>
     ensures { IfOk result (λ places. ArePlaces (map (λ text. text.now) texts.now) places.items) }
 {
     let mut places = Vec::new(alloc);
     for text in texts {
-        places.push(place_of(alloc, text)?)?;
+        places.push(parse_place(alloc, text)?)?;
     }
     Ok(places)
 }
 
 /// Returns where the KDC is that a text names.
-fn place_of(alloc: Global, text: &[u8]) -> Result<KdcPlace, AllocError>
+fn parse_place(alloc: Global, text: &[u8]) -> Result<KdcPlace, AllocError>
     ensures { IfOk result (λ place. IsPlace text.now place) }
 {
     match kdc_address(alloc, text)? {

@@ -1,5 +1,5 @@
 //! Where a client's files are, by the environment.
-use crate::faults::Fault;
+use crate::faults::ClientError;
 use file_store::Variable;
 
 /// What the environment names.
@@ -24,10 +24,10 @@ const CONFIG_NOT_UTF8: &str = "KRB5_CONFIG, which names the krb5.conf to be read
 
 impl<'a> Defaults<'a> {
     /// Returns the path of the `krb5.conf`: that of `KRB5_CONFIG`, or else the system's.
-    pub fn config_path(&self) -> Result<&'a str, Fault> {
+    pub fn config_path(&self) -> Result<&'a str, ClientError> {
         match self.config {
             Variable::Absent => Ok(CONFIG),
-            Variable::NotUtf8 => Err(Fault::usage(CONFIG_NOT_UTF8)),
+            Variable::NotUtf8 => Err(ClientError::usage(CONFIG_NOT_UTF8)),
             Variable::Text(path) => Ok(path),
         }
     }

@@ -1,38 +1,38 @@
-//! Why a client can't go on, and what that concerns.
+//! The errors of a client: what went wrong, and which file, KDC or word it concerns.
 ghost use Rattle.std.specs.Prelude.{◌≡◌, IfOk, Ok};
 
-use client_login::{KdcPlace, Kdcs, LoginError, LoginFault};
-use cred_files::CredFault;
-use file_store::{FileCause, FileFault};
+use client_login::{KdcPlace, Kdcs, LoginError, TicketError};
+use cred_files::CredError;
+use file_store::{FileError, PathError};
 use krb_fields::{NameFault, component_to_text, numbers};
 use std::alloc::{AllocError, AllocFailed, Global};
 use std::net::SocketAddr;
 use std::{fmt, io};
 
-/// Why a client can't go on, and what that concerns.
+/// An error of a client. It names the file, the KDC or the word that it concerns.
 #[derive(Drop)]
-pub struct Fault {
-    /// A file, KDCs, or a word. Absent if memory ran out, or if the cause says what it concerns.
+pub struct ClientError {
+    /// A file, KDCs or a word. Absent if memory ran out, or if the cause itself says what it concerns.
     pub subject: Option<String>,
-    /// What is wrong. A message has it after the subject.
-    pub cause: Cause,
+    /// What went wrong. A message has it after the subject.
+    pub cause: StepError,
 }
 
-/// Why a client can't go on.
+/// What went wrong in a step of a client.
 #[derive(Clone, Copy)]
-pub enum Cause {
+pub enum StepError {
     /// A word of the command line, or a variable of the environment, has a form that is not accepted. The text says so.
     Usage(&'static str),
     /// A text is not the name of a principal.
     BadName,
-    /// What is wrong with a file, or with what takes its place.
-    File(FileCause),
+    /// A file can't be read or written, or is refused.
+    File(FileError),
     /// The line with a password has more than 1,024 bytes.
     LongPassword,
-    /// What is wrong with the contents of a cache.
-    Cache(CredFault),
-    /// What is wrong with the contents of a keytab.
-    Keytab(CredFault),
+    /// The contents of a cache are invalid, or lack what is needed.
+    Cache(CredError),
+    /// The contents of a keytab are invalid, or lack what is needed.
+    Keytab(CredError),
     /// There is no cache.
     NoCache,
     /// The cache belongs to another user, or others may write it.
@@ -55,7 +55,7 @@ pub enum Cause {
     BadSetting(&'static str),
     /// A `krb5.conf` has no KDC of the realm.
     NoKdc,
-    /// None of the hosts that are named as KDCs has a known address.
+    /// No host that is named as a KDC has a known address.
     NotAnAddress,
     /// A login got no ticket.
     Login(LoginError),
@@ -67,20 +67,19 @@ pub enum Cause {
     Memory,
 }
 
-impl Cause {
-    /// Returns the cause for what is wrong with a keytab.
-    pub(crate) fn of_keytab(fault: CredFault) -> Cause {
+impl StepError {
+    /// Returns the cause for an error of a keytab.
+    pub(crate) fn of_keytab(fault: CredError) -> StepError {
         match fault {
-            CredFault::Memory => Cause::Memory,
-            fault => Cause::Keytab(fault),
+            CredError::Memory => StepError::Memory,
+            fault => StepError::Keytab(fault),
         }
     }
 
-    /// Returns the cause if the client's keys are those of a keytab: a login that fails because of the key is then one
-    /// with an old key.
-    pub fn by_keytab(self) -> Cause {
+    /// Returns the cause for a login with a keytab. If the key is to blame, the cause is `OldKey`.
+    pub fn by_keytab(self) -> StepError {
         match self {
-            Cause::Login(why) if is_keys(why) => Cause::OldKey(why),
+            StepError::Login(why) if is_keys(why) => StepError::OldKey(why),
             cause => cause,
         }
     }
@@ -95,109 +94,118 @@ fn is_keys(why: LoginError) -> bool {
     }
 }
 
-impl Fault {
-    /// Returns the fault for a form that is not accepted.
-    pub fn usage(text: &'static str) -> Fault {
-        Fault {
+impl ClientError {
+    /// Returns the usage error with this text.
+    pub fn usage(text: &'static str) -> ClientError {
+        ClientError {
             subject: None,
-            cause: Cause::Usage(text),
+            cause: StepError::Usage(text),
         }
     }
 
-    /// Returns the fault for a cause and what it concerns.
-    pub fn new(alloc: Global, subject: &str, cause: Cause) -> Fault {
+    /// Returns the error with this subject and cause. It copies the subject.
+    pub fn new(alloc: Global, subject: &str, cause: StepError) -> ClientError {
         match String::from_str(alloc, subject) {
-            Ok(subject) => Fault::of(subject, cause),
-            Err(error) => Fault::from(error),
+            Ok(subject) => ClientError::of(subject, cause),
+            Err(error) => ClientError::from(error),
         }
     }
 
-    /// Returns the fault for a cause and what it concerns.
-    pub fn of(subject: String, cause: Cause) -> Fault {
+    /// Returns the error with this subject and cause.
+    pub fn of(subject: String, cause: StepError) -> ClientError {
         match cause {
-            Cause::Memory => Fault::from(AllocError),
-            _ => Fault {
+            StepError::Memory => ClientError::from(AllocError),
+            _ => ClientError {
                 subject: Some(subject),
                 cause,
             },
         }
     }
 
-    /// Returns the same fault again.
-    pub fn copy(&self, alloc: Global) -> Fault {
+    /// Returns a copy of the error.
+    pub fn copy(&self, alloc: Global) -> ClientError {
         match &self.subject {
-            Some(subject) => Fault::new(alloc, subject.as_str(), self.cause),
-            None => Fault {
+            Some(subject) => ClientError::new(alloc, subject.as_str(), self.cause),
+            None => ClientError {
                 subject: None,
                 cause: self.cause,
             },
         }
     }
 
-    /// Returns the fault for a file that could not be read or written, or is refused.
-    pub fn of_file(alloc: Global, fault: FileFault<'_>) -> Fault {
-        Fault::new(alloc, fault.path, Cause::File(fault.cause))
+    /// Returns the error for a file that can't be read or written, or is refused.
+    pub fn of_file(alloc: Global, fault: PathError<'_>) -> ClientError {
+        ClientError::new(alloc, fault.path, StepError::File(fault.cause))
     }
 
-    /// Returns the fault for a login that got no ticket. It names the KDC whose reply says so, or all KDCs if none
+    /// Returns the error for a login that got no ticket. Its subject is the KDC whose reply says so, all KDCs if none
     /// replied, or else `source`: the keytab, the cache or the service.
-    pub fn of_login<X>(alloc: Global, kdcs: &Kdcs<X>, source: &str, fault: LoginFault) -> Fault {
+    pub fn of_login<X>(
+        alloc: Global,
+        kdcs: &Kdcs<X>,
+        source: &str,
+        fault: TicketError,
+    ) -> ClientError {
         match login_fault(alloc, kdcs, source, fault) {
             Ok(fault) => fault,
-            Err(error) => Fault::from(error),
+            Err(error) => ClientError::from(error),
         }
     }
 }
 
-/// Returns what is found, or the fault for what a file or a word is refused for.
-pub fn at<T: Drop>(alloc: Global, subject: &str, found: Result<T, Cause>) -> Result<T, Fault>
+/// Returns the value, or the error with this subject.
+pub fn at<T: Drop>(
+    alloc: Global,
+    subject: &str,
+    found: Result<T, StepError>,
+) -> Result<T, ClientError>
     ensures { IfOk result (λ value. found ≡ Ok value) }
 {
     match found {
         Ok(value) => Ok(value),
-        Err(cause) => Err(Fault::new(alloc, subject, cause)),
+        Err(cause) => Err(ClientError::new(alloc, subject, cause)),
     }
 }
 
-/// Returns what was read or written, or the fault of the file.
-pub fn at_file<T: Drop>(alloc: Global, done: Result<T, FileFault<'_>>) -> Result<T, Fault>
+/// Returns the value, or the error with the file as its subject.
+pub fn at_file<T: Drop>(alloc: Global, done: Result<T, PathError<'_>>) -> Result<T, ClientError>
     ensures { IfOk result (λ value. done.entry ≡ Ok value) }
 {
     match done {
         Ok(value) => Ok(value),
-        Err(fault) => Err(Fault::of_file(alloc, fault)),
+        Err(fault) => Err(ClientError::of_file(alloc, fault)),
     }
 }
 
-/// Returns the password that was read from a source, or the fault of the source.
+/// Returns the password that was read from a source, or the error with the source as its subject.
 pub fn at_password(
     alloc: Global,
     source: &str,
-    read: Result<Option<Vec<u8>>, FileFault<'_>>,
-) -> Result<Vec<u8>, Fault> {
+    read: Result<Option<Vec<u8>>, PathError<'_>>,
+) -> Result<Vec<u8>, ClientError> {
     match at_file(alloc, read)? {
         Some(pass) => Ok(pass),
-        None => Err(Fault::new(alloc, source, Cause::LongPassword)),
+        None => Err(ClientError::new(alloc, source, StepError::LongPassword)),
     }
 }
 
-/// Returns the fault for a login that got no ticket.
+/// Returns the error for a login that got no ticket.
 fn login_fault<X>(
     alloc: Global,
     kdcs: &Kdcs<X>,
     source: &str,
-    fault: LoginFault,
-) -> Result<Fault, AllocError> {
+    fault: TicketError,
+) -> Result<ClientError, AllocError> {
     match fault.why {
         LoginError::Memory => Err(AllocError),
         LoginError::Silence(error) => silence(alloc, kdcs, error),
-        why => Ok(Fault::of(blamed(alloc, source, fault)?, Cause::Login(why))),
+        why => Ok(ClientError::of(blamed(alloc, source, fault)?, StepError::Login(why))),
     }
 }
 
-/// Returns what to blame: the KDC that the fault names, or else the source. A keytab without a key of a type that the
-/// KDC names is to blame itself.
-fn blamed(alloc: Global, source: &str, fault: LoginFault) -> Result<String, AllocError> {
+/// Returns the subject of a login's error: the KDC that the error names, or else the source. If a keytab lacks a key of
+/// the types that the KDC names, the subject is the keytab.
+fn blamed(alloc: Global, source: &str, fault: TicketError) -> Result<String, AllocError> {
     match (fault.why, fault.kdc) {
         (LoginError::NoKey, _) => String::from_str(alloc, source),
         (_, Some(kdc)) => format!(in alloc; "{kdc}"),
@@ -205,14 +213,14 @@ fn blamed(alloc: Global, source: &str, fault: LoginFault) -> Result<String, Allo
     }
 }
 
-/// Returns the fault for KDCs that don't reply, or whose addresses are unknown.
-fn silence<X>(alloc: Global, kdcs: &Kdcs<X>, error: io::Error) -> Result<Fault, AllocError> {
+/// Returns the error for KDCs that don't reply, or whose addresses are unknown.
+fn silence<X>(alloc: Global, kdcs: &Kdcs<X>, error: io::Error) -> Result<ClientError, AllocError> {
     let addresses = addresses_text(alloc, &kdcs.places)?;
     let unknown = unknown_hosts(alloc, &kdcs.places)?;
     if addresses.is_empty() && !unknown.is_empty() {
-        return Ok(Fault::of(unknown, Cause::NotAnAddress));
+        return Ok(ClientError::of(unknown, StepError::NotAnAddress));
     }
-    Ok(Fault::of(addresses, Cause::Silent(error, kdcs.failures())))
+    Ok(ClientError::of(addresses, StepError::Silent(error, kdcs.failures())))
 }
 
 /// Returns the known addresses of KDCs, with a comma between two.
@@ -252,48 +260,48 @@ fn begin_item(list: &mut String) -> Result<(), AllocError> {
     list.push_str(", ")
 }
 
-impl From<AllocError> for Fault {
-    fn from(_: AllocError) -> Fault {
-        Fault {
+impl From<AllocError> for ClientError {
+    fn from(_: AllocError) -> ClientError {
+        ClientError {
             subject: None,
-            cause: Cause::Memory,
+            cause: StepError::Memory,
         }
     }
 }
 
-impl<T: Drop> From<AllocFailed<T>> for Fault {
-    fn from(_: AllocFailed<T>) -> Fault {
-        Fault::from(AllocError)
+impl<T: Drop> From<AllocFailed<T>> for ClientError {
+    fn from(_: AllocFailed<T>) -> ClientError {
+        ClientError::from(AllocError)
     }
 }
 
-impl From<AllocError> for Cause {
-    fn from(_: AllocError) -> Cause {
-        Cause::Memory
+impl From<AllocError> for StepError {
+    fn from(_: AllocError) -> StepError {
+        StepError::Memory
     }
 }
 
-/// Converts what is wrong with a cache.
-impl From<CredFault> for Cause {
-    fn from(fault: CredFault) -> Cause {
+/// An error of a cache, unless it is that memory ran out.
+impl From<CredError> for StepError {
+    fn from(fault: CredError) -> StepError {
         match fault {
-            CredFault::Memory => Cause::Memory,
-            fault => Cause::Cache(fault),
+            CredError::Memory => StepError::Memory,
+            fault => StepError::Cache(fault),
         }
     }
 }
 
-impl From<NameFault> for Cause {
-    fn from(fault: NameFault) -> Cause {
+impl From<NameFault> for StepError {
+    fn from(fault: NameFault) -> StepError {
         match fault {
-            NameFault::BadName => Cause::BadName,
-            NameFault::Memory => Cause::Memory,
+            NameFault::BadName => StepError::BadName,
+            NameFault::Memory => StepError::Memory,
         }
     }
 }
 
-/// Writes what it concerns, and why.
-impl fmt::Display for Fault {
+/// Writes the subject, if there is one, and the cause.
+impl fmt::Display for ClientError {
     fn fmt<W: fmt::Write>(&self, f: &mut fmt::Formatter<W>) -> fmt::Result {
         match &self.subject {
             Some(subject) => write!(f, "{subject}: {}", self.cause),

@@ -2,7 +2,7 @@
 ghost use Rattle.std.specs.Prelude.{◌≡◌, IfOk};
 ghost use Rattle.client_files.specs.CachePaths.{path_in};
 
-use crate::faults::Fault;
+use crate::faults::ClientError;
 
 /// Where a name comes from.
 #[derive(Clone, Copy)]
@@ -46,21 +46,21 @@ impl NameOf {
 
 /// Returns the path in a name, or what is wrong with the name. A word and a colon at the start give the type of the
 /// name. To name a path that begins like that, put a slash before the colon, as in `./a:b`.
-pub fn path_in(name: &str, of: NameOf) -> Result<&str, Fault>
+pub fn file_path(name: &str, of: NameOf) -> Result<&str, ClientError>
     ensures { IfOk result (λ path. path.now ≡ path_in name.now) }
 {
     match name.split_once(':') {
         Some((front, path)) if front == "FILE" => path_there(path, of),
-        Some((front, _)) if !front.contains('/') => Err(Fault::usage(of.other_type())),
+        Some((front, _)) if !front.contains('/') => Err(ClientError::usage(of.other_type())),
         _ => path_there(name, of),
     }
 }
 
-fn path_there(path: &str, of: NameOf) -> Result<&str, Fault>
+fn path_there(path: &str, of: NameOf) -> Result<&str, ClientError>
     ensures { IfOk result (λ there. there.now ≡ path.now) }
 {
     if path.is_empty() {
-        return Err(Fault::usage(of.no_path()));
+        return Err(ClientError::usage(of.no_path()));
     }
     Ok(path)
 }

@@ -1,18 +1,22 @@
 //! Credentials of a cache, and whether they can still be used.
-ghost use Rattle.std.specs.Prelude.{◌≡◌, option_copied};
-ghost use Rattle.client_files.specs.Holding.{good_credential, if_good, is_good};
+ghost use Rattle.std.specs.Prelude.{◌≡◌, IfOk, Some, option_copied};
+ghost use Rattle.client_files.specs.Holding.{good_credential, granting_credential, if_good, is_good};
 
-use crate::faults::Cause;
-use cred_files::{Cache, CredFault, Credential};
+use crate::faults::StepError;
+use cred_files::{Cache, CredError, Credential};
 use krb_fields::{Moment, Name, TicketFlag, tgs_name};
 use std::alloc::Global;
 
 /// Returns the cache's ticket-granting ticket.
-pub fn granting_ticket(alloc: Global, cache: &Cache) -> Result<&Credential, Cause> {
+pub fn granting_ticket(alloc: Global, cache: &Cache) -> Result<&Credential, StepError>
+    // Promise: a cache's ticket-granting ticket is the first for the ticket-granting service of its client's realm
+    // with a key of the four types.
+    ensures { IfOk result (λ granting. granting_credential cache.now ≡ Some granting.now) }
+{
     let service = tgs_name(alloc, cache.principal().realm.as_slice())?;
     match cache.find(&service) {
         Ok(granting) => Ok(granting),
-        Err(_) => Err(Cause::Cache(CredFault::Absent)),
+        Err(_) => Err(StepError::Cache(CredError::Absent)),
     }
 }
 

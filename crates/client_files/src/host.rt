@@ -1,4 +1,4 @@
-//! What a client reads of its computer, once.
+//! What a client knows of its computer. It is read once.
 ghost use Rattle.std.specs.Prelude.{◌≡◌, ◌++◌, IfOk, codes, decimal, string_bytes};
 ghost use Rattle.client_files.specs.CachePaths.{IsDefaultCache, IsOwnCache, own_path};
 ghost use Rattle.client_files.specs.declared.host.FoundConfig.TheVariants.{Read};
@@ -7,13 +7,14 @@ ghost use Rattle.client_files.specs.Hosts.{HasConfig};
 use crate::client_store::{ClientStore, PathKind};
 use crate::configs::Config;
 use crate::environment::{CACHE_NOT_UTF8, Defaults};
-use crate::faults::{Cause, Fault};
-use crate::file_names::{NameOf, path_in};
-use file_store::{FileCause, Variable};
+use crate::faults::{ClientError, StepError};
+use crate::file_names::{NameOf, file_path};
+use file_store::{FileError, Variable};
 use std::alloc::{AllocError, Global};
 use std::io;
 
-/// What a client reads of its computer, once: what the environment names, the number of its user, and its `krb5.conf`.
+/// What a client knows of its computer: the variables of the environment, the user's number, and the `krb5.conf`. It is
+/// read once.
 #[derive(Drop)]
 pub struct Host<'a> {
     /// What the environment names.
@@ -24,15 +25,15 @@ pub struct Host<'a> {
     pub config: FoundConfig,
 }
 
-/// What came of reading a `krb5.conf`.
+/// The result of reading a `krb5.conf`.
 #[derive(Drop)]
 pub enum FoundConfig {
     /// It was read.
     Read(Config),
-    /// There is none. The fault is for those who need one.
-    Absent(Fault),
+    /// There is none. The error is for commands that need one.
+    Absent(ClientError),
     /// It could not be read.
-    Unread(Fault),
+    Unread(ClientError),
 }
 
 impl<'a> Host<'a> {
@@ -53,30 +54,30 @@ impl<'a> Host<'a> {
 
     /// Returns the path of the cache: that of `KRB5CCNAME`, or else of the `krb5.conf`, or else the user's own, which
     /// MIT's and Heimdal's clients use too.
-    pub fn cache_path(&self, alloc: Global) -> Result<String, Fault>
+    pub fn cache_path(&self, alloc: Global) -> Result<String, ClientError>
         // Promise: **the default cache is that of what was read of the computer**: of `KRB5CCNAME`, else of
-        // `default_ccache_name`, else the user's own; what `%{uid}` stands for is tested.
+        // `default_ccache_name` with a text for each token such as `%{uid}`, else the user's own.
         ensures { IfOk result (λ path. IsDefaultCache self.now (string_bytes path)) }
     {
         match self.defaults.cache {
             Variable::Absent => self.own_path(alloc),
-            Variable::NotUtf8 => Err(Fault::usage(CACHE_NOT_UTF8)),
+            Variable::NotUtf8 => Err(ClientError::usage(CACHE_NOT_UTF8)),
             Variable::Text(name) => {
-                let path = path_in(name, NameOf::CacheVariable)?;
+                let path = file_path(name, NameOf::CacheVariable)?;
                 Ok(String::from_str(alloc, path)?)
             }
         }
     }
 
     /// Returns the path that the `krb5.conf` names for the user, or else the user's own.
-    fn own_path(&self, alloc: Global) -> Result<String, Fault>
+    fn own_path(&self, alloc: Global) -> Result<String, ClientError>
         ensures { IfOk result (λ path. IsOwnCache self.now.user self.now.config (string_bytes path)) }
     {
         let user = match self.user {
             Ok(user) => user,
             Err(error) => {
-                let cause = Cause::File(FileCause::Failed(error));
-                return Err(Fault::new(alloc, "the number of the user", cause));
+                let cause = StepError::File(FileError::Failed(error));
+                return Err(ClientError::new(alloc, "the number of the user", cause));
             }
         };
         match &self.config {
@@ -87,7 +88,7 @@ impl<'a> Host<'a> {
     }
 
     /// Returns the `krb5.conf`, or why there is none.
-    pub fn config(&self, alloc: Global) -> Result<&Config, Fault>
+    pub fn config(&self, alloc: Global) -> Result<&Config, ClientError>
         // Promise: a command that needs the `krb5.conf` takes the one that was read.
         ensures { IfOk result (λ config. self.now.config ≡ Read config.now) }
     {
@@ -98,7 +99,7 @@ impl<'a> Host<'a> {
     }
 
     /// Returns the `krb5.conf`, if there is one; or why it could not be read.
-    pub fn config_if_there(&self, alloc: Global) -> Result<Option<&Config>, Fault>
+    pub fn config_if_there(&self, alloc: Global) -> Result<Option<&Config>, ClientError>
         // Promise, as Host::config: a command that needs ..
         ensures { IfOk result (λ config. HasConfig self.now.config config) }
     {
@@ -131,7 +132,7 @@ fn found_config<T: ClientStore>(
     }
 }
 
-fn not_read(fault: Fault, is_absent: bool) -> FoundConfig {
+fn not_read(fault: ClientError, is_absent: bool) -> FoundConfig {
     if is_absent {
         FoundConfig::Absent(fault)
     } else {

@@ -2,7 +2,7 @@
 //!
 //! | call | what it does |
 //! |---|---|
-//! | [`Host::read`] | what a client reads of its computer, once: the environment, the user, the `krb5.conf` |
+//! | [`Host::read`] | reads what a client needs of its computer, once: the environment, the user, the `krb5.conf` |
 //! | [`Host::cache_path`], [`Host::config`] | where the cache is; the `krb5.conf` |
 //! | [`Config::read`] | reads a `krb5.conf`, with the files that it includes |
 //! | [`Config::default_realm`], [`Config::kdcs`] | the default realm; where the KDCs of a realm are |
@@ -11,7 +11,7 @@
 //! | [`read_cache`], [`write_cache`], [`write_new_cache`], [`remove_cache`] | the user's own credential cache |
 //! | [`granting_ticket`], [`good_credential`] | a cache's TGT; its credential for a service, if still usable |
 //! | [`read_keytab`] | a keytab |
-//! | [`Fault::of_login`], [`unknown_hosts`] | the fault for a login without a ticket; hosts that were not asked |
+//! | [`ClientError::of_login`], [`unknown_hosts`] | the error for a login without a ticket; hosts that were not asked |
 //!
 //! ```
 //! let host = Host::read(alloc, &mut store, defaults);
@@ -23,8 +23,8 @@
 //! write_new_cache(alloc, &mut store, path.as_str(), &tgt)?;
 //! ```
 //!
-//! A failed call returns a [`Fault`], which names its subject and can be shown to a user, or its [`Cause`] alone, as
-//! [`granting_ticket`] does.
+//! A failed call returns a [`ClientError`], which names its subject and can be shown to a user, or its [`StepError`]
+//! alone, as [`granting_ticket`] does.
 //!
 //! It does not send anything: `client_login` gets the tickets. `krb5_conf` says what a line of a `krb5.conf` means. A
 //! cache or a keytab is always a file: other types, such as `KEYRING:` and `KCM:`, are refused.
@@ -48,8 +48,8 @@ pub use cache_files::{
 pub use client_store::{ClientStore, PathKind};
 pub use configs::Config;
 pub use environment::Defaults;
-pub use faults::{Cause, Fault, at, at_file, at_password, unknown_hosts};
-pub use file_names::{NameOf, path_in};
+pub use faults::{ClientError, StepError, at, at_file, at_password, unknown_hosts};
+pub use file_names::{NameOf, file_path};
 pub use holding::{good_credential, granting_ticket};
 pub use host::{FoundConfig, Host};
-pub use principals::{name_of, principal_text};
+pub use principals::{parse_name, principal_text};

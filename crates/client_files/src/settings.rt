@@ -1,11 +1,11 @@
 //! What the `[libdefaults]` of a `krb5.conf` say of first tickets, and of the cache.
 ghost use Rattle.std.specs.Prelude.{◌≡◌, IfOk, IfSome, codes, option_map, slice_get, string_bytes};
-ghost use Rattle.client_files.specs.CachePaths.{IsExpanded, IsSettingCache};
+ghost use Rattle.client_files.specs.CachePaths.{IsExpanded, IsSettingCache, token_text};
 ghost use Rattle.krb5_conf.specs.Values.{library_values};
 
 use crate::configs::Config;
-use crate::faults::{Cause, Fault};
-use crate::file_names::{NameOf, path_in};
+use crate::faults::{ClientError, StepError};
+use crate::file_names::{NameOf, file_path};
 use crate::host::path_of_user;
 use client_login::TicketRequest;
 use std::alloc::{AllocError, Global};
@@ -23,7 +23,7 @@ const NO_TOKEN: &str = "of what stands between %{ and } only uid, euid and TEMP 
 
 impl Config {
     /// Returns the first ticket that it asks for.
-    pub fn ticket_request(&self, alloc: Global) -> Result<TicketRequest, Fault> {
+    pub fn ticket_request(&self, alloc: Global) -> Result<TicketRequest, ClientError> {
         let renew_lifetime = self.seconds(alloc, "renew_lifetime")?;
         Ok(TicketRequest {
             lifetime: self.seconds(alloc, "ticket_lifetime")?,
@@ -36,27 +36,27 @@ impl Config {
     }
 
     /// Returns the path of the cache that `default_ccache_name` names for a user, or else of the user's own.
-    pub fn cache_path(&self, alloc: Global, user: u32) -> Result<String, Fault>
+    pub fn cache_path(&self, alloc: Global, user: u32) -> Result<String, ClientError>
         // Promise, as Host::cache_path: **the default cache is ..
         ensures { IfOk result (λ path. IsSettingCache user
             (slice_get (library_values (codes "default_ccache_name") self.now) 0) (string_bytes path)) }
     {
         let tag = "default_ccache_name";
-        let Some(name) = self.text_of(alloc, tag)? else {
+        let Some(name) = self.setting_text(alloc, tag)? else {
             return Ok(path_of_user(alloc, user)?);
         };
-        match with_tokens(alloc, path_in(name, NameOf::CacheSetting)?, user)? {
+        match with_tokens(alloc, file_path(name, NameOf::CacheSetting)?, user)? {
             Some(path) => Ok(path),
             None => Err(self.setting_fault(alloc, tag, NO_TOKEN)),
         }
     }
 
     /// Returns the seconds of a setting. Zero counts as absent, as in MIT's library.
-    fn seconds(&self, alloc: Global, tag: &str) -> Result<Option<u32>, Fault> {
-        let Some(text) = self.text_of(alloc, tag)? else {
+    fn seconds(&self, alloc: Global, tag: &str) -> Result<Option<u32>, ClientError> {
+        let Some(text) = self.setting_text(alloc, tag)? else {
             return Ok(None);
         };
-        match seconds_of(text) {
+        match parse_seconds(text) {
             Some(0) => Ok(None),
             Some(seconds) => Ok(Some(seconds)),
             None => Err(self.setting_fault(alloc, tag, NO_TIME)),
@@ -64,17 +64,17 @@ impl Config {
     }
 
     /// Returns whether a setting is true.
-    fn choice(&self, alloc: Global, tag: &str) -> Result<bool, Fault> {
-        let Some(text) = self.text_of(alloc, tag)? else {
+    fn choice(&self, alloc: Global, tag: &str) -> Result<bool, ClientError> {
+        let Some(text) = self.setting_text(alloc, tag)? else {
             return Ok(false);
         };
-        match choice_of(text) {
+        match parse_choice(text) {
             Some(choice) => Ok(choice),
             None => Err(self.setting_fault(alloc, tag, NO_CHOICE)),
         }
     }
 
-    fn text_of(&self, alloc: Global, tag: &str) -> Result<Option<&str>, Fault>
+    fn setting_text(&self, alloc: Global, tag: &str) -> Result<Option<&str>, ClientError>
         ensures { IfOk result (λ value.
             option_map (λ text. text.now) value ≡ slice_get (library_values tag.now self.now) 0) }
     {
@@ -87,11 +87,11 @@ impl Config {
         }
     }
 
-    fn setting_fault(&self, alloc: Global, tag: &str, text: &'static str) -> Fault {
+    fn setting_fault(&self, alloc: Global, tag: &str, text: &'static str) -> ClientError {
         let path = self.path();
         match format!(in alloc; "{path}: {tag}") {
-            Ok(subject) => Fault::of(subject, Cause::BadSetting(text)),
-            Err(error) => Fault::from(error),
+            Ok(subject) => ClientError::of(subject, StepError::BadSetting(text)),
+            Err(error) => ClientError::from(error),
         }
     }
 }
@@ -112,7 +112,7 @@ const CHOICES: &[(&str, bool)] = &[
     ("off", false),
 ];
 
-fn choice_of(text: &str) -> Option<bool> {
+fn parse_choice(text: &str) -> Option<bool> {
     for (word, choice) in CHOICES {
         if text.eq_ignore_ascii_case(word) {
             return Some(*choice);
@@ -122,7 +122,7 @@ fn choice_of(text: &str) -> Option<bool> {
 }
 
 /// Reads a time: seconds; hours, minutes and seconds with colons; or numbers with their units.
-fn seconds_of(text: &str) -> Option<u32> {
+fn parse_seconds(text: &str) -> Option<u32> {
     if text.contains(':') {
         return clock_seconds(text);
     }
@@ -158,7 +158,7 @@ fn unit_seconds(text: &str) -> Option<u32> {
             Some(digit) => number = Some(number.unwrap_or(0).checked_mul(10)?.checked_add(digit)?),
             None if c == ' ' && number.is_none() => {}
             None => {
-                total = total.checked_add(number?.checked_mul(unit_of(c)?)?)?;
+                total = total.checked_add(number?.checked_mul(unit_length(c)?)?)?;
                 number = None;
             }
         }
@@ -169,7 +169,7 @@ fn unit_seconds(text: &str) -> Option<u32> {
     }
 }
 
-fn unit_of(c: char) -> Option<u32> {
+fn unit_length(c: char) -> Option<u32> {
     for (unit, seconds) in UNITS {
         if *unit == c {
             return Some(*seconds);
@@ -178,28 +178,37 @@ fn unit_of(c: char) -> Option<u32> {
     None
 }
 
-/// Returns a path with the text for each `%{..}` in it; `None` if one of them is not known.
+/// Returns a path with the text for each token such as `%{uid}` in it; `None` if a token is not known.
+#[tactic(auto, using(crate::proofs::Tokens::ahead_first, crate::proofs::Tokens::ahead_next, crate::proofs::Tokens::ahead_last))]
 fn with_tokens(alloc: Global, path: &str, user: u32) -> Result<Option<String>, AllocError>
-    ensures { IfOk result (λ expanded. IfSome expanded (λ text. IsExpanded path.now (string_bytes text))) }
+    ensures { IfOk result (λ expanded. IfSome expanded (λ text. IsExpanded user path.now (string_bytes text))) }
 {
-    match path.split_once('%') {
-        Some(_) => expanded(alloc, path, user),
-        None => Ok(Some(String::from_str(alloc, path)?)),
+    let mut whole = String::new(alloc);
+    let mut rest = path;
+    while let Some((front, behind)) = rest.split_once("%{") {
+        let Some((token, after)) = behind.split_once('}') else {
+            return Ok(None);
+        };
+        let Some(text) = token_text(alloc, token, user)? else {
+            return Ok(None);
+        };
+        whole.push_str(front)?;
+        whole.push_str(text.as_str())?;
+        rest = after;
     }
+    whole.push_str(rest)?;
+    Ok(Some(whole))
 }
 
-fn expanded(alloc: Global, path: &str, user: u32) -> Result<Option<String>, AllocError> {
-    let mut whole = String::new(alloc);
-    let mut parts = path.split("%{");
-    if let Some(first) = parts.next() {
-        whole.push_str(first)?;
+/// Returns what a token stands for; `None` if it is not known.
+fn token_text(alloc: Global, token: &str, user: u32) -> Result<Option<String>, AllocError>
+    ensures { IfOk result (λ text. option_map string_bytes text ≡ token_text user token.now) }
+{
+    if token == "uid" || token == "euid" {
+        return Ok(Some(format!(in alloc; "{user}")?));
     }
-    for part in parts {
-        match part.split_once('}') {
-            Some(("uid" | "euid", rest)) => write!(whole, "{user}{rest}")?,
-            Some(("TEMP", rest)) => write!(whole, "/tmp{rest}")?,
-            _ => return Ok(None),
-        }
+    if token == "TEMP" {
+        return Ok(Some(String::from_str(alloc, "/tmp")?));
     }
-    Ok(Some(whole))
+    Ok(None)
 }

@@ -1,21 +1,21 @@
-//! The words for each cause: one for programs, and what it means, for people.
-use crate::faults::Cause;
-use client_login::{Doubt, LoginError};
-use cred_files::CredFault;
+//! The words for each cause: one word for programs, and a phrase for people.
+use crate::faults::StepError;
+use client_login::LoginError;
+use cred_files::CredError;
 use krb_fields::Second;
 use principal_keys::keytab_text;
 use std::fmt;
 use text_fields::UtcDate;
 
-impl Cause {
-    /// Returns the word for it. `None` if something failed and nothing is refused, or if a KDC refuses with a code.
+impl StepError {
+    /// Returns the word that is printed after `refused`. `None` if something failed, or if a KDC refuses with a code.
     pub fn name(self) -> Option<&'static str> {
         match self {
-            Cause::File(cause) => cause.refusal(),
-            Cause::Cache(fault) => fault.refusal(),
-            Cause::Keytab(fault) => fault.refusal(),
-            Cause::Login(why) => login_name(why),
-            Cause::OldKey(why) => login_name(why),
+            StepError::File(cause) => cause.refusal(),
+            StepError::Cache(fault) => fault.refusal(),
+            StepError::Keytab(fault) => fault.refusal(),
+            StepError::Login(why) => login_name(why),
+            StepError::OldKey(why) => login_name(why),
             cause => match cause.words() {
                 ("", _) => None,
                 (name, _) => Some(name),
@@ -23,107 +23,103 @@ impl Cause {
         }
     }
 
-    /// Returns the word for it, and what it means. The word is empty if nothing is refused. Both are empty if what it
-    /// holds has words of its own.
+    /// Returns the word and the phrase. The word is empty if something failed. Both are empty if the error inside has
+    /// words of its own.
     fn words(self) -> (&'static str, &'static str) {
         match self {
-            Cause::Usage(text) => ("", text),
-            Cause::BadName => ("BadName", "it is not a valid name"),
-            Cause::LongPassword => ("LongPassword", "the password has more than 1024 bytes"),
-            Cause::NoCache => ("Absent", "there is no cache: kinit makes one"),
-            Cause::OtherRealm => ("OtherRealm", "its realm is not that of the cache"),
-            Cause::NotOurs => (
+            StepError::Usage(text) => ("", text),
+            StepError::BadName => ("BadName", "it is not a valid name"),
+            StepError::LongPassword => ("LongPassword", "the password has more than 1024 bytes"),
+            StepError::NoCache => ("Absent", "there is no cache: kinit makes one"),
+            StepError::OtherRealm => ("OtherRealm", "its realm is not that of the cache"),
+            StepError::NotOurs => (
                 "NotOurs",
                 "the cache belongs to another user, or other users may write it: name a cache of your own, or chmod go-w",
             ),
-            Cause::Ended(_) => ("Ended", "the ticket-granting ticket has ended: run kinit"),
-            Cause::NotRenewable => (
+            StepError::Ended(_) => ("Ended", "the ticket-granting ticket has ended: run kinit"),
+            StepError::NotRenewable => (
                 "NotRenewable",
                 "the ticket is not renewable: use kinit --renewable",
             ),
-            Cause::NoLogin => (
+            StepError::NoLogin => (
                 "NoLogin",
                 "the client has no ticket-granting ticket: log in first",
             ),
-            Cause::NoService => (
+            StepError::NoService => (
                 "Absent",
                 "the keytab has no key of this realm, or the first one is the client's own",
             ),
-            Cause::NoRealm => (
+            StepError::NoRealm => (
                 "NoRealm",
                 "it has no default_realm in [libdefaults]: add one, or name the realm",
             ),
-            Cause::BadRealm => (
+            StepError::BadRealm => (
                 "BadName",
                 "its default_realm does not have 1 to 255 bytes: correct it, or name the realm",
             ),
-            Cause::BadSetting(text) => ("BadSetting", text),
-            Cause::NoKdc => (
+            StepError::BadSetting(text) => ("BadSetting", text),
+            StepError::NoKdc => (
                 "NoKdc",
                 "it has no kdc of this realm: add one, or name the address of a KDC",
             ),
-            Cause::NotAnAddress => (
+            StepError::NotAnAddress => (
                 "NotAnAddress",
                 "no address is known: correct the name, or name the address of a KDC",
             ),
-            Cause::Memory => ("", "out of memory"),
-            Cause::File(_)
-            | Cause::Cache(_)
-            | Cause::Keytab(_)
-            | Cause::Login(_)
-            | Cause::OldKey(_)
-            | Cause::Silent(..) => ("", ""),
+            StepError::Memory => ("", "out of memory"),
+            StepError::File(_)
+            | StepError::Cache(_)
+            | StepError::Keytab(_)
+            | StepError::Login(_)
+            | StepError::OldKey(_)
+            | StepError::Silent(..) => ("", ""),
         }
     }
 }
 
-/// Returns what is wrong with a cache.
-fn cache_text(fault: CredFault) -> &'static str {
+/// Returns the phrase for an error of a cache.
+fn cache_text(fault: CredError) -> &'static str {
     match fault {
-        CredFault::BadMagic => "this is not a credential cache of version 4",
-        CredFault::BadEntry => "a part of the credential is too long for a cache",
-        CredFault::TooLate =>
+        CredError::BadMagic => "this is not a credential cache of version 4",
+        CredError::BadEntry => "a part of the credential is too long for a cache",
+        CredError::TooLate =>
             "a cache has room for times from the year 1970 to 2106, and a time of the ticket is another",
-        CredFault::Absent => "there is no usable ticket-granting ticket of the realm: run kinit",
+        CredError::Absent => "there is no usable ticket-granting ticket of the realm: run kinit",
         fault => fault.text(),
     }
 }
 
-/// Returns the word for a login that got no ticket. `None` if the KDC refuses with a code.
+/// Returns the word for a login that got no ticket. `None` if a KDC refuses with a code, or if something failed.
 fn login_name(why: LoginError) -> Option<&'static str> {
     Some(match why {
         LoginError::NotAskable => "BadName",
-        LoginError::NotPresentable | LoginError::NoClientKey | LoginError::NoKey => "Absent",
+        LoginError::NotPresentable
+        | LoginError::NoClientKey
+        | LoginError::NoKey
+        | LoginError::NoServiceKey => "Absent",
         LoginError::NotAReply => "NotAReply",
-        LoginError::Mismatch(_) => "Mismatch",
-        LoginError::CannotOpen | LoginError::SessionCannotOpen | LoginError::NoKnownType =>
-            "CannotOpen",
+        LoginError::Mismatch(_) | LoginError::OtherTicket => "Mismatch",
+        LoginError::CannotOpen
+        | LoginError::SessionCannotOpen
+        | LoginError::NoKnownType
+        | LoginError::TicketNotOpened => "CannotOpen",
         LoginError::CountTooLarge => "CountTooLarge",
         LoginError::WeakCount => "WeakCount",
-        LoginError::Unverified(doubt) => doubt_name(doubt),
+        LoginError::TicketNotValid => "NotValid",
         LoginError::Refused(_) | LoginError::Silence(_) | LoginError::Memory => return None,
     })
 }
 
-fn doubt_name(doubt: Doubt) -> &'static str {
-    match doubt {
-        Doubt::NoTicketKey => "Absent",
-        Doubt::NotOpened => "CannotOpen",
-        Doubt::OtherTicket => "Mismatch",
-        Doubt::NotValid => "NotValid",
-    }
-}
-
-impl fmt::Display for Cause {
+impl fmt::Display for StepError {
     fn fmt<W: fmt::Write>(&self, f: &mut fmt::Formatter<W>) -> fmt::Result {
         match self {
-            Cause::File(cause) => write!(f, "{cause}"),
-            Cause::Cache(fault) => f.write_str(cache_text(*fault)),
-            Cause::Keytab(fault) => f.write_str(keytab_text(*fault)),
-            Cause::Ended(end) => write_end(f, *end),
-            Cause::Login(why) => write!(f, "{why}"),
-            Cause::OldKey(why) => write_old_key(f, *why),
-            Cause::Silent(error, failures) => {
+            StepError::File(cause) => write!(f, "{cause}"),
+            StepError::Cache(fault) => f.write_str(cache_text(*fault)),
+            StepError::Keytab(fault) => f.write_str(keytab_text(*fault)),
+            StepError::Ended(end) => write_end(f, *end),
+            StepError::Login(why) => write!(f, "{why}"),
+            StepError::OldKey(why) => write_old_key(f, *why),
+            StepError::Silent(error, failures) => {
                 write!(f, "{error} (messages without a reply: {failures})")
             }
             cause => f.write_str(cause.words().1),
@@ -153,6 +149,6 @@ fn write_end<W: fmt::Write>(f: &mut fmt::Formatter<W>, end: i64) -> fmt::Result 
             "the ticket-granting ticket ended at {}: run kinit",
             UtcDate(end)
         ),
-        None => f.write_str(Cause::Ended(end).words().1),
+        None => f.write_str(StepError::Ended(end).words().1),
     }
 }

@@ -6,11 +6,11 @@ use Rattle.client_core.specs.Taken.{AreSame}
 use Rattle.client_core.specs.declared.asked.Asked.{Asked}
 use Rattle.cred_files.specs.declared.credential.Credential.{Credential}
 use Rattle.client_login.specs.Logins.{IsFirst}
-use Rattle.client_login.specs.declared.faults.LoginFault.{LoginFault}
+use Rattle.client_login.specs.declared.faults.TicketError.{TicketError}
 use Rattle.client_login.specs.declared.secrets.Secret.{Secret}
 
 pub first_client : (answers : SocketAddr → List ℕ → List ℕ → Type 0) (secret : Secret) (asked : Asked) (now : ℤ)
-    (found : Result Credential LoginFault)
+    (found : Result Credential TicketError)
     → IfOk found (λ credential. IsFirst answers secret asked now credential)
     → IfOk found (λ credential. AreSame credential.client.realm credential.client.name asked.realm asked.client)
 first_client answers secret asked now (Ok credential) is =

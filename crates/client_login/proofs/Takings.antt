@@ -10,8 +10,8 @@ use Rattle.client_core.specs.declared.sessions.Session.{Session}
 use Rattle.client_core.specs.Taken.{IsTaken}
 use Rattle.client_core.specs.TakenLaws.{taken_is}
 use Rattle.client_core.specs.declared.asked.Asked.{Asked}
-use Rattle.client_core.specs.declared.fault.ClientFault.{ClientFault}
-use Rattle.client_core.specs.declared.fault.ClientFault.TheVariants as found
+use Rattle.client_core.specs.declared.fault.ReplyError.{ReplyError}
+use Rattle.client_core.specs.declared.fault.ReplyError.TheVariants as found
 use Rattle.client_core.specs.declared.fault.Refusal.{Refusal}
 use Rattle.client_core.specs.declared.key_role.KeyRole.{KeyRole}
 use Rattle.client_core.specs.declared.key_role.KeyRole.TheVariants as roles
@@ -29,7 +29,7 @@ use Rattle.client_login.specs.Infos.{info_of_refusal}
 use Rattle.client_login.specs.Places.{IsKdc}
 use Rattle.client_login.specs.Replies.{IsAnswer, IsError, IsExchanged, IsReply, counted, said_of}
 use Rattle.client_login.specs.declared.asking.Reply.{Reply}
-use Rattle.client_login.specs.declared.faults.LoginFault.{LoginFault}
+use Rattle.client_login.specs.declared.faults.TicketError.{TicketError}
 use Rattle.client_login.specs.declared.kdc_places.KdcPlace.{KdcPlace}
 use Rattle.client_login.specs.declared.faults.LoginError.{LoginError}
 use Rattle.client_login.specs.declared.faults.LoginError.TheVariants as says
@@ -84,7 +84,10 @@ rejected secret asked now key octets ticket says.SessionCannotOpen own read is =
 rejected secret asked now key octets ticket says.NoKnownType own read is = absurd is
 rejected secret asked now key octets ticket says.CountTooLarge own read is = absurd is
 rejected secret asked now key octets ticket says.WeakCount own read is = absurd is
-rejected secret asked now key octets ticket (says.Unverified doubt) own read is = absurd is
+rejected secret asked now key octets ticket says.NoServiceKey own read is = absurd is
+rejected secret asked now key octets ticket says.TicketNotOpened own read is = absurd is
+rejected secret asked now key octets ticket says.OtherTicket own read is = absurd is
+rejected secret asked now key octets ticket says.TicketNotValid own read is = absurd is
 
 pub rejected_first : (secret : Secret) (asked : Asked) (now : ℤ) (key : Key) (octets : List ℕ) (ticket : KdcRep 11)
     (taken : Result Credential LoginError) → IsOwnKey secret asked.realm asked.client key
@@ -114,7 +117,10 @@ keyless (secrets.Password password) asked now octets (says.Silence error) is = a
 keyless (secrets.Password password) asked now octets (says.Refused error) is = absurd is
 keyless (secrets.Password password) asked now octets says.NotAReply is = absurd is
 keyless (secrets.Password password) asked now octets says.SessionCannotOpen is = absurd is
-keyless (secrets.Password password) asked now octets (says.Unverified doubt) is = absurd is
+keyless (secrets.Password password) asked now octets says.NoServiceKey is = absurd is
+keyless (secrets.Password password) asked now octets says.TicketNotOpened is = absurd is
+keyless (secrets.Password password) asked now octets says.OtherTicket is = absurd is
+keyless (secrets.Password password) asked now octets says.TicketNotValid is = absurd is
 keyless (secrets.Keytab keytab) asked now octets (says.Mismatch what) is = absurd is
 keyless (secrets.Keytab keytab) asked now octets says.CannotOpen is = absurd is
 keyless (secrets.Keytab keytab) asked now octets says.NotAskable is = absurd is
@@ -124,7 +130,10 @@ keyless (secrets.Keytab keytab) asked now octets (says.Silence error) is = absur
 keyless (secrets.Keytab keytab) asked now octets (says.Refused error) is = absurd is
 keyless (secrets.Keytab keytab) asked now octets says.NotAReply is = absurd is
 keyless (secrets.Keytab keytab) asked now octets says.SessionCannotOpen is = absurd is
-keyless (secrets.Keytab keytab) asked now octets (says.Unverified doubt) is = absurd is
+keyless (secrets.Keytab keytab) asked now octets says.NoServiceKey is = absurd is
+keyless (secrets.Keytab keytab) asked now octets says.TicketNotOpened is = absurd is
+keyless (secrets.Keytab keytab) asked now octets says.OtherTicket is = absurd is
+keyless (secrets.Keytab keytab) asked now octets says.TicketNotValid is = absurd is
 
 -- for a reply with a ticket
 pub keyless_first : (secret : Secret) (asked : Asked) (now : ℤ) (octets : List ℕ) (ticket : KdcRep 11) (why : LoginError)
@@ -133,7 +142,7 @@ pub keyless_first : (secret : Secret) (asked : Asked) (now : ℤ) (octets : List
     → SaysFirst secret asked now why octets
 keyless_first secret asked now octets ticket why none read is =
     keyless secret asked now octets why
-    (subst (λ (fault : ClientFault). IsNoKey secret asked.realm asked.client
+    (subst (λ (fault : ReplyError). IsNoKey secret asked.realm asked.client
     (info_said secret fault (ticket_reply_in 11 octets)) why) (sym none)
     (subst (λ (o : Option (KdcRep 11)). IsNoKey secret asked.realm asked.client
     (info_said secret found.NotAReply o) why) (sym read) is))
@@ -145,14 +154,14 @@ by_refusal : (secret : Secret) (asked : Asked) (now : ℤ) (octets : List ℕ) (
     → SaysFirst secret asked now why octets
 by_refusal secret asked now octets refusal why read is =
     keyless secret asked now octets why
-    (subst (λ (fault : ClientFault). IsNoKey secret asked.realm asked.client
+    (subst (λ (fault : ReplyError). IsNoKey secret asked.realm asked.client
     (info_said secret fault (ticket_reply_in 11 octets)) why) (sym read) is)
 
 pub refused_first : (secret : Secret) (asked : Asked) (now : ℤ) (octets : List ℕ) (refusal : Refusal) (why : LoginError)
     → refusal_in octets ≡ found.Refused refusal → SaysRefused secret asked refusal why
     → SaysFirst secret asked now why octets
 refused_first secret asked now octets refusal (says.Refused error) read is =
-    subst (λ (fault : ClientFault). IsError error fault) (sym read) is
+    subst (λ (fault : ReplyError). IsError error fault) (sym read) is
 refused_first secret asked now octets refusal says.NotAskable read is =
     by_refusal secret asked now octets refusal says.NotAskable read is
 refused_first secret asked now octets refusal says.NotPresentable read is =
@@ -177,8 +186,14 @@ refused_first secret asked now octets refusal says.CountTooLarge read is =
     by_refusal secret asked now octets refusal says.CountTooLarge read is
 refused_first secret asked now octets refusal says.WeakCount read is =
     by_refusal secret asked now octets refusal says.WeakCount read is
-refused_first secret asked now octets refusal (says.Unverified doubt) read is =
-    by_refusal secret asked now octets refusal (says.Unverified doubt) read is
+refused_first secret asked now octets refusal says.NoServiceKey read is =
+    by_refusal secret asked now octets refusal says.NoServiceKey read is
+refused_first secret asked now octets refusal says.TicketNotOpened read is =
+    by_refusal secret asked now octets refusal says.TicketNotOpened read is
+refused_first secret asked now octets refusal says.OtherTicket read is =
+    by_refusal secret asked now octets refusal says.OtherTicket read is
+refused_first secret asked now octets refusal says.TicketNotValid read is =
+    by_refusal secret asked now octets refusal says.TicketNotValid read is
 refused_first secret asked now octets refusal says.Memory read is = tt
 
 -- ---- a reply under a session key
@@ -211,7 +226,10 @@ tgs_rejected asked now key octets ticket says.CannotOpen read is = absurd is
 tgs_rejected asked now key octets ticket says.NoKnownType read is = absurd is
 tgs_rejected asked now key octets ticket says.CountTooLarge read is = absurd is
 tgs_rejected asked now key octets ticket says.WeakCount read is = absurd is
-tgs_rejected asked now key octets ticket (says.Unverified doubt) read is = absurd is
+tgs_rejected asked now key octets ticket says.NoServiceKey read is = absurd is
+tgs_rejected asked now key octets ticket says.TicketNotOpened read is = absurd is
+tgs_rejected asked now key octets ticket says.OtherTicket read is = absurd is
+tgs_rejected asked now key octets ticket says.TicketNotValid read is = absurd is
 
 pub rejected_tgs : (asked : Asked) (now : ℤ) (key : Key) (octets : List ℕ) (ticket : KdcRep 13)
     (taken : Result Credential LoginError) → ticket_reply_in 13 octets ≡ Some ticket
@@ -247,7 +265,10 @@ module _ (answers : SocketAddr → List ℕ → List ℕ → Type 0) where
       subst (λ (kdc : Option SocketAddr). IsFirstFault answers secret asked now says.CannotOpen kdc) (sym e)
       (record { request = is.request; reply = reply.octets.items; answered = is.answered; says = said })
   first_blames secret asked now reply says.SessionCannotOpen kdc is said e = absurd said
-  first_blames secret asked now reply (says.Unverified doubt) kdc is said e = absurd said
+  first_blames secret asked now reply says.NoServiceKey kdc is said e = absurd said
+  first_blames secret asked now reply says.TicketNotOpened kdc is said e = absurd said
+  first_blames secret asked now reply says.OtherTicket kdc is said e = absurd said
+  first_blames secret asked now reply says.TicketNotValid kdc is said e = absurd said
   first_blames secret asked now reply says.NoKnownType kdc is said e =
       subst (λ (kdc : Option SocketAddr). IsFirstFault answers secret asked now says.NoKnownType kdc) (sym e)
       (record { request = is.request; reply = reply.octets.items; answered = is.answered; says = said })
@@ -259,7 +280,7 @@ module _ (answers : SocketAddr → List ℕ → List ℕ → Type 0) where
       (record { request = is.request; reply = reply.octets.items; answered = is.answered; says = said })
 
   pub first_blamed : (secret : Secret) (asked : Asked) (now : ℤ) (reply : Reply) {A : Type 0} (found : Result A LoginError)
-      (result : Result A LoginFault) → IsReply answers reply
+      (result : Result A TicketError) → IsReply answers reply
       → IfErr found (λ why. SaysFirst secret asked now why reply.octets.items)
       → IfErr result (λ fault. (found ≡ Err fault.why) × (fault.kdc ≡ named_by fault.why reply.kdc))
       → IfErr result (λ fault. IsFirstFault answers secret asked now fault.why fault.kdc)
@@ -269,7 +290,7 @@ module _ (answers : SocketAddr → List ℕ → List ℕ → Type 0) where
       (subst (λ (found : Result A LoginError). IfErr found (λ why. SaysFirst secret asked now why reply.octets.items)) e.0 said) e.1
 
   pub first_taken : (secret : Secret) (asked : Asked) (now : ℤ) (reply : Reply) (found : Result Credential LoginError)
-      (result : Result Credential LoginFault) → IsReply answers reply
+      (result : Result Credential TicketError) → IsReply answers reply
       → IfOk found (λ credential. TakesFirst secret asked now credential reply.octets.items)
       → IfOk result (λ credential. found ≡ Ok credential)
       → IfOk result (λ credential. IsFirst answers secret asked now credential)
@@ -301,7 +322,10 @@ module _ (answers : SocketAddr → List ℕ → List ℕ → Type 0) where
   first_unheard secret asked now says.NoKnownType kdc is = absurd is
   first_unheard secret asked now says.CountTooLarge kdc is = absurd is
   first_unheard secret asked now says.WeakCount kdc is = absurd is
-  first_unheard secret asked now (says.Unverified doubt) kdc is = absurd is
+  first_unheard secret asked now says.NoServiceKey kdc is = absurd is
+  first_unheard secret asked now says.TicketNotOpened kdc is = absurd is
+  first_unheard secret asked now says.OtherTicket kdc is = absurd is
+  first_unheard secret asked now says.TicketNotValid kdc is = absurd is
 
   -- ---- the same for a further ticket
 
@@ -347,10 +371,13 @@ module _ (answers : SocketAddr → List ℕ → List ℕ → Type 0) where
   further_blames granting asked now key reply says.NoKnownType kdc shared is said e = absurd said
   further_blames granting asked now key reply says.CountTooLarge kdc shared is said e = absurd said
   further_blames granting asked now key reply says.WeakCount kdc shared is said e = absurd said
-  further_blames granting asked now key reply (says.Unverified doubt) kdc shared is said e = absurd said
+  further_blames granting asked now key reply says.NoServiceKey kdc shared is said e = absurd said
+  further_blames granting asked now key reply says.TicketNotOpened kdc shared is said e = absurd said
+  further_blames granting asked now key reply says.OtherTicket kdc shared is said e = absurd said
+  further_blames granting asked now key reply says.TicketNotValid kdc shared is said e = absurd said
 
   pub further_blamed : (granting : Credential) (asked : Asked) (now : ℤ) (key : Key) (reply : Reply)
-      (found : Result Credential LoginError) (result : Result Credential LoginFault) → session_key granting ≡ Some key
+      (found : Result Credential LoginError) (result : Result Credential TicketError) → session_key granting ≡ Some key
       → IsReply answers reply → IfErr found (λ why. SaysTgs key asked now why reply.octets.items)
       → IfErr result (λ fault. (found ≡ Err fault.why) × (fault.kdc ≡ named_by fault.why reply.kdc))
       → IfErr result (λ fault. IsFurtherFault answers granting asked now fault.why fault.kdc)
@@ -361,7 +388,7 @@ module _ (answers : SocketAddr → List ℕ → List ℕ → Type 0) where
       e.1
 
   pub further_taken : (granting : Credential) (asked : Asked) (now : ℤ) (key : Key) (reply : Reply)
-      (found : Result Credential LoginError) (result : Result Credential LoginFault) → session_key granting ≡ Some key
+      (found : Result Credential LoginError) (result : Result Credential TicketError) → session_key granting ≡ Some key
       → IsReply answers reply
       → IfOk found (λ credential. IsTaken 13 roles.Session asked key now reply.octets.items credential)
       → IfOk result (λ credential. found ≡ Ok credential)
@@ -405,7 +432,10 @@ module _ (answers : SocketAddr → List ℕ → List ℕ → Type 0) where
   further_unheard granting asked now key says.NoKnownType kdc shared is = absurd is
   further_unheard granting asked now key says.CountTooLarge kdc shared is = absurd is
   further_unheard granting asked now key says.WeakCount kdc shared is = absurd is
-  further_unheard granting asked now key (says.Unverified doubt) kdc shared is = absurd is
+  further_unheard granting asked now key says.NoServiceKey kdc shared is = absurd is
+  further_unheard granting asked now key says.TicketNotOpened kdc shared is = absurd is
+  further_unheard granting asked now key says.OtherTicket kdc shared is = absurd is
+  further_unheard granting asked now key says.TicketNotValid kdc shared is = absurd is
 
   -- ---- the fault of one KDC, and which of two faults counts
 
@@ -415,16 +445,16 @@ module _ (answers : SocketAddr → List ℕ → List ℕ → Type 0) where
     request = is.request;
     reply = reply.octets.items;
     answered = is.answered;
-    says = subst (λ (fault : ClientFault). IsError refusal.error fault) (sym (is.read ∙ ap said_of e)) refl;
+    says = subst (λ (fault : ReplyError). IsError refusal.error fault) (sym (is.read ∙ ap said_of e)) refl;
   }
 
-  counts : (b : Bool) (before fault : LoginFault) → IsUnheard answers before.why before.kdc
+  counts : (b : Bool) (before fault : TicketError) → IsUnheard answers before.why before.kdc
       → IsUnheard answers fault.why fault.kdc
       → IsUnheard answers (if b then before else fault).why (if b then before else fault).kdc
   counts true before fault unheard silent = unheard
   counts false before fault unheard silent = silent
 
-  pub counted_unheard : (before fault : LoginFault) → IsUnheard answers before.why before.kdc
+  pub counted_unheard : (before fault : TicketError) → IsUnheard answers before.why before.kdc
       → IsUnheard answers fault.why fault.kdc
       → IsUnheard answers (counted before fault).why (counted before fault).kdc
   counted_unheard before fault unheard silent = counts (is_some before.kdc) before fault unheard silent

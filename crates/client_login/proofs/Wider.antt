@@ -12,7 +12,7 @@ use Rattle.client_login.specs.Replies.{IsAnswered, IsError, IsExchanged, IsReply
 use Rattle.client_login.specs.declared.asking.Reply.{Reply}
 use Rattle.client_login.specs.declared.faults.LoginError.{LoginError}
 use Rattle.client_login.specs.declared.faults.LoginError.TheVariants as says
-use Rattle.client_login.specs.declared.faults.LoginFault.{LoginFault}
+use Rattle.client_login.specs.declared.faults.TicketError.{TicketError}
 use Rattle.client_login.specs.declared.kdc_places.KdcPlace.{KdcPlace}
 use Rattle.client_login.specs.declared.secrets.Secret.{Secret}
 
@@ -47,7 +47,7 @@ module _ (finds : List ℕ → ℕ → SocketAddr → Type 0) (before after : Li
     read = is.read;
   }
 
-  pub reply_wider : (result : Result Reply LoginFault)
+  pub reply_wider : (result : Result Reply TicketError)
       → IfOk result (λ reply. IsReply (IsExchanged finds after carries answers) reply)
       → IfOk result (λ reply. IsReply (IsExchanged finds before carries answers) reply)
   reply_wider (Ok got) is = reply got is
@@ -69,9 +69,12 @@ module _ (finds : List ℕ → ℕ → SocketAddr → Type 0) (before after : Li
   unheard says.NoKnownType kdc is = is
   unheard says.CountTooLarge kdc is = is
   unheard says.WeakCount kdc is = is
-  unheard (says.Unverified doubt) kdc is = is
+  unheard says.NoServiceKey kdc is = is
+  unheard says.TicketNotOpened kdc is = is
+  unheard says.OtherTicket kdc is = is
+  unheard says.TicketNotValid kdc is = is
 
-  pub unheard_wider : (result : Result Reply LoginFault)
+  pub unheard_wider : (result : Result Reply TicketError)
       → IfErr result (λ fault. IsUnheard (IsExchanged finds after carries answers) fault.why fault.kdc)
       → IfErr result (λ fault. IsUnheard (IsExchanged finds before carries answers) fault.why fault.kdc)
   unheard_wider (Ok reply) is = tt
@@ -80,7 +83,7 @@ module _ (finds : List ℕ → ℕ → SocketAddr → Type 0) (before after : Li
   -- ---- a first ticket
 
   module _ (secret : Secret) (asked : Asked) (now : ℤ) where
-    pub first_wider : (result : Result Credential LoginFault)
+    pub first_wider : (result : Result Credential TicketError)
         → IfOk result (λ credential. IsFirst (IsExchanged finds after carries answers) secret asked now credential)
         → IfOk result (λ credential. IsFirst (IsExchanged finds before carries answers) secret asked now credential)
     first_wider (Ok credential) is = record { kdc = is.kdc; replied = answered_wider is.kdc _ is.replied }
@@ -103,9 +106,12 @@ module _ (finds : List ℕ → ℕ → SocketAddr → Type 0) (before after : Li
     first_fault says.NoKnownType kdc is = named_wider kdc (SaysFirst secret asked now says.NoKnownType) is
     first_fault says.CountTooLarge kdc is = named_wider kdc (SaysFirst secret asked now says.CountTooLarge) is
     first_fault says.WeakCount kdc is = named_wider kdc (SaysFirst secret asked now says.WeakCount) is
-    first_fault (says.Unverified doubt) kdc is = named_wider kdc (SaysFirst secret asked now (says.Unverified doubt)) is
+    first_fault says.NoServiceKey kdc is = named_wider kdc (SaysFirst secret asked now says.NoServiceKey) is
+    first_fault says.TicketNotOpened kdc is = named_wider kdc (SaysFirst secret asked now says.TicketNotOpened) is
+    first_fault says.OtherTicket kdc is = named_wider kdc (SaysFirst secret asked now says.OtherTicket) is
+    first_fault says.TicketNotValid kdc is = named_wider kdc (SaysFirst secret asked now says.TicketNotValid) is
 
-    pub first_fault_wider : (result : Result Credential LoginFault)
+    pub first_fault_wider : (result : Result Credential TicketError)
         → IfErr result (λ fault. IsFirstFault (IsExchanged finds after carries answers) secret asked now fault.why fault.kdc)
         → IfErr result (λ fault. IsFirstFault (IsExchanged finds before carries answers) secret asked now fault.why fault.kdc)
     first_fault_wider (Ok credential) is = tt

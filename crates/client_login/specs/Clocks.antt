@@ -4,7 +4,7 @@ use Rattle.krb_fields.specs.declared.numbers.TheConstants.{KRB_AP_ERR_SKEW}
 use Rattle.krb_fields.specs.Skew.{skew}
 use Rattle.krb_fields.specs.declared.moment.Moment.{Moment}
 use Rattle.client_login.specs.declared.faults.LoginError.{LoginError}
-use Rattle.client_login.specs.declared.faults.LoginFault.{LoginFault}
+use Rattle.client_login.specs.declared.faults.TicketError.{TicketError}
 use Rattle.client_login.specs.declared.faults.LoginError.TheVariants as says
 
 -- clocks that differ by this many seconds don't differ by more than a KDC allows
@@ -16,6 +16,6 @@ abbrev pub IsByError : LoginError → Moment → Type 0
 IsByError (says.Refused error) at = (error.code ≡ KRB_AP_ERR_SKEW) × (at.sec ≡ error.stime)
 IsByError why at = ⊥
 
--- and the fault names that KDC
-abbrev pub IsByClock : LoginFault → Moment → Type 0
+-- the same, and the fault names that KDC
+abbrev pub IsByClock : TicketError → Moment → Type 0
 IsByClock fault at = (is_some fault.kdc ≡ true) × IsByError fault.why at

@@ -6,8 +6,8 @@ use Rattle.client_core.specs.Passwords as passwords
 use Rattle.client_core.specs.Replies.{reads_as, reads_tgs, refusal_in, reply_in, ticket_reply_in}
 use Rattle.client_core.specs.Sessions.{is_presentable, session_key}
 use Rattle.client_core.specs.declared.asked.Asked.{Asked}
-use Rattle.client_core.specs.declared.fault.ClientFault.{ClientFault}
-use Rattle.client_core.specs.declared.fault.ClientFault.TheVariants as found
+use Rattle.client_core.specs.declared.fault.ReplyError.{ReplyError}
+use Rattle.client_core.specs.declared.fault.ReplyError.TheVariants as found
 use Rattle.client_core.specs.declared.fault.Refusal.{Refusal}
 use Rattle.cred_files.specs.declared.credential.Credential.{Credential}
 use Rattle.cred_files.specs.declared.keytab_entry.KeytabEntry.{KeytabEntry}
@@ -51,7 +51,7 @@ info_for (secrets.Password password) reply = info_in_reply reply
 info_for (secrets.Keytab keytab) reply = default_info reply.enc_part.etype
 
 -- the information in these bytes; a KRB-ERROR has it in its e-data
-abbrev pub info_said : Secret → ClientFault → Option (KdcRep AS_REP) → List EtypeInfo2Entry
+abbrev pub info_said : Secret → ReplyError → Option (KdcRep AS_REP) → List EtypeInfo2Entry
 info_said secret (found.Refused refusal) reply = info_of_refusal refusal.e_data
 info_said secret fault (Some reply) = info_for secret reply
 info_said secret fault None = []
@@ -63,13 +63,13 @@ SaysNoKey secret asked why octets =
 
 -- ---- a rejected reply
 
--- under a key of the client
-pub record IsRejected (secret : Secret) (asked : Asked) (now : ℤ) (fault : ClientFault) (octets : List ℕ) : Type 0 where
+-- the reply is rejected under a key of the client
+pub record IsRejected (secret : Secret) (asked : Asked) (now : ℤ) (fault : ReplyError) (octets : List ℕ) : Type 0 where
   pub key : Key
   pub own : IsOwnKey secret asked.realm asked.client key
   pub rejected : reads_as asked key now octets ≡ Err fault
 
--- ---- why a first ticket is not given
+-- ---- why there is no first ticket
 
 -- the fault that bytes from a KDC report; nothing is known if memory ran out
 abbrev pub SaysFirst : Secret → Asked → ℤ → LoginError → List ℕ → Type 0
@@ -89,14 +89,15 @@ abbrev pub IsNamed : (SocketAddr → List ℕ → List ℕ → Type 0) → (List
 IsNamed answers Says (Some kdc) = IsAnswered answers kdc Says
 IsNamed answers Says None = ⊥
 
-abbrev pub IsFirstFault : (SocketAddr → List ℕ → List ℕ → Type 0) → Secret → Asked → ℤ → LoginError → Option SocketAddr → Type 0
+abbrev pub IsFirstFault : (SocketAddr → List ℕ → List ℕ → Type 0) → Secret → Asked → ℤ → LoginError → Option SocketAddr
+    → Type 0
 IsFirstFault answers secret asked now says.NotAskable kdc = (is_askable asked ≡ false) × (kdc ≡ None)
 IsFirstFault answers secret asked now says.NoClientKey kdc = (asked.etypes ≡ []) × (kdc ≡ None)
 IsFirstFault answers secret asked now (says.Silence error) kdc = kdc ≡ None
 IsFirstFault answers secret asked now says.Memory kdc = kdc ≡ None
 IsFirstFault answers secret asked now why kdc = IsNamed answers (SaysFirst secret asked now why) kdc
 
--- ---- why a further ticket is not given
+-- ---- why there is no further ticket
 
 -- the fault that bytes from a KDC report under a session key; nothing is known if memory ran out
 abbrev pub SaysTgs : Key → Asked → ℤ → LoginError → List ℕ → Type 0
@@ -107,13 +108,15 @@ SaysTgs key asked now says.SessionCannotOpen octets = reads_tgs asked key false 
 SaysTgs key asked now says.Memory octets = Unit {0}
 SaysTgs key asked now why octets = ⊥
 
--- under that of the presented ticket
-pub record SaysFurther (granting : Credential) (asked : Asked) (now : ℤ) (why : LoginError) (octets : List ℕ) : Type 0 where
+-- the same, under the session key of the presented ticket
+pub record SaysFurther (granting : Credential) (asked : Asked) (now : ℤ) (why : LoginError)
+    (octets : List ℕ) : Type 0 where
   pub key : Key
   pub shared : session_key granting ≡ Some key
   pub says : SaysTgs key asked now why octets
 
-abbrev pub IsFurtherFault : (SocketAddr → List ℕ → List ℕ → Type 0) → Credential → Asked → ℤ → LoginError → Option SocketAddr
+abbrev pub IsFurtherFault : (SocketAddr → List ℕ → List ℕ → Type 0) → Credential → Asked → ℤ → LoginError
+    → Option SocketAddr
     → Type 0
 IsFurtherFault answers granting asked now says.NotPresentable kdc = (is_presentable granting ≡ false) × (kdc ≡ None)
 IsFurtherFault answers granting asked now says.NotAskable kdc = (is_askable asked ≡ false) × (kdc ≡ None)
@@ -145,13 +148,13 @@ SaysRefused secret asked refusal why =
     IsNoKey secret asked.realm asked.client (info_of_refusal refusal.e_data) why
 
 -- a reply with a ticket that is rejected
-abbrev pub IsRejection : Result Credential ClientFault → LoginError → Type 0
+abbrev pub IsRejection : Result Credential ReplyError → LoginError → Type 0
 IsRejection judged (says.Mismatch what) = judged ≡ Err (found.Mismatch what)
 IsRejection judged says.CannotOpen = judged ≡ Err found.CannotOpen
 IsRejection judged says.Memory = Unit {0}
 IsRejection judged why = ⊥
 
-abbrev pub IsTgsRejection : Result Credential ClientFault → LoginError → Type 0
+abbrev pub IsTgsRejection : Result Credential ReplyError → LoginError → Type 0
 IsTgsRejection judged (says.Mismatch what) = judged ≡ Err (found.Mismatch what)
 IsTgsRejection judged says.SessionCannotOpen = judged ≡ Err found.CannotOpen
 IsTgsRejection judged says.Memory = Unit {0}

@@ -93,12 +93,12 @@ next_key (secrets.Keytab keytab) who key number = key_numbered keytab who number
 abbrev pub offered : List Etype
 offered = Aes256CtsHmacSha1_96 ∷ Aes128CtsHmacSha1_96 ∷ Aes256CtsHmacSha384_192 ∷ Aes128CtsHmacSha256_128 ∷ []
 
--- with a type if the keytab has a key with it
+-- these types, and after them this one if the keytab has a key with it
 abbrev pub with_held : List KeytabEntry → Components → Etype → List Etype → List Etype
 with_held keytab who etype etypes =
     if is_some (newest (passes who (Some etype) None) keytab) then etypes ++ (etype ∷ []) else etypes
 
--- those that the keytab has a key of
+-- the types for which the keytab has a key
 abbrev pub held_types : List KeytabEntry → Components → List Etype
 held_types keytab who =
     with_held keytab who Aes128CtsHmacSha256_128

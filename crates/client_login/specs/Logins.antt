@@ -48,7 +48,8 @@ pub record CarriesFirst (carries : List ℕ → Type 0) (secret : Secret) (asked
       → carries (stamped_request asked key next (drawn_confounder (after_confounder random)))
 
 -- the credential was read from these bytes, under a key of the client
-pub record TakesFirst (secret : Secret) (asked : Asked) (now : ℤ) (credential : Credential) (octets : List ℕ) : Type 0 where
+pub record TakesFirst (secret : Secret) (asked : Asked) (now : ℤ) (credential : Credential)
+    (octets : List ℕ) : Type 0 where
   pub key : Key
   pub own : IsOwnKey secret asked.realm asked.client key
   pub taken : IsTaken AS_REP Client asked key now octets credential

@@ -4,13 +4,13 @@ use Rattle.std.specs.Ordering.{int_eq}
 use Rattle.std.specs.declared.net.socket_addr.SocketAddr.{SocketAddr}
 use Rattle.krb_fields.specs.declared.numbers.TheConstants.{KDC_ERR_SVC_UNAVAILABLE, KRB_AP_ERR_SKEW}
 use Rattle.client_core.specs.Replies.{refusal_in}
-use Rattle.client_core.specs.declared.fault.ClientFault.{ClientFault}
-use Rattle.client_core.specs.declared.fault.ClientFault.TheVariants as found
+use Rattle.client_core.specs.declared.fault.ReplyError.{ReplyError}
+use Rattle.client_core.specs.declared.fault.ReplyError.TheVariants as found
 use Rattle.client_core.specs.declared.fault.Refusal.{Refusal}
 use Rattle.client_core.specs.declared.fault.ServerError.{ServerError}
 use Rattle.client_login.specs.Places.{IsKdc}
 use Rattle.client_login.specs.declared.asking.Reply.{Reply}
-use Rattle.client_login.specs.declared.faults.LoginFault.{LoginFault}
+use Rattle.client_login.specs.declared.faults.TicketError.{TicketError}
 use Rattle.client_login.specs.declared.kdc_places.KdcPlace.{KdcPlace}
 
 -- The network carried a request to a KDC at one of these places, and that KDC answered it with this reply.
@@ -29,17 +29,18 @@ pub record IsAnswered (answers : SocketAddr → List ℕ → List ℕ → Type 0
   pub says : Says reply
 
 -- a KDC answered a request with these bytes
-pub record IsAnswer (answers : SocketAddr → List ℕ → List ℕ → Type 0) (kdc : SocketAddr) (octets : List ℕ) : Type 0 where
+pub record IsAnswer (answers : SocketAddr → List ℕ → List ℕ → Type 0) (kdc : SocketAddr)
+    (octets : List ℕ) : Type 0 where
   pub request : List ℕ
   pub answered : answers kdc request octets
 
 -- the refusal in the bytes, if they encode a KRB-ERROR
-abbrev pub said_of : Option Refusal → ClientFault
+abbrev pub said_of : Option Refusal → ReplyError
 said_of (Some refusal) = found.Refused refusal
 said_of None = found.NotAReply
 
 -- it has this error
-abbrev pub IsError : ServerError → ClientFault → Type 0
+abbrev pub IsError : ServerError → ReplyError → Type 0
 IsError error (found.Refused refusal) = refusal.error ≡ error
 IsError error fault = ⊥
 
@@ -59,5 +60,5 @@ pub record IsReply (answers : SocketAddr → List ℕ → List ℕ → Type 0) (
   pub read : refusal_in reply.octets.items ≡ said_of reply.refusal
 
 -- which of two KDCs' faults counts: the first that a KDC's reply shows
-abbrev pub counted : LoginFault → LoginFault → LoginFault
+abbrev pub counted : TicketError → TicketError → TicketError
 counted before fault = if is_some before.kdc then before else fault

@@ -26,10 +26,9 @@ use Rattle.encrypted_data.specs.Parts.{opened_as}
 use Rattle.ticket_times.specs.TicketTerms.{has_flag}
 use Rattle.client_login.specs.Faults.{IsFurtherFault}
 use Rattle.client_login.specs.Logins.{IsFurther}
-use Rattle.client_login.specs.declared.faults.Doubt.{Doubt}
-use Rattle.client_login.specs.declared.faults.Doubt.TheVariants.{NoTicketKey, NotOpened, NotValid, OtherTicket}
 use Rattle.client_login.specs.declared.faults.LoginError.{LoginError}
-use Rattle.client_login.specs.declared.faults.LoginError.TheVariants as says
+use Rattle.client_login.specs.declared.faults.LoginError.TheVariants.{NoServiceKey, OtherTicket}
+use Rattle.client_login.specs.declared.faults.LoginError.TheVariants.{TicketNotOpened, TicketNotValid}
 
 -- ---- what a keytab decrypts a ticket to
 
@@ -38,14 +37,14 @@ abbrev pub part_under : Key → Ticket → Option EncTicketPart
 part_under key ticket =
     opened_as enc_ticket_part key.etype key.bytes (usage_number usages.Ticket) ticket.enc_part.cipher
 
-abbrev pub part_by : Option Key → Ticket → Result EncTicketPart Doubt
-part_by (Some key) ticket = unless_found (part_under key ticket) NotOpened
-part_by None ticket = Err NoTicketKey
+abbrev pub part_by : Option Key → Ticket → Result EncTicketPart LoginError
+part_by (Some key) ticket = unless_found (part_under key ticket) TicketNotOpened
+part_by None ticket = Err NoServiceKey
 
 -- with the keytab's key of the ticket's encryption type and key version
-abbrev pub part_in : List KeytabEntry → Option Ticket → Result EncTicketPart Doubt
+abbrev pub part_in : List KeytabEntry → Option Ticket → Result EncTicketPart LoginError
 part_in keytab (Some ticket) = part_by (ticket_key keytab ticket) ticket
-part_in keytab None = Err NotOpened
+part_in keytab None = Err TicketNotOpened
 
 -- ---- the credential's own ticket
 
@@ -58,15 +57,15 @@ is_of credential part =
     is_principal part.crealm part.cname credential.client.realm credential.client.name
     && is_session_key credential.key part.key
 
-abbrev pub if_of : Credential → Result EncTicketPart Doubt → Result EncTicketPart Doubt
+abbrev pub if_of : Credential → Result EncTicketPart LoginError → Result EncTicketPart LoginError
 if_of credential (Ok part) = if is_of credential part then Ok part else Err OtherTicket
 if_of credential (Err doubt) = Err doubt
 
-abbrev pub opened : List KeytabEntry → Credential → Result EncTicketPart Doubt
+abbrev pub opened : List KeytabEntry → Credential → Result EncTicketPart LoginError
 opened keytab credential = if_of credential (part_in keytab (ticket_in credential.ticket))
 
--- in its own terms: the bytes encode a ticket, the keytab's key for it decrypts it, and what is decrypted has the
--- client and the session key that the KDC's reply named
+-- the bytes encode a ticket, the keytab's key for it decrypts it, and what is decrypted has the client and the session
+-- key that the KDC's reply named
 pub record IsTicketOf (keytab : List KeytabEntry) (credential : Credential) : Type 0 where
   pub ticket : Ticket
   pub key : Key
@@ -87,11 +86,11 @@ is_valid now part =
     && not (has_flag (ticket_terms part) Invalid)
     && not (has_ended (ticket_terms part) now)
 
-abbrev pub if_valid : ℤ → Result EncTicketPart Doubt → Result EncTicketPart Doubt
-if_valid now (Ok part) = if is_valid now part then Ok part else Err NotValid
+abbrev pub if_valid : ℤ → Result EncTicketPart LoginError → Result EncTicketPart LoginError
+if_valid now (Ok part) = if is_valid now part then Ok part else Err TicketNotValid
 if_valid now (Err doubt) = Err doubt
 
-abbrev pub verified : List KeytabEntry → ℤ → Credential → Result EncTicketPart Doubt
+abbrev pub verified : List KeytabEntry → ℤ → Credential → Result EncTicketPart LoginError
 verified keytab now credential = if_valid now (opened keytab credential)
 
 -- what the keytab decrypts is valid at this second
@@ -104,14 +103,21 @@ pub record IsValidAt (now : ℤ) (keytab : List KeytabEntry) (credential : Crede
 
 -- a ticket came, and is doubted
 pub record IsDoubted (answers : SocketAddr → List ℕ → List ℕ → Type 0) (keytab : List KeytabEntry)
-    (granting : Credential) (asked : Asked) (now : ℤ) (doubt : Doubt) : Type 0 where
+    (granting : Credential) (asked : Asked) (now : ℤ) (doubt : LoginError) : Type 0 where
   pub credential : Credential
   pub came : IsFurther answers granting asked now credential
   pub doubted : verified keytab now credential ≡ Err doubt
 
--- or none came
-abbrev pub IsUnverified : (SocketAddr → List ℕ → List ℕ → Type 0) → List KeytabEntry → Credential → Asked → ℤ → LoginError
+-- a ticket came and is doubted, or none came
+abbrev pub IsUnverified : (SocketAddr → List ℕ → List ℕ → Type 0) → List KeytabEntry → Credential → Asked → ℤ
+    → LoginError
     → Option SocketAddr → Type 0
-IsUnverified answers keytab granting asked now (says.Unverified doubt) kdc =
-    (kdc ≡ None) × IsDoubted answers keytab granting asked now doubt
+IsUnverified answers keytab granting asked now NoServiceKey kdc =
+    (kdc ≡ None) × IsDoubted answers keytab granting asked now NoServiceKey
+IsUnverified answers keytab granting asked now TicketNotOpened kdc =
+    (kdc ≡ None) × IsDoubted answers keytab granting asked now TicketNotOpened
+IsUnverified answers keytab granting asked now OtherTicket kdc =
+    (kdc ≡ None) × IsDoubted answers keytab granting asked now OtherTicket
+IsUnverified answers keytab granting asked now TicketNotValid kdc =
+    (kdc ≡ None) × IsDoubted answers keytab granting asked now TicketNotValid
 IsUnverified answers keytab granting asked now why kdc = IsFurtherFault answers granting asked now why kdc

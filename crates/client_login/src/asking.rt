@@ -4,14 +4,15 @@ ghost use Rattle.std.specs.List.{All, Contains};
 ghost use Rattle.client_core.specs.Replies as replies;
 ghost use Rattle.krb_fields.specs.Code.{number_of};
 ghost use Rattle.client_login.specs.Places.{AreWithin, IsKdc};
-ghost use Rattle.client_login.specs.Replies.{IsAnswer, IsExchanged, IsReply, counted, is_error, is_passed_over, said_of};
+ghost use Rattle.client_login.specs.Replies.{IsAnswer, IsExchanged, IsReply, counted, is_error, is_passed_over};
+ghost use Rattle.client_login.specs.Replies.{said_of};
 ghost use Rattle.client_login.specs.Faults.{IsUnheard};
 ghost use Rattle.client_login.specs.declared.faults.LoginError.TheVariants.{Memory};
 
-use crate::faults::{LoginError, LoginFault};
+use crate::faults::{LoginError, TicketError};
 use crate::kdc_places::KdcPlace;
 use crate::network::{Network, Route, Transport};
-use client_core::{ClientFault, Refusal, refusal_in};
+use client_core::{Refusal, ReplyError, refusal_in};
 use krb_fields::Code;
 use std::alloc::{AllocError, Global};
 use std::io::{Error, ErrorKind};
@@ -44,7 +45,7 @@ pub struct Kdcs<X> {
 impl<X> Kdcs<X> {
     /// Returns KDCs that have not been tried yet.
     pub fn new(network: X, places: Vec<KdcPlace>, transports: Transports) -> Kdcs<X>
-        // Promise: KDCs begin untried, and a restart counts their failures from 0.
+        // Promise: KDCs begin untried; `restart` forgets which KDC replied last, and counts failures from 0.
         ensures { result ≡ record {
           network = network;
           places = places;
@@ -64,7 +65,7 @@ impl<X> Kdcs<X> {
 
     /// Forgets which KDC replied last, and how many messages got no reply.
     pub fn restart(&mut self)
-        // Promise, as Kdcs::new: KDCs begin untried, and ..
+        // Promise, as Kdcs::new: KDCs begin untried; `restart` ..
         ensures { self.new ≡ record self.old { answered = None; failures = 0 } }
     {
         self.answered = None;
@@ -73,7 +74,7 @@ impl<X> Kdcs<X> {
 
     /// Returns how many messages got no reply. The count stops at the greatest `u64`.
     pub fn failures(&self) -> u64
-        // Promise, as Kdcs::new: KDCs begin untried, and ..
+        // Promise, as Kdcs::new: KDCs begin untried; `restart` ..
         ensures { result ≡ self.now.failures }
     {
         self.failures
@@ -112,7 +113,7 @@ pub(crate) fn ask<X: Network>(
     alloc: Global,
     kdcs: &mut Kdcs<X>,
     request: &[u8],
-) -> Result<Reply, LoginFault>
+) -> Result<Reply, TicketError>
     requires { X.carries request.now }
     ensures ok { IfOk result (λ reply.
         IsReply (IsExchanged X.finds kdcs.old.places.items X.carries X.answers) reply) }
@@ -160,7 +161,7 @@ fn ask_first<X: Network>(
     kdcs: &mut Kdcs<X>,
     first: Option<SocketAddr>,
     request: &[u8],
-) -> Result<Reply, LoginFault>
+) -> Result<Reply, TicketError>
     requires carried { X.carries request.now }
     requires kdc { IfSome first (λ kdc. IsKdc X.finds kdcs.old.places.items kdc) }
     ensures ok { IfOk result (λ reply.
@@ -171,12 +172,12 @@ fn ask_first<X: Network>(
 {
     match first {
         Some(kdc) => ask_kdc(alloc, kdcs, kdc, request),
-        None => Err(LoginFault::new(LoginError::Silence(Error::from(ErrorKind::TimedOut)))),
+        None => Err(TicketError::new(LoginError::Silence(Error::from(ErrorKind::TimedOut)))),
     }
 }
 
 /// Returns the fault. Fails with it if memory ran out: then no further KDC is tried.
-fn unless_memory(fault: LoginFault) -> Result<LoginFault, LoginFault>
+fn unless_memory(fault: TicketError) -> Result<TicketError, TicketError>
     ensures ok { IfOk result (λ counts. counts ≡ fault) }
     ensures err { IfErr result (λ counts. counts ≡ fault) }
 {
@@ -198,7 +199,7 @@ fn further_at<X: Network>(
     ensures kdcs { IfOk result (λ further. All (IsKdc X.finds kdcs.new.places.items) further.items) }
     ensures within { AreWithin X.finds kdcs.old.places.items kdcs.new.places.items }
 {
-    let addresses = addresses_at(alloc, kdcs, place)?;
+    let addresses = kdc_addresses(alloc, kdcs, place)?;
     let further = other_than(alloc, first, &addresses)?;
     Ok(further)
 }
@@ -206,7 +207,7 @@ fn further_at<X: Network>(
 /// Returns the addresses of a place. A host's name is looked up now, unless that was done before.
 /// It is a function apart from `further_at` only for the sake of the proof.
 #[tactic(auto, using(crate::proofs::Within::same_places, crate::proofs::Within::contained, crate::proofs::Within::none_found, crate::proofs::Within::at_place, crate::proofs::Within::looked_up_at))]
-fn addresses_at<X: Network>(
+fn kdc_addresses<X: Network>(
     alloc: Global,
     kdcs: &mut Kdcs<X>,
     place: usize,
@@ -246,7 +247,7 @@ fn ask_each<X: Network>(
     kdcs: &mut Kdcs<X>,
     addresses: &[SocketAddr],
     request: &[u8],
-) -> Result<Reply, LoginFault>
+) -> Result<Reply, TicketError>
     requires carried { X.carries request.now }
     requires kdcs { All (IsKdc X.finds kdcs.old.places.items) addresses.now }
     ensures ok { IfOk result (λ reply.
@@ -255,7 +256,7 @@ fn ask_each<X: Network>(
         IsUnheard (IsExchanged X.finds kdcs.old.places.items X.carries X.answers) fault.why fault.kdc) }
     ensures places { kdcs.new.places ≡ kdcs.old.places }
 {
-    let mut end = LoginFault::new(LoginError::Silence(Error::from(ErrorKind::TimedOut)));
+    let mut end = TicketError::new(LoginError::Silence(Error::from(ErrorKind::TimedOut)));
     for kdc in addresses {
         match ask_kdc(alloc, kdcs, *kdc, request) {
             Ok(reply) => return Ok(reply),
@@ -267,7 +268,7 @@ fn ask_each<X: Network>(
 
 /// Returns the fault that counts if no other KDC does better: the first error of a KDC, else the last silence. Once
 /// memory ran out, no further KDC is tried.
-fn passed_over(before: LoginFault, fault: LoginFault) -> Result<LoginFault, LoginFault>
+fn passed_over(before: TicketError, fault: TicketError) -> Result<TicketError, TicketError>
     ensures ok { IfOk result (λ counts. counts ≡ counted before fault) }
     ensures err { IfErr result (λ counts. counts ≡ fault) }
 {
@@ -286,7 +287,7 @@ fn ask_kdc<X: Network>(
     kdcs: &mut Kdcs<X>,
     kdc: SocketAddr,
     request: &[u8],
-) -> Result<Reply, LoginFault>
+) -> Result<Reply, TicketError>
     requires carried { X.carries request.now }
     requires kdc { IsKdc X.finds kdcs.old.places.items kdc }
     ensures ok { IfOk result (λ reply.
@@ -321,7 +322,7 @@ fn ask_kdc<X: Network>(
         }
         Err(error) => {
             count_failure(kdcs, error)?;
-            Err(LoginFault::new(LoginError::Silence(error)))
+            Err(TicketError::new(LoginError::Silence(error)))
         }
     }
 }
@@ -329,7 +330,7 @@ fn ask_kdc<X: Network>(
 /// Returns a reply, unless another KDC may do better: if this one says that it is not available or that the clocks
 /// differ.
 #[tactic(auto, using(crate::proofs::Takings::refused_reply))]
-fn useful<X: Network>(kdcs: &mut Kdcs<X>, reply: Reply) -> Result<Reply, LoginFault>
+fn useful<X: Network>(kdcs: &mut Kdcs<X>, reply: Reply) -> Result<Reply, TicketError>
     requires { IsReply (IsExchanged X.finds kdcs.old.places.items X.carries X.answers) reply }
     ensures ok { IfOk result (λ reply.
         IsReply (IsExchanged X.finds kdcs.old.places.items X.carries X.answers) reply) }
@@ -340,7 +341,7 @@ fn useful<X: Network>(kdcs: &mut Kdcs<X>, reply: Reply) -> Result<Reply, LoginFa
     kdcs.answered = Some(reply.kdc);
     match &reply.refusal {
         Some(refusal) if is_passed_over(refusal.error.code) => {
-            Err(LoginFault::of_reply(LoginError::Refused(refusal.error), reply.kdc))
+            Err(TicketError::of_reply(LoginError::Refused(refusal.error), reply.kdc))
         }
         _ => Ok(reply),
     }
@@ -359,7 +360,7 @@ fn read_reply<X: Network>(
     kdcs: &Kdcs<X>,
     kdc: SocketAddr,
     octets: Vec<u8>,
-) -> Result<Reply, LoginFault>
+) -> Result<Reply, TicketError>
     requires { IsAnswer (IsExchanged X.finds kdcs.now.places.items X.carries X.answers) kdc octets.items }
     ensures ok { IfOk result (λ reply.
         IsReply (IsExchanged X.finds kdcs.now.places.items X.carries X.answers) reply) }
@@ -375,12 +376,12 @@ fn read_reply<X: Network>(
 }
 
 /// Counts a message without a reply. Fails if memory ran out for the reply.
-fn count_failure<X>(kdcs: &mut Kdcs<X>, error: Error) -> Result<(), LoginFault>
+fn count_failure<X>(kdcs: &mut Kdcs<X>, error: Error) -> Result<(), TicketError>
     ensures memory { IfErr result (λ fault. fault ≡ record { why = Memory; kdc = None }) }
     ensures places { kdcs.new.places ≡ kdcs.old.places }
 {
     if error.kind() == ErrorKind::OutOfMemory {
-        return Err(LoginFault::new(LoginError::Memory));
+        return Err(TicketError::new(LoginError::Memory));
     }
     kdcs.failures = kdcs.failures.saturating_add(1);
     Ok(())
@@ -390,7 +391,7 @@ fn refusal_in_octets(alloc: Global, octets: &[u8]) -> Result<Option<Refusal>, Al
     ensures { IfOk result (λ refusal. replies.refusal_in octets.now ≡ said_of refusal) }
 {
     match refusal_in(alloc, octets)? {
-        ClientFault::Refused(refusal) => Ok(Some(refusal)),
+        ReplyError::Refused(refusal) => Ok(Some(refusal)),
         _ => Ok(None),
     }
 }

@@ -50,7 +50,7 @@ impl<X> KdcClient<X> {
         ensures taken { result ≡ self.old.at }
         ensures next { IsNext self.old.at self.new.at }
         ensures kdcs { self.new.kdcs ≡ self.old.kdcs }
-        // Promise, as KdcClient::log_in: after a call the client's moment is not ..
+        // Promise, as KdcClient::log_in: a call doesn't change whether the client's moment ..
         ensures clock { self.new.is_by_kdc ≡ self.old.is_by_kdc }
     {
         let at = self.at;

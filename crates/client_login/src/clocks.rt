@@ -3,23 +3,23 @@ ghost use Rattle.std.specs.Prelude.{◌≡◌, ◌-ℤ◌, true, false, IfNone, 
 ghost use Rattle.client_login.specs.Clocks.{IsByClock, IsByError, is_within_skew};
 
 use crate::client::KdcClient;
-use crate::faults::{LoginError, LoginFault};
+use crate::faults::{LoginError, TicketError};
 use krb_fields::{Code, Moment, SKEW};
 
 impl<X> KdcClient<X> {
     /// Sets the moment by the clock of a KDC that refuses because the clocks differ. Returns by how many seconds its
-    /// clock is ahead; the fault names the KDC. Returns `None` if the KDC refuses for another reason, if the clocks
-    /// differ by at most 300 seconds, which happens if a KDC was just restarted, or if a KDC's clock was taken before
-    /// and the moment has not been set since.
+    /// clock is ahead; the fault names the KDC. Returns `None` in three cases: the KDC refuses for another reason; the
+    /// clocks differ by at most 300 seconds, which happens if a KDC was just restarted; or a KDC's clock was taken
+    /// before and the moment has not been set since.
     ///
     /// Anyone on the path can name any time, so a program should say that it took one.
-    pub fn take_clock(&mut self, fault: LoginFault) -> Option<i64>
-        // Promise: a KDC's time is taken only if a login's error names this KDC and is its error 37; by `err` of
-        // `log_in` it then answered a request with this error.
-        // Promise: after a KDC's time was taken the moment is in the second that the error has.
+    pub fn take_clock(&mut self, fault: TicketError) -> Option<i64>
+        // Promise: a KDC's time is taken only if a login's error names this KDC and is its error 37; by the clause
+        // `err` of `log_in`, the KDC then answered a request with this error.
+        // Promise: after a KDC's time was taken, the moment is in the second that the error states.
         ensures taken { IfSome result (λ ahead. IsByClock fault self.new.at) }
-        // Promise (ahead, beyond): a KDC's time is taken only if its clock differs by more than 300 seconds; what is
-        // returned is the difference.
+        // Promise (ahead, beyond): a KDC's time is taken only if its clock differs by more than 300 seconds, and the
+        // difference is returned.
         ensures ahead { IfSome result (λ ahead. ahead ≡ self.new.at.sec -ℤ self.old.at.sec) }
         // It is off by more than the clock skew.
         ensures beyond { IfSome result (λ ahead. is_within_skew ahead ≡ false) }
@@ -51,7 +51,7 @@ fn is_within_skew(ahead: i64) -> bool
 }
 
 /// Returns the moment on the clock of the KDC that the fault names, if that refuses because the clocks differ.
-fn by_clock(fault: LoginFault, at: Moment) -> Option<Moment>
+fn by_clock(fault: TicketError, at: Moment) -> Option<Moment>
     ensures { IfSome result (λ next. IsByClock fault next) }
 {
     if fault.kdc.is_none() {

@@ -6,7 +6,8 @@ use rand_core::Rng;
 
 /// Returns the number that a reply repeats. It is below 2147483648, because many KDCs drop a request with a larger one.
 pub fn draw_nonce<R: Rng>(rng: &mut R) -> u32
-    // Promise (value, small, drawn): a nonce is the generator's next 4 bytes below 2147483648.
+    // Promise (value, small, drawn): a nonce is the number in the generator's next 4 bytes, without its highest bit, so
+    // that it is below 2147483648.
     ensures value { result ≡ drawn_nonce (R.stream rng.old) }
     ensures small { result < 2147483648 }
     ensures drawn { R.stream rng.new ≡ after_nonce (R.stream rng.old) }

@@ -10,30 +10,30 @@ use std::error::Error;
 use std::net::SocketAddr;
 use std::{fmt, io};
 
-/// Why a client gets no ticket, and from which KDC.
+/// The reason why a client gets no ticket, and the KDC that gave it.
 #[derive(Clone, Copy, Debug)]
-pub struct LoginFault {
+pub struct TicketError {
     /// The reason, with the KDC's error if one refused.
     pub why: LoginError,
     /// The KDC whose reply ended the login; `None` if no reply did.
     pub kdc: Option<SocketAddr>,
 }
 
-impl LoginFault {
+impl TicketError {
     /// Returns a fault that comes from no KDC's reply.
-    pub(crate) fn new(why: LoginError) -> LoginFault
+    pub(crate) fn new(why: LoginError) -> TicketError
         ensures { result ≡ record { why = why; kdc = None } }
     {
-        LoginFault { why, kdc: None }
+        TicketError { why, kdc: None }
     }
 
     /// Returns a fault that a KDC's reply causes.
-    pub(crate) fn of_reply(why: LoginError, kdc: SocketAddr) -> LoginFault
+    pub(crate) fn of_reply(why: LoginError, kdc: SocketAddr) -> TicketError
         ensures { result ≡ record { why = why; kdc = named_by why kdc } }
     {
         match why {
-            LoginError::Memory => LoginFault::new(why),
-            _ => LoginFault {
+            LoginError::Memory => TicketError::new(why),
+            _ => TicketError {
                 why,
                 kdc: Some(kdc),
             },
@@ -45,17 +45,17 @@ impl LoginFault {
 pub(crate) fn said_by<T: Drop>(
     kdc: SocketAddr,
     found: Result<T, LoginError>,
-) -> Result<T, LoginFault>
+) -> Result<T, TicketError>
     ensures ok { IfOk result (λ value. found ≡ Ok value) }
     ensures err { IfErr result (λ fault. (found ≡ Err fault.why) × (fault.kdc ≡ named_by fault.why kdc)) }
 {
     match found {
         Ok(value) => Ok(value),
-        Err(why) => Err(LoginFault::of_reply(why, kdc)),
+        Err(why) => Err(TicketError::of_reply(why, kdc)),
     }
 }
 
-/// Why a client gets no ticket.
+/// The reason why a client gets no ticket.
 #[derive(Clone, Copy, Debug)]
 pub enum LoginError {
     /// The realm or a name is beyond the limits of a request.
@@ -84,23 +84,16 @@ pub enum LoginError {
     CountTooLarge,
     /// The KDC requests fewer iterations of string-to-key than the client accepts.
     WeakCount,
-    /// The service's ticket doesn't show that its KDC knows the service's key.
-    Unverified(Doubt),
+    /// The keytab has no key of the service with the encryption type and key version of the service's ticket.
+    NoServiceKey,
+    /// The keytab's key doesn't decrypt the service's ticket.
+    TicketNotOpened,
+    /// The service's ticket is for another client, or has another session key, than the KDC's reply says.
+    OtherTicket,
+    /// The service's ticket is not valid at the client's moment.
+    TicketNotValid,
     /// Memory ran out.
     Memory,
-}
-
-/// Why a service's ticket doesn't show that its KDC knows the service's key.
-#[derive(Clone, Copy, Debug, PartialEq, Eq)]
-pub enum Doubt {
-    /// The keytab has no key of the service with the ticket's encryption type and key version.
-    NoTicketKey,
-    /// The keytab's key doesn't decrypt the ticket.
-    NotOpened,
-    /// The ticket is for another client, or has another session key, than the KDC's reply says.
-    OtherTicket,
-    /// The ticket is not valid at the moment.
-    NotValid,
 }
 
 impl From<AllocError> for LoginError {
@@ -119,15 +112,15 @@ impl<T: Drop> From<AllocFailed<T>> for LoginError {
     }
 }
 
-impl From<AllocError> for LoginFault {
+impl From<AllocError> for TicketError {
     ghost from_gives = { λ _ fault. fault ≡ record { why = Memory; kdc = None } };
 
-    fn from(_: AllocError) -> LoginFault {
-        LoginFault::new(LoginError::Memory)
+    fn from(_: AllocError) -> TicketError {
+        TicketError::new(LoginError::Memory)
     }
 }
 
-impl fmt::Display for LoginFault {
+impl fmt::Display for TicketError {
     fn fmt<W: fmt::Write>(&self, f: &mut fmt::Formatter<W>) -> fmt::Result {
         match self.kdc {
             Some(kdc) => write!(f, "{kdc}: {}", self.why),
@@ -171,21 +164,15 @@ impl LoginError {
                 "the KDC asks for more iterations of string-to-key than 1048576, or for none, or its parameters are not four bytes",
             LoginError::WeakCount =>
                 "the KDC asks for fewer iterations of string-to-key than the least count that is accepted: somebody may have changed its reply to guess the password",
-            LoginError::Unverified(doubt) => doubt_text(doubt),
+            LoginError::NoServiceKey =>
+                "the keytab has no key of the service with the ticket's encryption type and version",
+            LoginError::TicketNotOpened =>
+                "the keytab's key does not decrypt the ticket: it is another key of the same version, or it is another KDC",
+            LoginError::OtherTicket =>
+                "the ticket has another client or session key than the KDC's reply: it is another KDC",
+            LoginError::TicketNotValid => "the ticket is not valid now: the clocks may differ",
             LoginError::Memory => "out of memory",
         }
-    }
-}
-
-fn doubt_text(doubt: Doubt) -> &'static str {
-    match doubt {
-        Doubt::NoTicketKey =>
-            "the keytab has no key of the service with the ticket's encryption type and version",
-        Doubt::NotOpened =>
-            "the keytab's key does not decrypt the ticket: it is another key of the same version, or it is another KDC",
-        Doubt::OtherTicket =>
-            "the ticket has another client or session key than the KDC's reply: it is another KDC",
-        Doubt::NotValid => "the ticket is not valid now: the clocks may differ",
     }
 }
 
@@ -200,6 +187,6 @@ fn mismatch_text(what: Mismatch) -> &'static str {
     }
 }
 
-impl Error for LoginFault {}
+impl Error for TicketError {}
 
 impl Error for LoginError {}

@@ -3,7 +3,7 @@ ghost use Rattle.std.specs.Prelude.{◌≡◌, ◌<◌, ◌^◌, length, IfErr, 
 ghost use Rattle.client_core.specs.Asked.{IsAskable};
 ghost use Rattle.client_core.specs.Replies as replies;
 ghost use Rattle.client_core.specs.Taken.{AreSame};
-ghost use Rattle.client_core.specs.declared.fault.ClientFault.TheVariants as found;
+ghost use Rattle.client_core.specs.declared.fault.ReplyError.TheVariants as found;
 ghost use Rattle.client_core.specs.declared.key_role.KeyRole.TheVariants as roles;
 ghost use Rattle.krb_types.specs.Ticket as tickets;
 ghost use Rattle.client_login.specs.Draws.{HasDrawn, after_nonce, drawn_nonce};
@@ -17,14 +17,14 @@ ghost use Rattle.client_login.specs.Replies.{IsExchanged, said_of};
 use crate::asking::{Reply, ask};
 use crate::client::KdcClient;
 use crate::draws::draw_nonce;
-use crate::faults::{LoginError, LoginFault, said_by};
+use crate::faults::{LoginError, TicketError, said_by};
 use crate::infos::info_of_refusal;
 use crate::network::Network;
 use crate::replies::Expected;
 use crate::secrets::{Secret, etypes_for, key_of_next_reply, key_of_reply, key_wanted};
 use crate::sending::{ProvingRequest, send};
 use crate::ticket_requests::{Login, first_asked};
-use client_core::{Asked, ClientFault, Refusal, as_request, judge_as_reply, ticket_reply_in};
+use client_core::{Asked, Refusal, ReplyError, as_request, judge_as_reply, ticket_reply_in};
 use cred_files::Credential;
 use enctypes::Key;
 use krb_fields::numbers::AS_REP;
@@ -58,7 +58,7 @@ impl<X: Network> KdcClient<X> {
         rng: &mut R,
         login: &Login,
         secret: &Secret,
-    ) -> Result<Credential, LoginFault>
+    ) -> Result<Credential, TicketError>
         // The network has to take only a request without a timestamp, and requests with one under a key of the client.
         requires { CarriesFirst X.carries secret.now
             (logs_in login.now secret.now self.old.at.sec (drawn_nonce (R.stream rng.old)))
@@ -66,19 +66,20 @@ impl<X: Network> KdcClient<X> {
         // The result is the ticket of a reply to these requests, under a key of the client.
         // Promise (ok, client): **a first ticket is taken from the reply of a KDC that was asked**: the network carried
         // a request to it, and it answered that request (`IsExchanged`).
-        // Promise: a first ticket is taken under a key of the client: of a password one that is made as a KDC says, by
-        // no fewer iterations than the least count; of a keytab one of its keys.
+        // Promise: a first ticket is taken under a key of the client: from a password, one that is made as a KDC says,
+        // with no fewer iterations than the least count; from a keytab, one of its keys.
         // Promise, as Network::exchange: **no message is sent ..
-        // Promise: a login sends nothing but one AS-REQ without a timestamp and two with one under a key of the client.
-        // Promise: of two such AS-REQs or TGS-REQs the first has the moment that was handed in, and is encrypted with
-        // the 16 bytes that are drawn after the nonce.
+        // Promise: a login sends at most one AS-REQ without a timestamp, and two with a timestamp under a key of the
+        // client.
+        // Promise: of two such AS-REQs or TGS-REQs the first has the client's moment, and is encrypted with the 16
+        // bytes that are drawn after the nonce.
         // Promise: the second request, after a replay error, has the next microsecond and the next 16 bytes.
         // Promise (ok, err): nothing is encrypted or decrypted with a key from a password that someone on the path made
         // cheap to guess.
-        // Promise (ok, err): **a KDC is one of those that were handed in**: who answered, and whom an error names, is
-        // at an address of a place that the client had before the call.
+        // Promise (ok, err): **a KDC is one of those that were handed in**: the KDC that answered, and the one that an
+        // error names, is at an address of a place that the client had before the call.
         // Promise (ok, err): a host that was not looked up before is at the addresses that the network found for its
-        // name, then and there (what it finds is what a network's `finds` says).
+        // name during the call (what it finds is what its `finds` says).
         ensures ok { IfOk result (λ credential. IsFirst
             (IsExchanged X.finds self.old.kdcs.places.items X.carries X.answers) secret.now
             (logs_in login.now secret.now self.old.at.sec (drawn_nonce (R.stream rng.old)))
@@ -89,7 +90,7 @@ impl<X: Network> KdcClient<X> {
         // Promise: **an error says which KDC is to blame, and why**: the KDC that it names answered one of the requests
         // that the network carried, with bytes that say so (`answers`).
         // Promise: such bytes are a KRB-ERROR of that code and time; or neither a reply nor a KRB-ERROR; or a reply
-        // that the rules refuse for that reason; or they name no key that the client has and takes.
+        // that the rules refuse for that reason; or they name no key that the client has and accepts.
         // Promise: an error names no KDC only if the request can't be written, the keytab has no key of the client, no
         // KDC replied, or memory ran out.
         ensures err { IfErr result (λ fault. IsFirstFault
@@ -99,9 +100,9 @@ impl<X: Network> KdcClient<X> {
         // Promise: after a call the client's moment is as before, or one or two microseconds later: it is taken for
         // each timestamp and each authenticator.
         ensures moved { IsMoved self.old.at self.new.at }
-        // Promise: after a call no place has a further address.
+        // Promise: a call adds no KDC to those at the client's places.
         ensures within { AreWithin X.finds self.old.kdcs.places.items self.new.kdcs.places.items }
-        // Promise: after a call the client's moment is not by a KDC's clock, if it was not before.
+        // Promise: a call doesn't change whether the client's moment is by a KDC's clock.
         ensures clock { self.new.is_by_kdc ≡ self.old.is_by_kdc }
         // Promise: a call draws from its generator a nonce, and at most two confounders after it, each of its bytes
         // once.
@@ -112,7 +113,7 @@ impl<X: Network> KdcClient<X> {
         let nonce = draw_nonce(rng);
         let etypes = etypes_for(alloc, secret, &login.client)?;
         if etypes.is_empty() {
-            return Err(LoginFault::new(LoginError::NoClientKey));
+            return Err(TicketError::new(LoginError::NoClientKey));
         }
         let asked = first_asked(alloc, login, etypes, self.at, nonce)?;
         let first = FirstRequest {
@@ -129,7 +130,7 @@ fn ask_plainly<X: Network, R: Rng>(
     client: &mut KdcClient<X>,
     rng: &mut R,
     first: &FirstRequest<'_>,
-) -> Result<Credential, LoginFault>
+) -> Result<Credential, TicketError>
     requires { CarriesFirst X.carries first.now.secret.now first.now.asked.now client.old.at (R.stream rng.old) }
     ensures ok { IfOk result (λ credential.
         IsFirst (IsExchanged X.finds client.old.kdcs.places.items X.carries X.answers)
@@ -143,7 +144,7 @@ fn ask_plainly<X: Network, R: Rng>(
     ensures drawn { HasDrawn (R.stream rng.old) (R.stream rng.new) }
 {
     if !first.asked.is_askable() {
-        return Err(LoginFault::new(LoginError::NotAskable));
+        return Err(TicketError::new(LoginError::NotAskable));
     }
     let alloc = client.alloc;
     let request = as_request(alloc, first.asked)?;
@@ -184,7 +185,7 @@ fn ask_with_timestamp<X: Network, R: Rng>(
     client: &mut KdcClient<X>,
     rng: &mut R,
     stamped: &StampedRequest<'_>,
-) -> Result<Credential, LoginFault>
+) -> Result<Credential, TicketError>
     requires askable { IsAskable stamped.now.asked.now }
     requires own { IsOwnKey stamped.now.secret.now stamped.now.asked.now.realm stamped.now.asked.now.client
         stamped.now.key.now }
@@ -278,12 +279,13 @@ fn take(
         replies.judged AS_REP roles.Client expected.now.asked.now expected.now.key.now expected.now.at.sec ticket.now
         ≡ Ok credential) }
     ensures err { IfErr result (λ why. IsRejection
-        (replies.judged AS_REP roles.Client expected.now.asked.now expected.now.key.now expected.now.at.sec ticket.now) why) }
+        (replies.judged AS_REP roles.Client expected.now.asked.now expected.now.key.now
+        expected.now.at.sec ticket.now) why) }
 {
     match judge_as_reply(alloc, expected.asked, expected.key, expected.at, ticket) {
         Ok(credential) => Ok(credential),
-        Err(ClientFault::Mismatch(what)) => Err(LoginError::Mismatch(what)),
-        Err(ClientFault::CannotOpen) => Err(LoginError::CannotOpen),
+        Err(ReplyError::Mismatch(what)) => Err(LoginError::Mismatch(what)),
+        Err(ReplyError::CannotOpen) => Err(LoginError::CannotOpen),
         // a reply has no other fault
         Err(_) => Err(LoginError::Memory),
     }

@@ -15,13 +15,13 @@ ghost use Rattle.client_login.specs.Replies.{IsExchanged, said_of};
 use crate::asking::Reply;
 use crate::client::KdcClient;
 use crate::draws::draw_nonce;
-use crate::faults::{LoginError, LoginFault, said_by};
+use crate::faults::{LoginError, TicketError, said_by};
 use crate::network::Network;
 use crate::replies::Expected;
 use crate::sending::{ProvingRequest, send};
 use crate::ticket_requests::{FurtherTicket, Renewal, further_asked, renewal_options};
 use client_core::{
-    Asked, ClientFault, is_presentable, judge_tgs_reply, session_key, ticket_reply_in,
+    Asked, ReplyError, is_presentable, judge_tgs_reply, session_key, ticket_reply_in,
 };
 use cred_files::Credential;
 use krb_fields::numbers::TGS_REP;
@@ -45,7 +45,7 @@ impl<X: Network> KdcClient<X> {
         rng: &mut R,
         granting: &Credential,
         service: &Name,
-    ) -> Result<Credential, LoginFault>
+    ) -> Result<Credential, TicketError>
         // The network has to take only requests that present the ticket.
         requires { CarriesPresented X.carries granting.now
             (further_asked 0 granting.now.client service.now (drawn_nonce (R.stream rng.old)))
@@ -54,7 +54,7 @@ impl<X: Network> KdcClient<X> {
         // Promise: **a further ticket is taken from the reply of a KDC that was asked**, under the session key of the
         // ticket that was presented.
         // Promise, as Network::exchange: **no message is sent ..
-        // Promise: a further ticket is asked for by nothing but two TGS-REQs that present the ticket.
+        // Promise: a further ticket is requested with at most two TGS-REQs, which present the ticket.
         // Promise, as KdcClient::log_in: of two such AS-REQs ..
         // Promise, as KdcClient::log_in: the second request, after ..
         // Promise (ok, err), as KdcClient::log_in: **a KDC is one ..
@@ -73,9 +73,9 @@ impl<X: Network> KdcClient<X> {
             self.old.at.sec fault.why fault.kdc) }
         // Promise, as KdcClient::log_in: after a call the client's moment is as ..
         ensures moved { IsMoved self.old.at self.new.at }
-        // Promise, as KdcClient::log_in: after a call no ..
+        // Promise, as KdcClient::log_in: a call adds no ..
         ensures within { AreWithin X.finds self.old.kdcs.places.items self.new.kdcs.places.items }
-        // Promise, as KdcClient::log_in: after a call the client's moment is not ..
+        // Promise, as KdcClient::log_in: a call doesn't change whether the client's moment ..
         ensures clock { self.new.is_by_kdc ≡ self.old.is_by_kdc }
         // Promise, as KdcClient::log_in: a call draws from ..
         ensures drawn { HasDrawn (after_nonce (R.stream rng.old)) (R.stream rng.new) }
@@ -104,7 +104,7 @@ impl<X: Network> KdcClient<X> {
         rng: &mut R,
         granting: &Credential,
         renewal: Renewal,
-    ) -> Result<Credential, LoginFault>
+    ) -> Result<Credential, TicketError>
         requires { CarriesPresented X.carries granting.now
             (further_asked (renewal_options renewal granting.now.flags) granting.now.client granting.now.server.name
             (drawn_nonce (R.stream rng.old)))
@@ -131,9 +131,9 @@ impl<X: Network> KdcClient<X> {
             self.old.at.sec fault.why fault.kdc) }
         // Promise, as KdcClient::log_in: after a call the client's moment is as ..
         ensures moved { IsMoved self.old.at self.new.at }
-        // Promise, as KdcClient::log_in: after a call no ..
+        // Promise, as KdcClient::log_in: a call adds no ..
         ensures within { AreWithin X.finds self.old.kdcs.places.items self.new.kdcs.places.items }
-        // Promise, as KdcClient::log_in: after a call the client's moment is not ..
+        // Promise, as KdcClient::log_in: a call doesn't change whether the client's moment ..
         ensures clock { self.new.is_by_kdc ≡ self.old.is_by_kdc }
         // Promise, as KdcClient::log_in: a call draws from ..
         ensures drawn { HasDrawn (after_nonce (R.stream rng.old)) (R.stream rng.new) }
@@ -161,7 +161,7 @@ fn ask_with_ticket<X: Network, R: Rng>(
     client: &mut KdcClient<X>,
     rng: &mut R,
     further: &FurtherRequest<'_>,
-) -> Result<Credential, LoginFault>
+) -> Result<Credential, TicketError>
     requires { CarriesPresented X.carries further.now.granting.now further.now.asked.now client.old.at
         (R.stream rng.old) }
     ensures ok { IfOk result (λ credential.
@@ -176,13 +176,13 @@ fn ask_with_ticket<X: Network, R: Rng>(
     ensures drawn { HasDrawn (R.stream rng.old) (R.stream rng.new) }
 {
     let Some(key) = session_key(further.granting) else {
-        return Err(LoginFault::new(LoginError::NotPresentable));
+        return Err(TicketError::new(LoginError::NotPresentable));
     };
     if !is_presentable(further.granting) {
-        return Err(LoginFault::new(LoginError::NotPresentable));
+        return Err(TicketError::new(LoginError::NotPresentable));
     }
     if !further.asked.is_askable() {
-        return Err(LoginFault::new(LoginError::NotAskable));
+        return Err(TicketError::new(LoginError::NotAskable));
     }
     let expected = Expected {
         asked: further.asked,
@@ -230,7 +230,8 @@ fn take(
         replies.judged TGS_REP roles.Session expected.now.asked.now expected.now.key.now expected.now.at.sec ticket.now
         ≡ Ok credential) }
     ensures err { IfErr result (λ why. IsTgsRejection
-        (replies.judged TGS_REP roles.Session expected.now.asked.now expected.now.key.now expected.now.at.sec ticket.now) why) }
+        (replies.judged TGS_REP roles.Session expected.now.asked.now expected.now.key.now
+        expected.now.at.sec ticket.now) why) }
 {
     match judge_tgs_reply(
         alloc,
@@ -241,8 +242,8 @@ fn take(
         ticket,
     ) {
         Ok(credential) => Ok(credential),
-        Err(ClientFault::Mismatch(what)) => Err(LoginError::Mismatch(what)),
-        Err(ClientFault::CannotOpen) => Err(LoginError::SessionCannotOpen),
+        Err(ReplyError::Mismatch(what)) => Err(LoginError::Mismatch(what)),
+        Err(ReplyError::CannotOpen) => Err(LoginError::SessionCannotOpen),
         // a reply has no other fault
         Err(_) => Err(LoginError::Memory),
     }

@@ -46,7 +46,7 @@ mod verifying;
 pub use asking::{Kdcs, Transports};
 pub use client::KdcClient;
 pub use draws::{draw_confounder, draw_nonce};
-pub use faults::{Doubt, LoginError, LoginFault};
+pub use faults::{LoginError, TicketError};
 pub use kdc_places::KdcPlace;
 pub use network::{AnyMessage, Network, Route, Transport};
 pub use secrets::{Password, Secret};

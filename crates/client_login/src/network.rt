@@ -7,7 +7,7 @@ use std::alloc::Global;
 use std::io;
 use std::net::SocketAddr;
 
-/// How a message goes to a KDC (RFC 4120, section 7.2).
+/// The way in which a message goes to a KDC (RFC 4120, section 7.2).
 #[derive(Clone, Copy, PartialEq, Eq)]
 pub enum Transport {
     /// By a datagram.
@@ -44,8 +44,8 @@ pub trait Network {
     /// Sends a message and returns the reply. Fails if no reply comes in the network's waiting time.
     fn exchange(&mut self, alloc: Global, route: Route, message: &[u8]) -> io::Result<Vec<u8>>
         requires { carries message.now }
-        // Promise: **no message is sent but these requests**: whatever a network's `carries` says of messages, a call
-        // needs it of the requests that its conditions name (`CarriesFirst`, `CarriesPresented`).
+        // Promise: **no message is sent but these requests**: a call requires only that the network takes (`carries`)
+        // the requests in its conditions (`CarriesFirst`, `CarriesPresented`).
         // Promise, as KdcClient::log_in: **an error says which ..
         ensures { IfOk result (λ reply. answers route.to message.now reply.items) };
 

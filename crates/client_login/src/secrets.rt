@@ -12,7 +12,7 @@ ghost use Rattle.client_login.specs.Keys.{least_count, next_key, with_held};
 use crate::faults::LoginError;
 use crate::infos::info_in_reply;
 use crate::ticket_requests::offered;
-use client_core::{Asked, ClientFault, EtypeInfo2, count_of, entry_of, password_key};
+use client_core::{Asked, EtypeInfo2, ReplyError, iteration_count, password_key, usable_entry};
 use cred_files::{Keytab, Principal};
 use encrypted_data::type_numbered;
 use enctypes::{Etype, Key};
@@ -32,9 +32,11 @@ pub enum Secret {
 }
 
 impl Secret {
-    /// Returns the secret of a password: the bytes of this text, with the default fewest iterations of each type.
+    /// Returns the secret of a password: the bytes of this text, with each type's default count as the fewest
+    /// iterations.
     pub fn password(alloc: Global, text: &str) -> Result<Secret, AllocError>
-        // Promise: the secret of a password has the bytes of its text, and the default fewest iterations of each type.
+        // Promise: the secret of a password has the bytes of its text, and each type's default count as the fewest
+        // iterations.
         ensures { IfOk result (λ secret.
             secret ≡ secrets.Password (record { octets = text.now; least_count = None })) }
     {
@@ -52,7 +54,7 @@ pub struct Password {
     pub octets: Octets,
     /// The fewest iterations of string-to-key that the client accepts. Absent: the type's default, 4,096 for the types
     /// 17 and 18 and 32,768 for the types 19 and 20. A program on the path to the KDC may name any count and salt, and
-    /// sees what is encrypted with such a key; so fewer iterations make passwords cheaper to guess.
+    /// sees what is encrypted with such a key. So fewer iterations make passwords cheaper to guess.
     pub least_count: Option<u32>,
 }
 
@@ -62,7 +64,7 @@ pub(crate) fn etypes_for(
     secret: &Secret,
     client: &Principal,
 ) -> Result<Seq<Etype>, AllocError>
-    // Promise, as first_asked: what is asked: options, ..
+    // Promise, as first_asked: a request has the ..
     ensures { IfOk result (λ etypes. etypes ≡ etypes_for secret.now client.now) }
 {
     match secret {
@@ -99,7 +101,7 @@ fn push_held(
 }
 
 /// Returns the key for a timestamp, given the KDC's information about the client's keys. With a keytab it is that of
-/// the first type which the KDC names and the keytab has.
+/// the first type that the KDC names and the keytab has.
 pub(crate) fn key_wanted(
     alloc: Global,
     secret: &Secret,
@@ -206,8 +208,8 @@ fn made_key(
     let octets = password.octets.as_slice();
     match password_key(alloc, octets, asked.realm.as_slice(), &asked.client, info) {
         Ok(key) => Ok(key),
-        Err(ClientFault::CannotOpen) => Err(LoginError::NoKnownType),
-        Err(ClientFault::CountTooLarge) => Err(LoginError::CountTooLarge),
+        Err(ReplyError::CannotOpen) => Err(LoginError::NoKnownType),
+        Err(ReplyError::CountTooLarge) => Err(LoginError::CountTooLarge),
         // a password gives no other fault
         Err(_) => Err(LoginError::Memory),
     }
@@ -217,7 +219,7 @@ fn made_key(
 fn is_weak(least: Option<u32>, info: &[EtypeInfo2Entry]) -> bool
     ensures { result ≡ is_weak least info.now }
 {
-    match entry_of(info) {
+    match usable_entry(info) {
         Some(entry) => is_weak_entry(least, entry),
         None => false,
     }
@@ -227,7 +229,10 @@ fn is_weak_entry(least: Option<u32>, entry: &EtypeInfo2Entry) -> bool
     ensures { result ≡ is_weak_if least (Some entry.now) }
 {
     match type_numbered(entry.etype) {
-        Some(etype) => is_below(least_count(least, etype), count_of(etype, &entry.s2kparams)),
+        Some(etype) => is_below(
+            least_count(least, etype),
+            iteration_count(etype, &entry.s2kparams),
+        ),
         None => false,
     }
 }
@@ -283,8 +288,8 @@ fn key_named<'k>(
     name: &Name,
     info: &[EtypeInfo2Entry],
 ) -> Option<&'k Key>
-    // Promise: of a keytab the key is that of the first type that the KDC names and the keytab has, or of the reply's
-    // type, of the greatest version.
+    // Promise: from a keytab, the key is that of the first type that the KDC names and the keytab has, or of the
+    // reply's type, in its highest version.
     ensures { option_copied result ≡ key_named keytab.now (realm.now ∷ name.now.components) info.now }
 {
     for entry in info {
@@ -296,7 +301,7 @@ fn key_named<'k>(
 }
 
 fn key_numbered<'k>(keytab: &'k Keytab, realm: &[u8], name: &Name, number: i32) -> Option<&'k Key>
-    // Promise, as key_named: of a keytab the ..
+    // Promise, as key_named: from a keytab, the ..
     ensures { option_copied result ≡ key_numbered keytab.now (realm.now ∷ name.now.components) number }
 {
     key_typed(keytab, realm, name, type_numbered(number))

@@ -10,7 +10,7 @@ ghost use Rattle.client_login.specs.Sending.{CarriesProof, IsWritable, Spells};
 use crate::asking::{Reply, ask};
 use crate::client::KdcClient;
 use crate::draws::draw_confounder;
-use crate::faults::LoginFault;
+use crate::faults::TicketError;
 use crate::network::Network;
 use client_core::{Asked, tgs_request, with_timestamp};
 use cred_files::Credential;
@@ -41,7 +41,7 @@ pub(crate) fn send<X: Network, R: Rng>(
     client: &mut KdcClient<X>,
     rng: &mut R,
     request: &ProvingRequest<'_>,
-) -> Result<Reply, LoginFault>
+) -> Result<Reply, TicketError>
     requires writable { IsWritable request.now }
     requires carried { CarriesProof X.carries (Spells request.now) client.old.at (R.stream rng.old) }
     ensures ok { IfOk result (λ reply. IsReply
@@ -64,7 +64,7 @@ fn send_once<X: Network, R: Rng>(
     client: &mut KdcClient<X>,
     rng: &mut R,
     request: &ProvingRequest<'_>,
-) -> Result<Reply, LoginFault>
+) -> Result<Reply, TicketError>
     requires writable { IsWritable request.now }
     requires carried { (octets : List ℕ)
         → Spells request.now client.old.at (drawn_confounder (R.stream rng.old)) octets → X.carries octets }
@@ -79,12 +79,12 @@ fn send_once<X: Network, R: Rng>(
 {
     let at = client.take_moment();
     let confounder = draw_confounder(rng);
-    let octets = octets_of(client.alloc, request, at, &confounder)?;
+    let octets = write_request(client.alloc, request, at, &confounder)?;
     ask(client.alloc, &mut client.kdcs, &octets)
 }
 
 /// Returns the bytes of a request.
-fn octets_of(
+fn write_request(
     alloc: Global,
     request: &ProvingRequest<'_>,
     at: Moment,

@@ -1,7 +1,8 @@
 //! What a client requests from a KDC (RFC 4120, section 5.4.1).
 ghost use Rattle.std.specs.Prelude.{◌≡◌, ◌<◌, ◌^◌, IfOk};
 ghost use Rattle.client_login.specs.Asking.{renewal_option, renewal_options, first_asked, from_of, further_asked};
-ghost use Rattle.client_login.specs.Asking.{options_of, rtime_of, till_by, till_of, time_after, up_to_last, with_if, with_kept};
+ghost use Rattle.client_login.specs.Asking.{options_of, rtime_of, till_by, till_of, time_after, up_to_last, with_if};
+ghost use Rattle.client_login.specs.Asking.{with_kept};
 ghost use Rattle.client_login.specs.Keys.{offered};
 
 use client_core::Asked;
@@ -69,7 +70,8 @@ pub(crate) fn first_asked(
     at: Moment,
     nonce: u32,
 ) -> Result<Asked, AllocError>
-    // Promise: what is asked: options, start, end; with a keytab the types of the client's keys in it, else all four.
+    // Promise: a request has the options, the start and the end of the definition; it has the types of the client's
+    // keys in a keytab, or else all four.
     ensures { IfOk result (λ asked. asked ≡ first_asked login.now etypes at.sec nonce) }
 {
     let request = &login.request;
@@ -89,7 +91,7 @@ pub(crate) fn first_asked(
 /// A ticket that a client wants with a ticket-granting ticket.
 #[derive(Clone, Copy)]
 pub(crate) struct FurtherTicket<'a> {
-    /// Its named bits are those of `krb_fields::KdcOption`.
+    /// The options. `krb_fields::KdcOption` names the bits.
     pub options: Flags,
     /// The client of the ticket-granting ticket, with its realm.
     pub client: &'a Principal,
@@ -103,7 +105,7 @@ pub(crate) fn further_asked(
     wanted: &FurtherTicket<'_>,
     nonce: u32,
 ) -> Result<Asked, AllocError>
-    // Promise, as first_asked: what is asked: options, ..
+    // Promise, as first_asked: a request has the ..
     ensures { IfOk result (λ asked.
         asked ≡ further_asked wanted.now.options wanted.now.client.now wanted.now.service.now nonce) }
 {
@@ -154,7 +156,7 @@ fn with_if(options: Flags, wanted: bool, option: KdcOption) -> Flags
 /// Returns the options that renew or validate a ticket with these flags. If the ticket has the flag of an option, the
 /// option is requested again, because some KDCs clear the flag otherwise.
 pub(crate) fn renewal_options(renewal: Renewal, flags: Flags) -> Flags
-    // Promise, as first_asked: what is asked: options, ..
+    // Promise, as first_asked: a request has the ..
     ensures { result ≡ renewal_options renewal flags }
 {
     let options = with_if(Flags::from_bits(0), true, renewal_option(renewal));
@@ -211,7 +213,7 @@ fn from(request: &TicketRequest, at: Moment) -> Option<KTime>
 fn till(request: &TicketRequest, at: Moment) -> KTime
     ensures { result ≡ till_of at.sec request.now }
 {
-    till_by(at, request.start.unwrap_or(0), request.lifetime)
+    end_after(at, request.start.unwrap_or(0), request.lifetime)
 }
 
 /// Returns until when the ticket is to be renewable.
@@ -219,14 +221,14 @@ fn rtime(request: &TicketRequest, at: Moment) -> Option<KTime>
     ensures { result ≡ rtime_of at.sec request.now }
 {
     if request.renewable {
-        Some(till_by(at, request.start.unwrap_or(0), request.renew_lifetime))
+        Some(end_after(at, request.start.unwrap_or(0), request.renew_lifetime))
     } else {
         None
     }
 }
 
 /// Returns the time this long after the start, in seconds; the start of 1970 requests no bound.
-fn till_by(at: Moment, start: u32, life: Option<u32>) -> KTime
+fn end_after(at: Moment, start: u32, life: Option<u32>) -> KTime
     ensures { result ≡ till_by at.sec start life }
 {
     match life {

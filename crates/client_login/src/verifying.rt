@@ -9,11 +9,12 @@ ghost use Rattle.client_login.specs.Logins.{CarriesPresented, IsFurther};
 ghost use Rattle.client_login.specs.Moments.{IsMoved};
 ghost use Rattle.client_login.specs.Places.{AreWithin};
 ghost use Rattle.client_login.specs.Replies.{IsExchanged};
-ghost use Rattle.client_login.specs.Verifying.{IsTicketOf, IsUnverified, IsValidAt, if_of, if_valid, is_of, is_session_key};
+ghost use Rattle.client_login.specs.Verifying.{IsTicketOf, IsUnverified, IsValidAt, if_of, if_valid, is_of};
+ghost use Rattle.client_login.specs.Verifying.{is_session_key};
 ghost use Rattle.client_login.specs.Verifying.{is_valid, opened, part_by, part_in, part_under, verified};
 
 use crate::client::KdcClient;
-use crate::faults::{Doubt, LoginError, LoginFault};
+use crate::faults::{LoginError, TicketError};
 use crate::network::Network;
 use ap_req::{has_ended, has_not_started, keytab_key, ticket_terms};
 use cred_files::{Credential, Keytab, Principal, SessionKey};
@@ -28,12 +29,12 @@ use std::alloc::{AllocError, Global};
 use std::cmp::Ordering;
 
 impl<X: Network> KdcClient<X> {
-    /// Checks that the KDC that logged the client in is the realm's: gets a ticket for a service whose keytab is at
+    /// Checks that the KDC that logged the client in is the realm's. It gets a ticket for a service whose keytab is at
     /// hand, and checks it with [`verified_ticket`], at the client's moment. Returns that ticket.
     ///
     /// **A program that lets somebody in by a password has to call this.** `log_in` alone shows that a KDC knows the
-    /// password, and the person who types it may also answer in the KDC's place. So the service's key has to be random,
-    /// and the moment that of the computer's own clock.
+    /// password. The person who types it may also answer in the KDC's place. So the service's key has to be random, and
+    /// the moment that of the computer's own clock.
     #[tactic(auto, using(crate::proofs::Verified::valid_at, crate::proofs::Verified::ticket_of, crate::proofs::Verified::further_client, crate::proofs::Verified::doubted, crate::proofs::Verified::not_come))]
     pub fn verify<R: Rng>(
         &mut self,
@@ -41,7 +42,7 @@ impl<X: Network> KdcClient<X> {
         granting: &Credential,
         service: &Name,
         keytab: &Keytab,
-    ) -> Result<Credential, LoginFault>
+    ) -> Result<Credential, TicketError>
         requires { CarriesPresented X.carries granting.now
             (further_asked 0 granting.now.client service.now (drawn_nonce (R.stream rng.old)))
             self.old.at (after_nonce (R.stream rng.old)) }
@@ -60,8 +61,8 @@ impl<X: Network> KdcClient<X> {
         // That client is the one that logged in.
         ensures client { IfOk result (λ credential.
             AreSame credential.client.realm credential.client.name granting.now.client.realm granting.now.client.name) }
-        // Promise (further, err): a verified login's ticket is what a further request got; if one that came is doubted,
-        // or none came, an error says so.
+        // Promise (further, err): a verified login's ticket is the one that a further request got; if the ticket that
+        // came is doubted, or none came, the error says so.
         ensures further { IfOk result (λ credential. IsFurther
             (IsExchanged X.finds self.old.kdcs.places.items X.carries X.answers) granting.now
             (further_asked 0 granting.now.client service.now (drawn_nonce (R.stream rng.old)))
@@ -73,9 +74,9 @@ impl<X: Network> KdcClient<X> {
             self.old.at.sec fault.why fault.kdc) }
         // Promise, as KdcClient::log_in: after a call the client's moment is as ..
         ensures moved { IsMoved self.old.at self.new.at }
-        // Promise, as KdcClient::log_in: after a call no ..
+        // Promise, as KdcClient::log_in: a call adds no ..
         ensures within { AreWithin X.finds self.old.kdcs.places.items self.new.kdcs.places.items }
-        // Promise, as KdcClient::log_in: after a call the client's moment is not ..
+        // Promise, as KdcClient::log_in: a call doesn't change whether the client's moment ..
         ensures clock { self.new.is_by_kdc ≡ self.old.is_by_kdc }
         // Promise, as KdcClient::log_in: a call draws from ..
         ensures drawn { HasDrawn (after_nonce (R.stream rng.old)) (R.stream rng.new) }
@@ -84,19 +85,19 @@ impl<X: Network> KdcClient<X> {
         let credential = self.service_ticket(rng, granting, service)?;
         match verified_ticket(self.alloc, keytab, &credential, at)? {
             Ok(_) => Ok(credential),
-            Err(doubt) => Err(LoginFault::new(LoginError::Unverified(doubt))),
+            Err(doubt) => Err(TicketError::new(doubt)),
         }
     }
 }
 
-/// Decrypts the ticket of a credential as [`opened_ticket`] does, and checks that it is valid at a moment: it has
-/// started, has not ended, up to the clock skew, and needs no validation.
+/// Decrypts the ticket of a credential as [`opened_ticket`] does, and checks that it is valid at a moment. Up to the
+/// clock skew, it has started and has not ended; and it needs no validation.
 pub fn verified_ticket(
     alloc: Global,
     keytab: &Keytab,
     credential: &Credential,
     at: Moment,
-) -> Attempt<EncTicketPart, Doubt>
+) -> Attempt<EncTicketPart, LoginError>
     // Promise, as KdcClient::verify: a verified login's ticket is valid ..
     ensures { IfOk result (λ found. found ≡ verified keytab.now at.sec credential.now) }
 {
@@ -114,23 +115,23 @@ pub fn opened_ticket(
     alloc: Global,
     keytab: &Keytab,
     credential: &Credential,
-) -> Attempt<EncTicketPart, Doubt>
+) -> Attempt<EncTicketPart, LoginError>
     // Promise (value, is), as KdcClient::verify: **a verified login is ..
     ensures value { IfOk result (λ found. found ≡ opened keytab.now credential.now) }
     ensures is { IfOk result (λ found. IfOk found (λ part. IsTicketOf keytab.now credential.now)) }
 {
     match decrypted(alloc, keytab, credential.ticket.as_slice())? {
-        Ok(part) => Ok(if_of(credential, part)),
+        Ok(part) => Ok(require_match(credential, part)),
         Err(doubt) => Ok(Err(doubt)),
     }
 }
 
 /// Decrypts the ticket that bytes encode.
-fn decrypted(alloc: Global, keytab: &Keytab, octets: &[u8]) -> Attempt<EncTicketPart, Doubt>
+fn decrypted(alloc: Global, keytab: &Keytab, octets: &[u8]) -> Attempt<EncTicketPart, LoginError>
     ensures { IfOk result (λ found. found ≡ part_in keytab.now (ticket_in octets.now)) }
 {
     let Ok(ticket) = read::<TicketRef<'_>>(octets) else {
-        return Ok(Err(Doubt::NotOpened));
+        return Ok(Err(LoginError::TicketNotOpened));
     };
     let service = ticket.sname.to_name(alloc)?;
     part_by(alloc, keytab_key(keytab, &ticket, &service), &ticket)
@@ -140,12 +141,12 @@ fn part_by(
     alloc: Global,
     key: Option<&Key>,
     ticket: &TicketRef<'_>,
-) -> Attempt<EncTicketPart, Doubt>
+) -> Attempt<EncTicketPart, LoginError>
     ensures { IfOk result (λ found. found ≡ part_by (option_copied key.entry) ticket.now) }
 {
     match key {
-        Some(key) => Ok(part_under(alloc, key, ticket)?.ok_or(Doubt::NotOpened)),
-        None => Ok(Err(Doubt::NoTicketKey)),
+        Some(key) => Ok(part_under(alloc, key, ticket)?.ok_or(LoginError::TicketNotOpened)),
+        None => Ok(Err(LoginError::NoServiceKey)),
     }
 }
 
@@ -160,28 +161,28 @@ fn part_under(
     open_part(alloc, key, KeyUsage::Ticket, cipher)
 }
 
-fn if_of(credential: &Credential, part: EncTicketPart) -> Result<EncTicketPart, Doubt>
+fn require_match(credential: &Credential, part: EncTicketPart) -> Result<EncTicketPart, LoginError>
     ensures { result ≡ if_of credential.now (Ok part) }
 {
-    if is_of(credential, &part) {
+    if matches_credential(credential, &part) {
         Ok(part)
     } else {
-        Err(Doubt::OtherTicket)
+        Err(LoginError::OtherTicket)
     }
 }
 
-fn if_valid(at: Moment, part: EncTicketPart) -> Result<EncTicketPart, Doubt>
+fn if_valid(at: Moment, part: EncTicketPart) -> Result<EncTicketPart, LoginError>
     ensures { result ≡ if_valid at.sec (Ok part) }
 {
     if is_valid(&part, at) {
         Ok(part)
     } else {
-        Err(Doubt::NotValid)
+        Err(LoginError::TicketNotValid)
     }
 }
 
 /// Checks whether a ticket has the credential's client and session key.
-fn is_of(credential: &Credential, part: &EncTicketPart) -> bool
+fn matches_credential(credential: &Credential, part: &EncTicketPart) -> bool
     ensures { result ≡ is_of credential.now part.now }
 {
     is_client(&credential.client, part) && is_session_key(&credential.key, &part.key)

@@ -58,7 +58,8 @@ pub record IsLoggedIn {S : Type 0} (answers : SocketAddr → List ℕ → List �
   pub ticket : Credential
   pub has : tgt ≡ Some ticket
   pub first : IsFirst answers secret
-      (logs_in (login_of client.principal client.request) secret at.sec (drawn_nonce (bytes_from client.generator))) at.sec ticket
+      (logs_in (login_of client.principal client.request) secret at.sec
+      (drawn_nonce (bytes_from client.generator))) at.sec ticket
 
 -- A ticket for the service with this name: a KDC's reply to the request with the client's ticket-granting ticket and
 -- the nonce that this call drew, at a moment of its clock.
@@ -68,7 +69,8 @@ pub record IsGranted {S : Type 0} (answers : SocketAddr → List ℕ → List �
   pub shown : IsShown world at
   pub tgt : Credential
   pub has : client.tgt ≡ Some tgt
-  pub further : IsFurther answers tgt (further_asked 0 tgt.client service (drawn_nonce (bytes_from client.generator))) at.sec ticket
+  pub further : IsFurther answers tgt (further_asked 0 tgt.client service
+      (drawn_nonce (bytes_from client.generator))) at.sec ticket
 
 -- the same for the service that words spell, such as `host/www.example.com`
 pub record IsGrantedFor {S : Type 0} (answers : SocketAddr → List ℕ → List ℕ → Type 0) (world : Option World)

@@ -19,7 +19,8 @@ asked_of_service = record { mutual_required = true; checksum = None; subkey = No
 
 -- The AP-REQ presents this ticket at a moment of the client's clock, with the confounder that this call drew; the reply
 -- is judged by the ticket's session key and that moment.
-pub record IsPresentedAt {S : Type 0} (world : Option World) (client : ClientState S) (ticket : Credential) (made : Presented) : Type 0 where
+pub record IsPresentedAt {S : Type 0} (world : Option World) (client : ClientState S) (ticket : Credential)
+    (made : Presented) : Type 0 where
   pub shown : IsShown world made.at
   pub held : Session
   pub has : session ticket ≡ Some held

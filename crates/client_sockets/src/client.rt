@@ -14,15 +14,15 @@ use crate::presented::{Presented, make_presented};
 use crate::socket_network::SocketNetwork;
 use client_core::{is_presentable, session_key};
 use client_files::{
-    Cause, ClientStore, Config, Defaults, Fault, at_file, at_password, name_of, principal_text,
-    read_keytab,
+    ClientError, ClientStore, Config, Defaults, StepError, at_file, at_password, parse_name,
+    principal_text, read_keytab,
 };
 use client_login::{
-    AnyMessage, KdcClient, Kdcs, Login, LoginError, LoginFault, Password, Secret, Transports,
+    AnyMessage, KdcClient, Kdcs, Login, LoginError, Password, Secret, TicketError, Transports,
     draw_confounder,
 };
 use cred_files::{Credential, Keytab, Principal};
-use file_store::{CLOCK, FileCause, FileStore, STANDARD_INPUT, Variable, ask_password, draw_seed};
+use file_store::{CLOCK, FileError, FileStore, STANDARD_INPUT, Variable, ask_password, draw_seed};
 use krb_elements::Octets;
 use krb_fields::{Moment, Name, component_to_text, tgs_name};
 use rand_chacha::ChaCha20Rng;
@@ -32,7 +32,7 @@ use std::env;
 use std::marker::Model;
 
 /// A client of a realm. It asks the KDCs that the `krb5.conf` in force names, and keeps its ticket-granting ticket
-/// (TGT) in memory. All its errors name what is to blame: a KDC, a file or a principal.
+/// (TGT) in memory. Each of its errors names the KDC, the file or the principal that it concerns.
 ///
 /// Each call reads the clock and waits for the KDCs for at most 30 seconds. It never takes a KDC's clock.
 #[derive(Drop)]
@@ -73,7 +73,7 @@ impl<'a> Client<SocketNetwork<'a, HostRuntime>, FileStore<'a, HostRuntime>> {
     /// Opens a client over the system's sockets, clock and files, for a principal: `alice@EXAMPLE.COM`, or `alice` of
     /// the default realm. Reads the `krb5.conf` that `KRB5_CONFIG` names, or else `/etc/krb5.conf`: the KDCs, the
     /// default realm, and what the first ticket is to be. Sends nothing.
-    pub fn open(rt: &'a HostRuntime, principal: &str) -> Result<SystemClient<'a>, Fault> {
+    pub fn open(rt: &'a HostRuntime, principal: &str) -> Result<SystemClient<'a>, ClientError> {
         let variable = env::var(rt, "KRB5_CONFIG");
         let defaults = Defaults {
             cache: Variable::Absent,
@@ -96,7 +96,7 @@ impl<X: AnyMessage + Drop, T: ClientStore + Drop> Client<X, T> {
         mut store: T,
         config: &Config,
         principal: &str,
-    ) -> Result<Client<X, T>, Fault>
+    ) -> Result<Client<X, T>, ClientError>
         // Promise: **a client is the one that the words name**: of the realm behind the `@`, or else of the default
         // realm of the `krb5.conf`.
         ensures principal { IfOk result (λ client. IsNamed config.entry.now principal.entry.now client.principal) }
@@ -109,7 +109,7 @@ impl<X: AnyMessage + Drop, T: ClientStore + Drop> Client<X, T> {
         ensures tgt { IfOk result (λ client. client.tgt ≡ None) }
         ensures world { IfOk result (λ client. T.world client.store ≡ T.world store) }
     {
-        let login = login_of(alloc, config, principal)?;
+        let login = make_login(alloc, config, principal)?;
         let places = config.kdcs(alloc, login.client.realm.as_slice())?;
         let at = clock(alloc, &mut store)?;
         let seed = at_file(alloc, draw_seed(&mut store))?;
@@ -140,7 +140,7 @@ impl<X: AnyMessage + Drop, T: ClientStore + Drop> Client<X, T> {
     }
 
     /// Asks for the password at the terminal, or else reads the first line of standard input.
-    pub fn ask_password(&mut self) -> Result<Secret, Fault>
+    pub fn ask_password(&mut self) -> Result<Secret, ClientError>
         ensures client { self.new ≡ record self.old { store = self.new.store } }
         ensures world { T.world self.new.store ≡ T.world self.old.store }
     {
@@ -155,7 +155,7 @@ impl<X: AnyMessage + Drop, T: ClientStore + Drop> Client<X, T> {
     }
 
     /// Reads a keytab: the client's own for a login, or a service's for [`Client::verify`].
-    pub fn read_keytab(&mut self, path: &str) -> Result<Keytab, Fault>
+    pub fn read_keytab(&mut self, path: &str) -> Result<Keytab, ClientError>
         ensures client { self.new ≡ record self.old { store = self.new.store } }
         ensures world { T.world self.new.store ≡ T.world self.old.store }
     {
@@ -164,7 +164,7 @@ impl<X: AnyMessage + Drop, T: ClientStore + Drop> Client<X, T> {
 
     /// Logs in: gets a TGT with a password or a keytab. Forgets the TGT of an earlier login first, so after an `Err`
     /// there is none.
-    pub fn log_in(&mut self, secret: &Secret) -> Result<(), Fault>
+    pub fn log_in(&mut self, secret: &Secret) -> Result<(), ClientError>
         // Promise: **after a login there is the TGT that it got**: from the reply of one of these KDCs to the request
         // with this principal and the nonce that this login drew, under a key of this secret, at a moment of the clock.
         ensures ok { OnOk result (IsLoggedIn (IsExchanged X.finds self.old.places X.carries X.answers)
@@ -191,7 +191,7 @@ impl<X: AnyMessage + Drop, T: ClientStore + Drop> Client<X, T> {
     }
 
     /// Gets a ticket for a service of the client's realm, such as `host/www.example.com`, with the TGT.
-    pub fn ticket(&mut self, service: &str) -> Result<Credential, Fault>
+    pub fn ticket(&mut self, service: &str) -> Result<Credential, ClientError>
         // Promise (ok, tgt): **a client's ticket is for the service that the words name**, from the reply of one of
         // these KDCs to the request with the TGT of the last login and the nonce that this call drew.
         ensures ok { IfOk result (λ credential. IsGrantedFor
@@ -204,10 +204,10 @@ impl<X: AnyMessage + Drop, T: ClientStore + Drop> Client<X, T> {
         ensures world { T.world self.new.store ≡ T.world self.old.store }
     {
         let alloc = self.kdc.alloc;
-        let name = name_of(alloc, service)?;
+        let name = parse_name(alloc, service)?;
         self.kdc.set_clock(clock(alloc, &mut self.store)?);
         let Some(tgt) = &self.tgt else {
-            return Err(self.fault(Cause::NoLogin));
+            return Err(self.fault(StepError::NoLogin));
         };
         match self.kdc.service_ticket(&mut self.rng, tgt, &name) {
             Ok(credential) => Ok(credential),
@@ -222,7 +222,7 @@ impl<X: AnyMessage + Drop, T: ClientStore + Drop> Client<X, T> {
     /// **A program that lets somebody in by a password has to call this.** `log_in` alone shows that a KDC knows the
     /// password, and the person who types it may also answer in the KDC's place.
     #[tactic(auto, using(crate::proofs::Same::same_as))]
-    pub fn verify(&mut self, keytab: &Keytab) -> Result<Credential, Fault>
+    pub fn verify(&mut self, keytab: &Keytab) -> Result<Credential, ClientError>
         // A key of the keytab decrypts the ticket, to the client and the session key of the KDC's reply.
         // Promise (ok, granted, client, tgt): **a client's verified ticket is one that the keytab decrypts**, to the
         // principal that was opened and the session key of the KDC's reply, and was got with the TGT of the last login.
@@ -243,10 +243,10 @@ impl<X: AnyMessage + Drop, T: ClientStore + Drop> Client<X, T> {
         let alloc = self.kdc.alloc;
         self.kdc.set_clock(clock(alloc, &mut self.store)?);
         let Some(tgt) = &self.tgt else {
-            return Err(self.fault(Cause::NoLogin));
+            return Err(self.fault(StepError::NoLogin));
         };
         let Some(service) = service_in(keytab, &self.login.client) else {
-            return Err(self.fault(Cause::NoService));
+            return Err(self.fault(StepError::NoService));
         };
         match self.kdc.verify(&mut self.rng, tgt, service, keytab) {
             Ok(credential) => Ok(credential),
@@ -256,7 +256,7 @@ impl<X: AnyMessage + Drop, T: ClientStore + Drop> Client<X, T> {
 
     /// Makes an AP-REQ that presents a ticket to its service and asks for a reply. The ticket is one that
     /// [`Client::ticket`] returned. [`Presented::judge`] judges the reply.
-    pub fn present(&mut self, ticket: &Credential) -> Result<Presented, Fault>
+    pub fn present(&mut self, ticket: &Credential) -> Result<Presented, ClientError>
         // Promise (ok, client, world): **a client presents the ticket that it is handed**, under the ticket's session
         // key, with a moment of its clock and a confounder that this call drew. No file changes.
         ensures ok { IfOk result (λ made. IsPresentedAt (T.world self.old.store) self.old ticket.now made) }
@@ -277,50 +277,60 @@ impl<X: AnyMessage + Drop, T: ClientStore + Drop> Client<X, T> {
         let confounder = draw_confounder(&mut self.rng);
         match make_presented(alloc, ticket, key, at, &confounder) {
             Ok(made) => Ok(made),
-            Err(error) => Err(Fault::from(error)),
+            Err(error) => Err(ClientError::from(error)),
         }
     }
 
-    /// Returns the fault for what concerns the client's principal.
-    fn fault(&self, cause: Cause) -> Fault {
+    /// Returns the error with the client's principal as its subject.
+    fn fault(&self, cause: StepError) -> ClientError {
         fault_of(self.kdc.alloc, &self.login.client, cause)
     }
 
-    fn login_fault(&self, fault: LoginFault) -> Fault {
+    fn login_fault(&self, fault: TicketError) -> ClientError {
         let alloc = self.kdc.alloc;
         match principal_text(alloc, &self.login.client) {
-            Ok(client) => Fault::of_login(alloc, &self.kdc.kdcs, client.as_str(), fault),
-            Err(error) => Fault::from(error),
+            Ok(client) => ClientError::of_login(alloc, &self.kdc.kdcs, client.as_str(), fault),
+            Err(error) => ClientError::from(error),
         }
     }
 }
 
-const NOT_PRESENTABLE: Cause = Cause::Login(LoginError::NotPresentable);
+const NOT_PRESENTABLE: StepError = StepError::Login(LoginError::NotPresentable);
 
-/// Returns the fault for what concerns a principal.
-fn fault_of(alloc: Global, principal: &Principal, cause: Cause) -> Fault {
+/// Returns the error with a principal as its subject.
+fn fault_of(alloc: Global, principal: &Principal, cause: StepError) -> ClientError {
     match principal_text(alloc, principal) {
-        Ok(subject) => Fault::of(subject, cause),
-        Err(error) => Fault::from(error),
+        Ok(subject) => ClientError::of(subject, cause),
+        Err(error) => ClientError::from(error),
     }
 }
 
-fn service_fault<X>(alloc: Global, kdcs: &Kdcs<X>, service: &Name, fault: LoginFault) -> Fault {
+fn service_fault<X>(
+    alloc: Global,
+    kdcs: &Kdcs<X>,
+    service: &Name,
+    fault: TicketError,
+) -> ClientError {
     match service.to_text(alloc) {
         Ok(service) => ticket_fault(alloc, kdcs, service.as_str(), fault),
-        Err(error) => Fault::from(error),
+        Err(error) => ClientError::from(error),
     }
 }
 
-/// Returns the fault for a ticket that could not be got. It names the service, behind the KDC that is to blame.
-fn ticket_fault<X>(alloc: Global, kdcs: &Kdcs<X>, service: &str, fault: LoginFault) -> Fault {
-    let Fault { subject, cause } = Fault::of_login(alloc, kdcs, service, fault);
+/// Returns the error for a service without a ticket. Its subject is the KDC that is to blame, and the service.
+fn ticket_fault<X>(
+    alloc: Global,
+    kdcs: &Kdcs<X>,
+    service: &str,
+    fault: TicketError,
+) -> ClientError {
+    let ClientError { subject, cause } = ClientError::of_login(alloc, kdcs, service, fault);
     match subject {
         Some(subject) => match with_service(alloc, subject.as_str(), service) {
-            Ok(subject) => Fault::of(subject, cause),
-            Err(error) => Fault::from(error),
+            Ok(subject) => ClientError::of(subject, cause),
+            Err(error) => ClientError::from(error),
         },
-        None => Fault {
+        None => ClientError {
             subject: None,
             cause,
         },
@@ -336,7 +346,7 @@ fn with_service(alloc: Global, subject: &str, service: &str) -> Result<String, A
 }
 
 /// Returns the login of a principal, for the first ticket that the `krb5.conf` asks for.
-fn login_of(alloc: Global, config: &Config, principal: &str) -> Result<Login, Fault>
+fn make_login(alloc: Global, config: &Config, principal: &str) -> Result<Login, ClientError>
     ensures client { IfOk result (λ login. IsNamed config.now principal.now login.client) }
     ensures service { IfOk result (λ login. login.service ≡ tgs_name login.client.realm) }
 {
@@ -349,15 +359,15 @@ fn login_of(alloc: Global, config: &Config, principal: &str) -> Result<Login, Fa
 }
 
 /// Returns the moment that the store's clock shows.
-fn clock<T: ClientStore>(alloc: Global, store: &mut T) -> Result<Moment, Fault>
+fn clock<T: ClientStore>(alloc: Global, store: &mut T) -> Result<Moment, ClientError>
     ensures shown { IfOk result (λ at. IsShown (T.world store.old) at) }
     ensures unchanged { T.world store.new ≡ T.world store.old }
 {
     match store.moment() {
         Ok(at) => Ok(at),
         Err(error) => {
-            let cause = Cause::File(FileCause::Failed(error));
-            Err(Fault::new(alloc, CLOCK, cause))
+            let cause = StepError::File(FileError::Failed(error));
+            Err(ClientError::new(alloc, CLOCK, cause))
         }
     }
 }

@@ -8,7 +8,7 @@ ghost use Rattle.client_core.specs.Sessions.{IsPresentable, session, session_key
 ghost use Rattle.client_sockets.specs.Presenting.{asked_of_service};
 ghost use Rattle.krb_elements.specs.Codec.{written};
 
-use client_core::{ClientFault, ServiceAsked, ap_request, read_ap_reply};
+use client_core::{ReplyError, ServiceAsked, ap_request, read_ap_reply};
 use cred_files::Credential;
 use enctypes::Key;
 use krb_fields::Moment;
@@ -27,9 +27,9 @@ pub struct Presented {
 }
 
 impl Presented {
-    /// Returns what the service says in its reply, an AP-REP, or the first fault. The sender of the reply knows the
-    /// session key, which only the service can get from the ticket.
-    pub fn judge(&self, alloc: Global, reply: &[u8]) -> Result<EncApRepPart, ClientFault>
+    /// Returns the encrypted part of the service's reply, an AP-REP, or the first rule that the reply breaks. The
+    /// sender of an accepted reply knows the session key, which only the service can get from the ticket.
+    pub fn judge(&self, alloc: Global, reply: &[u8]) -> Result<EncApRepPart, ReplyError>
         // Promise: a service's reply to a ticket that was presented is taken exactly if its part opens with the
         // ticket's session key to the moment of that AP-REQ.
         ensures { Gives result (reads_ap self.now.key self.now.at reply.now) }

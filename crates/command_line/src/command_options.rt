@@ -11,7 +11,7 @@ use std::alloc::{AllocError, Global};
 /// The shape of a file's path. An empty value is a usage error that names the option.
 const FILE: &str = "FILE";
 
-/// How often an option may appear on a command line.
+/// The number of times that an option may appear on a command line.
 #[derive(Clone, Copy, Debug, PartialEq, Eq)]
 pub enum Times {
     /// Not at all, or once.
@@ -57,7 +57,7 @@ pub struct OptionRow {
 pub struct FlagRow {
     /// The word after `--`, or after `-` if it is one letter.
     pub name: &'static str,
-    /// What the help says of it.
+    /// What the help says about it.
     pub help: &'static str,
 }
 
@@ -74,8 +74,8 @@ pub struct SubcommandRow {
     pub flags: &'static [FlagRow],
 }
 
-/// Returns the status of a program whose command line `clap` does not accept. One that asks for help or for the version
-/// is no error.
+/// Returns the status of a program whose command line `clap` does not accept. A command line that asks for help or for
+/// the version is no error.
 pub fn parse_status(error: &Error) -> Status {
     if error.exit_code() == 0 {
         Status::Done

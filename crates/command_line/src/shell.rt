@@ -1,25 +1,28 @@
-//! The shell of a program's `main`: the words of its command line, and how it says why it ends.
+//! How a program's `main` begins and ends: the words of its command line, and the report of why it ends.
 ghost use Rattle.std.specs.Prelude.{◌≡◌, IfOk};
 ghost use Rattle.command_line.specs.declared.status.Status.TheVariants.{Failed, Refused, Usage};
 
+use crate::given::GivenError;
 use crate::status::Status;
 use std::fmt::Display;
 use std::io::Write;
 use std::{env, io};
 
-/// What is wrong with a command line that `read_words` does not return.
-pub const NOT_UTF8: &str = "a word is not UTF-8";
+/// What is wrong with a word that `read_words` refuses.
+const NOT_UTF8: &str = "a word is not UTF-8";
 
-/// Reads the words of the command line, from the program's name on. `None` if one is not UTF-8.
-pub fn read_words(rt: &HostRuntime) -> io::Result<Option<Vec<String>>> {
+/// Reads the words of the command line, from the program's name on. Fails if one is not UTF-8.
+pub fn read_words(rt: &HostRuntime) -> Result<Vec<String>, GivenError> {
     match env::args(rt) {
-        Ok(args) => Ok(Some(args.collect(rt.alloc())?)),
-        Err(error) if error.kind() == io::ErrorKind::InvalidData => Ok(None),
-        Err(error) => Err(error),
+        Ok(args) => Ok(args.collect(rt.alloc())?),
+        Err(error) if error.kind() == io::ErrorKind::InvalidData => {
+            Err(GivenError::not_utf8(NOT_UTF8))
+        }
+        Err(error) => Err(GivenError::words(error)),
     }
 }
 
-/// Prints a usage error. The error is that of the output.
+/// Prints a usage error. Fails if the output fails.
 pub fn print_usage_error<W: Write>(out: &mut W, why: &impl Display) -> io::Result<Status>
     ensures { IfOk result (λ status. status ≡ Usage) }
 {
@@ -27,7 +30,7 @@ pub fn print_usage_error<W: Write>(out: &mut W, why: &impl Display) -> io::Resul
     Ok(Status::Usage)
 }
 
-/// Prints `refused WORD`. The error is that of the output.
+/// Prints `refused WORD`. Fails if the output fails.
 pub fn print_refusal<W: Write>(out: &mut W, word: &impl Display) -> io::Result<Status>
     ensures { IfOk result (λ status. status ≡ Refused) }
 {
@@ -35,7 +38,7 @@ pub fn print_refusal<W: Write>(out: &mut W, word: &impl Display) -> io::Result<S
     Ok(Status::Refused)
 }
 
-/// Prints `failed`. The error is that of the output.
+/// Prints `failed`. Fails if the output fails.
 pub fn print_failure<W: Write>(out: &mut W) -> io::Result<Status>
     ensures { IfOk result (λ status. status ≡ Failed) }
 {
@@ -50,7 +53,7 @@ pub fn report_usage(rt: &HostRuntime, why: &impl Display) -> io::Result<Status> 
 }
 
 /// Says on standard error why a program ends, and on standard output `refused WORD`, or `failed` if there is no word.
-/// The error is that of standard output.
+/// Fails if standard output fails.
 pub fn report_end(
     rt: &HostRuntime,
     program: &str,

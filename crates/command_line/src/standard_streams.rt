@@ -1,5 +1,6 @@
 //! The standard streams that a program was started without.
-use file_store::FileFault;
+use crate::given::GivenError;
+use file_store::PathError;
 use std::fs::{File, OpenOptions};
 use std::io;
 use std::os::fd::{AsRawFd, IntoRawFd};
@@ -12,12 +13,12 @@ const NULL: &str = "/dev/null";
 const STREAMS: i32 = 3;
 
 /// Opens the null device for each standard stream that the program was started without, until the program ends. The
-/// system gives a new file the lowest free descriptor: without this, a file that the program opens would be its
+/// system gives a new file the lowest free descriptor. Without this, a file that the program opens would be its
 /// standard output, and what it prints would be written into that file. `main` calls this first.
-pub fn open_missing_streams<F: Files<File = File>>(files: &F) -> Result<(), FileFault<'static>> {
+pub fn open_missing_streams<F: Files<File = File>>(files: &F) -> Result<(), GivenError> {
     match fill_streams(files) {
         Ok(()) => Ok(()),
-        Err(error) => Err(FileFault::failed(NULL, error)),
+        Err(error) => Err(GivenError::streams(PathError::failed(NULL, error))),
     }
 }
 

@@ -2,12 +2,12 @@
 ghost use Rattle.std.specs.Prelude.{◌≡◌};
 ghost use Rattle.command_line.specs.Status.{status_code};
 
-/// How a program ends.
+/// The way in which a program ends.
 #[derive(Clone, Copy)]
 pub enum Status {
     /// It did what the command line says.
     Done,
-    /// It refuses that, because of what it read or was answered.
+    /// It refused to do so, because of what it read or of an answer that it got.
     Refused,
     /// The command line is wrong.
     Usage,

@@ -14,8 +14,8 @@ use Rattle.enctypes.specs.Etype.{number, key_len}
 use Rattle.enctypes.specs.Numbered.{type_numbered}
 use Rattle.enctypes.specs.NumberedLaws.{own_number}
 use Rattle.krb_elements.specs.Spells.{Items}
-use Rattle.cred_files.specs.declared.fault.CredFault.{CredFault}
-use Rattle.cred_files.specs.declared.fault.CredFault.TheVariants as faults
+use Rattle.cred_files.specs.declared.fault.CredError.{CredError}
+use Rattle.cred_files.specs.declared.fault.CredError.TheVariants as faults
 use Rattle.cred_files.specs.declared.keytab_entry.KeytabEntry.{KeytabEntry}
 use Rattle.cred_files.specs.Keytab.{HasCounts, IsEntry, IsPart, IsKeytab, IsNotWritten, entry_fields, entry_of, entry_text, keytab_text, newer, newest, part_text, unless_zero, version_of, written_fields}
 
@@ -128,7 +128,7 @@ keytab_is es bytes all is = record {
 }
 
 -- if a part doesn't fit, neither does the whole
-pub not_whole : {Room Whole : Type 0} → (Whole → Room) → (fault : CredFault) → IsNotWritten Room fault → IsNotWritten Whole fault
+pub not_whole : {Room Whole : Type 0} → (Whole → Room) → (fault : CredError) → IsNotWritten Room fault → IsNotWritten Whole fault
 not_whole part faults.BadEntry h = λ whole. h (part whole)
 not_whole part faults.Memory h = tt
 not_whole part faults.BadMagic h = absurd h

@@ -11,8 +11,8 @@ use Rattle.enctypes.specs.Key.{ProtocolKey}
 use Rattle.enctypes.specs.Numbered.{type_numbered}
 use Rattle.krb_elements.specs.Spells.{Items}
 use Rattle.krb_fields.specs.Name.{Components, name_cmp}
-use Rattle.cred_files.specs.declared.fault.CredFault.{CredFault}
-use Rattle.cred_files.specs.declared.fault.CredFault.TheVariants.{BadEntry, Memory}
+use Rattle.cred_files.specs.declared.fault.CredError.{CredError}
+use Rattle.cred_files.specs.declared.fault.CredError.TheVariants.{BadEntry, Memory}
 use Rattle.cred_files.specs.declared.keytab_entry.EntryFields.{EntryFields}
 use Rattle.cred_files.specs.declared.keytab_entry.KeyFields.{KeyFields}
 use Rattle.cred_files.specs.declared.keytab_entry.KeytabEntry.{KeytabEntry}
@@ -56,8 +56,8 @@ unless_zero short long = if long == 0 then short else long
 abbrev pub version_of : ℕ → List ℕ → ℕ
 version_of short more = if nat_lt (length more) 4 then short else unless_zero short (from_be_bytes w32 (take 4 more))
 
--- an entry with an unsupported encryption type is none; a key must have the length for its encryption type
-abbrev pub entry_of : EntryFields → ℕ → Option Etype → Result (Option KeytabEntry) CredFault
+-- an entry with an unsupported encryption type counts as none; a key must have the length for its encryption type
+abbrev pub entry_of : EntryFields → ℕ → Option Etype → Result (Option KeytabEntry) CredError
 entry_of fields version None = Ok None
 entry_of fields version (Some etype) =
     if length fields.key == key_len etype
@@ -137,12 +137,12 @@ abbrev pub HasCounts : KeytabEntry → Type 0
 HasCounts e =
     (length e.name.components < 2 ^ 16) × (length e.realm < 2 ^ 16) × All (λ c. length c < 2 ^ 16) e.name.components
 
--- and its length is below those that mean holes
+-- the same, and the length of the entry is below those that mean holes
 abbrev pub HasRoom : KeytabEntry → Type 0
 HasRoom e = HasCounts e × (length (entry_text e) < 2 ^ 31)
 
 -- why something is not written: it doesn't fit, or memory ran out
-abbrev pub IsNotWritten : Type 0 → CredFault → Type 0
+abbrev pub IsNotWritten : Type 0 → CredError → Type 0
 IsNotWritten Room BadEntry = Room → ⊥
 IsNotWritten Room Memory = Unit {0}
 IsNotWritten Room fault = ⊥
@@ -153,12 +153,12 @@ IsNotWritten Room fault = ⊥
 abbrev pub is_of : Components → KeytabEntry → Bool
 is_of service e = eq_by_cmp name_cmp (e.realm ∷ e.name.components) service
 
--- of this encryption type, or of any
+-- the key has this encryption type, if one is given
 abbrev pub is_typed : Option Etype → ProtocolKey → Bool
 is_typed None key = true
 is_typed (Some etype) key = is_same key.etype etype
 
--- of this key version, or of any
+-- the number is this key version, if one is given
 abbrev pub is_numbered : Option ℕ → ℕ → Bool
 is_numbered None number = true
 is_numbered (Some version) number = number == version

@@ -1,8 +1,6 @@
 //! Errors of reading, searching and changing files.
 ghost use Rattle.std.specs.Prelude.{◌≡◌, option_map};
-ghost use Rattle.cred_files.specs.declared.fault.Cut.TheVariants as cuts;
-ghost use Rattle.cred_files.specs.declared.fault.CredFault.TheVariants.{Memory};
-ghost use Rattle.cred_files.specs.Reading.{fault_of};
+ghost use Rattle.cred_files.specs.declared.fault.CredError.TheVariants.{Memory};
 ghost use Rattle.cred_files.specs.RefusalWord.{cred_refusal};
 
 use std::alloc::{AllocError, AllocFailed};
@@ -11,15 +9,15 @@ use std::fmt;
 
 /// What is wrong with a keytab or a credential cache, or with a request to it.
 #[derive(Clone, Copy, Debug, PartialEq, Eq)]
-pub enum CredFault {
+pub enum CredError {
     /// The file has fewer than two bytes, or doesn't start with those of its format.
     BadMagic,
-    /// The file ends within a field, an entry or a hole.
+    /// The bytes end before a value does: a field, an entry or a hole.
     Truncated,
     /// An entry of a keytab ends within a field, or its key has the wrong length for its encryption type. When writing:
     /// an entry is too long.
     BadEntry,
-    /// A time is before 1970, or more than 4294967295 seconds after its start.
+    /// A time is before 1970, or more than 4294967295 seconds after the start of 1970.
     TooLate,
     /// There is no such credential.
     Absent,
@@ -27,93 +25,55 @@ pub enum CredFault {
     Memory,
 }
 
-impl CredFault {
+impl CredError {
     /// Returns the word that commands print if a file is refused. Out of memory has none: it refuses nothing.
     pub fn refusal(self) -> Option<&'static str>
-        // Promise, as ReadFault::refusal of principals_text: each error has its ..
+        // Promise, as ReadError::refusal of principals_text: each error has its ..
         ensures { option_map (λ word. word.now) result ≡ cred_refusal self }
     {
         match self {
-            CredFault::BadMagic => Some("BadMagic"),
-            CredFault::Truncated => Some("Truncated"),
-            CredFault::BadEntry => Some("BadEntry"),
-            CredFault::TooLate => Some("TooLate"),
-            CredFault::Absent => Some("Absent"),
-            CredFault::Memory => None,
+            CredError::BadMagic => Some("BadMagic"),
+            CredError::Truncated => Some("Truncated"),
+            CredError::BadEntry => Some("BadEntry"),
+            CredError::TooLate => Some("TooLate"),
+            CredError::Absent => Some("Absent"),
+            CredError::Memory => None,
         }
     }
 
-    /// Returns what is wrong, to stand after the name of the file.
+    /// Returns what is wrong, for a message after the name of the file.
     pub fn text(self) -> &'static str {
         match self {
-            CredFault::BadMagic => "the file does not start with the bytes of its format",
-            CredFault::Truncated => "the file ends too early",
-            CredFault::BadEntry => "an entry is invalid, or too long for the file",
-            CredFault::TooLate => "a time is out of the range of the file format",
-            CredFault::Absent => "there is no such credential",
-            CredFault::Memory => "out of memory",
+            CredError::BadMagic => "the file does not start with the bytes of its format",
+            CredError::Truncated => "the file ends too early",
+            CredError::BadEntry => "an entry is invalid, or too long for the file",
+            CredError::TooLate => "a time is out of the range of the file format",
+            CredError::Absent => "there is no such credential",
+            CredError::Memory => "out of memory",
         }
     }
 }
 
-impl fmt::Display for CredFault {
+impl fmt::Display for CredError {
     fn fmt<W: fmt::Write>(&self, f: &mut fmt::Formatter<W>) -> fmt::Result {
         f.write_str(self.text())
     }
 }
 
-impl Error for CredFault {}
+impl Error for CredError {}
 
-/// Why no value could be read from the front of bytes.
-#[derive(Clone, Copy, Debug, PartialEq, Eq)]
-pub enum Cut {
-    /// The bytes end before the value does.
-    End,
-    /// Memory ran out.
-    Memory,
-}
-
-impl From<AllocError> for Cut {
-    ghost from_gives = { λ _ e. e ≡ cuts.Memory };
-
-    fn from(_error: AllocError) -> Cut {
-        Cut::Memory
-    }
-}
-
-impl<T: Drop> From<AllocFailed<T>> for Cut {
-    ghost from_gives = { λ _ e. e ≡ cuts.Memory };
-
-    fn from(_error: AllocFailed<T>) -> Cut {
-        Cut::Memory
-    }
-}
-
-impl From<AllocError> for CredFault {
+impl From<AllocError> for CredError {
     ghost from_gives = { λ _ e. e ≡ Memory };
 
-    fn from(_error: AllocError) -> CredFault {
-        CredFault::Memory
+    fn from(_error: AllocError) -> CredError {
+        CredError::Memory
     }
 }
 
-impl<T: Drop> From<AllocFailed<T>> for CredFault {
+impl<T: Drop> From<AllocFailed<T>> for CredError {
     ghost from_gives = { λ _ e. e ≡ Memory };
 
-    fn from(_error: AllocFailed<T>) -> CredFault {
-        CredFault::Memory
-    }
-}
-
-/// A field extends past the end of the file. (If it extends past the end of its entry, that is a
-/// [`CredFault::BadEntry`].)
-impl From<Cut> for CredFault {
-    ghost from_gives = { λ cut e. e ≡ fault_of cut };
-
-    fn from(cut: Cut) -> CredFault {
-        match cut {
-            Cut::End => CredFault::Truncated,
-            Cut::Memory => CredFault::Memory,
-        }
+    fn from(_error: AllocFailed<T>) -> CredError {
+        CredError::Memory
     }
 }

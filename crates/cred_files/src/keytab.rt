@@ -8,7 +8,7 @@ ghost use Rattle.cred_files.specs.KeytabReading.{Gives, GivesBy, GivesNext, entr
 ghost use Rattle.cred_files.specs.Reading.{IsReadUnlessMemory};
 ghost use Rattle.cred_files.specs.declared.keytab_entry.KeytabEntry as entries;
 
-use crate::fault::CredFault;
+use crate::fault::CredError;
 use crate::keytab_entry::{HOLES, KeytabEntry, read_entry, write_entry};
 use crate::magic::{FIRST, KEYTAB, after_magic};
 use crate::reader::Reader;
@@ -21,7 +21,7 @@ use std::error::Error;
 use std::fmt;
 use std::marker::Model;
 
-/// Why a keytab has no such key.
+/// The reason why a keytab has no such key.
 #[derive(Clone, Copy, Debug, PartialEq, Eq)]
 pub enum Miss {
     /// There is no entry for the service.
@@ -69,7 +69,7 @@ impl Model for Keytab {
 }
 
 #[tactic(auto, unfolding(crate::specs::KeytabReading::next_at))]
-fn next_part(alloc: Global, reader: &mut Reader<'_>) -> Result<Part, CredFault>
+fn next_part(alloc: Global, reader: &mut Reader<'_>) -> Result<Part, CredError>
     ensures { GivesNext result reader.new (next_at reader.old) }
 {
     if reader.is_empty() {
@@ -92,7 +92,7 @@ fn next_part(alloc: Global, reader: &mut Reader<'_>) -> Result<Part, CredFault>
 }
 
 /// Reads entries to the end of the file.
-fn read_entries(alloc: Global, bytes: &[u8]) -> Result<Vec<KeytabEntry>, CredFault>
+fn read_entries(alloc: Global, bytes: &[u8]) -> Result<Vec<KeytabEntry>, CredError>
     ensures { GivesBy (λ v. v.items) result (entries_at bytes.now) }
 {
     let mut entries = Vec::new(alloc);
@@ -108,7 +108,7 @@ fn read_entries(alloc: Global, bytes: &[u8]) -> Result<Vec<KeytabEntry>, CredFau
 }
 
 /// Appends an entry after its length.
-fn put_entry(alloc: Global, out: &mut Vec<u8>, entry: &KeytabEntry) -> Result<(), CredFault>
+fn put_entry(alloc: Global, out: &mut Vec<u8>, entry: &KeytabEntry) -> Result<(), CredError>
     ensures text { OnOk result (out.new.items ≡ out.old.items ++ part_text entry.now) }
     ensures spelled { IfOk result (λ done. IsPart (Some entry.now) (part_text entry.now)) }
     ensures fault { IfErr result (λ fault. IsNotWritten (HasRoom entry.now) fault) }
@@ -120,7 +120,7 @@ fn put_entry(alloc: Global, out: &mut Vec<u8>, entry: &KeytabEntry) -> Result<()
 }
 
 /// Appends entries, each after its length.
-fn put_entries(alloc: Global, out: &mut Vec<u8>, entries: &[KeytabEntry]) -> Result<(), CredFault>
+fn put_entries(alloc: Global, out: &mut Vec<u8>, entries: &[KeytabEntry]) -> Result<(), CredError>
     ensures text { OnOk result (out.new.items ≡ out.old.items ++ flat_map part_text entries.now) }
     ensures spelled { IfOk result (λ done. All (λ e. IsPart (Some e) (part_text e)) entries.now) }
     ensures fault { IfErr result (λ fault. IsNotWritten (All HasRoom entries.now) fault) }
@@ -166,8 +166,8 @@ fn newest<'a>(
 
 impl Keytab {
     /// Returns a keytab with copies of these entries. Fails with `BadEntry` if one is too long for a file.
-    pub fn new(alloc: Global, entries: &[KeytabEntry]) -> Result<Keytab, CredFault>
-        // Promise (ok, room, fault): a keytab is made and written unless an entry has no room or memory runs out.
+    pub fn new(alloc: Global, entries: &[KeytabEntry]) -> Result<Keytab, CredError>
+        // Promise (ok, room, fault): a keytab is made and written unless an entry is too long or memory runs out.
         ensures ok { IfOk result (λ keytab. keytab ≡ entries.now) }
         ensures room { IfOk result (λ keytab. All HasRoom entries.now) }
         ensures fault { IfErr result (λ fault. IsNotWritten (All HasRoom entries.now) fault) }
@@ -195,10 +195,10 @@ impl Keytab {
     }
 
     /// Reads a keytab from the bytes of a file.
-    pub fn read(alloc: Global, bytes: &[u8]) -> Result<Keytab, CredFault>
+    pub fn read(alloc: Global, bytes: &[u8]) -> Result<Keytab, CredError>
         // If it succeeds, the file holds this keytab.
-        // Promise (found, only, exact): the file's bytes are those of the keytab that is read, and a file that is one
-        // is read, unless memory runs out; which error it is.
+        // Promise (found, only, exact): a keytab is read exactly from the bytes of one, unless memory runs out; the
+        // error is the first one in the file.
         ensures found { IfOk result (λ keytab. IsKeytab keytab bytes.now) }
         // If the file holds a keytab, it succeeds, unless memory runs out.
         ensures only { (keytab : List entries.KeytabEntry) → IsKeytab keytab bytes.now
@@ -211,10 +211,10 @@ impl Keytab {
         Ok(Keytab { entries })
     }
 
-    /// Returns the bytes of the file. Fails with `BadEntry` if an entry is too long for it. One with 2147483644 bytes
-    /// or more may be: it was read without the version of four bytes, which is always written.
-    pub fn write(&self, alloc: Global) -> Result<Vec<u8>, CredFault>
-        // Promise (text, spelled): what is written is a file of this value, so it is read back equal.
+    /// Returns the bytes of the file. Fails with `BadEntry` if an entry is too long for it. An entry that was read can
+    /// be too long only if it had 2147483644 bytes or more, and no version of four bytes: that is always written.
+    pub fn write(&self, alloc: Global) -> Result<Vec<u8>, CredError>
+        // Promise (text, spelled): what is written is a file of this value, so reading it gives an equal value.
         ensures text { IfOk result (λ bytes. bytes.items ≡ keytab_text self.now) }
         // So reading them gives the same entries.
         ensures spelled { IfOk result (λ bytes. IsKeytab self.now bytes.items) }
@@ -235,11 +235,12 @@ impl Keytab {
         etype: Etype,
         version: Option<u32>,
     ) -> Result<&Key, Miss>
-        // Promise: the key of a service and type is found: of a version, or of the greatest; the last of several.
+        // Promise: `find` returns a service's key of an encryption type in the given version, or else in the highest;
+        // of several such keys it is the last.
         ensures found { IfOk result (λ key. option_map
             (λ e. e.key) (newest (passes (realm.now ∷ name.now.components) (Some etype) version) self.now)
             ≡ Some key.now) }
-        // Promise (none, miss): if there is no such key, which of service, type and version is missing.
+        // Promise (none, miss): if there is no such key, the error says which of service, type and version is missing.
         ensures none { IfErr result (λ miss. newest (passes (realm.now ∷ name.now.components) (Some etype) version)
             self.now ≡ None) }
         ensures miss { IfErr result (λ miss. miss ≡ missing self.now (realm.now ∷ name.now.components) etype) }
@@ -259,8 +260,8 @@ impl Keytab {
         etype: Etype,
         kvno: Option<UInt32>,
     ) -> Option<&Key>
-        // Promise: the key that an encrypted part names by its type and version number, which may be below zero, or
-        // there is none.
+        // Promise: `key_for` returns the key that an encrypted part names by its type and version, if there is one; a
+        // negative version has none.
         ensures { option_copied result
             ≡ option_map (λ e. e.key) (entry_for self.now (realm.now ∷ name.now.components) (Some etype) kvno) }
     {
@@ -282,7 +283,7 @@ impl Keytab {
 
     /// Checks whether there is a key for the service, of the encryption type if one is given.
     pub fn has(&self, realm: &[u8], name: &Name, etype: Option<Etype>) -> bool
-        // Promise: whether a service has an entry, of a type or of any.
+        // Promise: `has` says whether a service has an entry, of one encryption type or of any.
         ensures { result ≡ is_some (newest (passes (realm.now ∷ name.now.components) etype None) self.now) }
     {
         newest(&self.entries, realm, name, etype, None).is_some()

@@ -6,10 +6,10 @@ ghost use Rattle.enctypes.specs.Numbered.{type_numbered};
 ghost use Rattle.cred_files.specs.Keytab.{HasCounts, HasRoom, IsEntry, IsNotWritten, entry_fields, entry_text};
 ghost use Rattle.cred_files.specs.Keytab.{key_fields};
 ghost use Rattle.cred_files.specs.Keytab.{is_numbered, is_typed, passes, version_of, written_fields};
-ghost use Rattle.cred_files.specs.KeytabReading.{Gives, content_at};
+ghost use Rattle.cred_files.specs.KeytabReading.{Gives, content_at, in_entry};
 ghost use Rattle.cred_files.specs.Reading.{Reads};
 
-use crate::fault::{CredFault, Cut};
+use crate::fault::CredError;
 use crate::principal::is_same;
 use crate::reader::Reader;
 use crate::stored::{Stored, put_all, read_several};
@@ -99,7 +99,7 @@ fn is_numbered(number: u32, version: Option<u32>) -> bool
 }
 
 #[tactic(auto, unfolding(crate::specs::Keytab::entry_fields))]
-fn read_fields(alloc: Global, reader: &mut Reader<'_>) -> Result<EntryFields, Cut>
+fn read_fields(alloc: Global, reader: &mut Reader<'_>) -> Result<EntryFields, CredError>
     ensures { Reads result reader.new (entry_fields.form.at reader.old) }
 {
     let count = reader.read_number(Width::Two)?;
@@ -120,7 +120,7 @@ fn read_fields(alloc: Global, reader: &mut Reader<'_>) -> Result<EntryFields, Cu
     })
 }
 
-fn read_key_fields(alloc: Global, reader: &mut Reader<'_>) -> Result<KeyFields, Cut>
+fn read_key_fields(alloc: Global, reader: &mut Reader<'_>) -> Result<KeyFields, CredError>
     ensures { Reads result reader.new (key_fields.form.at reader.old) }
 {
     let _time = reader.read_part(4)?;
@@ -151,22 +151,31 @@ pub fn known_etype(number: u16) -> Option<Etype>
     Etype::from_number(i32::from(number))
 }
 
+/// Returns the error of an entry whose fields can't be read. If they extend past its end, the entry is bad.
+fn in_entry(fault: CredError) -> CredError
+    ensures { result ≡ in_entry fault }
+{
+    match fault {
+        CredError::Truncated => CredError::BadEntry,
+        _ => fault,
+    }
+}
+
 /// Reads an entry, or `None` if its key has an unsupported encryption type.
 #[tactic(auto, unfolding(crate::specs::KeytabReading::content_at))]
-pub fn read_entry(alloc: Global, content: &[u8]) -> Result<Option<KeytabEntry>, CredFault>
+pub fn read_entry(alloc: Global, content: &[u8]) -> Result<Option<KeytabEntry>, CredError>
     ensures { Gives result (content_at content.now) }
 {
     let mut reader = Reader::new(content);
     let fields = match read_fields(alloc, &mut reader) {
         Ok(fields) => fields,
-        Err(Cut::End) => return Err(CredFault::BadEntry),
-        Err(Cut::Memory) => return Err(CredFault::Memory),
+        Err(fault) => return Err(in_entry(fault)),
     };
     let Some(etype) = known_etype(fields.key_type) else {
         return Ok(None);
     };
     let Some(key) = Key::new(etype, fields.key.as_slice()) else {
-        return Err(CredFault::BadEntry);
+        return Err(CredError::BadEntry);
     };
     let version = full_version(fields.version, reader.rest());
     let EntryFields { realm, name, .. } = fields;
@@ -226,20 +235,20 @@ fn put_fields(out: &mut Vec<u8>, entry: &KeytabEntry) -> Result<(), AllocError>
 
 /// Returns the bytes of an entry, without their length. Fails with `BadEntry` if one of its lengths or its number of
 /// components doesn't fit.
-pub fn write_entry(alloc: Global, entry: &KeytabEntry) -> Result<Vec<u8>, CredFault>
+pub fn write_entry(alloc: Global, entry: &KeytabEntry) -> Result<Vec<u8>, CredError>
     ensures room { IfOk result (λ octets. HasRoom entry.now) }
     ensures text { IfOk result (λ octets. octets.items ≡ entry_text entry.now) }
     ensures spelled { IfOk result (λ octets. IsEntry (Some entry.now) octets.items) }
     ensures fault { IfErr result (λ fault. IsNotWritten (HasRoom entry.now) fault) }
 {
     if !has_counts(entry) {
-        return Err(CredFault::BadEntry);
+        return Err(CredError::BadEntry);
     }
     let mut octets = Vec::new(alloc);
     put_fields(&mut octets, entry)?;
     put_u32(&mut octets, entry.version)?;
     if octets.len() >= HOLES {
-        return Err(CredFault::BadEntry);
+        return Err(CredError::BadEntry);
     }
     Ok(octets)
 }

@@ -37,7 +37,7 @@ mod writer;
 
 pub use cache::Cache;
 pub use credential::{Credential, SessionKey, Times, TypedOctets};
-pub use fault::{CredFault, Cut};
+pub use fault::CredError;
 pub use keytab::{Keytab, Miss};
 pub use keytab_entry::KeytabEntry;
 pub use principal::Principal;

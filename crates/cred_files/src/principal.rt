@@ -6,7 +6,7 @@ ghost use Rattle.cred_files.specs.Cache.{full_name};
 ghost use Rattle.cred_files.specs.Principal.{principal};
 ghost use Rattle.cred_files.specs.Reading.{Reads};
 
-use crate::fault::Cut;
+use crate::fault::CredError;
 use crate::reader::Reader;
 use crate::stored::{Stored, put_all, read_several};
 use crate::width::Width;
@@ -55,7 +55,7 @@ pub fn is_same(realm: &KerberosString, name: &Name, other_realm: &[u8], other_na
 
 /// Reads a principal of a cache: name-type, number of components, realm, components.
 #[tactic(auto, unfolding(crate::specs::Principal::principal))]
-pub fn read_principal(alloc: Global, reader: &mut Reader<'_>) -> Result<Principal, Cut>
+pub fn read_principal(alloc: Global, reader: &mut Reader<'_>) -> Result<Principal, CredError>
     ensures { Reads result reader.new (principal.form.at reader.old) }
 {
     let name_type = reader.read_i32()?;

@@ -2,8 +2,8 @@
 use crate::Principal;
 use std::fmt;
 
-/// Writes the name, `@` and the realm. Both are spelled as the text of a name is: bytes that it doesn't have as they
-/// are become `\` and two lowercase hexadecimal digits, so no two principals share a text.
+/// Writes the name, `@` and the realm. Both are spelled as in the text of a name: bytes that are not written as they
+/// are become `\` and two lowercase hexadecimal digits. So no two principals share a text.
 impl fmt::Display for Principal {
     fn fmt<W: fmt::Write>(&self, f: &mut fmt::Formatter<W>) -> fmt::Result {
         for (i, component) in self.name.components.as_slice().iter().enumerate() {

@@ -3,7 +3,7 @@ ghost use Rattle.std.specs.Prelude.{◌≡◌, ◌<◌, ◌≤◌, ◌+◌, ◌^
 ghost use Rattle.enctypes.specs.KeyUsage.{usage_number};
 ghost use Rattle.encrypted_data.specs.Encrypted.{encrypted, decrypted};
 
-use crate::seal_part_by;
+use crate::seal_with;
 use enctypes::{Key, KeyUsage, ReadyKey};
 use krb_elements::{Encode, Octets, UInt32};
 use krb_fields::EncryptedData;
@@ -28,20 +28,20 @@ pub fn encrypted<T: Encode>(
     part: &T,
 ) -> Result<EncryptedData, AllocError>
     requires { length (T.codec.text part.now) < 2 ^ 32 }
-    // Promise (value, opens), as seal_part_by: of values in messages: ..
+    // Promise (value, opens), as seal_with: a value in a ..
     ensures value { IfOk result (λ sealed. sealed
         ≡ encrypted T.codec key.now.key (usage_number key.now.usage) key.now.kvno confounder.now part.now) }
     ensures opens { IfOk result (λ sealed.
         decrypted T.codec key.now.key (usage_number key.now.usage) sealed ≡ Some part.now) }
-    // Promise, as seal_part_by: the cipher of an ..
+    // Promise, as seal_with: the cipher of an ..
     ensures most { IfOk result (λ sealed. length sealed.cipher ≤ 46 + length (T.codec.text part.now)) }
 {
     let ready = ReadyKey::new(&key.key, key.usage);
-    encrypted_by(alloc, &ready, key.kvno, confounder, part)
+    encrypt_with(alloc, &ready, key.kvno, confounder, part)
 }
 
 /// Encrypts like `encrypted`, with a prepared key.
-pub fn encrypted_by<T: Encode>(
+pub fn encrypt_with<T: Encode>(
     alloc: Global,
     ready: &ReadyKey,
     kvno: Option<UInt32>,
@@ -49,15 +49,15 @@ pub fn encrypted_by<T: Encode>(
     part: &T,
 ) -> Result<EncryptedData, AllocError>
     requires { length (T.codec.text part.now) < 2 ^ 32 }
-    // Promise (value, opens), as seal_part_by: of values in messages: ..
+    // Promise (value, opens), as seal_with: a value in a ..
     ensures value { IfOk result (λ sealed. sealed
         ≡ encrypted T.codec ready.now.key (usage_number ready.now.usage) kvno confounder.now part.now) }
     ensures opens { IfOk result (λ sealed.
         decrypted T.codec ready.now.key (usage_number ready.now.usage) sealed ≡ Some part.now) }
-    // Promise, as seal_part_by: the cipher of an ..
+    // Promise, as seal_with: the cipher of an ..
     ensures most { IfOk result (λ sealed. length sealed.cipher ≤ 46 + length (T.codec.text part.now)) }
 {
-    let cipher = seal_part_by(alloc, ready, confounder, part)?;
+    let cipher = seal_with(alloc, ready, confounder, part)?;
     Ok(EncryptedData {
         etype: ready.etype().number(),
         kvno,

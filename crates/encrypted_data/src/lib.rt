@@ -8,8 +8,8 @@
 //! let found: Option<PaEncTsEnc> = ready.open_part(alloc, &key, KeyUsage::PaEncTimestamp, &cipher)?;
 //! ```
 //!
-//! [`encrypted`] returns an EncryptedData, which also names the encryption type and the key version. [`key_of`] and
-//! [`key_part`] convert a key from and to the EncryptionKey of a message.
+//! [`encrypted`] returns an EncryptedData, which also names the encryption type and the key version.
+//! [`supported_key`] and [`key_part`] convert a key from and to the EncryptionKey of a message.
 //!
 //! Nothing here chooses a key or a key usage, or draws a confounder: the caller supplies them. `enctypes` encrypts and
 //! decrypts the bytes.
@@ -26,9 +26,9 @@ ghost use Rattle.enctypes.specs.KeyUsage.{usage_number};
 ghost use Rattle.enctypes.specs.Sealing.{seal};
 ghost use Rattle.encrypted_data.specs.Parts.{IsSpelledWithin, opened_as};
 
-pub use encrypting::{PartKey, encrypted, encrypted_by};
+pub use encrypting::{PartKey, encrypt_with, encrypted};
 use enctypes::{Key, KeyUsage, ReadyKey};
-pub use keys::{key_of, key_part, type_numbered};
+pub use keys::{key_part, supported_key, type_numbered};
 use krb_elements::{Encode, Fault, ReadOwned, read_owned, write};
 pub use ready_keys::ReadyKeys;
 use std::alloc::{AllocError, Global};
@@ -42,28 +42,28 @@ pub fn seal_part<T: Encode>(
     part: &T,
 ) -> Result<Vec<u8>, AllocError>
     requires { length (T.codec.text part.now) < 2 ^ 32 }
-    // Promise (value, opens), as seal_part_by: of values in messages: ..
+    // Promise (value, opens), as seal_with: a value in a ..
     ensures value { IfOk result (λ cipher. cipher.items
         ≡ seal key.now.etype key.now.bytes (usage_number usage) confounder.now (written T.codec part.now)) }
     // The same key decrypts it to the value again.
     ensures opens { IfOk result (λ cipher.
         opened_as T.codec key.now.etype key.now.bytes (usage_number usage) cipher.items ≡ Some part.now) }
-    // Promise, as seal_part_by: the cipher of an ..
+    // Promise, as seal_with: the cipher of an ..
     ensures most { IfOk result (λ cipher. length cipher.items ≤ 46 + length (T.codec.text part.now)) }
 {
-    seal_part_by(alloc, &ReadyKey::new(key, usage), confounder, part)
+    seal_with(alloc, &ReadyKey::new(key, usage), confounder, part)
 }
 
 /// Encrypts like `seal_part`, with a prepared key.
-pub fn seal_part_by<T: Encode>(
+pub fn seal_with<T: Encode>(
     alloc: Global,
     ready: &ReadyKey,
     confounder: &[u8; 16],
     part: &T,
 ) -> Result<Vec<u8>, AllocError>
     requires { length (T.codec.text part.now) < 2 ^ 32 }
-    // Promise (value, opens): of values in messages: an encrypted value decrypts to that value, if its contents have
-    // fewer than 2^32 bytes, in an EncryptedData that names the key's type and version.
+    // Promise (value, opens): a value in a message, with contents of fewer than 2^32 bytes, is encrypted to a cipher
+    // that decrypts to it; an EncryptedData names the key's type and version.
     ensures value { IfOk result (λ cipher. cipher.items
         ≡ seal ready.now.key.etype ready.now.key.bytes (usage_number ready.now.usage) confounder.now
         (written T.codec part.now)) }
@@ -84,17 +84,17 @@ pub fn open_part<T: ReadOwned>(
     usage: KeyUsage,
     cipher: &[u8],
 ) -> Result<Option<T>, AllocError>
-    // Promise (value, within), as open_part_by: a value is returned ..
+    // Promise (value, within), as open_with: a value is returned ..
     ensures value { IfOk result (λ found. found
         ≡ opened_as T.codec key.now.etype key.now.bytes (usage_number usage) cipher.now) }
     // Its encoding is no longer than the cipher.
     ensures within { IfOk result (λ found. IfSome found (λ part. IsSpelledWithin T.codec part cipher.now)) }
 {
-    open_part_by(alloc, &ReadyKey::new(key, usage), cipher)
+    open_with(alloc, &ReadyKey::new(key, usage), cipher)
 }
 
 /// Decrypts like `open_part`, with a prepared key.
-pub fn open_part_by<T: ReadOwned>(
+pub fn open_with<T: ReadOwned>(
     alloc: Global,
     ready: &ReadyKey,
     cipher: &[u8],

@@ -68,19 +68,19 @@ impl<K: Prepared> Places<K> {
 
     /// Returns the place of a key for a usage, by a hash that has begun with a secret. Returns `None` while it is in
     /// use.
-    pub fn place_of(
+    pub fn borrow_place(
         &self,
         secret: &DefaultHasher,
         key: &Key,
         usage: KeyUsage,
     ) -> Option<RefMut<'_, Option<K>>> {
-        let index = index_of(*secret, key, usage);
+        let index = place_index(*secret, key, usage);
         self.places.get(index)?.try_borrow_mut().ok()
     }
 }
 
 /// Returns the index of a key's place for a usage.
-fn index_of(mut hasher: DefaultHasher, key: &Key, usage: KeyUsage) -> usize {
+fn place_index(mut hasher: DefaultHasher, key: &Key, usage: KeyUsage) -> usize {
     hasher.write(key.bytes());
     hasher.write_u32(usage.number());
     (hasher.finish() % PLACES as u64) as usize

@@ -5,9 +5,9 @@ ghost use Rattle.enctypes.specs.Sealing.{mac};
 ghost use Rattle.encrypted_data.specs.Encrypted.{encrypted, decrypted};
 ghost use Rattle.encrypted_data.specs.Parts.{IsSpelledWithin, opened_as};
 
-use crate::encrypting::{PartKey, encrypted, encrypted_by};
+use crate::encrypting::{PartKey, encrypt_with, encrypted};
 use crate::places::{Places, made_ready, make_ready};
-use crate::{open_part, open_part_by};
+use crate::{open_part, open_with};
 use enctypes::{Key, KeyUsage, ReadyChecksum, ReadyKey, verify};
 use krb_elements::{Encode, ReadOwned};
 use krb_fields::EncryptedData;
@@ -47,7 +47,7 @@ impl ReadyKeys {
         self.secret = hasher;
     }
 
-    /// Decrypts like `open_part`, faster if the key is in the cache for this usage. It is afterwards.
+    /// Decrypts like `open_part`, faster if the key is in the cache for this usage. Afterwards the key is there.
     pub fn open_part<T: ReadOwned>(
         &self,
         alloc: Global,
@@ -60,15 +60,15 @@ impl ReadyKeys {
             ≡ opened_as T.codec key.now.etype key.now.bytes (usage_number usage) cipher.now) }
         ensures within { IfOk result (λ found. IfSome found (λ part. IsSpelledWithin T.codec part cipher.now)) }
     {
-        if let Some(mut place) = self.place_of(key, usage) {
+        if let Some(mut place) = self.borrow_place(key, usage) {
             if let Some(ready) = made_ready_to_open(&mut place, key, usage) {
-                return open_part_by(alloc, ready, cipher);
+                return open_with(alloc, ready, cipher);
             }
         }
         open_part(alloc, key, usage, cipher)
     }
 
-    /// Encrypts like `encrypted`, faster if the key is in the cache for this usage. It is afterwards.
+    /// Encrypts like `encrypted`, faster if the key is in the cache for this usage. Afterwards the key is there.
     pub fn encrypted<T: Encode>(
         &self,
         alloc: Global,
@@ -85,22 +85,22 @@ impl ReadyKeys {
             decrypted T.codec key.now.key (usage_number key.now.usage) sealed ≡ Some part.now) }
         ensures most { IfOk result (λ sealed. length sealed.cipher ≤ 46 + length (T.codec.text part.now)) }
     {
-        if let Some(mut place) = self.place_of(&key.key, key.usage) {
+        if let Some(mut place) = self.borrow_place(&key.key, key.usage) {
             if let Some(ready) = made_ready(&mut place, &key.key, key.usage) {
-                return encrypted_by(alloc, ready, key.kvno, confounder, part);
+                return encrypt_with(alloc, ready, key.kvno, confounder, part);
             }
         }
         encrypted(alloc, key, confounder, part)
     }
 
-    /// Checks a checksum like `verify`, faster if the key is in the cache for checksums of this usage. It is
-    /// afterwards.
+    /// Checks a checksum like `verify`, faster if the key is in the cache for checksums of this usage. Afterwards the
+    /// key is there.
     pub fn verify(&self, key: &Key, usage: KeyUsage, text: &[u8], octets: &[u8]) -> bool
         // Promise, as ReadyKeys::encrypted: the cache of recently ..
         ensures { IsTrue result
             ↔ (octets.now ≡ mac key.now.etype key.now.bytes (usage_number usage) text.now) }
     {
-        if let Some(mut place) = self.for_checksums.place_of(&self.secret, key, usage) {
+        if let Some(mut place) = self.for_checksums.borrow_place(&self.secret, key, usage) {
             if let Some(ready) = made_ready(&mut place, key, usage) {
                 return ready.verify(text, octets);
             }
@@ -110,11 +110,11 @@ impl ReadyKeys {
 
     /// Returns the place of a key for the encrypted parts of a usage. Returns `None` while it is in use, and for a
     /// subkey, which a client chooses for one request only.
-    fn place_of(&self, key: &Key, usage: KeyUsage) -> Option<RefMut<'_, Option<ReadyKey>>> {
+    fn borrow_place(&self, key: &Key, usage: KeyUsage) -> Option<RefMut<'_, Option<ReadyKey>>> {
         if usage == KeyUsage::TgsRepEncPartSubkey {
             return None;
         }
-        self.for_parts.place_of(&self.secret, key, usage)
+        self.for_parts.borrow_place(&self.secret, key, usage)
     }
 }
 

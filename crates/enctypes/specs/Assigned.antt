@@ -4,9 +4,12 @@ use Rattle.enctypes.specs.Etype.{checksum_type, number}
 use Rattle.enctypes.specs.KeyUsage.{usage_number}
 use Rattle.enctypes.specs.declared.etype.Etype.TheVariants.{Aes128CtsHmacSha1_96, Aes256CtsHmacSha1_96}
 use Rattle.enctypes.specs.declared.etype.Etype.TheVariants.{Aes128CtsHmacSha256_128, Aes256CtsHmacSha384_192}
-use Rattle.enctypes.specs.declared.key_usage.KeyUsage.TheVariants.{ApRepEncPart, ApReqAuthenticator, ApReqAuthenticatorChecksum}
-use Rattle.enctypes.specs.declared.key_usage.KeyUsage.TheVariants.{AsRepEncPart, PaEncTimestamp, StoredKey, TgsRepEncPartSessionKey}
-use Rattle.enctypes.specs.declared.key_usage.KeyUsage.TheVariants.{TgsRepEncPartSubkey, TgsReqAuthenticator, TgsReqAuthenticatorChecksum, Ticket}
+use Rattle.enctypes.specs.declared.key_usage.KeyUsage.TheVariants.{ApRepEncPart, ApReqAuthenticator}
+use Rattle.enctypes.specs.declared.key_usage.KeyUsage.TheVariants.{ApReqAuthenticatorChecksum}
+use Rattle.enctypes.specs.declared.key_usage.KeyUsage.TheVariants.{AsRepEncPart, PaEncTimestamp, StoredKey}
+use Rattle.enctypes.specs.declared.key_usage.KeyUsage.TheVariants.{TgsRepEncPartSessionKey}
+use Rattle.enctypes.specs.declared.key_usage.KeyUsage.TheVariants.{TgsRepEncPartSubkey, TgsReqAuthenticator}
+use Rattle.enctypes.specs.declared.key_usage.KeyUsage.TheVariants.{TgsReqAuthenticatorChecksum, Ticket}
 
 -- RFC 3962, section 7; RFC 8009, sections 5 and 6
 pub record EtypeNumbers : Type 0 where

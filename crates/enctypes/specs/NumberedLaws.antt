@@ -26,7 +26,7 @@ no_type n none =
       other (number Aes256CtsHmacSha384_192) n (none Aes256CtsHmacSha384_192),
     ) refl
 
--- that of an encryption type is
+-- the number of an encryption type finds that type
 pub own_number : (e : Etype) → type_numbered (number e) ≡ Some e
 own_number Aes128CtsHmacSha1_96 = refl
 own_number Aes256CtsHmacSha1_96 = refl

@@ -38,13 +38,13 @@ opened-some etype key usage cipher s =
     let passes : is_sealed etype key usage cipher ≡ true = (is_sealed-Decides etype key usage cipher).1 s in
     rw passes refl
 
--- the test fails
+-- if the test fails, nothing is opened
 opened_false : (etype : Etype) (key : List ℕ) (usage : ℕ) (cipher : List ℕ) → is_sealed etype key usage cipher ≡ false
     → opened etype key usage cipher ≡ None
 unfolding opened
 opened_false etype key usage cipher fails = rw fails refl
 
--- one of the two cases holds
+-- either the cipher passes the test, or nothing is opened
 opened-cases : (etype : Etype) (key : List ℕ) (usage : ℕ) (cipher : List ℕ)
     → IsSealed etype key usage cipher ⊎ (opened etype key usage cipher ≡ None)
 opened-cases etype key usage cipher = elim (cases_Bool (is_sealed etype key usage cipher)) [
@@ -105,7 +105,7 @@ opens-seal : (etype : Etype) (key : List ℕ) (usage : ℕ) (confounder text : L
 opens-seal etype key usage confounder text block octets =
     record { confounder = confounder; is_block = block; octets = octets; sealed = refl }
 
--- for every key that consists of bytes
+-- if the key consists of bytes, a cipher opens to what was sealed to it, and to nothing else
 pub opens_what_was_sealed : (etype : Etype) (key : List ℕ) (usage : ℕ) → All (λ b. b < 256) key
     → OpensWhatWasSealed etype key usage
 opens_what_was_sealed etype key usage octets =

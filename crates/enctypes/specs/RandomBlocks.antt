@@ -52,7 +52,7 @@ length-dr key constant len =
     length-take-le len (dr_blocks key constant (div_ceil len 16))
     (omega (arith, div_ceil_times len 16 (omega arith), length-dr_blocks key constant (div_ceil len 16)))
 
--- an output with as many blocks as it needs
+-- an output that has the blocks it needs is that of DR
 pub dr_is : (key constant out : List ℕ) (n : ℕ) → n ≡ div_ceil (length out) 16
     → take (16 * n) out ≡ take (length out) (dr_blocks key constant n) → out ≡ dr key constant (length out)
 unfolding dr

@@ -25,7 +25,7 @@ pub record ReadyKey : Type 0 where
   pub key : ProtocolKey
   pub usage : KeyUsage
 
--- what sealing derives, by the key and the usage's number
+-- what is derived for sealing: the key and the usage's number that it is derived from
 pub record SealingKey : Type 0 where
   pub key : ProtocolKey
   pub usage : ℕ

@@ -76,7 +76,8 @@ opens-parts etype key usage cipher text law o =
         room = omega (arith, opens-length etype key usage cipher text o);
         ends = back
             ∙ ap (λ (l : List ℕ). cut_hmac etype i (authenticated (macs_cipher etype) l c)) (sym plain_is)
-            ∙ ap (λ (l : List ℕ). cut_hmac etype i (authenticated (macs_cipher etype) (deciphered etype key usage cipher) l))
+            ∙ ap (λ (l : List ℕ). cut_hmac etype i
+            (authenticated (macs_cipher etype) (deciphered etype key usage cipher) l))
             (sym front);
       };
     }

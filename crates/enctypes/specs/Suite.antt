@@ -5,8 +5,9 @@ use Rattle.enctypes.specs.declared.hash.Hash as hashes
 use Rattle.enctypes.specs.Etype as standard
 use Rattle.enctypes.specs.Sealing as sealing
 
--- they are those of the standards
-pub record AreConstants (etype : types.Etype) (hash : hashes.Hash) (number : ℤ) (key_size mac_key_size mac_size : ℕ) (macs_cipher : Bool)
+-- the constants are those of the standards
+pub record AreConstants (etype : types.Etype) (hash : hashes.Hash) (number : ℤ) (key_size mac_key_size mac_size : ℕ)
+    (macs_cipher : Bool)
     (checksum_type : ℤ) (default_count : ℕ) : Type 0 where
   pub hash_is : hash ≡ standard.hash etype
   pub number_is : number ≡ standard.number etype
@@ -17,7 +18,7 @@ pub record AreConstants (etype : types.Etype) (hash : hashes.Hash) (number : ℤ
   pub checksum_type_is : checksum_type ≡ standard.checksum_type etype
   pub default_count_is : default_count ≡ standard.default_count etype
 
--- this is so of the standards' own
+-- the standards' own constants are
 pub constants_of : (etype : types.Etype)
     → AreConstants etype (standard.hash etype) (standard.number etype) (standard.key_len etype)
     (standard.mac_key_len etype) (standard.mac_len etype) (sealing.macs_cipher etype) (standard.checksum_type etype)

@@ -1,4 +1,4 @@
-//! Usages of keys that are an application's own: RFC 4120, section 7.5.1.
+//! Key usages of applications: RFC 4120, section 7.5.1.
 ghost use Rattle.std.specs.Prelude.{◌≡◌, ◌≤◌, ◌<◌, ◌+◌, ◌↔◌, length, option_map, Some};
 ghost use Rattle.std.specs.Prelude.{IfOk, IfSome, IfNone, IsSome, IsTrue};
 ghost use Rattle.enctypes.specs.ApplicationUsage.{IsApplicationUsage};
@@ -11,10 +11,10 @@ use crate::sealing_key::SealingKey;
 use crate::{Key, Mac};
 use std::alloc::{AllocError, Global};
 
-/// A usage of keys by an application: a number from 1024 to 2047, for which a key derives keys of its own.
+/// A key usage of an application: a number from 1024 to 2047. Each usage has derived keys of its own.
 ///
-/// A key that two parties share after an AP exchange seals and checks what they say to each other. A number for each
-/// kind of message, and another for each direction, keeps them apart.
+/// With the key that they share after an AP exchange, two parties seal their messages and check those that come. Give
+/// each kind of message a number of its own, and each direction another, so that one can't pass for another.
 #[derive(Debug, Clone, Copy, PartialEq, Eq)]
 pub struct ApplicationUsage {
     /// Its number, 1024 to 2047.
@@ -25,8 +25,8 @@ pub struct ApplicationUsage {
 impl ApplicationUsage {
     /// Returns the usage with this number, if it is one of those that are reserved for applications.
     pub fn new(number: u32) -> Option<ApplicationUsage>
-        // Promise (found, value): for a usage of an application, 1024 to 2047 and no other number, a key seals as for
-        // the others.
+        // Promise (found, value): a usage of an application has a number from 1024 to 2047, and a key seals for it as
+        // for any other usage.
         ensures found { IsSome result ↔ IsApplicationUsage number }
         ensures value { IfSome result (λ usage. usage.number ≡ number) }
     {
@@ -48,7 +48,7 @@ impl ApplicationUsage {
         confounder: &[u8; 16],
         text: &[u8],
     ) -> Result<Vec<u8>, AllocError>
-        // Promise (value, len, most, opens, opened), as ApplicationUsage::new: for a usage of ..
+        // Promise (value, len, most, opens, opened), as ApplicationUsage::new: a usage of an ..
         ensures value { IfOk result (λ sealed. sealed.items
             ≡ seal key.now.etype key.now.bytes self.number confounder.now text.now) }
         ensures len { IfOk result (λ sealed.
@@ -70,8 +70,8 @@ impl ApplicationUsage {
         key: &Key,
         cipher: &[u8],
     ) -> Result<Option<Vec<u8>>, AllocError>
-        // Promise (value, opened, none, len, short): for a usage of an application a key opens and checks as for the
-        // others.
+        // Promise (value, opened, none, len, short): a key opens and checks for a usage of an application as for any
+        // other usage.
         ensures value { IfOk result (λ found. option_map (λ text. text.items) found
             ≡ opened key.now.etype key.now.bytes self.number cipher.now) }
         ensures opened { IfOk result (λ found. IfSome found (λ text.
@@ -89,7 +89,7 @@ impl ApplicationUsage {
     /// doesn't allocate.
     #[tactic(auto, unfolding(crate::specs::Sealing::mac))]
     pub fn checksum(self, key: &Key, text: &[u8]) -> Mac
-        // Promise (value, len, most), as ApplicationUsage::open: for a usage of ..
+        // Promise (value, len, most), as ApplicationUsage::open: a key opens and ..
         ensures value { result ≡ mac key.now.etype key.now.bytes self.number text.now }
         ensures len { length result ≡ mac_len key.now.etype }
         ensures most { length result ≤ 24 }
@@ -99,7 +99,7 @@ impl ApplicationUsage {
 
     /// Checks whether the bytes are the checksum of the text by a key for this usage. It always compares all of them.
     pub fn verify(self, key: &Key, text: &[u8], octets: &[u8]) -> bool
-        // Promise, as ApplicationUsage::open: for a usage of ..
+        // Promise, as ApplicationUsage::open: a key opens and ..
         ensures { IsTrue result ↔ (octets.now ≡ mac key.now.etype key.now.bytes self.number text.now) }
     {
         are_same(octets, self.checksum(key, text).bytes())

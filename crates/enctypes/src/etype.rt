@@ -49,10 +49,10 @@ impl Etype {
         ensures count { 1 ≤ result.default_count }
     {
         match self {
-            Etype::Aes128CtsHmacSha1_96 => constants_of::<Aes128CtsHmacSha1_96>(),
-            Etype::Aes256CtsHmacSha1_96 => constants_of::<Aes256CtsHmacSha1_96>(),
-            Etype::Aes128CtsHmacSha256_128 => constants_of::<Aes128CtsHmacSha256_128>(),
-            Etype::Aes256CtsHmacSha384_192 => constants_of::<Aes256CtsHmacSha384_192>(),
+            Etype::Aes128CtsHmacSha1_96 => suite_constants::<Aes128CtsHmacSha1_96>(),
+            Etype::Aes256CtsHmacSha1_96 => suite_constants::<Aes256CtsHmacSha1_96>(),
+            Etype::Aes128CtsHmacSha256_128 => suite_constants::<Aes128CtsHmacSha256_128>(),
+            Etype::Aes256CtsHmacSha384_192 => suite_constants::<Aes256CtsHmacSha384_192>(),
         }
     }
 
@@ -66,7 +66,7 @@ impl Etype {
 
     /// Returns the encryption type with this number, if it is one of the four.
     pub fn from_number(etype: i32) -> Option<Etype>
-        // Promise (named, none): no other number names an encryption type.
+        // Promise (named, none): an encryption type is found by its number, and no other number names one.
         ensures named { IfSome result (λ e. number e ≡ etype) }
         ensures none { IfNone result ((e : Etype) → number e ≢ etype) }
     {
@@ -130,7 +130,7 @@ impl Etype {
 
 /// Returns the constants of an implementation.
 #[inline(always)]
-fn constants_of<S: Suite>() -> Constants
+fn suite_constants<S: Suite>() -> Constants
     ensures { result ≡ record {
       number = number S.ETYPE;
       key_len = key_len S.ETYPE;

@@ -38,8 +38,7 @@ impl Model for Key {
 impl Key {
     /// Returns the key with these bytes, or `None` if the length is wrong for the encryption type.
     pub fn new(etype: Etype, octets: &[u8]) -> Option<Key>
-        // Promise (some, key): a key is made exactly if its length is its type's, so every key has as many bytes as its
-        // type says, and returns them.
+        // Promise (some, key): a key is made exactly from as many bytes as its type requires, and returns these bytes.
         ensures some { IsSome result ↔ (length octets.now ≡ key_len etype) }
         ensures key { IfSome result (λ key. key ≡ record { etype = etype; bytes = octets.now }) }
     {

@@ -32,7 +32,7 @@ pub enum MacKey {
 }
 
 impl MacKey {
-    /// Hashes the key, with the hash function of the encryption type.
+    /// Returns the key for HMACs, hashed with the hash function of the encryption type.
     pub fn new(etype: Etype, key: &[u8]) -> MacKey
         ensures { IsMacKey etype key.now result }
     {

@@ -37,7 +37,7 @@ impl Model for ReadyChecksum {
 impl ReadyChecksum {
     /// Prepares a key for a usage.
     pub fn new(key: &Key, usage: KeyUsage) -> ReadyChecksum
-        // Promise: a ready key checks as the key does under that usage.
+        // Promise: a prepared key checks checksums as the key itself does for its usage.
         ensures { result ≡ record { key = key.now; usage = usage } }
     {
         ReadyChecksum {
@@ -49,7 +49,7 @@ impl ReadyChecksum {
 
     /// Checks whether it is this key, prepared for this usage. It always compares all bytes.
     pub fn is_for(&self, key: &Key, usage: KeyUsage) -> bool
-        // Promise, as ReadyKey::is_for: a ready key is ..
+        // Promise, as ReadyKey::is_for: a prepared key is ..
         ensures { IsTrue result ↔ (self.now ≡ record { key = key.now; usage = usage }) }
     {
         self.usage == usage
@@ -59,7 +59,7 @@ impl ReadyChecksum {
 
     /// Checks whether the bytes are the checksum of the text, like `verify` with this key and usage.
     pub fn verify(&self, text: &[u8], octets: &[u8]) -> bool
-        // Promise, as ReadyChecksum::new: a ready key checks ..
+        // Promise, as ReadyChecksum::new: a prepared key checks ..
         ensures { IsTrue result
             ↔ (octets.now ≡ mac self.now.key.etype self.now.key.bytes (usage_number self.now.usage) text.now) }
     {
@@ -71,7 +71,7 @@ impl ReadyChecksum {
     fn checksum(&self, text: &[u8]) -> Mac
         ensures { result ≡ mac self.now.key.etype self.now.key.bytes (usage_number self.now.usage) text.now }
     {
-        mac_of(&self.hashed, text)
+        text_mac(&self.hashed, text)
     }
 }
 
@@ -86,7 +86,7 @@ impl fmt::Debug for ReadyChecksum {
 }
 
 // Returns the HMAC of a text.
-fn mac_of(hashed: &MacKey, text: &[u8]) -> Mac
+fn text_mac(hashed: &MacKey, text: &[u8]) -> Mac
     ensures { (etype : types.Etype) (key : List ℕ) → IsMacKey etype key hashed.now
         → result ≡ cut_hmac etype key text.now }
 {

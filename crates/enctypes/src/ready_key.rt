@@ -36,7 +36,7 @@ impl Model for ReadyKey {
 impl ReadyKey {
     /// Prepares a key for a usage.
     pub fn new(key: &Key, usage: KeyUsage) -> ReadyKey
-        // Promise: a ready key encrypts as the key does under that usage.
+        // Promise: a prepared key encrypts as the key itself does for its usage.
         ensures ready { result ≡ record { key = key.now; usage = usage } }
         ensures octets { All (λ b. b < 256) key.now.bytes }
     {
@@ -48,7 +48,7 @@ impl ReadyKey {
 
     /// Prepares the key for opening too: each `open` takes less time after it.
     pub fn prepare_to_open(&mut self)
-        // Promise, as ReadyKey::open: a ready key decrypts ..
+        // Promise, as ReadyKey::open: a prepared key decrypts ..
         ensures { self.new ≡ self.old }
     {
         self.derived.prepare_to_open();
@@ -56,7 +56,7 @@ impl ReadyKey {
 
     /// Returns the encryption type of the key.
     pub fn etype(&self) -> Etype
-        // Promise, as ReadyKey::is_for: a ready key is ..
+        // Promise, as ReadyKey::is_for: a prepared key is ..
         ensures { result ≡ self.now.key.etype }
     {
         self.derived.key().etype()
@@ -64,7 +64,7 @@ impl ReadyKey {
 
     /// Checks whether it is this key, prepared for this usage. It always compares all bytes.
     pub fn is_for(&self, key: &Key, usage: KeyUsage) -> bool
-        // Promise: a ready key is used for another key only if type, bytes and usage are the same.
+        // Promise: a prepared key is used for a key only if the type, the bytes and the usage are the same.
         ensures { IsTrue result ↔ (self.now ≡ record { key = key.now; usage = usage }) }
     {
         let own = self.derived.key();
@@ -78,7 +78,7 @@ impl ReadyKey {
         confounder: &[u8; 16],
         text: &[u8],
     ) -> Result<Vec<u8>, AllocError>
-        // Promise (value, len, most, opens, opened), as ReadyKey::new: a ready key encrypts ..
+        // Promise (value, len, most, opens, opened), as ReadyKey::new: a prepared key encrypts ..
         ensures value { IfOk result (λ sealed. sealed.items
             ≡ seal self.now.key.etype self.now.key.bytes (usage_number self.now.usage) confounder.now text.now) }
         ensures len { IfOk result (λ sealed.
@@ -95,8 +95,8 @@ impl ReadyKey {
 
     /// Opens a sealed text, like `open` with this key and usage.
     pub fn open(&self, alloc: Global, cipher: &[u8]) -> Result<Option<Vec<u8>>, AllocError>
-        // Promise (value, opened, none, len, short): a ready key decrypts as the key does under that usage, also once
-        // it is prepared to open.
+        // Promise (value, opened, none, len, short): a prepared key decrypts as the key itself does for its usage, also
+        // after `prepare_to_open`.
         ensures value { IfOk result (λ found. option_map (λ text. text.items) found
             ≡ opened self.now.key.etype self.now.key.bytes (usage_number self.now.usage) cipher.now) }
         ensures opened { IfOk result (λ found. IfSome found (λ text.

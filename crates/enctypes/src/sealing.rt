@@ -20,7 +20,7 @@ pub fn seal(
     text: &[u8],
 ) -> Result<Vec<u8>, AllocError>
     // Promise (value, len, most, opens, opened): an encrypted text is that of the definition, and decrypts to the text.
-    // It is longer than the text by 16 bytes and the HMAC's, together at most 40.
+    // It is longer than the text by 16 bytes and the length of the HMAC, at most 40 together.
     ensures value { IfOk result (λ sealed. sealed.items
         ≡ seal key.now.etype key.now.bytes (usage_number usage) confounder.now text.now) }
     ensures len { IfOk result (λ sealed.
@@ -45,12 +45,11 @@ pub fn open(
     usage: KeyUsage,
     cipher: &[u8],
 ) -> Result<Option<Vec<u8>>, AllocError>
-    // Promise (value, one, law): decryption is a function of key, usage and cipher, and that function decrypts what was
-    // encrypted and nothing else; a cipher is that of at most one text.
+    // Promise (value, one, law): decryption is a function of key, usage and cipher; it decrypts what was encrypted, and
+    // nothing else; a cipher is that of at most one text.
     ensures value { IfOk result (λ found. option_map (λ text. text.items) found
         ≡ opened key.now.etype key.now.bytes (usage_number usage) cipher.now) }
-    // Promise (opened, none): a text is decrypted exactly if some confounder encrypts it to this cipher; if none does,
-    // there is none.
+    // Promise (opened, none): a text is returned exactly if some confounder encrypts it to this cipher.
     ensures opened { IfOk result (λ found. IfSome found (λ text.
         Opens key.now.etype key.now.bytes (usage_number usage) cipher.now text.items)) }
     ensures none { IfOk result (λ found. IfNone found
@@ -59,7 +58,7 @@ pub fn open(
     // Promise, as seal: an encrypted text is ..
     ensures len { IfOk result (λ found. IfSome found (λ text.
         length cipher.now ≡ 16 + mac_len key.now.etype + length text.items)) }
-    // Promise: for a cipher of fewer than 16 and the HMAC's bytes the result is `None`, even if memory runs out.
+    // Promise: if the cipher is shorter than 16 bytes and an HMAC, the result is `None`, even if memory runs out.
     ensures short { length cipher.now < 16 + mac_len key.now.etype → result ≡ Ok None }
     ensures law { OpensWhatWasSealed key.now.etype key.now.bytes (usage_number usage) }
 {

@@ -158,9 +158,9 @@ impl SealingKey {
     {
         if self.key.etype().macs_cipher() {
             self.cipher.cts_encrypt(&ZERO_VECTOR, text);
-            mac_of_cipher(&self.integrity, text)
+            cipher_mac(&self.integrity, text)
         } else {
-            let mac = mac_of_plain(&self.integrity, text);
+            let mac = plain_mac(&self.integrity, text);
             self.cipher.cts_encrypt(&ZERO_VECTOR, text);
             mac
         }
@@ -177,12 +177,12 @@ impl SealingKey {
             (authenticated (macs_cipher self.now.key.etype) text.new text.old) }
     {
         if self.key.etype().macs_cipher() {
-            let mac = mac_of_cipher(&self.integrity, text);
+            let mac = cipher_mac(&self.integrity, text);
             self.decrypt(text);
             mac
         } else {
             self.decrypt(text);
-            mac_of_plain(&self.integrity, text)
+            plain_mac(&self.integrity, text)
         }
     }
 
@@ -222,7 +222,7 @@ fn sealing_keys(etype: Etype, key: &[u8], usage: u32) -> (AesKey, DerivedKey)
 }
 
 // Returns the HMAC of confounder and text (RFC 3961, section 5.3).
-fn mac_of_plain(integrity: &MacKey, text: &[u8]) -> Mac
+fn plain_mac(integrity: &MacKey, text: &[u8]) -> Mac
     ensures { (etype : types.Etype) (key : List ℕ) → IsMacKey etype key integrity.now
         → result ≡ cut_hmac etype key text.now }
 {
@@ -230,7 +230,7 @@ fn mac_of_plain(integrity: &MacKey, text: &[u8]) -> Mac
 }
 
 // Returns the HMAC of the initial cipher state and the cipher (RFC 8009, section 5).
-fn mac_of_cipher(integrity: &MacKey, text: &[u8]) -> Mac
+fn cipher_mac(integrity: &MacKey, text: &[u8]) -> Mac
     ensures { (etype : types.Etype) (key : List ℕ) → IsMacKey etype key integrity.now
         → result ≡ cut_hmac etype key (zero_vector ++ text.now) }
 {

@@ -121,8 +121,8 @@ pub trait Suite {
         ensures { IsMacKey ETYPE key.now result };
 
     // The constants are those of the standards.
-    // Promise: each encryption type has the sizes and numbers of the tables (which take IANA's numbers from the code,
-    // `numbers.rt`: that these are the standard's is tested, against literals).
+    // Promise: each encryption type has the sizes and numbers of the tables; IANA's numbers in these are constants of
+    // `numbers.rt`, which tests compare with literals.
     ghost constants: { AreConstants ETYPE HASH NUMBER KEY_SIZE MAC_KEY_SIZE MAC_SIZE MACS_CIPHER CHECKSUM_TYPE
         DEFAULT_COUNT };
 

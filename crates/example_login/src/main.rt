@@ -1,12 +1,11 @@
 //! `example_login NAME SERVICE KEYTAB`: an example of a program that lets somebody in by a password. It logs in with
 //! the password on the first line of standard input, checks with a keytab of this computer that the KDC is the realm's,
-//! and prints when the ticket of a service ends, and the AP-REQ that presents it. If a second line follows, that is the
-//! service's reply, and it prints whether the service sent it. Messages are hexadecimal digits, as those of
-//! `example_service` are.
+//! and prints when a ticket for the service ends, and the AP-REQ that presents it. A second line of standard input is
+//! the service's reply: it prints whether the service sent it. Messages are in hexadecimal, as in `example_service`.
 #![tactic(auto)]
 
-use client_core::ClientFault;
-use client_files::Fault;
+use client_core::ReplyError;
+use client_files::ClientError;
 use client_sockets::{Client, Presented, SystemClient};
 use command_line::{Status, open_missing_streams};
 use cred_files::Credential;
@@ -33,28 +32,33 @@ fn main(rt: HostRuntime) -> io::Result<ExitCode> {
     Ok(ExitCode::from(status.code()))
 }
 
-/// The ticket of a service, and the AP-REQ that presents it.
+/// A ticket for a service, and the AP-REQ that presents it.
 #[derive(Drop)]
 struct Got {
     ticket: Credential,
     presented: Presented,
 }
 
-/// Opens a client of a principal, gets the ticket of a service with it, and presents that.
-fn get_ticket(rt: &HostRuntime, name: &str, service: &str, keytab: &str) -> Result<Got, Fault> {
+/// Opens a client for a principal, gets a ticket for a service, and makes the AP-REQ that presents it.
+fn get_ticket(
+    rt: &HostRuntime,
+    name: &str,
+    service: &str,
+    keytab: &str,
+) -> Result<Got, ClientError> {
     let mut client = Client::open(rt, name)?;
     let ticket = verified_ticket(&mut client, service, keytab)?;
     let presented = client.present(&ticket)?;
     Ok(Got { ticket, presented })
 }
 
-/// Logs in and gets the ticket of a service. It verifies the login before that: the person who typed the password may
-/// also have answered in the KDC's place.
+/// Logs in, verifies the login, and gets a ticket for a service. Without the second step, the person who types the
+/// password could also answer in the KDC's place.
 fn verified_ticket(
     client: &mut SystemClient<'_>,
     service: &str,
     keytab: &str,
-) -> Result<Credential, Fault> {
+) -> Result<Credential, ClientError> {
     let keytab = client.read_keytab(keytab)?;
     let password = client.ask_password()?;
     client.log_in(&password)?;
@@ -77,7 +81,7 @@ fn show(rt: &HostRuntime, got: &Got) -> io::Result<Status> {
 fn judge(rt: &HostRuntime, presented: &Presented, line: &str) -> io::Result<Status> {
     let judged = match hex::decode(rt.alloc(), line.as_bytes()) {
         Ok(reply) => presented.judge(rt.alloc(), &reply),
-        Err(_) => Err(ClientFault::NotAReply),
+        Err(_) => Err(ReplyError::NotAReply),
     };
     match judged {
         Ok(_) => {

@@ -4,7 +4,7 @@
 #![tactic(auto)]
 
 use ap_accept::{Accepted, Acceptor, AcceptorOptions, ApFault, ApRefusal, Opening, TicketLabel};
-use command_line::{Status, open_missing_streams, read_words};
+use command_line::{Status, open_missing_streams};
 use cred_files::Keytab;
 use file_store::{FileStamp, FileStore, Written, now, sync_folder, write_file};
 use hex::FromHexError;
@@ -12,11 +12,11 @@ use krb_der::KTime;
 use std::io::{BufRead, Error, ErrorKind};
 use std::process::ExitCode;
 use std::random::RandomSource;
-use std::{fs, io};
+use std::{env, fs, io};
 
 const USAGE: &str = "usage: example_service KEYTAB [first] [save FILE]";
 
-/// What each word is, behind the usage.
+/// What each word means, for the help after the usage.
 const HELP: &str = "\
 Reads AP-REQs from standard input, one on each line in hexadecimal digits, and prints who sent each.
 
@@ -30,14 +30,12 @@ fn main(rt: HostRuntime) -> io::Result<ExitCode> {
         println!(rt; "{fault}")?;
         return Ok(ExitCode::from(Status::Failed.code()));
     }
-    let Some(args) = read_words(&rt)? else {
-        return usage(&rt);
-    };
+    let args: Vec<String> = env::args(&rt)?.collect(rt.alloc())?;
     if asks_help(args.as_slice()) {
         println!(rt; "{USAGE}\n\n{HELP}")?;
         return Ok(ExitCode::SUCCESS);
     }
-    match words_of(args.as_slice()) {
+    match parse_words(args.as_slice()) {
         Some(words) => serve(&rt, &words),
         None => usage(&rt),
     }
@@ -61,7 +59,7 @@ struct Words<'a> {
     saved: Option<&'a str>,
 }
 
-fn words_of(args: &[String]) -> Option<Words<'_>> {
+fn parse_words(args: &[String]) -> Option<Words<'_>> {
     let (keytab, is_first, saved) = match args {
         [_, keytab] => (keytab, false, None),
         [_, keytab, first] if first.as_str() == "first" => (keytab, true, None),
@@ -130,7 +128,7 @@ fn open(rt: &HostRuntime, file: &mut KeytabFile<'_>, words: &Words<'_>) -> io::R
     if let Some(saved) = take_saved(rt, words)? {
         match Acceptor::resume(rt.alloc(), file.read(rt)?, options, &saved) {
             Ok(acceptor) => return Ok(acceptor),
-            Err(fault) => eprintln!(rt; "example_service: {fault}")?,
+            Err(fault) => eprintln!(rt; "example_service: cannot use what was saved: {fault}")?,
         }
     }
     // A service that ran before, and saved nothing, starts as after a restart.
@@ -142,7 +140,7 @@ fn open(rt: &HostRuntime, file: &mut KeytabFile<'_>, words: &Words<'_>) -> io::R
     Ok(Acceptor::open(rt.alloc(), file.read(rt)?, options, opening)?)
 }
 
-/// Returns the bytes that the last run saved, if they are there, and removes their file: they may be used once.
+/// Returns the bytes that the last run saved, if they are there, and removes their file: they may be used only once.
 fn take_saved(rt: &HostRuntime, words: &Words<'_>) -> io::Result<Option<Vec<u8>>> {
     let Some(path) = words.saved else {
         return Ok(None);
@@ -150,7 +148,7 @@ fn take_saved(rt: &HostRuntime, words: &Words<'_>) -> io::Result<Option<Vec<u8>>
     match fs::read(rt, path) {
         Ok(octets) => {
             fs::remove_file(rt, path)?;
-            // Else a power failure could bring the file back.
+            // Otherwise a power failure could bring the file back.
             sync_folder(rt, path)?;
             Ok(Some(octets))
         }

@@ -1,6 +1,6 @@
 //! A client by its name, over a network and a store in memory.
 use crate::network::{Said, SaidNetwork};
-use client_files::{Config, Defaults, Fault};
+use client_files::{ClientError, Config, Defaults};
 use client_login::Secret;
 use client_sockets::Client;
 use file_store::{MemoryStore, Variable};
@@ -32,7 +32,7 @@ fn opened(
     alloc: Global,
     network: SaidNetwork,
     mut store: MemoryStore,
-) -> Result<MemoryClient, Fault> {
+) -> Result<MemoryClient, ClientError> {
     let defaults = Defaults {
         cache: Variable::Absent,
         config: Variable::Text("krb5.conf"),

@@ -28,13 +28,13 @@ pub fn up<const N: usize>(first: u8) -> [u8; N] {
 }
 
 /// Returns a key whose bytes count up from this one.
-pub fn key_from(etype: Etype, first: u8) -> Key {
+pub fn counted_key(etype: Etype, first: u8) -> Key {
     Key::from_random(etype, &up(first))
 }
 
 /// Checks whether the key has this type, and bytes that count up from this one.
-pub fn is_key_from(key: &Key, etype: Etype, first: u8) -> bool {
-    key.etype() == etype && key.bytes() == key_from(etype, first).bytes()
+pub fn has_octets_from(key: &Key, etype: Etype, first: u8) -> bool {
+    key.etype() == etype && key.bytes() == counted_key(etype, first).bytes()
 }
 
 /// Returns the bytes for hexadecimal digits.

@@ -23,12 +23,16 @@ pub fn are_handled(
 }
 
 fn is_handled(alloc: Global, kdc: &mut Kdc, event: &[Event], outcome: &str) -> Result<bool, Fail> {
-    let reply = reply_to(alloc, kdc, event)?;
+    let reply = handle_event(alloc, kdc, event)?;
     has_come(alloc, &reply, outcome)
 }
 
 /// Returns the reply to the only event of a slice, if it has one. What is no request is run.
-fn reply_to(alloc: Global, kdc: &mut Kdc, event: &[Event]) -> Result<Option<Vec<u8>>, AllocError> {
+fn handle_event(
+    alloc: Global,
+    kdc: &mut Kdc,
+    event: &[Event],
+) -> Result<Option<Vec<u8>>, AllocError> {
     if matches!(event.first(), Some(Event::Request { .. })) {
         return handled(alloc, kdc, event);
     }

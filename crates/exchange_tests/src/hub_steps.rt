@@ -108,7 +108,7 @@ fn step_through(alloc: Global, all: &mut Vec<Done>) -> Result<bool, Fail> {
 }
 
 #[test]
-fn a_fault_has_what_was_done_and_the_connection(rt: HostRuntime) -> Result<(), Fail> {
+fn a_fault_names_its_connection_and_what_was_done(rt: HostRuntime) -> Result<(), Fail> {
     let mut all = Vec::new(rt.alloc());
     let has_failed = step_through(rt.alloc(), &mut all)?;
     holds(&rt, is_done(&all, STEPS_DONE, has_failed), "the steps");

@@ -31,11 +31,11 @@ fn keys(alloc: Global, bytes: KeyBytes) -> Result<KeyList, Fail> {
     Ok(KeyList::new(alloc, &[key(bytes)])?)
 }
 
-fn limits(lock_after: u32) -> Result<Limits, Fail> {
+pub fn limits(lock_after: u32) -> Result<Limits, Fail> {
     Ok(Limits::new(64, lock_after, 60, 36000, 0).ok_or("limits")?)
 }
 
-fn moment(second: u32) -> Result<Moment, Fail> {
+pub fn moment(second: u32) -> Result<Moment, Fail> {
     Ok(Moment::new(MIDNIGHT + i64::from(second), 0).ok_or("a moment")?)
 }
 
@@ -46,19 +46,23 @@ fn change(alloc: Global, letter: u8, what: RowChange) -> Result<Change, Fail> {
     })
 }
 
-fn addition(alloc: Global, letter: u8, bytes: KeyBytes) -> Result<Change, Fail> {
+pub fn addition(alloc: Global, letter: u8, bytes: KeyBytes) -> Result<Change, Fail> {
     let keys = keys(alloc, bytes)?;
     change(alloc, letter, RowChange::Add(keys))
 }
 
 /// Returns a database of this realm with only the ticket-granting service.
-fn first_database(alloc: Global, realm: &[u8], tgs_key: KeyBytes) -> Result<Database, Fail> {
+pub fn first_database(alloc: Global, realm: &[u8], tgs_key: KeyBytes) -> Result<Database, Fail> {
     let keys = keys(alloc, tgs_key)?;
     Ok(Database::first(alloc, realm, keys)?)
 }
 
 /// Adds a principal to a database.
-fn extended(alloc: Global, mut database: Database, addition: &Change) -> Result<Database, Fail> {
+pub fn extended(
+    alloc: Global,
+    mut database: Database,
+    addition: &Change,
+) -> Result<Database, Fail> {
     match database.apply(alloc, addition) {
         Ok(()) => Ok(database),
         Err(fault) => Err(Fail::from(fault)),
@@ -94,13 +98,18 @@ pub fn opened(alloc: Global, tgs_key: KeyBytes, lock_after: u32) -> Result<Kdc, 
     }
 }
 
+/// Returns the random bytes of this name.
+pub fn random_octets(name: &str) -> Result<[u8; 64], Fail> {
+    let mut octets = [0; 64];
+    hex::decode_to_slice(message(name), &mut octets)?;
+    Ok(octets)
+}
+
 /// Returns the event of this request. The KDC draws the random bytes of this name.
 fn request(second: u32, random: &str, request: Vec<u8>) -> Result<Event, Fail> {
-    let mut octets = [0; 64];
-    hex::decode_to_slice(message(random), &mut octets)?;
     Ok(Event::Request {
         at: moment(second)?,
-        random: octets,
+        random: random_octets(random)?,
         room: 1400,
         request: Octets::new(request),
     })
@@ -141,7 +150,7 @@ fn seen(alloc: Global, client: Name) -> Result<Seq<Seen>, Fail> {
     Ok(Seq::from_vec(seen))
 }
 
-fn resumes_with(database: Database, limits: Limits, seen: Seq<Seen>) -> Event {
+fn resume_event(database: Database, limits: Limits, seen: Seq<Seen>) -> Event {
     Event::Resume {
         database,
         limits,
@@ -156,7 +165,7 @@ fn resumes(alloc: Global) -> Result<Event, Fail> {
     let limits = limits(0)?;
     let seen = seen(alloc, Name::new(alloc, 1, &[b"u"])?)?;
     match with_one(alloc, b"A.B", b'h', (1, 0)) {
-        Ok(database) => Ok(resumes_with(database, limits, seen)),
+        Ok(database) => Ok(resume_event(database, limits, seen)),
         Err(fail) => Err(fail),
     }
 }
@@ -259,7 +268,7 @@ fn is_error(reply: &[u8], code: u8) -> bool {
     reply.first() == Some(&0x7e) && reply.get(42) == Some(&code)
 }
 
-fn is_message(alloc: Global, reply: &[u8], name: &str) -> Result<bool, Fail> {
+pub fn is_message(alloc: Global, reply: &[u8], name: &str) -> Result<bool, Fail> {
     Ok(reply == octets(alloc, message(name))?.as_slice())
 }
 
@@ -354,7 +363,7 @@ enum Calls {
 }
 
 /// Runs the events over a KDC. Only this function drops one: each place with a drop takes long to prove.
-fn is_run_of(
+fn runs_events(
     alloc: Global,
     run: &Run,
     events: &[Event],
@@ -372,10 +381,10 @@ fn is_run_of(
     }
 }
 
-fn is_right_of(alloc: Global, run: &Run, words: &[&str], calls: Calls) -> Result<bool, Fail> {
+fn runs_right(alloc: Global, run: &Run, words: &[&str], calls: Calls) -> Result<bool, Fail> {
     let mut events = Vec::new(alloc);
     match push_events(alloc, &mut events, words) {
-        Ok(()) => is_run_of(alloc, run, &events, words, calls),
+        Ok(()) => runs_events(alloc, run, &events, words, calls),
         Err(fail) => Err(fail),
     }
 }
@@ -383,7 +392,7 @@ fn is_right_of(alloc: Global, run: &Run, words: &[&str], calls: Calls) -> Result
 fn is_right(alloc: Global, run: &Run, calls: Calls) -> Result<bool, Fail> {
     let (_, _, _, text) = run;
     let words: Vec<&str> = text.split_whitespace().collect(alloc)?;
-    is_right_of(alloc, run, &words, calls)
+    runs_right(alloc, run, &words, calls)
 }
 
 fn expect_runs(rt: &(impl AllocGlobal + Abort), calls: Calls) -> Result<(), Fail> {
@@ -401,6 +410,6 @@ fn each_event_gets_its_reply(rt: HostRuntime) -> Result<(), Fail> {
 }
 
 #[test]
-fn each_request_gets_its_reply_alone(rt: HostRuntime) -> Result<(), Fail> {
+fn each_request_handled_alone_gets_its_reply(rt: HostRuntime) -> Result<(), Fail> {
     expect_runs(&rt, Calls::Handle)
 }

@@ -3,6 +3,7 @@
 //! | modules | what they test |
 //! |---|---|
 //! | `kdcs`, `streams` | runs of events of a KDC (`kdc_runs`), requests alone (`handled`); streams cut into messages |
+//! | `answers` | the calls that answer a request once it is read: `as_answer`, `tgs_open`, `tgs_answer` |
 //! | `hubs`, `hub_steps` | the hub; its steps that run out of memory |
 //! | `runs` | a server over a host in memory |
 //! | `lines`, `outcome_lines` | the lines of its log; those for each rule and each outcome |
@@ -23,6 +24,8 @@
 
 #[cfg(test)]
 mod acceptor;
+#[cfg(test)]
+mod answers;
 #[cfg(test)]
 mod asking;
 #[cfg(test)]

@@ -90,7 +90,7 @@ fn expect_fault(
 }
 
 #[test]
-fn kdcs_are_asked_until_one_may_do_no_better(rt: HostRuntime) -> Result<(), Fail> {
+fn kdcs_are_asked_until_one_gives_a_useful_reply(rt: HostRuntime) -> Result<(), Fail> {
     let mut client = client(rt.alloc())?;
     for row in LOGINS {
         expect_fault(&rt, rt.alloc(), &mut client, row)?;

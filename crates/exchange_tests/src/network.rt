@@ -53,11 +53,11 @@ impl Network for SaidNetwork {
 
     fn exchange(&mut self, alloc: Global, route: Route, message: &[u8]) -> io::Result<Vec<u8>> {
         self.ways
-            .push(way_of(route.by, route.to.port() == SECOND_PORT))?;
+            .push(way_letter(route.by, route.to.port() == SECOND_PORT))?;
         match self.said {
             Said::Nothing => Err(Error::from(ErrorKind::TimedOut)),
             Said::NoMemory => Err(Error::from(ErrorKind::OutOfMemory)),
-            Said::Error(code) => error_of(alloc, code),
+            Said::Error(code) => error_bytes(alloc, code),
         }
     }
 
@@ -76,7 +76,7 @@ impl AnyMessage for SaidNetwork {
     ghost takes_any = { λ message. tt };
 }
 
-fn way_of(by: Transport, is_second: bool) -> char {
+fn way_letter(by: Transport, is_second: bool) -> char {
     match by {
         Transport::Udp if is_second => 'U',
         Transport::Udp => 'u',
@@ -85,7 +85,7 @@ fn way_of(by: Transport, is_second: bool) -> char {
     }
 }
 
-fn error_of(alloc: Global, code: u8) -> io::Result<Vec<u8>> {
+fn error_bytes(alloc: Global, code: u8) -> io::Result<Vec<u8>> {
     let Ok(mut error) = hex::decode(alloc, ERROR.as_bytes()) else {
         return Err(Error::from(ErrorKind::OutOfMemory));
     };

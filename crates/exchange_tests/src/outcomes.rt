@@ -1,5 +1,5 @@
 //! The outcomes of replies to a client.
-use client_core::{ClientFault, Mismatch};
+use client_core::{Mismatch, ReplyError};
 use krb_elements::Octets;
 
 /// The outcome of a reply.
@@ -29,15 +29,15 @@ fn e_data(found: &Option<Octets>) -> Option<[u8; 3]> {
     }
 }
 
-pub fn outcome_by(fault: &ClientFault) -> Outcome {
+pub fn outcome_by(fault: &ReplyError) -> Outcome {
     match fault {
-        ClientFault::NotAReply => Outcome::NotAReply,
-        ClientFault::Refused(refusal) => {
+        ReplyError::NotAReply => Outcome::NotAReply,
+        ReplyError::Refused(refusal) => {
             Outcome::Refused(refusal.error.code, e_data(&refusal.e_data))
         }
-        ClientFault::Mismatch(what) => Outcome::Differs(*what),
-        ClientFault::CannotOpen => Outcome::CannotOpen,
-        ClientFault::CountTooLarge => Outcome::CountTooLarge,
-        ClientFault::Memory => Outcome::Memory,
+        ReplyError::Mismatch(what) => Outcome::Differs(*what),
+        ReplyError::CannotOpen => Outcome::CannotOpen,
+        ReplyError::CountTooLarge => Outcome::CountTooLarge,
+        ReplyError::Memory => Outcome::Memory,
     }
 }

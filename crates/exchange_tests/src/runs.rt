@@ -1,6 +1,6 @@
 //! A server over a host in memory: what it asks of its host, and what its sockets, its tally, its journal and its log
 //! record. Its journal fails once. And starts without a journal that find the one of an earlier server.
-use journal::{Doubt, Start};
+use journal::{ResumeRefusal, Start};
 use kdc_core::{AuditRecord, Bears, TgsOutcome};
 use kdc_files::{HandedOver, JournalBeginning};
 use kdc_hub::{Action, Event, Look, MemoryRows, Peer, Totals, WireCall};
@@ -266,12 +266,12 @@ fn are_logged(record: Option<&[MemoryEntry]>) -> bool {
 /// Checks whether a ticket was sent again.
 fn is_resent(audit: &Option<AuditRecord>) -> bool {
     match audit {
-        Some(audit) => outcome_of(audit) == Some(TgsOutcome::Resent(Bears::Ticket)),
+        Some(audit) => tgs_outcome(audit) == Some(TgsOutcome::Resent(Bears::Ticket)),
         None => false,
     }
 }
 
-fn outcome_of(audit: &AuditRecord) -> Option<TgsOutcome> {
+fn tgs_outcome(audit: &AuditRecord) -> Option<TgsOutcome> {
     match audit {
         AuditRecord::Tgs { outcome, .. } => Some(*outcome),
         AuditRecord::NoRequest | AuditRecord::As { .. } => None,
@@ -284,7 +284,7 @@ fn is_beginning(beginning: &JournalBeginning) -> bool {
         && matches!(
             &beginning.start,
             Start::Refuses {
-                doubt: Doubt::Absent,
+                doubt: ResumeRefusal::Absent,
                 floor: None,
             }
         )

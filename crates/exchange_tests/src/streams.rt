@@ -117,7 +117,7 @@ fn are_texts(alloc: Global) -> Result<bool, AllocError> {
 }
 
 #[test]
-fn faults_have_texts(rt: HostRuntime) {
+fn each_fault_has_its_text(rt: HostRuntime) {
     holds(&rt, are_texts(rt.alloc()) == Ok(true), "the texts");
 }
 

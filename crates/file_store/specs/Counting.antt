@@ -1,8 +1,8 @@
 -- Failed calls of a store are counted, and results show them.
 use Rattle.std.specs.Prelude.{◌≡◌, ◌+◌, ◌-◌, ◌^◌, ℕ, min, ⊤, Result, Ok, Err}
-use Rattle.file_store.specs.declared.faults.FileCause.{FileCause}
-use Rattle.file_store.specs.declared.faults.FileCause.TheVariants.{LongFile, ShortSeed, Failed}
-use Rattle.file_store.specs.declared.faults.FileFault.{FileFault}
+use Rattle.file_store.specs.declared.faults.FileError.{FileError}
+use Rattle.file_store.specs.declared.faults.FileError.TheVariants.{LongFile, ShortSeed, Failed}
+use Rattle.file_store.specs.declared.faults.PathError.{PathError}
 use Rattle.file_store.specs.declared.store.Written.{Written}
 use Rattle.file_store.specs.declared.store.Written.TheVariants.{Synced, NotSynced}
 
@@ -18,18 +18,18 @@ IsWriteCounted before (Ok (NotSynced error)) after = after ≡ min (before + 1) 
 IsWriteCounted before (Err fault) after = after ≡ min (before + 1) (2 ^ 64 - 1)
 
 -- a refused file was read, without a failed call
-abbrev pub LeavesCount : ℕ → FileCause → ℕ → Type 0
+abbrev pub LeavesCount : ℕ → FileError → ℕ → Type 0
 LeavesCount before LongFile after = after ≡ before
 LeavesCount before ShortSeed after = after ≡ before
 LeavesCount before (Failed error) after = ⊤
 
 -- if a call has failed, the result says so
-abbrev pub IsShown : {T : Type 0} → ℕ → Result T FileFault → ℕ → Type 0
+abbrev pub IsShown : {T : Type 0} → ℕ → Result T PathError → ℕ → Type 0
 IsShown before (Ok done) after = after ≡ before
 IsShown before (Err fault) after = LeavesCount before fault.cause after
 
 -- the same for a write
-abbrev pub IsWriteShown : ℕ → Result Written FileFault → ℕ → Type 0
+abbrev pub IsWriteShown : ℕ → Result Written PathError → ℕ → Type 0
 IsWriteShown before (Ok Synced) after = after ≡ before
 IsWriteShown before (Ok (NotSynced error)) after = after ≡ min (before + 1) (2 ^ 64 - 1)
 IsWriteShown before (Err fault) after = LeavesCount before fault.cause after

@@ -1,7 +1,11 @@
+pub mod Callers
 pub mod Counting
 pub mod Folders
+pub mod Growing
 pub mod Input
 pub mod Inputs
 pub mod Memory
+pub mod MemoryFiles
+pub mod Placing
 pub mod Refusal
 pub mod World

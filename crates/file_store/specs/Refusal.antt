@@ -1,9 +1,9 @@
 -- The words for what is wrong with a file that was read.
 use Rattle.std.specs.Prelude.{ℕ, List, Option, Some, None, codes}
-use Rattle.file_store.specs.declared.faults.FileCause.{FileCause}
-use Rattle.file_store.specs.declared.faults.FileCause.TheVariants.{LongFile, ShortSeed, Failed}
+use Rattle.file_store.specs.declared.faults.FileError.{FileError}
+use Rattle.file_store.specs.declared.faults.FileError.TheVariants.{LongFile, ShortSeed, Failed}
 
-abbrev pub cause_refusal : FileCause → Option (List ℕ)
+abbrev pub cause_refusal : FileError → Option (List ℕ)
 cause_refusal LongFile = Some (codes "LongFile")
 cause_refusal ShortSeed = Some (codes "ShortSeed")
 cause_refusal (Failed error) = None

@@ -1,6 +1,8 @@
 -- The content of a store. A store without a record of it has no world, and nothing is stated about it.
-use Rattle.std.specs.Prelude.{◌≡◌, ◌≤◌, ◌<◌, ℕ, Bool, List, Option, Some, None, IfSome, is_some, if◌then◌else◌, bytes_eq}
+use Rattle.std.specs.Prelude.{◌≡◌, ◌≤◌, ◌<◌, ℕ, Bool, List, Option, Some, None, IfSome, is_some, if◌then◌else◌}
+use Rattle.std.specs.Prelude.{bytes_eq}
 use Rattle.std.specs.Prelude.{length, slice_get, take}
+use Rattle.file_store.specs.Callers.{User}
 use Rattle.file_store.specs.Inputs.{first_line}
 use Rattle.file_store.specs.declared.store.FileRights.{FileRights}
 
@@ -9,6 +11,8 @@ pub record World : Type 0 where
   pub random : List ℕ  -- the result of each draw
   pub now : ℕ  -- the clock's second since the start of 1970
   pub rights : List ℕ → FileRights  -- who may use what is at each path; all files of such a store have one owner
+  pub canonical : List ℕ → List ℕ  -- each path, with the links in it followed
+  pub caller : User  -- who runs the program
 
 -- with a file at a path, which replaces the one there; every other path is unchanged
 abbrev pub with_file : List ℕ → List ℕ → World → World
@@ -42,9 +46,16 @@ IsFirst world path octet = IfSome world (λ held. octet ≡ first_octet (held.fi
 abbrev pub IsNow : Option World → ℕ → Type 0
 IsNow world seconds = IfSome world (λ held. seconds ≡ held.now)
 
+abbrev pub IsCanonical : Option World → List ℕ → List ℕ → Type 0
+IsCanonical world path found = IfSome world (λ held. found ≡ held.canonical path)
+
+abbrev pub IsCaller : Option World → User → Type 0
+IsCaller world user = IfSome world (λ held. user ≡ held.caller)
+
 -- the first 32 bytes of a file, or of a draw if no file is named
 abbrev pub HasSeed : Option World → Option (List ℕ) → List ℕ → Type 0
-HasSeed world (Some path) seed = (octets : List ℕ) × IsRead world path octets × (32 ≤ length octets) × (seed ≡ take 32 octets)
+HasSeed world (Some path) seed = (octets : List ℕ) × IsRead world path octets × (32 ≤ length octets)
+    × (seed ≡ take 32 octets)
 HasSeed world None seed = IsDrawn world seed
 
 -- the first line of a file

@@ -16,7 +16,7 @@ pub fn counted<T>(faults: u64, done: &io::Result<T>) -> u64
 
 /// Returns the count of failed calls after a write. A folder's sync that failed is such a call.
 pub fn counted_write(faults: u64, done: &io::Result<Written>) -> u64
-    // Promise, as Store::read: a call of a ..
+    // Promise, as Store::read: a store counts each ..
     ensures { IsWriteCounted faults done.now result }
 {
     match done {

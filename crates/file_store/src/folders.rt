@@ -10,7 +10,7 @@ use std::rt::Files;
 
 /// Returns the path of the folder that holds a file: `.` if the file's path is a name alone.
 pub fn folder_of(path: &str) -> &str
-    // Promise: the folder that is synced is the path's.
+    // Promise: the folder that is synced is the one that holds the path.
     ensures { result.now ≡ folder_of path.now }
 {
     match Path::new(path).parent() {
@@ -26,8 +26,8 @@ fn named_folder(path: &str) -> &str
     if path.is_empty() { "." } else { path }
 }
 
-/// Syncs the folder that holds a path. So a file that was made, renamed or removed there is so after a power failure
-/// too. On a file system that syncs no folder there is nothing to do.
+/// Syncs the folder that holds a path. After that, a file that was made, renamed or removed there stays so through a
+/// power failure. On a file system that syncs no folder there is nothing to do.
 pub fn sync_folder<F: Files>(files: &F, path: &str) -> io::Result<()> {
     let folder = File::open(files, folder_of(path))?;
     match folder.sync_all() {

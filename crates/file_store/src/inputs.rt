@@ -6,10 +6,11 @@ ghost use Rattle.std.specs.List.{after_first, position};
 ghost use Rattle.file_store.specs.Counting.{IsShown, IsWriteShown};
 ghost use Rattle.file_store.specs.Inputs.{first_line};
 ghost use Rattle.file_store.specs.Input.{HasLongLine, TakesLine};
-ghost use Rattle.file_store.specs.World.{with_file, HasFirstLine, HasLongFirstLine, HasRights, HasSeed, IsDrawn, IsFirst, IsNow};
+ghost use Rattle.file_store.specs.World.{with_file, HasFirstLine, HasLongFirstLine, HasRights, HasSeed, IsDrawn};
+ghost use Rattle.file_store.specs.World.{IsFirst, IsNow};
 ghost use Rattle.file_store.specs.World.{IsRead, IsThere};
 
-use crate::faults::{FileCause, FileFault};
+use crate::faults::{FileError, PathError};
 use crate::store::{FileRights, LONGEST_FILE, NewMode, Store, Written};
 use std::alloc::Global;
 use std::io;
@@ -30,9 +31,9 @@ pub const CLOCK: &str = "the clock";
 pub const STANDARD_INPUT: &str = "standard input";
 
 /// Checks whether there is a file.
-pub fn has_file<'p, S: Store>(store: &mut S, path: &'p str) -> Result<bool, FileFault<'p>>
-    // Promise: what is built on these calls says the same: whether there is a file, what it holds, and what a write
-    // leaves.
+pub fn has_file<'p, S: Store>(store: &mut S, path: &'p str) -> Result<bool, PathError<'p>>
+    // Promise: the calls that are built on those of a store say the same: whether there is a file, what it holds, and
+    // what a write leaves.
     ensures there { IfOk result (λ found. IsThere (S.world store.old) path.now found) }
     ensures unchanged { S.world store.new ≡ S.world store.old }
     ensures kept { S.input store.new ≡ S.input store.old }
@@ -43,7 +44,7 @@ pub fn has_file<'p, S: Store>(store: &mut S, path: &'p str) -> Result<bool, File
 {
     match store.exists(path) {
         Ok(found) => Ok(found),
-        Err(error) => Err(FileFault::failed(path, error)),
+        Err(error) => Err(PathError::failed(path, error)),
     }
 }
 
@@ -52,10 +53,10 @@ pub fn read_file<'p, S: Store>(
     alloc: Global,
     store: &mut S,
     path: &'p str,
-) -> Result<Vec<u8>, FileFault<'p>>
-    // Promise: no more is read of a file, or of a line, than the limit.
+) -> Result<Vec<u8>, PathError<'p>>
+    // Promise: no more than the limit is read of a file or of a line.
     ensures within { IfOk result (λ octets. vec_len octets ≤ 16777216) }
-    // Promise, as has_file: what is built on ..
+    // Promise, as has_file: the calls that are ..
     ensures read { IfOk result (λ octets. IsRead (S.world store.old) path.now octets.items) }
     ensures unchanged { S.world store.new ≡ S.world store.old }
     ensures kept { S.input store.new ≡ S.input store.old }
@@ -72,7 +73,7 @@ pub fn read_at_most<'p, S: Store>(
     store: &mut S,
     path: &'p str,
     most: usize,
-) -> Result<Vec<u8>, FileFault<'p>>
+) -> Result<Vec<u8>, PathError<'p>>
     ensures within { IfOk result (λ octets. vec_len octets ≤ most) }
     ensures read { IfOk result (λ octets. IsRead (S.world store.old) path.now octets.items) }
     ensures unchanged { S.world store.new ≡ S.world store.old }
@@ -82,11 +83,11 @@ pub fn read_at_most<'p, S: Store>(
 {
     match store.read(alloc, path, most) {
         Ok(Some(octets)) => Ok(octets),
-        Ok(None) => Err(FileFault {
+        Ok(None) => Err(PathError {
             path,
-            cause: FileCause::LongFile,
+            cause: FileError::LongFile,
         }),
-        Err(error) => Err(FileFault::failed(path, error)),
+        Err(error) => Err(PathError::failed(path, error)),
     }
 }
 
@@ -96,7 +97,7 @@ pub fn read_stream<'p, S: Store>(
     alloc: Global,
     store: &mut S,
     path: &'p str,
-) -> Result<Vec<u8>, FileFault<'p>>
+) -> Result<Vec<u8>, PathError<'p>>
     ensures within { IfOk result (λ octets. vec_len octets ≤ 16777216) }
     ensures read { IfOk result (λ octets. IsRead (S.world store.old) path.now octets.items) }
     ensures unchanged { S.world store.new ≡ S.world store.old }
@@ -106,16 +107,16 @@ pub fn read_stream<'p, S: Store>(
 {
     match store.read_stream(alloc, path, LONGEST_FILE) {
         Ok(Some(octets)) => Ok(octets),
-        Ok(None) => Err(FileFault {
+        Ok(None) => Err(PathError {
             path,
-            cause: FileCause::LongFile,
+            cause: FileError::LongFile,
         }),
-        Err(error) => Err(FileFault::failed(path, error)),
+        Err(error) => Err(PathError::failed(path, error)),
     }
 }
 
 /// Returns who may read and write a file, or a folder.
-pub fn file_rights<'p, S: Store>(store: &mut S, path: &'p str) -> Result<FileRights, FileFault<'p>>
+pub fn file_rights<'p, S: Store>(store: &mut S, path: &'p str) -> Result<FileRights, PathError<'p>>
     ensures rights { IfOk result (λ rights. HasRights (S.world store.old) path.now rights) }
     ensures unchanged { S.world store.new ≡ S.world store.old }
     ensures kept { S.input store.new ≡ S.input store.old }
@@ -124,7 +125,7 @@ pub fn file_rights<'p, S: Store>(store: &mut S, path: &'p str) -> Result<FileRig
 {
     match store.rights(path) {
         Ok(rights) => Ok(rights),
-        Err(error) => Err(FileFault::failed(path, error)),
+        Err(error) => Err(PathError::failed(path, error)),
     }
 }
 
@@ -133,7 +134,7 @@ pub fn first_octet<'p, S: Store>(
     alloc: Global,
     store: &mut S,
     path: &'p str,
-) -> Result<Option<u8>, FileFault<'p>>
+) -> Result<Option<u8>, PathError<'p>>
     ensures first { IfOk result (λ octet. IsFirst (S.world store.old) path.now octet) }
     ensures unchanged { S.world store.new ≡ S.world store.old }
     ensures kept { S.input store.new ≡ S.input store.old }
@@ -142,7 +143,7 @@ pub fn first_octet<'p, S: Store>(
 {
     match store.first_octet(alloc, path) {
         Ok(octet) => Ok(octet),
-        Err(error) => Err(FileFault::failed(path, error)),
+        Err(error) => Err(PathError::failed(path, error)),
     }
 }
 
@@ -153,8 +154,8 @@ pub fn write_file<'p, S: Store>(
     store: &mut S,
     path: &'p str,
     octets: &[u8],
-) -> Result<Written, FileFault<'p>>
-    // Promise, as has_file: what is built on ..
+) -> Result<Written, PathError<'p>>
+    // Promise, as has_file: the calls that are ..
     ensures written { OnOk result (S.world store.new ≡ option_map (with_file path.now octets.now) (S.world store.old)) }
     ensures unchanged { OnErr result (S.world store.new ≡ S.world store.old) }
     ensures kept { S.input store.new ≡ S.input store.old }
@@ -165,7 +166,7 @@ pub fn write_file<'p, S: Store>(
 {
     match store.write(alloc, path, octets) {
         Ok(written) => Ok(written),
-        Err(error) => Err(FileFault::failed(path, error)),
+        Err(error) => Err(PathError::failed(path, error)),
     }
 }
 
@@ -177,8 +178,8 @@ pub fn update_file<'p, S: Store>(
     path: &'p str,
     octets: &[u8],
     mode: NewMode,
-) -> Result<Written, FileFault<'p>>
-    // Promise, as has_file: what is built on ..
+) -> Result<Written, PathError<'p>>
+    // Promise, as has_file: the calls that are ..
     ensures written { OnOk result (S.world store.new ≡ option_map (with_file path.now octets.now) (S.world store.old)) }
     ensures unchanged { OnErr result (S.world store.new ≡ S.world store.old) }
     ensures kept { S.input store.new ≡ S.input store.old }
@@ -189,7 +190,7 @@ pub fn update_file<'p, S: Store>(
 {
     match store.update(alloc, path, octets, mode) {
         Ok(written) => Ok(written),
-        Err(error) => Err(FileFault::failed(path, error)),
+        Err(error) => Err(PathError::failed(path, error)),
     }
 }
 
@@ -200,8 +201,8 @@ pub fn write_unsynced<'p, S: Store>(
     store: &mut S,
     path: &'p str,
     octets: &[u8],
-) -> Result<(), FileFault<'p>>
-    // Promise, as has_file: what is built on ..
+) -> Result<(), PathError<'p>>
+    // Promise, as has_file: the calls that are ..
     ensures written { OnOk result (S.world store.new ≡ option_map (with_file path.now octets.now) (S.world store.old)) }
     ensures unchanged { OnErr result (S.world store.new ≡ S.world store.old) }
     ensures kept { S.input store.new ≡ S.input store.old }
@@ -211,7 +212,7 @@ pub fn write_unsynced<'p, S: Store>(
 {
     match store.write_unsynced(alloc, path, octets) {
         Ok(()) => Ok(()),
-        Err(error) => Err(FileFault::failed(path, error)),
+        Err(error) => Err(PathError::failed(path, error)),
     }
 }
 
@@ -220,7 +221,7 @@ pub fn lock_file<'p, S: Store>(
     alloc: Global,
     store: &mut S,
     path: &'p str,
-) -> Result<bool, FileFault<'p>>
+) -> Result<bool, PathError<'p>>
     // Promise, as draw_seed: a seed is read ..
     ensures unchanged { S.world store.new ≡ S.world store.old }
     ensures kept { S.input store.new ≡ S.input store.old }
@@ -230,12 +231,12 @@ pub fn lock_file<'p, S: Store>(
 {
     match store.lock(alloc, path) {
         Ok(locked) => Ok(locked),
-        Err(error) => Err(FileFault::failed(path, error)),
+        Err(error) => Err(PathError::failed(path, error)),
     }
 }
 
 /// Returns the whole seconds since the start of 1970.
-pub fn read_clock<S: Store>(store: &mut S) -> Result<u64, FileFault<'static>>
+pub fn read_clock<S: Store>(store: &mut S) -> Result<u64, PathError<'static>>
     ensures now { IfOk result (λ seconds. IsNow (S.world store.old) seconds) }
     ensures unchanged { S.world store.new ≡ S.world store.old }
     ensures kept { S.input store.new ≡ S.input store.old }
@@ -243,7 +244,7 @@ pub fn read_clock<S: Store>(store: &mut S) -> Result<u64, FileFault<'static>>
 {
     match store.seconds() {
         Ok(seconds) => Ok(seconds),
-        Err(error) => Err(FileFault::failed(CLOCK, error)),
+        Err(error) => Err(PathError::failed(CLOCK, error)),
     }
 }
 
@@ -252,8 +253,8 @@ pub fn read_seed<'p, S: Store>(
     alloc: Global,
     store: &mut S,
     path: &'p str,
-) -> Result<[u8; 32], FileFault<'p>>
-    // Promise, as has_file: what is built on ..
+) -> Result<[u8; 32], PathError<'p>>
+    // Promise, as has_file: the calls that are ..
     ensures read { IfOk result (λ seed. HasSeed (S.world store.old) (Some path.now) seed) }
     ensures unchanged { S.world store.new ≡ S.world store.old }
     ensures kept { S.input store.new ≡ S.input store.old }
@@ -265,9 +266,9 @@ pub fn read_seed<'p, S: Store>(
     let octets = read_stream(alloc, store, path)?;
     match seed_of(&octets) {
         Some(seed) => Ok(seed),
-        None => Err(FileFault {
+        None => Err(PathError {
             path,
-            cause: FileCause::ShortSeed,
+            cause: FileError::ShortSeed,
         }),
     }
 }
@@ -277,7 +278,7 @@ pub fn read_or_draw_seed<'p, S: Store>(
     alloc: Global,
     store: &mut S,
     path: Option<&'p str>,
-) -> Result<[u8; 32], FileFault<'p>>
+) -> Result<[u8; 32], PathError<'p>>
     // Promise, as draw_seed: a seed is read ..
     ensures seed { IfOk result (λ seed. HasSeed (S.world store.old) (option_map (λ named. named.now) path.entry) seed) }
     ensures unchanged { S.world store.new ≡ S.world store.old }
@@ -292,7 +293,7 @@ pub fn read_or_draw_seed<'p, S: Store>(
 }
 
 /// Draws a seed from the system's random bytes.
-pub fn draw_seed<S: Store>(store: &mut S) -> Result<[u8; 32], FileFault<'static>>
+pub fn draw_seed<S: Store>(store: &mut S) -> Result<[u8; 32], PathError<'static>>
     // Promise: a seed is read or drawn; a lock and a question change no file.
     ensures drawn { IfOk result (λ seed. IsDrawn (S.world store.old) seed) }
     ensures unchanged { S.world store.new ≡ S.world store.old }
@@ -302,14 +303,14 @@ pub fn draw_seed<S: Store>(store: &mut S) -> Result<[u8; 32], FileFault<'static>
 {
     match store.random() {
         Ok(seed) => Ok(seed),
-        Err(error) => Err(FileFault::failed(RANDOM_OCTETS, error)),
+        Err(error) => Err(PathError::failed(RANDOM_OCTETS, error)),
     }
 }
 
 /// Returns the first 32 bytes.
 pub fn seed_of(octets: &[u8]) -> Option<[u8; 32]>
-    // Promise (some, none): a seed is the first 32 bytes of its file, a password its first line of at most 1,024; each
-    // is refused only if it is short, or long.
+    // Promise (some, none): a seed is the first 32 bytes of its file, and is refused only if the file is shorter; a
+    // password is the first line, and is refused only if that has more than 1,024 bytes.
     ensures some { IfSome result (λ seed. (32 ≤ length octets.now) × (seed ≡ take 32 octets.now)) }
     ensures none { IfNone result (length octets.now < 32) }
 {
@@ -324,7 +325,7 @@ pub fn read_password<'p, S: Store>(
     alloc: Global,
     store: &mut S,
     path: &'p str,
-) -> Result<Option<Vec<u8>>, FileFault<'p>>
+) -> Result<Option<Vec<u8>>, PathError<'p>>
     ensures within { IfOk result (λ found. IfSome found (λ pass. vec_len pass ≤ 1024)) }
     // Promise (line, long): a password is its file's first line; it is too long only if that line is.
     ensures line { IfOk result (λ found. IfSome found (λ pass. HasFirstLine (S.world store.old) path.now pass.items)) }
@@ -351,8 +352,8 @@ pub fn ask_password<S: Store>(
     store: &mut S,
     name: &str,
     realm: &str,
-) -> Result<Option<Vec<u8>>, FileFault<'static>>
-    // Promise, as read_file: no more is read ..
+) -> Result<Option<Vec<u8>>, PathError<'static>>
+    // Promise, as read_file: no more than the ..
     ensures within { IfOk result (λ found. IfSome found (λ pass. vec_len pass ≤ 1024)) }
     ensures line { IfOk result (λ found. IfSome found (λ pass.
         TakesLine (S.input store.old) pass.items (S.input store.new))) }
@@ -365,7 +366,7 @@ pub fn ask_password<S: Store>(
 {
     match ask_line(alloc, store, name, realm) {
         Ok(found) => Ok(found),
-        Err(error) => Err(FileFault::failed(STANDARD_INPUT, error)),
+        Err(error) => Err(PathError::failed(STANDARD_INPUT, error)),
     }
 }
 
@@ -392,7 +393,7 @@ pub fn password_of(octets: &[u8]) -> Option<&[u8]>
     ensures some { IfSome result (λ pass. (pass.now ≡ first_line octets.now) × (length pass.now ≤ 1024)) }
     ensures none { IfNone result (1024 < length (first_line octets.now)) }
 {
-    let line = line_of(octets);
+    let line = first_line(octets);
     if line.len() > LONGEST_PASSWORD {
         return None;
     }
@@ -400,7 +401,7 @@ pub fn password_of(octets: &[u8]) -> Option<&[u8]>
 }
 
 /// Returns the bytes before the first line feed.
-pub(crate) fn line_of(octets: &[u8]) -> &[u8]
+pub(crate) fn first_line(octets: &[u8]) -> &[u8]
     ensures { result.now ≡ first_line octets.now }
 {
     match line_end(octets) {
@@ -409,7 +410,7 @@ pub(crate) fn line_of(octets: &[u8]) -> &[u8]
     }
 }
 
-/// Returns the bytes behind the first line feed. None if there is no line feed.
+/// Returns the bytes after the first line feed, or no bytes if there is no line feed.
 pub(crate) fn after_line(octets: &[u8]) -> &[u8]
     ensures { result.now ≡ after_first (λ b. b == 0x0A) octets.now }
 {

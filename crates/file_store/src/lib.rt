@@ -16,24 +16,32 @@
 //! files of a server's database, seed and journal are in `kdc_files`.
 #![tactic(auto)]
 
+mod callers;
+mod canonical_paths;
 mod counting;
 mod faults;
 mod folders;
+mod growing_files;
 mod hidden_echo;
 mod inputs;
 mod locks;
+mod memory_files;
 mod memory_store;
 mod moment;
+mod new_files;
+mod placing;
 mod plain_files;
 mod reading;
+mod running_user;
 mod stamp;
 mod store;
 mod system_store;
 mod variable;
 mod version;
 
+pub use crate::callers::{Caller, name_of_user};
 pub use crate::counting::{counted, counted_write};
-pub use crate::faults::{FileCause, FileFault};
+pub use crate::faults::{FileError, PathError};
 pub use crate::folders::{folder_of, sync_folder};
 pub use crate::inputs::{
     CLOCK, RANDOM_OCTETS, STANDARD_INPUT, ask_password, draw_seed, file_rights, first_octet,
@@ -43,8 +51,11 @@ pub use crate::inputs::{
 pub use crate::locks::{LOCK_END, hold_lock};
 pub use crate::memory_store::{MemoryStore, WriteEnd};
 pub use crate::moment::now;
+pub use crate::placing::{
+    CALLER, canonical_path, discard_file, place_file, prepare_file, read_caller,
+};
 pub use crate::plain_files::{
-    OWNER_ONLY, RIGHTS, RIGHTS_OF_OTHERS, is_own, open_plain, open_plain_with, own_user,
+    OWNER_ONLY, RIGHTS, RIGHTS_OF_OTHERS, is_own, open_by_options, open_plain, own_user,
 };
 pub use crate::reading::read_within;
 pub use crate::stamp::FileStamp;

@@ -1,5 +1,5 @@
 //! The lock of a file, `PATH.lock` beside it: a program locks that before it changes the file.
-use crate::plain_files::{OWNER_ONLY, open_plain_with};
+use crate::plain_files::{OWNER_ONLY, open_by_options};
 use std::alloc::Global;
 use std::fs::{File, OpenFile, OpenOptions, TryLockError};
 use std::io::{Error, ErrorKind};
@@ -44,7 +44,7 @@ fn open_lock<F: Files<File = File>>(files: &F, beside: &str, path: &str) -> io::
 fn open_old_lock<R: Files<File = File>>(files: &R, beside: &str) -> io::Result<File> {
     let mut how = OpenOptions::new();
     how.write(true);
-    match open_plain_with(files, &how, beside) {
+    match open_by_options(files, &how, beside) {
         Ok(file) => Ok(file),
         Err(error) => match error.kind() {
             ErrorKind::InvalidInput | ErrorKind::NotFound => Err(no_lock()),

@@ -1,29 +1,28 @@
 //! Files, random bytes and an input in memory, for tests.
-ghost use Rattle.std.specs.Prelude.{◌≡◌, ◌≤◌, ◌∷◌, [], Some, IfErr, IfNone};
+ghost use Rattle.std.specs.Prelude.{◌≡◌, ◌≤◌, ◌++◌, ◌∷◌, [], Some, IfErr, IfNone, IsErr};
 ghost use Rattle.std.specs.Prelude.{IfOk, OnOk, OnErr, IfSome, vec_len, option_map, is_some};
 ghost use Rattle.std.specs.IoError.{error_kind};
 ghost use Rattle.std.specs.declared.io.ErrorKind.TheVariants.{UnexpectedEof};
+ghost use Rattle.file_store.specs.Growing.{IsMoved, IsPartGrown, grown, shortened, text_at};
 ghost use Rattle.file_store.specs.Input.{IsFirstLong, lines_of};
-ghost use Rattle.file_store.specs.Memory.{file_at, input_of, rights_under, world_of};
+ghost use Rattle.file_store.specs.Memory.{input_of, prepared_of, rights_under, world_of};
+ghost use Rattle.file_store.specs.MemoryFiles.{file_at, new_file_of};
+ghost use Rattle.file_store.specs.Placing.{IsPlaced};
 ghost use Rattle.file_store.specs.World.{first_octet, with_file, without_file};
 
+use crate::callers::Caller;
 use crate::counting::{counted, counted_write};
-use crate::inputs::{after_line, line_of};
+use crate::inputs::{after_line, first_line};
+use crate::memory_files::{PreparedFile, StoredFile, file_at, gone_entry, new_entry};
 use crate::plain_files::OWNER_ONLY;
 use crate::store::{FileRights, NewMode, Store, Written};
 use std::alloc::{AllocError, Global};
 use std::io;
 use std::io::{Error, ErrorKind};
 
-/// What a path has in memory.
-#[derive(Drop)]
-struct StoredFile {
-    path: String,
-    /// `None` if the file was removed.
-    octets: Option<Vec<u8>>,
-}
+mod growing;
 
-/// What becomes of a write in memory.
+/// The result of a write in memory.
 #[derive(Clone, Copy)]
 pub enum WriteEnd {
     /// The file is there, and on the disk.
@@ -43,16 +42,20 @@ pub struct MemoryStore {
     random: [u8; 32],
     input: Vec<u8>,
     terminal: bool,
-    /// The user who runs the program.
-    user: u32,
-    /// What becomes of each write.
+    /// Who runs the program.
+    caller: Caller,
+    /// The result of each write.
     end: WriteEnd,
+    /// How many bytes an append writes before it fails. `None` if it does not.
+    append_limit: Option<usize>,
+    /// The new file that was prepared.
+    prepared: Option<PreparedFile>,
     faults: u64,
 }
 
 impl MemoryStore {
     /// Returns a store without files. Its random bytes are zeros, its clock stands at 0, its input has ended, and root
-    /// runs the program. Writes succeed.
+    /// runs the program. Writes and appends succeed.
     pub fn new(alloc: Global) -> MemoryStore {
         MemoryStore {
             files: Vec::new(alloc),
@@ -60,8 +63,15 @@ impl MemoryStore {
             random: [0; 32],
             input: Vec::new(alloc),
             terminal: false,
-            user: 0,
+            caller: Caller {
+                uid: Some(0),
+                name: None,
+                sudo_uid: None,
+                sudo_user: None,
+            },
             end: WriteEnd::Synced,
+            append_limit: None,
+            prepared: None,
             faults: 0,
         }
     }
@@ -70,25 +80,18 @@ impl MemoryStore {
     pub fn get(&self, path: &str) -> Option<&[u8]>
         ensures { option_map (λ octets. octets.now) result ≡ file_at self.now.files.items path.now }
     {
-        for file in &self.files {
-            if file.path.as_str() == path {
-                return octets_of(file);
-            }
-        }
-        None
+        file_at(&self.files, path)
     }
 
     /// Removes the file at a path, if there is one.
     pub fn remove_file(&mut self, alloc: Global, path: &str) -> Result<(), AllocError>
         ensures removed { OnOk result (world_of self.new ≡ without_file path.now (world_of self.old)) }
         ensures unchanged { OnErr result (world_of self.new ≡ world_of self.old) }
+        ensures held { prepared_of self.new ≡ prepared_of self.old }
         ensures kept { input_of self.new ≡ input_of self.old }
         ensures faults { self.new.faults ≡ self.old.faults }
     {
-        let file = StoredFile {
-            path: format!(in alloc; "{path}")?,
-            octets: None,
-        };
+        let file = gone_entry(alloc, path)?;
         self.files.insert(0, file)?;
         Ok(())
     }
@@ -97,13 +100,11 @@ impl MemoryStore {
     pub fn set(&mut self, alloc: Global, path: &str, octets: &[u8]) -> Result<(), AllocError>
         ensures written { OnOk result (world_of self.new ≡ with_file path.now octets.now (world_of self.old)) }
         ensures unchanged { OnErr result (world_of self.new ≡ world_of self.old) }
+        ensures held { prepared_of self.new ≡ prepared_of self.old }
         ensures kept { input_of self.new ≡ input_of self.old }
         ensures faults { self.new.faults ≡ self.old.faults }
     {
-        let file = StoredFile {
-            path: format!(in alloc; "{path}")?,
-            octets: Some(Vec::from_slice(alloc, octets)?),
-        };
+        let file = new_entry(alloc, path, octets)?;
         self.files.insert(0, file)?;
         Ok(())
     }
@@ -120,12 +121,22 @@ impl MemoryStore {
 
     /// Makes this user the one who runs the program.
     pub fn set_user(&mut self, user: u32) {
-        self.user = user;
+        self.caller.uid = Some(user);
     }
 
-    /// Makes this the end of each later write.
+    /// Makes this the one who runs the program.
+    pub fn set_caller(&mut self, caller: Caller) {
+        self.caller = caller;
+    }
+
+    /// Makes this the result of each later write.
     pub fn set_write_end(&mut self, end: WriteEnd) {
         self.end = end;
+    }
+
+    /// Makes each later append fail after this many bytes. `None`: they succeed.
+    pub fn set_append_limit(&mut self, limit: Option<usize>) {
+        self.append_limit = limit;
     }
 
     /// Makes these bytes the remaining input, which comes from a terminal or from elsewhere.
@@ -157,14 +168,14 @@ impl MemoryStore {
         }
     }
 
-    fn rights_of(&self, path: &str) -> io::Result<FileRights>
-        ensures { IfOk result (λ rights. rights ≡ rights_under self.now.user) }
+    fn path_rights(&self, path: &str) -> io::Result<FileRights>
+        ensures { IfOk result (λ rights. rights ≡ rights_under self.now.caller.uid) }
     {
         match self.get(path) {
             Some(_) => Ok(FileRights {
                 mode: OWNER_ONLY,
                 owner: 0,
-                user: Some(self.user),
+                user: self.caller.uid,
             }),
             None => Err(Error::from(ErrorKind::NotFound)),
         }
@@ -172,7 +183,8 @@ impl MemoryStore {
 
     /// Writes a file, unless the disk is full.
     fn put(&mut self, alloc: Global, path: &str, octets: &[u8]) -> io::Result<()>
-        ensures written { OnOk result (Some (world_of self.new) ≡ Some (with_file path.now octets.now (world_of self.old))) }
+        ensures written { OnOk result (Some (world_of self.new)
+            ≡ Some (with_file path.now octets.now (world_of self.old))) }
         ensures unchanged { OnErr result (Some (world_of self.new) ≡ Some (world_of self.old)) }
         ensures kept { Some (input_of self.new) ≡ Some (input_of self.old) }
         ensures faults { self.new.faults ≡ self.old.faults }
@@ -185,21 +197,35 @@ impl MemoryStore {
         }
     }
 
+    /// Puts a new file into its place, unless the disk is full.
+    fn put_new(&mut self, new: PreparedFile) -> io::Result<()>
+        ensures placed { OnOk result (world_of self.new
+            ≡ with_file (new_file_of new).path (new_file_of new).octets (world_of self.old)) }
+        ensures unchanged { OnErr result (world_of self.new ≡ world_of self.old) }
+        ensures held { self.new.prepared ≡ self.old.prepared }
+        ensures kept { input_of self.new ≡ input_of self.old }
+        ensures faults { self.new.faults ≡ self.old.faults }
+    {
+        match self.end {
+            WriteEnd::Unchanged => Err(Error::from(ErrorKind::StorageFull)),
+            WriteEnd::Synced | WriteEnd::NotSynced => {
+                let PreparedFile { path, octets } = new;
+                let file = StoredFile {
+                    path,
+                    octets: Some(octets),
+                };
+                self.files.insert(0, file)?;
+                Ok(())
+            }
+        }
+    }
+
     /// Syncs the folder of a file that was written.
     fn synced(&self) -> Written {
         match self.end {
             WriteEnd::NotSynced => Written::NotSynced(Error::from(ErrorKind::Other)),
             WriteEnd::Synced | WriteEnd::Unchanged => Written::Synced,
         }
-    }
-}
-
-fn octets_of(file: &StoredFile) -> Option<&[u8]>
-    ensures { option_map (λ octets. octets.now) result ≡ option_map (λ octets. octets.items) file.now.octets }
-{
-    match &file.octets {
-        Some(octets) => Some(octets.as_slice()),
-        None => None,
     }
 }
 
@@ -215,12 +241,30 @@ fn take_line(alloc: Global, input: &mut Vec<u8>, most: usize) -> io::Result<Opti
     if input.is_empty() {
         return Err(Error::from(ErrorKind::UnexpectedEof));
     }
-    let line = Vec::from_slice(alloc, line_of(input))?;
+    let line = Vec::from_slice(alloc, first_line(input))?;
     *input = Vec::from_slice(alloc, after_line(input))?;
     if line.len() > most {
         return Ok(None);
     }
     Ok(Some(line))
+}
+
+/// Returns the new file of a path, unless the disk is full.
+fn prepared_file(
+    alloc: Global,
+    path: &str,
+    octets: &[u8],
+    end: WriteEnd,
+) -> io::Result<PreparedFile>
+    ensures { IfOk result (λ new. new_file_of new ≡ record { path = path.now; octets = octets.now }) }
+{
+    match end {
+        WriteEnd::Unchanged => Err(Error::from(ErrorKind::StorageFull)),
+        WriteEnd::Synced | WriteEnd::NotSynced => Ok(PreparedFile {
+            path: String::from_str(alloc, path)?,
+            octets: Vec::from_slice(alloc, octets)?,
+        }),
+    }
 }
 
 impl Store for MemoryStore {
@@ -229,6 +273,8 @@ impl Store for MemoryStore {
     ghost world = { λ s. Some (world_of s) };
 
     ghost input = { λ s. Some (input_of s) };
+
+    ghost prepared = { λ s. prepared_of s };
 
     fn exists(&mut self, path: &str) -> io::Result<bool> {
         Ok(self.get(path).is_some())
@@ -281,8 +327,86 @@ impl Store for MemoryStore {
         written
     }
 
+    fn prepare(
+        &mut self,
+        alloc: Global,
+        path: &str,
+        octets: &[u8],
+        _mode: NewMode,
+    ) -> io::Result<()> {
+        self.prepared = None;
+        let prepared = prepared_file(alloc, path, octets, self.end);
+        self.faults = counted(self.faults, &prepared);
+        self.prepared = Some(prepared?);
+        Ok(())
+    }
+
+    fn place(&mut self) -> io::Result<Written> {
+        let placed = match self.prepared.take() {
+            Some(new) => match self.put_new(new) {
+                Ok(()) => Ok(self.synced()),
+                Err(error) => Err(error),
+            },
+            None => Err(Error::from(ErrorKind::NotFound)),
+        };
+        self.faults = counted_write(self.faults, &placed);
+        placed
+    }
+
+    fn discard(&mut self) -> io::Result<()> {
+        self.prepared = None;
+        Ok(())
+    }
+
+    fn append(
+        &mut self,
+        alloc: Global,
+        path: &str,
+        octets: &[u8],
+        _beside: &str,
+    ) -> io::Result<()> {
+        let appended = match self.append_limit {
+            Some(limit) => self.grow_in_part(alloc, path, octets, limit),
+            None => self.grow(alloc, path, octets).map_err(Error::from),
+        };
+        self.faults = counted(self.faults, &appended);
+        appended
+    }
+
+    fn cut(&mut self, alloc: Global, path: &str, len: usize) -> io::Result<()> {
+        let cut = match self.end {
+            WriteEnd::Unchanged => Err(Error::from(ErrorKind::StorageFull)),
+            WriteEnd::Synced | WriteEnd::NotSynced => {
+                self.shorten(alloc, path, len).map_err(Error::from)
+            }
+        };
+        self.faults = counted(self.faults, &cut);
+        cut
+    }
+
+    fn rename(&mut self, alloc: Global, from: &str, to: &str) -> io::Result<Written> {
+        let moved = match self.move_file(alloc, from, to) {
+            Ok(()) => Ok(self.synced()),
+            Err(error) => Err(error),
+        };
+        self.faults = counted_write(self.faults, &moved);
+        moved
+    }
+
+    fn canonical(&mut self, alloc: Global, path: &str) -> io::Result<String> {
+        let copy = String::from_str(alloc, path).map_err(Error::from);
+        self.faults = counted(self.faults, &copy);
+        copy
+    }
+
+    fn caller(&mut self, alloc: Global) -> io::Result<Caller> {
+        let copy = self.caller.copy(alloc).map_err(Error::from);
+        self.faults = counted(self.faults, &copy);
+        copy
+    }
+
     fn rights(&mut self, path: &str) -> io::Result<FileRights> {
-        let read = self.rights_of(path);
+        let read = self.path_rights(path);
         self.faults = counted(self.faults, &read);
         read
     }

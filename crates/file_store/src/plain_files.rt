@@ -11,7 +11,7 @@ pub const OWNER_ONLY: u32 = 0o600;
 /// The bits of a mode that say who may read, write and run a file.
 pub const RIGHTS: u32 = 0o777;
 
-/// The bits of these that are its group's and others'.
+/// Those of these bits that are for the file's group and for others.
 pub const RIGHTS_OF_OTHERS: u32 = 0o077;
 
 /// The bits of a mode that let a file's group and others write it.
@@ -24,13 +24,13 @@ const OWN_PROCESS: &str = "/proc/self";
 pub fn open_plain<F: Files>(files: &F, path: &str) -> io::Result<F::File> {
     let mut how = OpenOptions::new();
     how.read(true);
-    open_plain_with(files, &how, path)
+    open_by_options(files, &how, path)
 }
 
 /// Opens a regular file with these options. Any other file is refused first: to open a FIFO can block forever, and to
 /// open a device can have effects of its own. A user who may write in the folder can still put one there before the
 /// open, since no option of `OpenOptions` keeps a link out.
-pub fn open_plain_with<F: Files>(files: &F, how: &OpenOptions, path: &str) -> io::Result<F::File> {
+pub fn open_by_options<F: Files>(files: &F, how: &OpenOptions, path: &str) -> io::Result<F::File> {
     require_plain(&fs::metadata(files, path)?)?;
     let file = how.open(files, path)?;
     // another file may have taken its place meanwhile
@@ -59,4 +59,13 @@ pub fn is_own(files: &impl Files, file: &Metadata) -> io::Result<bool> {
 /// Returns the user who runs the program. Fails with `NotFound` if the system does not say.
 pub fn own_user(files: &impl Files) -> io::Result<u32> {
     Ok(fs::metadata(files, OWN_PROCESS)?.uid())
+}
+
+/// Returns the user who runs the program, if the system says so.
+pub(crate) fn known_user(files: &impl Files) -> io::Result<Option<u32>> {
+    match own_user(files) {
+        Ok(user) => Ok(Some(user)),
+        Err(error) if error.kind() == ErrorKind::NotFound => Ok(None),
+        Err(error) => Err(error),
+    }
 }

@@ -2,10 +2,16 @@
 ghost use Rattle.std.specs.Prelude.{◌≡◌, ◌≤◌, ℕ, Option, IfErr, IfNone, IfOk, OnOk, OnErr, IfSome, vec_len, option_map};
 ghost use Rattle.std.specs.IoError.{error_kind};
 ghost use Rattle.std.specs.declared.io.ErrorKind.TheVariants.{UnexpectedEof};
+ghost use Rattle.std.specs.Prelude.{None, string_bytes};
+ghost use Rattle.file_store.specs.Callers.{user_of};
 ghost use Rattle.file_store.specs.Counting.{IsCounted, IsWriteCounted};
+ghost use Rattle.file_store.specs.Growing.{grown, shortened, IsMoved, IsPartGrown, IsPerhapsShortened};
 ghost use Rattle.file_store.specs.Input.{HasEnded, HasLongLine, Input, IsTerminal, TakesLine};
+ghost use Rattle.file_store.specs.Placing.{IsPlaced, IsPrepared, NewFile};
 ghost use Rattle.file_store.specs.World.{World, with_file, HasRights, IsThere, IsRead, IsDrawn, IsFirst, IsNow};
+ghost use Rattle.file_store.specs.World.{IsCaller, IsCanonical};
 
+use crate::callers::Caller;
 use std::alloc::Global;
 use std::io;
 
@@ -32,10 +38,11 @@ pub enum NewMode {
     OwnerOnly,
 }
 
-/// How sure it is that a file that was replaced is on the disk. It is not `Drop`, so nobody ignores it.
+/// The result of replacing a file: whether the new one is surely on the disk. This type is not `Drop`, so a caller
+/// can't ignore it.
 #[derive(Debug)]
 pub enum Written {
-    /// It is: after a power failure the new file is there.
+    /// It is on the disk: after a power failure the new file is there.
     Synced,
     /// The new file is there, but its folder could not be synced. If the power fails now, the old file may be back.
     NotSynced(io::Error),
@@ -53,6 +60,9 @@ pub trait Store {
     // The lines of standard input that were not read yet. `None` if the store has no record of them.
     ghost input: { Self → Option Input };
 
+    // The new file that is complete, and has not taken its place yet.
+    ghost prepared: { Self → Option NewFile };
+
     /// Checks whether there is a file.
     fn exists(&mut self, path: &str) -> io::Result<bool>
         ensures there { IfOk result (λ found. IsThere (world self.old) path.now found) }
@@ -62,14 +72,14 @@ pub trait Store {
 
     /// Reads a whole file. `None` if it has more than `most` bytes. A folder, a FIFO or a device is an `Err`.
     fn read(&mut self, alloc: Global, path: &str, most: usize) -> io::Result<Option<Vec<u8>>>
-        // Promise, as read_file: no more is read ..
+        // Promise, as read_file: no more than the ..
         ensures within { IfOk result (λ found. IfSome found (λ octets. vec_len octets ≤ most)) }
         // Promise (read, unchanged): what is read is what the file holds; a write leaves its file with these bytes and
         // every other path as it was; a failed write, and every other call, leaves all as it was.
         ensures read { IfOk result (λ found. IfSome found (λ octets. IsRead (world self.old) path.now octets.items)) }
         ensures unchanged { world self.new ≡ world self.old }
         ensures kept { input self.new ≡ input self.old }
-        // Promise: a call of a store that fails is counted, and no other.
+        // Promise: a store counts each of its calls that fails, and no other.
         ensures counted { IsCounted (fault_count self.old) result (fault_count self.new) };
 
     /// Reads what `read` reads, and also a FIFO or a device to its end: a shell passes a command's output as a FIFO. A
@@ -96,7 +106,7 @@ pub trait Store {
         ensures written { OnOk result (world self.new ≡ option_map (with_file path.now octets.now) (world self.old)) }
         ensures unchanged { OnErr result (world self.new ≡ world self.old) }
         ensures kept { input self.new ≡ input self.old }
-        // Promise, as Store::read: a call of a ..
+        // Promise, as Store::read: a store counts each ..
         ensures counted { IsWriteCounted (fault_count self.old) result (fault_count self.new) };
 
     /// Writes a file with the owner and the group of the one there, and with this mode, and syncs its folder. Fails if
@@ -121,7 +131,84 @@ pub trait Store {
         ensures written { OnOk result (world self.new ≡ option_map (with_file path.now octets.now) (world self.old)) }
         ensures unchanged { OnErr result (world self.new ≡ world self.old) }
         ensures kept { input self.new ≡ input self.old }
-        // Promise, as Store::read: a call of a ..
+        // Promise, as Store::read: a store counts each ..
+        ensures counted { IsCounted (fault_count self.old) result (fault_count self.new) };
+
+    /// Writes the new file of a path beside it, and syncs it, with the owner, the group and the mode that `update`
+    /// gives. The path is unchanged until `place`. What was prepared before is discarded.
+    fn prepare(&mut self, alloc: Global, path: &str, octets: &[u8], mode: NewMode) -> io::Result<()>
+        // Promise (prepared, none, unchanged): a new file takes its place as it was prepared, at the path that it was
+        // prepared for, and until then every path is as it was.
+        ensures prepared { OnOk result
+            (IsPrepared (world self.old) path.now octets.now (prepared self.new)) }
+        ensures none { OnErr result (prepared self.new ≡ None) }
+        ensures unchanged { world self.new ≡ world self.old }
+        ensures kept { input self.new ≡ input self.old }
+        // Promise, as Store::read: a store counts each ..
+        ensures counted { IsCounted (fault_count self.old) result (fault_count self.new) };
+
+    /// Renames the new file that was prepared onto its path, and syncs the folder. After an `Err` the path is
+    /// unchanged, and the new file is discarded.
+    fn place(&mut self) -> io::Result<Written>
+        // Promise (placed, unchanged, gone), as Store::prepare: a new file takes its ..
+        ensures placed { OnOk result (IsPlaced (world self.old) (prepared self.old) (world self.new)) }
+        ensures unchanged { OnErr result (world self.new ≡ world self.old) }
+        ensures gone { prepared self.new ≡ None }
+        ensures kept { input self.new ≡ input self.old }
+        ensures counted { IsWriteCounted (fault_count self.old) result (fault_count self.new) };
+
+    /// Removes the new file that was prepared, if there is one.
+    fn discard(&mut self) -> io::Result<()>
+        // Promise (gone, unchanged), as Store::prepare: a new file takes its ..
+        ensures gone { prepared self.new ≡ None }
+        ensures unchanged { world self.new ≡ world self.old }
+        ensures kept { input self.new ≡ input self.old }
+        ensures counted { IsCounted (fault_count self.old) result (fault_count self.new) };
+
+    /// Adds these bytes at the end of a file, by one write, and syncs it. Without a file it makes one with the mode
+    /// 600, and with the owner and the group of the file `beside`, if that is there. A link, or a file of another owner
+    /// than that one, is an `Err`. After an `Err` a first part of the bytes may be in the file.
+    fn append(&mut self, alloc: Global, path: &str, octets: &[u8], beside: &str) -> io::Result<()>
+        // Promise (grown, part): a file grows by the bytes that are appended, or by a first part of them if that fails;
+        // it is cut to its first bytes, and moved only to a free path; every other path is as it was.
+        ensures grown { OnOk result (world self.new ≡ option_map (grown path.now octets.now) (world self.old)) }
+        ensures part { OnErr result (IsPartGrown (world self.old) path.now octets.now (world self.new)) }
+        ensures held { prepared self.new ≡ prepared self.old }
+        ensures kept { input self.new ≡ input self.old }
+        ensures counted { IsCounted (fault_count self.old) result (fault_count self.new) };
+
+    /// Cuts a file back to its first `len` bytes, and syncs it. A file that is shorter stays as it is, and so does a
+    /// path without a file. A link is an `Err`.
+    fn cut(&mut self, alloc: Global, path: &str, len: usize) -> io::Result<()>
+        // Promise (shortened, either), as Store::append: a file grows by ..
+        ensures shortened { OnOk result (world self.new ≡ option_map (shortened path.now len) (world self.old)) }
+        ensures either { OnErr result (IsPerhapsShortened (world self.old) path.now len (world self.new)) }
+        ensures held { prepared self.new ≡ prepared self.old }
+        ensures kept { input self.new ≡ input self.old }
+        ensures counted { IsCounted (fault_count self.old) result (fault_count self.new) };
+
+    /// Renames a file to a path where nothing is, in the same folder, and syncs the folder. After an `Err` both paths
+    /// are unchanged.
+    fn rename(&mut self, alloc: Global, from: &str, to: &str) -> io::Result<Written>
+        // Promise (moved, unchanged), as Store::append: a file grows by ..
+        ensures moved { OnOk result (IsMoved (world self.old) from.now to.now (world self.new)) }
+        ensures unchanged { OnErr result (world self.new ≡ world self.old) }
+        ensures held { prepared self.new ≡ prepared self.old }
+        ensures kept { input self.new ≡ input self.old }
+        ensures counted { IsWriteCounted (fault_count self.old) result (fault_count self.new) };
+
+    /// Returns a path with all links in it followed. If nothing is there, those in its folder are followed.
+    fn canonical(&mut self, alloc: Global, path: &str) -> io::Result<String>
+        ensures canonical { IfOk result (λ found. IsCanonical (world self.old) path.now (string_bytes found)) }
+        ensures unchanged { world self.new ≡ world self.old }
+        ensures kept { input self.new ≡ input self.old }
+        ensures counted { IsCounted (fault_count self.old) result (fault_count self.new) };
+
+    /// Returns who runs the program.
+    fn caller(&mut self, alloc: Global) -> io::Result<Caller>
+        ensures caller { IfOk result (λ found. IsCaller (world self.old) (user_of found)) }
+        ensures unchanged { world self.new ≡ world self.old }
+        ensures kept { input self.new ≡ input self.old }
         ensures counted { IsCounted (fault_count self.old) result (fault_count self.new) };
 
     /// Returns who may read and write a file, or a folder.
@@ -138,7 +225,7 @@ pub trait Store {
         // Promise, as draw_seed: a seed is read ..
         ensures unchanged { world self.new ≡ world self.old }
         ensures kept { input self.new ≡ input self.old }
-        // Promise, as Store::read: a call of a ..
+        // Promise, as Store::read: a store counts each ..
         ensures counted { IsCounted (fault_count self.old) result (fault_count self.new) };
 
     /// Waits for a tenth of a second.
@@ -169,17 +256,17 @@ pub trait Store {
     /// left of the input is then not known. At a terminal it first writes the question to standard error. An input that
     /// has ended is an `Err` of the kind `UnexpectedEof`.
     fn ask(&mut self, alloc: Global, question: &str, most: usize) -> io::Result<Option<Vec<u8>>>
-        // Promise, as read_file: no more is read ..
+        // Promise, as read_file: no more than the ..
         ensures within { IfOk result (λ found. IfSome found (λ octets. vec_len octets ≤ most)) }
-        // Promise (line, long, ended): a call gets the next line of the input, or learns that it is too long or that
-        // there is none, only if so.
+        // Promise (line, long, ended): a call returns a line only if it is the next one of the input, and says that it
+        // is too long, or that there is none, only if so.
         ensures line { IfOk result (λ found. IfSome found (λ octets.
             TakesLine (input self.old) octets.items (input self.new))) }
         ensures long { IfOk result (λ found. IfNone found (HasLongLine (input self.old) most)) }
         ensures ended { IfErr result (λ error. error_kind error ≡ UnexpectedEof → HasEnded (input self.old)) }
         // Promise, as draw_seed: a seed is read ..
         ensures unchanged { world self.new ≡ world self.old }
-        // Promise, as Store::read: a call of a ..
+        // Promise, as Store::read: a store counts each ..
         ensures counted { IsCounted (fault_count self.old) result (fault_count self.new) };
 
     /// Returns how often a call has failed. The count stops at the greatest `u64`.

@@ -1,18 +1,25 @@
 //! The files of the system.
 ghost use Rattle.std.specs.Prelude.{◌≤◌, None, IfOk, IfSome, vec_len};
 
+use crate::callers::Caller;
+use crate::canonical_paths::canonical_path;
 use crate::counting::{counted, counted_write};
 use crate::folders::sync_folder;
+use crate::growing_files::{append_octets, cut_file, move_to_free};
 use crate::hidden_echo::end_hidden_line;
 use crate::locks::hold_lock;
 use crate::moment::seconds_since_1970;
-use crate::plain_files::{OWNER_ONLY, RIGHTS, no_file, open_plain, own_user};
-use crate::reading::read_within;
+use crate::new_files::{
+    NewFile, Rights, file_there, remove_new, rename_onto, rights_over, write_beside,
+};
+use crate::plain_files::{RIGHTS, known_user, open_plain};
+use crate::reading::{read_any, read_plain};
+use crate::running_user::read_caller;
 use crate::store::{FileRights, NewMode, Store, Written};
 use std::alloc::Global;
-use std::fs::{File, Metadata, OpenFile, OpenOptions, Permissions};
-use std::io::{BufRead, Error, ErrorKind, IsTerminal, Read, Write};
-use std::os::unix::fs::{MetadataExt, OpenOptionsExt, PermissionsExt, fchown};
+use std::fs::File;
+use std::io::{BufRead, Error, ErrorKind, IsTerminal, Read};
+use std::os::unix::fs::MetadataExt;
 use std::random::RandomSource;
 use std::rt::{Clock, Env, Files};
 use std::time::Duration;
@@ -21,63 +28,14 @@ use std::{fs, io, thread};
 /// How many milliseconds a pause takes.
 const PAUSE: u64 = 100;
 
-/// Who owns a file, and who may read and write it.
-#[derive(Clone, Copy)]
-struct Rights {
-    owner: u32,
-    group: u32,
-    mode: u32,
-}
-
-impl Rights {
-    fn of(file: &Metadata) -> Rights {
-        Rights {
-            owner: file.uid(),
-            group: file.gid(),
-            mode: file.mode() & RIGHTS,
-        }
-    }
-
-    /// Returns these rights with the mode of a new file.
-    fn with_mode(self, mode: NewMode) -> Rights {
-        match mode {
-            NewMode::Kept => self,
-            NewMode::OwnerOnly => Rights {
-                mode: OWNER_ONLY,
-                ..self
-            },
-        }
-    }
-
-    /// Gives a new file this owner, group and mode.
-    fn give(self, file: &File) -> io::Result<()> {
-        let made = Rights::of(&file.metadata()?);
-        let is_others = self.owner != made.owner || self.group != made.group;
-        if is_others && fchown(file, Some(self.owner), Some(self.group)).is_err() {
-            return Err(Error::new(
-                ErrorKind::PermissionDenied,
-                "its owner and group can't be kept, so it was not written",
-            ));
-        }
-        file.set_permissions(Permissions::from_mode(self.mode))
-    }
-}
-
-/// Returns the user who runs the program, if the system says so.
-fn known_user(files: &impl Files) -> io::Result<Option<u32>> {
-    match own_user(files) {
-        Ok(user) => Ok(Some(user)),
-        Err(error) if error.kind() == ErrorKind::NotFound => Ok(None),
-        Err(error) => Err(error),
-    }
-}
-
 /// The files, the random bytes and the standard input of a runtime.
 #[derive(Drop)]
 pub struct FileStore<'a, R: Files> {
     files: &'a R,
     // The open file whose lock is held, until it is closed.
     lock: Option<File>,
+    // The new file that was prepared.
+    prepared: Option<NewFile>,
     faults: u64,
 }
 
@@ -87,6 +45,7 @@ impl<'a, R: Files> FileStore<'a, R> {
         FileStore {
             files,
             lock: None,
+            prepared: None,
             faults: 0,
         }
     }
@@ -94,17 +53,6 @@ impl<'a, R: Files> FileStore<'a, R> {
     /// Returns the runtime.
     pub fn files(&self) -> &'a R {
         self.files
-    }
-
-    /// Returns what is at a path, or `None` if it is free. A device or a folder is an `Err`, because neither is
-    /// replaced.
-    fn there(&self, path: &str) -> io::Result<Option<Metadata>> {
-        match fs::metadata(self.files, path) {
-            Ok(there) if there.is_file() => Ok(Some(there)),
-            Ok(_) => Err(no_file()),
-            Err(error) if error.kind() == ErrorKind::NotFound => Ok(None),
-            Err(error) => Err(error),
-        }
     }
 
     /// Reads the first byte of a file, if there is one and it has one.
@@ -130,52 +78,10 @@ impl<'a, R: Files> FileStore<'a, R> {
     }
 }
 
-/// Reads a whole file, and no folder, FIFO or device. `None` if it has more than this many bytes.
-fn read_plain<R: Files>(
-    alloc: Global,
-    files: &R,
-    path: &str,
-    most: usize,
-) -> io::Result<Option<Vec<u8>>>
-    ensures { IfOk result (λ found. IfSome found (λ octets. vec_len octets ≤ most)) }
-{
-    read_open(alloc, open_plain(files, path)?, most)
-}
-
-/// Reads a whole file, or a FIFO or a device to its end, and no folder. `None` if it has more than this many bytes.
-fn read_any<R: Files<File = File>>(
-    alloc: Global,
-    files: &R,
-    path: &str,
-    most: usize,
-) -> io::Result<Option<Vec<u8>>>
-    ensures { IfOk result (λ found. IfSome found (λ octets. vec_len octets ≤ most)) }
-{
-    let file = File::open(files, path)?;
-    if file.metadata()?.is_dir() {
-        return Err(no_file());
-    }
-    read_open(alloc, file, most)
-}
-
-/// Reads a whole open file, or a FIFO or a device to its end. `None` if it has more than this many bytes.
-fn read_open<F: OpenFile + Read + Drop>(
-    alloc: Global,
-    file: F,
-    most: usize,
-) -> io::Result<Option<Vec<u8>>>
-    ensures { IfOk result (λ found. IfSome found (λ octets. vec_len octets ≤ most)) }
-{
-    if file.metadata()?.len() > most as u64 {
-        return Ok(None);
-    }
-    read_within(alloc, file, most)
-}
-
 impl<'a, R: Files<File = File> + RandomSource> FileStore<'a, R> {
     /// Writes a file that only its owner may read and write.
     fn write_own(&self, alloc: Global, path: &str, octets: &[u8]) -> io::Result<()> {
-        let _there = self.there(path)?;
+        let _there = file_there(self.files, path)?;
         self.replace(alloc, path, octets, None)
     }
 
@@ -187,10 +93,7 @@ impl<'a, R: Files<File = File> + RandomSource> FileStore<'a, R> {
         octets: &[u8],
         mode: NewMode,
     ) -> io::Result<()> {
-        let rights = match self.there(path)? {
-            Some(there) => Some(Rights::of(&there).with_mode(mode)),
-            None => None,
-        };
+        let rights = rights_over(self.files, path, mode)?;
         self.replace(alloc, path, octets, rights)
     }
 
@@ -220,8 +123,7 @@ impl<'a, R: Files<File = File> + RandomSource> FileStore<'a, R> {
         Ok(self.synced(path))
     }
 
-    /// Replaces a file. The new file has a name of its own until it is complete and synced; then it is renamed. So a
-    /// kill at any moment leaves the old file or the new one, and two writes at once fill different files.
+    /// Replaces a file by a new one that is complete before it takes its place.
     fn replace(
         &self,
         alloc: Global,
@@ -229,37 +131,37 @@ impl<'a, R: Files<File = File> + RandomSource> FileStore<'a, R> {
         octets: &[u8],
         rights: Option<Rights>,
     ) -> io::Result<()> {
-        let beside = name_beside(alloc, self.files, path)?;
-        let mut how = OpenOptions::new();
-        how.write(true).create_new(true).mode(OWNER_ONLY);
-        let new = how.open(self.files, beside.as_str())?;
-        let moved = match fill(new, octets, rights) {
-            Ok(()) => fs::rename(self.files, beside.as_str(), path),
-            Err(error) => Err(error),
-        };
-        if moved.is_err() {
-            let _removed = fs::remove_file(self.files, beside.as_str());
-        }
-        moved
+        let beside = write_beside(alloc, self.files, path, octets, rights)?;
+        rename_onto(self.files, beside.as_str(), path)
     }
-}
 
-/// Writes the whole of a new file, with these rights.
-fn fill(new: File, octets: &[u8], rights: Option<Rights>) -> io::Result<()> {
-    let mut new = new;
-    if let Some(rights) = rights {
-        rights.give(&new)?;
+    /// Writes the new file of a path beside it.
+    fn new_file(
+        &self,
+        alloc: Global,
+        path: &str,
+        octets: &[u8],
+        mode: NewMode,
+    ) -> io::Result<NewFile> {
+        let copy = String::from_str(alloc, path)?;
+        let rights = rights_over(self.files, path, mode)?;
+        Ok(NewFile {
+            beside: write_beside(alloc, self.files, path, octets, rights)?,
+            path: copy,
+        })
     }
-    new.write_all(octets)?;
-    new.sync_all()
-}
 
-/// Returns `PATH.HEX.new`: the path of a new file, with 16 random hexadecimal digits.
-fn name_beside(alloc: Global, source: &impl RandomSource, path: &str) -> io::Result<String> {
-    let mut octets = [0; 8];
-    source.fill_bytes(&mut octets)?;
-    let number = u64::from_be_bytes(octets);
-    Ok(format!(in alloc; "{path}.{number:016x}.new")?)
+    /// Renames a new file onto its path, and syncs the folder.
+    fn place_new(&self, new: &NewFile) -> io::Result<Written> {
+        rename_onto(self.files, new.beside.as_str(), new.path.as_str())?;
+        Ok(self.synced(new.path.as_str()))
+    }
+
+    /// Renames a file to a free path, and syncs the folder.
+    fn move_synced(&self, from: &str, to: &str) -> io::Result<Written> {
+        move_to_free(self.files, from, to)?;
+        Ok(self.synced(to))
+    }
 }
 
 /// Draws 32 bytes from the system's own source.
@@ -327,6 +229,8 @@ where
     // no contract knows what somebody types
     ghost input = { λ _. None };
 
+    ghost prepared = { λ _. None };
+
     fn exists(&mut self, path: &str) -> io::Result<bool> {
         let found = fs::exists(self.files, path);
         self.faults = counted(self.faults, &found);
@@ -378,6 +282,71 @@ where
         let written = self.write_own(alloc, path, octets);
         self.faults = counted(self.faults, &written);
         written
+    }
+
+    fn prepare(
+        &mut self,
+        alloc: Global,
+        path: &str,
+        octets: &[u8],
+        mode: NewMode,
+    ) -> io::Result<()> {
+        let _removed = remove_new(self.files, self.prepared.take());
+        let prepared = self.new_file(alloc, path, octets, mode);
+        self.faults = counted(self.faults, &prepared);
+        self.prepared = Some(prepared?);
+        Ok(())
+    }
+
+    fn place(&mut self) -> io::Result<Written> {
+        let placed = match self.prepared.take() {
+            Some(new) => self.place_new(&new),
+            None => Err(Error::from(ErrorKind::NotFound)),
+        };
+        self.faults = counted_write(self.faults, &placed);
+        placed
+    }
+
+    fn discard(&mut self) -> io::Result<()> {
+        let removed = remove_new(self.files, self.prepared.take());
+        self.faults = counted(self.faults, &removed);
+        removed
+    }
+
+    fn append(
+        &mut self,
+        _alloc: Global,
+        path: &str,
+        octets: &[u8],
+        beside: &str,
+    ) -> io::Result<()> {
+        let appended = append_octets(self.files, path, octets, beside);
+        self.faults = counted(self.faults, &appended);
+        appended
+    }
+
+    fn cut(&mut self, _alloc: Global, path: &str, len: usize) -> io::Result<()> {
+        let cut = cut_file(self.files, path, len as u64);
+        self.faults = counted(self.faults, &cut);
+        cut
+    }
+
+    fn rename(&mut self, _alloc: Global, from: &str, to: &str) -> io::Result<Written> {
+        let moved = self.move_synced(from, to);
+        self.faults = counted_write(self.faults, &moved);
+        moved
+    }
+
+    fn canonical(&mut self, _alloc: Global, path: &str) -> io::Result<String> {
+        let found = canonical_path(self.files, path);
+        self.faults = counted(self.faults, &found);
+        found
+    }
+
+    fn caller(&mut self, alloc: Global) -> io::Result<Caller> {
+        let found = read_caller(alloc, self.files);
+        self.faults = counted(self.faults, &found);
+        found
     }
 
     fn rights(&mut self, path: &str) -> io::Result<FileRights> {

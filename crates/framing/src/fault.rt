@@ -6,7 +6,7 @@ use std::alloc::AllocError;
 use std::error::Error;
 use std::fmt;
 
-/// Why a stream returns no next message. After the first two, which are bad lengths, the stream is unusable.
+/// The reason why a stream returns no next message. After the first two, which are bad lengths, the stream is unusable.
 #[derive(Clone, Copy, Debug, PartialEq, Eq)]
 pub enum FrameFault {
     /// The first bit of the length is set, which is reserved.

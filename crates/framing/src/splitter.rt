@@ -47,7 +47,7 @@ impl Splitter {
 
     /// Adds the next piece of the stream. After an error it adds nothing. An `Err` changes nothing.
     pub fn feed(&mut self, piece: &[u8]) -> Result<(), AllocError>
-        // Promise (ok, err): what is fed is appended, or nothing once there is an error.
+        // Promise (ok, err): what is fed is appended; after an error nothing is.
         ensures ok { OnOk result (self.new ≡ fed self.old piece.now) }
         ensures err { OnErr result (self.new ≡ self.old) }
     {
@@ -82,8 +82,8 @@ impl Splitter {
     /// out of memory changes nothing.
     pub fn next(&mut self, alloc: Global) -> Result<Option<Vec<u8>>, FrameFault>
         // A message is the first of those that are there.
-        // Promise (message, rest, none, left, settled): the first message of the stream is returned, or nothing if
-        // there is only a rest.
+        // Promise (message, rest, none, left, settled): the first message of the stream is returned, or `None` if less
+        // than a whole message is there.
         ensures message { IfOk result (λ found. IfSome found
             (λ message. handed_out self.old ≡ message_then message.items (handed_out self.new))) }
         // Without one, the bytes are less than a message, and stay.

@@ -8,7 +8,7 @@ use std::alloc::{AllocError, Global};
 #[tactic(auto, unfolding(crate::specs::Stream::length_octets))]
 pub fn prefix(len: u32) -> [u8; 4]
     requires { len < high_bit }
-    // Promise, as one_cutting: each stream has one ..
+    // Promise, as one_cutting: each stream is cut ..
     ensures { result ≡ length_octets len }
 {
     len.to_be_bytes()
@@ -18,7 +18,7 @@ pub fn prefix(len: u32) -> [u8; 4]
 #[tactic(auto, unfolding(crate::specs::Stream::length_octets))]
 pub fn frame(alloc: Global, message: &[u8]) -> Result<Vec<u8>, AllocError>
     requires { length message.now < high_bit }
-    // Promise, as one_cutting: each stream has one ..
+    // Promise, as one_cutting: each stream is cut ..
     ensures { IfOk result (λ octets. octets.items ≡ framed message.now) }
 {
     let prefix = prefix(message.len() as u32);

@@ -8,8 +8,8 @@ use Rattle.krb_der.specs.Spelling.{tlv}
 use Rattle.krb_elements.specs.Codec.{written}
 use Rattle.journal.specs.Forms.{Entry, entry}
 use Rattle.journal.specs.Texts.{HasElement, HaveElements, UnlessMemory, chained, check_of, checked, last_check}
-use Rattle.journal.specs.declared.fault.JournalFault.{JournalFault}
-use Rattle.journal.specs.declared.fault.JournalFault.TheVariants.{Broken, Memory}
+use Rattle.journal.specs.declared.fault.JournalError.{JournalError}
+use Rattle.journal.specs.declared.fault.JournalError.TheVariants.{Broken, Memory}
 
 abbrev pub w : Entry → List ℕ
 w e = written entry e
@@ -107,7 +107,7 @@ module _ (start before : List ℕ) (es : List Entry) (rest check : List ℕ) (a 
       sym (all_is ∙ ap (λ l. es ++ l) (none_others none others rest_is) ∙ append-nil es)
 
   -- the next one is not read
-  pub fails : {X Y : Type 0} (fault : JournalFault) (P : X → Type 0) (Q : Entry → List ℕ → Y → Type 0) → rest ≢ []
+  pub fails : {X Y : Type 0} (fault : JournalError) (P : X → Type 0) (Q : Entry → List ℕ → Y → Type 0) → rest ≢ []
       → ((x : Entry) (r : List ℕ) → HasElement x → rest ≡ checked check (w x) ++ r → UnlessMemory {X = Y} (Err fault) (Q x r))
       → (all : List Entry) → HaveElements all → start ≡ chained before all → UnlessMemory {X = X} (Err fault) P
   fails Memory P Q some one all has is = tt
@@ -136,11 +136,11 @@ is_none [] test = refl
 is_none (x ∷ xs) test = let zero : length (x ∷ xs) ≡ 0 = eqb-true (length (x ∷ xs)) 0 (sym test) in absurd (omega (arith, zero))
 
 -- of a fault it is the same, whatever was to be read
-pub unless_fault : {X Y : Type 0} (fault : JournalFault) (P : X → Type 0) (Q : Y → Type 0) → UnlessMemory {X = X} (Err fault) P
+pub unless_fault : {X Y : Type 0} (fault : JournalError) (P : X → Type 0) (Q : Y → Type 0) → UnlessMemory {X = X} (Err fault) P
     → UnlessMemory {X = Y} (Err fault) Q
 unless_fault Broken P Q none = none
 unless_fault Memory P Q none = tt
 
-pub not_broken : {X : Type 0} (fault : JournalFault) (P : X → Type 0) → fault ≡ Broken → UnlessMemory {X = X} (Err fault) P → ⊥
+pub not_broken : {X : Type 0} (fault : JournalError) (P : X → Type 0) → fault ≡ Broken → UnlessMemory {X = X} (Err fault) P → ⊥
 not_broken Broken P is none = none
 not_broken Memory P is none = absurd cc

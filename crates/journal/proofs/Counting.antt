@@ -12,7 +12,7 @@ use Rattle.journal.specs.Holding.{Counts, FilesHave, IsAbove}
 use Rattle.journal.specs.Life.{AllCount, Follows, IsLater, IsLife, IsStage, Past, Process, Stage, StageCounts, StagesFollow, kept_by_process, past_after, past_of}
 use Rattle.journal.specs.Life.Stage.{Ran, Finished, Sealed, Lost}
 use Rattle.journal.specs.World.{World}
-use Rattle.journal.specs.declared.decision.Doubt.{Doubt}
+use Rattle.journal.specs.declared.decision.ResumeRefusal.{ResumeRefusal}
 use Rattle.journal.specs.declared.decision.Start.{Start}
 use Rattle.journal.specs.declared.decision.Start.TheVariants.{Resumes, Refuses}
 use Rattle.journal.proofs.Held.{lt_le}
@@ -27,7 +27,7 @@ below ctime floor None over asked = absurd over
 below ctime floor (Some f) over asked = lt_le ctime f floor over asked
 
 module _ (kept : Resumption) where
-  read_above : (p : Process) (doubt : Doubt) (found : Option ℤ) (w : World) → HasRead kept p doubt found w → HaveAll kept w → IsAbove p.floor kept
+  read_above : (p : Process) (doubt : ResumeRefusal) (found : Option ℤ) (w : World) → HasRead kept p doubt found w → HaveAll kept w → IsAbove p.floor kept
   read_above p doubt found w read have = record {
     floor_above = read.floor_above;
     times_above = All-weaker (Contains kept.seen) (λ (s : Seen). s.ctime <ℤ p.floor) (λ s has.

@@ -19,7 +19,7 @@ use Rattle.journal.specs.Appending.{kept_by}
 use Rattle.journal.specs.Showing.{AreFrom, BeginsWith, Shown, Shows, StandsAt, behind_head, element_length, entry_floor, floor_with, head_floor}
 use Rattle.journal.specs.Texts.{HaveElements, chained, check_of, checked, header_check}
 use Rattle.journal.specs.World.{World, finished}
-use Rattle.journal.specs.declared.decision.Doubt.{Doubt}
+use Rattle.journal.specs.declared.decision.ResumeRefusal.{ResumeRefusal}
 use Rattle.journal.specs.declared.decision.Found.{Found}
 use Rattle.journal.specs.declared.decision.Found.TheVariants.{Nothing, Broken, Whole}
 use Rattle.journal.specs.declared.decision.Start.TheVariants.{Refuses}
@@ -250,7 +250,7 @@ module _ (seen : Seen) (early : seen.ctime <ℤ last_second) where
   over_file (Some text) found read has = over_text text found read has
 
   -- the older file is there alone
-  older_over : (place : Place) (older newer beside : Found) (doubt : Doubt) (floor : Option ℤ) → next_start place older newer beside ≡ Refuses doubt floor
+  older_over : (place : Place) (older newer beside : Found) (doubt : ResumeRefusal) (floor : Option ℤ) → next_start place older newer beside ≡ Refuses doubt floor
       → Over (shown_by older) → Over floor
   older_over place older newer beside doubt floor refuses over = by_cut (is_cut older newer beside) refuses
     where
@@ -263,7 +263,7 @@ module _ (seen : Seen) (early : seen.ctime <ℤ last_second) where
           (over_first seen.ctime (shown_by older) (greater (shown_by newer) (shown_by beside)) over)
 
   -- or the newer one is there, so no turn was cut
-  newer_over : (text : List ℕ) (place : Place) (older newer beside : Found) (doubt : Doubt) (floor : Option ℤ)
+  newer_over : (text : List ℕ) (place : Place) (older newer beside : Found) (doubt : ResumeRefusal) (floor : Option ℤ)
       → next_start place older newer beside ≡ Refuses doubt floor
       → FoundIn text newer → TextHas text seen → Over floor
   newer_over text place older Nothing beside doubt floor refuses read has = absurd read
@@ -276,7 +276,7 @@ module _ (seen : Seen) (early : seen.ctime <ℤ last_second) where
       (over_second seen.ctime (shown_by older) (greater (shown_by (Whole j)) (shown_by beside))
       (over_first seen.ctime (shown_by (Whole j)) (shown_by beside) (over_text text (Whole j) read has)))
 
-  newer_file_over : (file : Option (List ℕ)) (place : Place) (older newer beside : Found) (doubt : Doubt) (floor : Option ℤ)
+  newer_file_over : (file : Option (List ℕ)) (place : Place) (older newer beside : Found) (doubt : ResumeRefusal) (floor : Option ℤ)
       → next_start place older newer beside ≡ Refuses doubt floor
       → IsReadOut file newer → FileHas seen file → Over floor
   newer_file_over None place older newer beside doubt floor refuses read has = absurd has

@@ -31,8 +31,8 @@ use Rattle.journal.specs.Life.{all_after, kept_by_process, kept_in, past_after, 
 use Rattle.journal.specs.Life.Call.{Keep, Mend}
 use Rattle.journal.specs.Life.Stage.{Ran, Finished, Sealed, Lost}
 use Rattle.journal.specs.World.{World}
-use Rattle.journal.specs.declared.decision.Doubt.{Doubt}
-use Rattle.journal.specs.declared.decision.Doubt.TheVariants.{Damaged}
+use Rattle.journal.specs.declared.decision.ResumeRefusal.{ResumeRefusal}
+use Rattle.journal.specs.declared.decision.ResumeRefusal.TheVariants.{Damaged}
 use Rattle.journal.specs.declared.decision.Found.{Found}
 use Rattle.journal.specs.declared.decision.Found.TheVariants.{Nothing, Broken, Whole}
 use Rattle.journal.specs.declared.reading.Journal.{Journal}
@@ -371,7 +371,7 @@ starts_are_later place older Nothing beside found check is = absurd cc
 starts_are_later place older (Broken lost) beside found check is = absurd cc
 starts_are_later place older (Whole j) beside found check is = by_doubt (doubt_of place older j) is
   where
-    by_doubt : (doubt : Option Doubt) → start_by place older j beside doubt ≡ Resumes found check
+    by_doubt : (doubt : Option ResumeRefusal) → start_by place older j beside doubt ≡ Resumes found check
         → (place.at.sec -ℤ pos skew) ≤ℤ found.floor
     by_doubt (Some doubt) is = absurd cc
     by_doubt None is =
@@ -400,8 +400,8 @@ next_boot_refuses w place older (Whole j) beside o n none other = by_doubt (doub
         let empty : length k.check ≡ 0 = ap length (sym seal ∙ none) in
         absurd (omega (arith, len, empty))
 
-    by_doubt : (doubt : Option Doubt) → doubt_of place older j ≡ doubt
-        → (d : Doubt) × (floor : Option ℤ) × (start_by place older j beside (doubt_of place older j) ≡ Refuses d floor)
+    by_doubt : (doubt : Option ResumeRefusal) → doubt_of place older j ≡ doubt
+        → (d : ResumeRefusal) × (floor : Option ℤ) × (start_by place older j beside (doubt_of place older j) ≡ Refuses d floor)
     by_doubt (Some doubt) is = (doubt, found_floor older (Whole j) beside, ap (start_by place older j beside) is)
     by_doubt None is =
         let (k, same, either) = seals_hold.needed place older (Whole j) beside (resumption_of place older j) (goes_on_behind place older j) (ap (start_by place older j beside) is) in

@@ -10,7 +10,7 @@ use Rattle.journal.specs.Decision.{Place, doubt_of, found_floor, goes_on_behind,
 use Rattle.journal.specs.Holding.{IsStart}
 use Rattle.journal.specs.Sealing.{MissealedRefuses, SealIsSafe, SealsHold, SealsWhatResumes, ThisBootOrSealed}
 use Rattle.journal.specs.World.{HasBeside, HasPart, IsLeft, Leaves, SameSeal, Unseals, World, with_seal, roomier}
-use Rattle.journal.specs.declared.decision.Doubt.{Doubt}
+use Rattle.journal.specs.declared.decision.ResumeRefusal.{ResumeRefusal}
 use Rattle.journal.specs.declared.decision.Found.{Found}
 use Rattle.journal.specs.declared.decision.Found.TheVariants.{Nothing, Broken, Whole}
 use Rattle.journal.specs.declared.decision.Start.{Start}
@@ -29,12 +29,12 @@ seals_what_resumes place older Nothing beside check is = absurd cc
 seals_what_resumes place older (Broken lost) beside check is = absurd cc
 seals_what_resumes place older (Whole j) beside check is = by_doubt (doubt_of place older j) is
   where
-    by_doubt : (doubt : Option Doubt) → seal_by j doubt ≡ Ok check
+    by_doubt : (doubt : Option ResumeRefusal) → seal_by j doubt ≡ Ok check
         → (r : Resumption) × (behind : Option (List ℕ)) × (start_by place older j beside doubt ≡ Resumes r behind)
     by_doubt (Some doubt) is = absurd cc
     by_doubt None is = (resumption_of place older j, goes_on_behind place older j, refl)
 
-third_fails : (a m b c : Bool) (x v y z : Doubt)
+third_fails : (a m b c : Bool) (x v y z : ResumeRefusal)
     → (if a then Some x else (if m then Some v else (if b then Some y else (if c then Some z else None)))) ≡ None
     → b ≡ false
 third_fails true m b c x v y z e = absurd cc
@@ -57,7 +57,7 @@ this_boot_or_sealed place older (Whole j) beside r behind is = (j, refl, by_doub
     by_test (inl boot) = inl (same_text j.header.boot place.boot.now (sym boot))
     by_test (inr seal) = inr (same_text place.seal.now j.check (sym seal))
 
-    by_doubt : (doubt : Option Doubt) → doubt_of place older j ≡ doubt
+    by_doubt : (doubt : Option ResumeRefusal) → doubt_of place older j ≡ doubt
         → start_by place older j beside doubt ≡ Resumes r behind
         → (j.header.boot ≡ place.boot.now) ⊎ (place.seal.now ≡ j.check)
     by_doubt (Some doubt) none is = absurd cc
@@ -74,22 +74,22 @@ not_same : (a b : List ℕ) (test : Bool) → pointwise nat_eq a b ≡ test → 
 not_same a b true is not = absurd (not (same_text a b (sym is)))
 not_same a b false is not = refl
 
-second_holds : (a m : Bool) (x v : Doubt) (others : Option Doubt) → m ≡ true
-    → (d : Doubt) × ((if a then Some x else (if m then Some v else others)) ≡ Some d)
+second_holds : (a m : Bool) (x v : ResumeRefusal) (others : Option ResumeRefusal) → m ≡ true
+    → (d : ResumeRefusal) × ((if a then Some x else (if m then Some v else others)) ≡ Some d)
 second_holds true m x v others e = (x, refl)
 second_holds false true x v others e = (v, refl)
 second_holds false false x v others e = absurd cc
 
 missealed_refuses : MissealedRefuses
 missealed_refuses place older newer beside j is empty other =
-    subst (λ n. (doubt : Doubt) × (floor : Option ℤ) × (start_of place older n beside ≡ Refuses doubt floor)) (sym is) by_journal
+    subst (λ n. (doubt : ResumeRefusal) × (floor : Option ℤ) × (start_of place older n beside ≡ Refuses doubt floor)) (sym is) by_journal
   where
     missealed : is_missealed place j ≡ true
     missealed =
         ap (λ b. not (b || is_sealed place j)) (not_same place.seal.now [] (pointwise nat_eq place.seal.now []) refl empty)
         ∙ ap not (not_same place.seal.now j.check (is_sealed place j) refl other)
 
-    by_journal : (doubt : Doubt) × (floor : Option ℤ) × (start_of place older (Whole j) beside ≡ Refuses doubt floor)
+    by_journal : (doubt : ResumeRefusal) × (floor : Option ℤ) × (start_of place older (Whole j) beside ≡ Refuses doubt floor)
     by_journal =
         let (d, holds) = second_holds (is_other_realm place j) (is_missealed place j) _ _ _ missealed in
         (d, found_floor older (Whole j) beside, ap (start_by place older j beside) holds)

@@ -13,7 +13,7 @@ use Rattle.journal.specs.Showing.{AreFrom, StandsAt, Shows, Shown, IsHead, behin
 use Rattle.journal.specs.Texts.{checked}
 use Rattle.journal.proofs.Held.{all_stays, lt_le, one_above}
 use Rattle.journal.specs.World.{World}
-use Rattle.journal.specs.declared.decision.Doubt.{Doubt}
+use Rattle.journal.specs.declared.decision.ResumeRefusal.{ResumeRefusal}
 use Rattle.journal.specs.declared.decision.Found.{Found}
 use Rattle.journal.specs.declared.decision.Found.TheVariants.{Nothing, Broken, Whole}
 use Rattle.journal.specs.declared.decision.Start.{Start}
@@ -150,14 +150,14 @@ abbrev floor_or : Option ℤ → Start → Option ℤ
 floor_or otherwise (Resumes found check) = otherwise
 floor_or otherwise (Refuses doubt floor) = floor
 
-pub refused_floor : (place : Place) (older newer beside : Found) (doubt : Doubt) (floor : Option ℤ)
+pub refused_floor : (place : Place) (older newer beside : Found) (doubt : ResumeRefusal) (floor : Option ℤ)
     → start_of place older newer beside ≡ Refuses doubt floor
     → found_floor older newer beside ≡ floor
 refused_floor place older Nothing beside doubt floor is = ap (floor_or floor) is
 refused_floor place older (Broken lost) beside doubt floor is = ap (floor_or floor) is
 refused_floor place older (Whole j) beside doubt floor is = by_doubt (doubt_of place older j) is
   where
-    by_doubt : (d : Option Doubt) → start_by place older j beside d ≡ Refuses doubt floor
+    by_doubt : (d : Option ResumeRefusal) → start_by place older j beside d ≡ Refuses doubt floor
         → found_floor older (Whole j) beside ≡ floor
     by_doubt (Some why) is = ap (floor_or floor) is
     by_doubt None is = absurd cc

@@ -18,7 +18,7 @@ use Rattle.journal.specs.Holding.{FinishedIsSafe, HasSums, HoldAll, IsAbove, IsF
 use Rattle.journal.specs.Texts.{check_of, header_check, last_check}
 use Rattle.journal.specs.Keeping.{BeginsJournal, KeepsEntry, begun}
 use Rattle.journal.specs.World.{HasBeside, IsLeft, World, finished, older_left, roomier, with_beside, with_file, with_more, without_older}
-use Rattle.journal.specs.declared.decision.Doubt.{Doubt}
+use Rattle.journal.specs.declared.decision.ResumeRefusal.{ResumeRefusal}
 use Rattle.journal.specs.declared.decision.Found.{Found}
 use Rattle.journal.specs.declared.decision.Found.TheVariants.{Nothing, Broken, Whole}
 use Rattle.journal.specs.declared.decision.Start.{Start}
@@ -50,7 +50,7 @@ linked_by : (linked foreign : Bool) → (not linked || foreign) ≡ false → li
 linked_by true foreign e = refl
 linked_by false foreign e = absurd cc
 
-none_holds : (a m b c : Bool) (x v y z : Doubt)
+none_holds : (a m b c : Bool) (x v y z : ResumeRefusal)
     → (if a then Some x else (if m then Some v else (if b then Some y else (if c then Some z else None)))) ≡ None
     → c ≡ false
 none_holds true m b c x v y z e = absurd cc
@@ -69,7 +69,7 @@ cut_goes_on place Nothing j = refl
 cut_goes_on place (Broken lost) j = refl
 cut_goes_on place (Whole before) j = refl
 
-by_doubt : (place : Place) (older beside : Found) (j : Journal) (doubt : Option Doubt) (r : Resumption) (check : Option (List ℕ))
+by_doubt : (place : Place) (older beside : Found) (j : Journal) (doubt : Option ResumeRefusal) (r : Resumption) (check : Option (List ℕ))
     → doubt_of place (cut_found older) (cut j) ≡ doubt
     → start_by place (cut_found older) (cut j) beside doubt ≡ Resumes r check
     → IsResumed place older j r check
@@ -158,7 +158,7 @@ uncut place older beside true e found check starts = absurd cc
 uncut place older beside false e found check starts = absurd cc
 
 -- what it resumes with does not depend on what is beside
-other_resumes : (place : Place) (older beside other : Found) (j : Journal) (d : Option Doubt) (found : Resumption) (check : Option (List ℕ))
+other_resumes : (place : Place) (older beside other : Found) (j : Journal) (d : Option ResumeRefusal) (found : Resumption) (check : Option (List ℕ))
     → start_by place older j beside d ≡ Resumes found check → start_by place older j other d ≡ Resumes found check
 other_resumes place older beside other j (Some doubt) found check starts = absurd cc
 other_resumes place older beside other j None found check starts = starts
@@ -252,13 +252,13 @@ beside_safe low r h text check old new begins none safe (inr (inr (part, rest, i
     (other_beside low r old safe (Some part) (λ newer older beside o b. unlinked_part h text part rest check begins none is old.older older beside o b))
 
 -- without an older file a start finds no more than with one that is broken
-broken_start : (place : Place) (beside other : Found) (j : Journal) (lost : Option ℤ) (d : Option Doubt) (found : Resumption) (check : Option (List ℕ))
+broken_start : (place : Place) (beside other : Found) (j : Journal) (lost : Option ℤ) (d : Option ResumeRefusal) (found : Resumption) (check : Option (List ℕ))
     → start_by place Nothing j beside d ≡ Resumes found check
     → start_by place (Broken lost) j other d ≡ Resumes found check
 broken_start place beside other j lost (Some doubt) found check starts = absurd cc
 broken_start place beside other j lost None found check starts = starts
 
-nothing_start : (place : Place) (beside other : Found) (j : Journal) (d : Option Doubt) (found : Resumption) (check : Option (List ℕ))
+nothing_start : (place : Place) (beside other : Found) (j : Journal) (d : Option ResumeRefusal) (found : Resumption) (check : Option (List ℕ))
     → start_by place Nothing j beside d ≡ Resumes found check → start_by place Nothing j other d ≡ Resumes found check
 nothing_start place beside other j (Some doubt) found check starts = absurd cc
 nothing_start place beside other j None found check starts = starts

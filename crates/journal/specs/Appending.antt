@@ -12,7 +12,7 @@ use Rattle.journal.specs.declared.decision.Found.{Found}
 use Rattle.journal.specs.declared.decision.Found.TheVariants.{Nothing, Broken, Whole}
 use Rattle.journal.specs.declared.decision.Start.{Start}
 use Rattle.journal.specs.declared.decision.Start.TheVariants.{Resumes}
-use Rattle.journal.specs.declared.files.BeginFault.{BeginFault}
+use Rattle.journal.specs.declared.files.BeginError.{BeginError}
 use Rattle.journal.specs.declared.files.Begun.{Begun}
 use Rattle.journal.specs.declared.files.Begun.TheVariants.{Linked, Anew, Roomy}
 use Rattle.journal.specs.declared.files.Left.{Left}
@@ -25,7 +25,8 @@ use Rattle.journal.specs.declared.reading.Journal.{Journal}
 -- ---- one call on the files
 
 -- a file was begun, with this floor and this link, and this is its check
-pub record BeginsFile (place : Place) (floor : Option ℤ) (link : List ℕ) (how : Begun) (check : List ℕ) (old new : Option World)
+pub record BeginsFile (place : Place) (floor : Option ℤ) (link : List ℕ) (how : Begun) (check : List ℕ)
+    (old new : Option World)
     : Type 0 where
   pub at_floor : ℤ
   pub text : List ℕ
@@ -34,7 +35,8 @@ pub record BeginsFile (place : Place) (floor : Option ℤ) (link : List ℕ) (ho
   pub leaves : Leaves (λ o n. n ≡ with_file how text o) old new
 
 -- or it was not, and this is left
-pub record FailsFile (place : Place) (floor : Option ℤ) (link : List ℕ) (how : Begun) (left : Left) (old new : Option World)
+pub record FailsFile (place : Place) (floor : Option ℤ) (link : List ℕ) (how : Begun) (left : Left)
+    (old new : Option World)
     : Type 0 where
   pub at_floor : ℤ
   pub text : List ℕ
@@ -45,22 +47,26 @@ pub record FailsFile (place : Place) (floor : Option ℤ) (link : List ℕ) (how
 
 -- or nothing was done
 abbrev pub MayFail : Place → Option ℤ → List ℕ → Begun → Left → Option World → Option World → Type 0
-MayFail place floor link how left old new = ((left ≡ Before) × (new ≡ old)) ⊎ FailsFile place floor link how left old new
+MayFail place floor link how left old new = ((left ≡ Before) × (new ≡ old))
+    ⊎ FailsFile place floor link how left old new
 
-abbrev pub HasBegun : {E : Type 0} → Place → Option ℤ → List ℕ → Begun → Option World → Result Tail (BeginFault E) → Option World
+abbrev pub HasBegun : {E : Type 0} → Place → Option ℤ → List ℕ → Begun → Option World → Result Tail (BeginError E)
+    → Option World
     → Type 0
 HasBegun place floor link how old (Ok tail) new = BeginsFile place floor link how tail.check old new
 HasBegun place floor link how old (Err fault) new = MayFail place floor link how fault.left old new
 
--- A start begins a file in place of both. It goes on without an end if the file is in place, and the system may not have
--- that on the disk.
+-- A start begins a file in place of both. It goes on without an end if the file is in place, and the system may not
+-- have that on the disk.
 abbrev pub HasStarted : {E : Type 0} → Place → Option ℤ → Option World → Result (Option Tail) E → Option World → Type 0
 HasStarted place floor old (Ok (Some tail)) new = BeginsFile place floor [] Anew tail.check old new
 HasStarted place floor old (Ok None) new = MayFail place floor [] Anew InPlace old new
-HasStarted place floor old (Err fault) new = (left : Left) × IsUnlinked Anew left × MayFail place floor [] Anew left old new
+HasStarted place floor old (Err fault) new = (left : Left) × IsUnlinked Anew left
+    × MayFail place floor [] Anew left old new
 
 -- an authenticator's entry was appended behind a check, and the next check is this
-pub record AppendsOne (check : List ℕ) (at : Moment) (seen : Seen) (next : List ℕ) (old new : Option World) : Type 0 where
+pub record AppendsOne (check : List ℕ) (at : Moment) (seen : Seen) (next : List ℕ)
+    (old new : Option World) : Type 0 where
   pub more : List ℕ
   pub keeps : KeepsEntry check at seen more next
   pub leaves : Leaves (λ o n. n ≡ with_more o more) old new
@@ -111,7 +117,8 @@ kept_by (Err fault) kept all = kept
 -- A text is found broken only if it spells no journal. It may still show entries.
 abbrev pub FoundIn : List ℕ → Found → Type 0
 FoundIn text Nothing = ⊥
-FoundIn text (Broken floor) = ((j : Journal) → Spells text j → ⊥) × (shown : Shown) × Shows text shown × (floor ≡ shown_floor shown)
+FoundIn text (Broken floor) = ((j : Journal) → Spells text j → ⊥) × (shown : Shown) × Shows text shown
+    × (floor ≡ shown_floor shown)
 FoundIn text (Whole j) = (all : Journal) × Spells text all × (j ≡ cut all)
 
 abbrev pub FoundBy : FileText → Found → Type 0
@@ -124,4 +131,5 @@ abbrev pub HasTail : Start → Found → Option (Tail × ℤ) → Type 0
 HasTail start newer (Some behind) =
     (r : Resumption) × (j : Journal) × (start ≡ Resumes r (Some behind.0.check)) × (newer ≡ Whole j)
     × (behind.1 ≡ floor_on r.floor j)
-HasTail start newer None = (r : Resumption) (check : List ℕ) (j : Journal) → start ≡ Resumes r (Some check) → newer ≡ Whole j → ⊥
+HasTail start newer None = (r : Resumption) (check : List ℕ) (j : Journal) → start ≡ Resumes r (Some check)
+    → newer ≡ Whole j → ⊥

@@ -1,21 +1,24 @@
 -- Starts that refuse to resume with files that they read. That their floor is above what a process kept follows from
 -- what the files still have, and is no premise.
-use Rattle.std.specs.Prelude.{◌≡◌, ◌⊎◌, ℤ, ◌≤ℤ◌, ◌<ℤ◌, ⊤, Bool, true, false, List, [], ◌∷◌, Option, Some, None, All, IfSome}
+use Rattle.std.specs.Prelude.{◌≡◌, ◌⊎◌, ℤ, ◌≤ℤ◌, ◌<ℤ◌, ⊤, Bool, true, false, List, [], ◌∷◌, Option, Some, None, All}
+use Rattle.std.specs.Prelude.{IfSome}
 use Rattle.replay.specs.declared.seen.Resumption.{Resumption}
 use Rattle.replay.specs.declared.seen.Seen.{Seen}
 use Rattle.journal.specs.Decision.{Place, last_second, next_start}
 use Rattle.journal.specs.Holding.{IsAbove}
-use Rattle.journal.specs.Life.{IsLife, IsProcess, IsReadOut, IsStage, Past, Process, Stage, StagesFollow, kept_by_process, past_after, past_of}
+use Rattle.journal.specs.Life.{IsLife, IsProcess, IsReadOut, IsStage, Past, Process, Stage, StagesFollow}
+use Rattle.journal.specs.Life.{kept_by_process, past_after, past_of}
 use Rattle.journal.specs.Life.Stage.{Ran, Finished, Sealed, Lost}
 use Rattle.journal.specs.World.{World}
-use Rattle.journal.specs.declared.decision.Doubt.{Doubt}
+use Rattle.journal.specs.declared.decision.ResumeRefusal.{ResumeRefusal}
 use Rattle.journal.specs.declared.decision.Found.{Found}
 use Rattle.journal.specs.declared.decision.Start.{Start}
 use Rattle.journal.specs.declared.decision.Start.TheVariants.{Resumes, Refuses}
 
 -- A start refused by what it read of all three files. Its floor is not below the one that they ask for, nor below the
 -- one with which the process began that kept this. No authenticator is of the last second of the year 9999.
-pub record HasRead (kept : Resumption) (p : Process) (doubt : Doubt) (found : Option ℤ) (w : World) : Type 0 where
+pub record HasRead (kept : Resumption) (p : Process) (doubt : ResumeRefusal) (found : Option ℤ)
+    (w : World) : Type 0 where
   pub place : Place
   pub older : Found
   pub beside : Found

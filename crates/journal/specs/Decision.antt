@@ -1,5 +1,6 @@
 -- What a start makes of the journals that it finds.
-use Rattle.std.specs.Prelude.{ℕ, ℤ, pos, neg_ℤ, ◌+◌, ◌+ℤ◌, ◌-ℤ◌, Bool, true, false, not, ◌&&◌, ◌||◌, nat_eq, int_lt, int_le, if◌then◌else◌}
+use Rattle.std.specs.Prelude.{ℕ, ℤ, pos, neg_ℤ, ◌+◌, ◌+ℤ◌, ◌-ℤ◌, Bool, true, false, not, ◌&&◌, ◌||◌, nat_eq, int_lt}
+use Rattle.std.specs.Prelude.{int_le, if◌then◌else◌}
 use Rattle.std.specs.Prelude.{List, [], ◌∷◌, ◌++◌, map, Option, Some, None, Result, Ok, Err}
 use Rattle.std.specs.Int.{int_max, int_min}
 use Rattle.std.specs.List.{filter}
@@ -11,8 +12,8 @@ use Rattle.replay.specs.declared.opening.Opening.TheVariants.{Restart}
 use Rattle.replay.specs.declared.seen.Resumption.{Resumption}
 use Rattle.replay.specs.declared.seen.Seen.{Seen}
 use Rattle.journal.specs.Forms.{Entry}
-use Rattle.journal.specs.declared.decision.Doubt.{Doubt}
-use Rattle.journal.specs.declared.decision.Doubt.TheVariants.{Absent, Damaged, OtherRealm, OtherBoot, Unlinked}
+use Rattle.journal.specs.declared.decision.ResumeRefusal.{ResumeRefusal}
+use Rattle.journal.specs.declared.decision.ResumeRefusal.TheVariants.{Absent, Damaged, OtherRealm, OtherBoot, Unlinked}
 use Rattle.journal.specs.declared.decision.Found.{Found}
 use Rattle.journal.specs.declared.decision.Found.TheVariants.{Nothing, Broken, Whole}
 use Rattle.journal.specs.declared.decision.Place as places
@@ -126,7 +127,7 @@ abbrev pub is_unlinked : Place → Found → Journal → Bool
 is_unlinked place older j = not (is_linked j older) || is_foreign place j older
 
 -- the first that holds is why the start can't resume
-abbrev pub doubt_of : Place → Found → Journal → Option Doubt
+abbrev pub doubt_of : Place → Found → Journal → Option ResumeRefusal
 doubt_of place older j =
     first_holding
     ((is_other_realm place j, OtherRealm)
@@ -181,7 +182,7 @@ abbrev pub goes_on_behind : Place → Found → Journal → Option (List ℕ)
 goes_on_behind place older j = if is_early place j older then None else Some j.check
 
 -- Where it can't resume, it refuses every time below the floor that the files ask for, also if its clock is behind.
-abbrev pub start_by : Place → Found → Journal → Found → Option Doubt → Start
+abbrev pub start_by : Place → Found → Journal → Found → Option ResumeRefusal → Start
 start_by place older j beside (Some doubt) = Refuses doubt (found_floor older (Whole j) beside)
 start_by place older j beside None = Resumes (resumption_of place older j) (goes_on_behind place older j)
 
@@ -191,7 +192,7 @@ is_nothing Nothing = true
 is_nothing (Broken floor) = false
 is_nothing (Whole j) = false
 
-abbrev pub doubt_without : Found → Found → Doubt
+abbrev pub doubt_without : Found → Found → ResumeRefusal
 doubt_without older beside = if is_nothing older && is_nothing beside then Absent else Damaged
 
 abbrev pub start_of : Place → Found → Found → Found → Start
@@ -224,11 +225,11 @@ next_start place older newer beside =
 -- ---- a seal
 
 -- the last check of the newer journal, if a start would resume with both
-abbrev pub seal_by : Journal → Option Doubt → Result (List ℕ) Doubt
+abbrev pub seal_by : Journal → Option ResumeRefusal → Result (List ℕ) ResumeRefusal
 seal_by j (Some doubt) = Err doubt
 seal_by j None = Ok j.check
 
-abbrev pub seal_of : Place → Found → Found → Result (List ℕ) Doubt
+abbrev pub seal_of : Place → Found → Found → Result (List ℕ) ResumeRefusal
 seal_of place older Nothing = Err Absent
 seal_of place older (Broken floor) = Err Damaged
 seal_of place older (Whole j) = seal_by j (doubt_of place older j)

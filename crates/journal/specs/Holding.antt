@@ -10,7 +10,8 @@ use Rattle.replay.specs.Resumed.{Holds, resumed_cache}
 use Rattle.replay.specs.declared.keep.Kept.{Kept}
 use Rattle.replay.specs.declared.seen.Resumption.{Resumption}
 use Rattle.replay.specs.declared.seen.Seen.{Seen}
-use Rattle.journal.specs.Decision.{Place, above, above_all, entries_behind, floor_behind, is_cut, is_linked, latest_of, next_start}
+use Rattle.journal.specs.Decision.{Place, above, above_all, entries_behind, floor_behind, is_cut, is_linked, latest_of}
+use Rattle.journal.specs.Decision.{next_start}
 use Rattle.journal.specs.Decision.{recent, seen_of, start_of}
 use Rattle.journal.specs.Forms.{Entry, Header}
 use Rattle.journal.specs.Keeping.{BeginsJournal}
@@ -116,7 +117,8 @@ abbrev pub AgreeFrom : ℤ → List Entry → List Entry → Type 0
 AgreeFrom from es others = (later : ℤ) → from ≤ℤ later → recent later es ≡ recent later others
 
 -- All entries of a text behind a check, those that may matter, the last check, and the sums.
-pub record HaveEntries (text before : List ℕ) (at floor : ℤ) (all kept : List Entry) (check : List ℕ) (latest high : ℤ) : Type 0 where
+pub record HaveEntries (text before : List ℕ) (at floor : ℤ) (all kept : List Entry) (check : List ℕ)
+    (latest high : ℤ) : Type 0 where
   pub text_is : text ≡ chained before all
   pub check_is : check ≡ last_check before all
   pub have : HaveElements all
@@ -143,7 +145,8 @@ IsFound file found = (all : Found) × IsSpelled file all × (found ≡ cut_found
 abbrev pub Knows : ℤ → Resumption → Resumption → Type 0
 Knows below r found =
     (c : Components)
-    → Holds {T = Kept} (resumed_cache (record { floor = int_max r.floor below; seen = r.seen }) c) (resumed_cache found c)
+    → Holds {T = Kept} (resumed_cache (record { floor = int_max r.floor below; seen = r.seen }) c)
+    (resumed_cache found c)
 
 -- No start resumes with these files without knowing all of this.
 pub record IsSafe (low : ℤ) (r : Resumption) (w : World) : Type 0 where
@@ -182,7 +185,8 @@ IsKept low kept all w (Some tail) floor = (kept ≡ all) × IsWhole low all w ta
 IsKept low kept all w None floor = IsLacking low kept all w floor
 
 -- where the world is recorded
-abbrev pub HasKept : {F : Type 0} → (F → Option World) → ℤ → Resumption → Resumption → F → Option Tail → Option ℤ → Type 0
+abbrev pub HasKept : {F : Type 0} → (F → Option World) → ℤ → Resumption → Resumption → F → Option Tail → Option ℤ
+    → Type 0
 HasKept world low kept all files tail floor = IfSome (world files) (λ w. IsKept low kept all w tail floor)
 
 -- whether a server has kept all that it was handed
@@ -244,9 +248,11 @@ abbrev pub KeptIsThere : Type 0
 KeptIsThere = (low : ℤ) (kept all : Resumption) (w : World) (tail : Option Tail) (floor : Option ℤ)
     → IsKept low kept all w tail floor → (seen : Seen) → Contains kept.seen seen → FilesHave w seen
 
--- Nor does one resume without it after a file that links to none could not be begun, by whomever, unless it is in place.
+-- Nor does one resume without it after a file that links to none could not be begun, by whomever, unless it is in
+-- place.
 abbrev pub UnbegunIsSafe : Type 0
-UnbegunIsSafe = (low : ℤ) (r : Resumption) (how : Begun) (h : Header) (text check : List ℕ) (left : Left) (old new : World)
+UnbegunIsSafe = (low : ℤ) (r : Resumption) (how : Begun) (h : Header) (text check : List ℕ) (left : Left)
+    (old new : World)
     → BeginsJournal h text check → h.link ≡ [] → IsUnlinked how left
     → IsSafe low r old → IsLeft how text left old new → IsSafe low r new
 

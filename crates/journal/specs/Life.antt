@@ -1,6 +1,7 @@
 -- The life of a journal: processes that have its files one after the other, and what no start resumes without after
 -- them.
-use Rattle.std.specs.Prelude.{◌≡◌, ◌⊎◌, ℕ, ℤ, pos, ◌-ℤ◌, ◌≤ℤ◌, ◌<ℤ◌, ⊤, Bool, true, false, List, [], ◌∷◌, ◌++◌, Option, Some, None, Result}
+use Rattle.std.specs.Prelude.{◌≡◌, ◌⊎◌, ℕ, ℤ, pos, ◌-ℤ◌, ◌≤ℤ◌, ◌<ℤ◌, ⊤, Bool, true, false, List, [], ◌∷◌, ◌++◌, Option}
+use Rattle.std.specs.Prelude.{Some, None, Result}
 use Rattle.std.specs.Prelude.{Contains, IfSome, if◌then◌else◌, is_ok, is_some}
 use Rattle.std.specs.Option.{IsSomeAnd}
 use Rattle.krb_fields.specs.Skew.{skew}
@@ -11,10 +12,11 @@ use Rattle.replay.specs.declared.seen.Seen.{Seen}
 use Rattle.journal.specs.Appending.{FoundIn, kept_by}
 use Rattle.journal.specs.Decision.{Place, is_cut, last_second, next_start, start_of}
 use Rattle.journal.specs.Forms.{Entry}
-use Rattle.journal.specs.Holding.{Counts, FilesHave, IsAbove, IsFound, IsKept, IsSafe, IsStart, Spells, StillThere, known_by, with_one}
+use Rattle.journal.specs.Holding.{Counts, FilesHave, IsAbove, IsFound, IsKept, IsSafe, IsStart, Spells, StillThere}
+use Rattle.journal.specs.Holding.{known_by, with_one}
 use Rattle.journal.specs.Showing.{Shows, Shown}
 use Rattle.journal.specs.World.{Leaves, SameSeal, World, finished, with_seal}
-use Rattle.journal.specs.declared.decision.Doubt.{Doubt}
+use Rattle.journal.specs.declared.decision.ResumeRefusal.{ResumeRefusal}
 use Rattle.journal.specs.declared.decision.Found.{Found}
 use Rattle.journal.specs.declared.decision.Found.TheVariants.{Nothing, Broken, Whole}
 use Rattle.journal.specs.declared.decision.Start.{Start}
@@ -46,7 +48,8 @@ pub record IsBegun (at : Moment) (newer : Found) (start : Start) (ok : Bool) (ol
       → IsKeptIn (at.sec -ℤ pos skew) (known_by floor start) (known_by floor start) new
   pub safe : (low : ℤ) (r : Resumption) → IfSome old.files (IsSafe low r) → ok ≡ false → IfSome new.files (IsSafe low r)
   pub broken : ok ≡ true → IfSome new.files (λ w. w.seal ≡ [])
-  pub there : ok ≡ true → (floor : ℤ) (before : Seen) → old.floor ≡ Some floor → IfSome old.files (IsStart at floor newer start)
+  pub there : ok ≡ true → (floor : ℤ) (before : Seen) → old.floor ≡ Some floor
+      → IfSome old.files (IsStart at floor newer start)
       → Counts start floor before → StillThere before old.files new.files
   pub stays : (before : Seen) → ok ≡ false → StillThere before old.files new.files
 
@@ -80,7 +83,8 @@ AreCalls (call ∷ calls) old new = (next : JournalState) × IsCall call old nex
 -- What is kept after these calls: all that was handed over up to the last one that succeeded.
 unfoldable pub kept_in : Resumption → Resumption → List Call → Resumption
 kept_in kept all [] = kept
-kept_in kept all (call ∷ calls) = kept_in (kept_by (result_of call) kept (all_after all call)) (all_after all call) calls
+kept_in kept all (call ∷ calls) = kept_in (kept_by (result_of call) kept (all_after all call))
+    (all_after all call) calls
 
 -- the authenticators that these calls hand over
 abbrev pub seen_in : List Call → List Seen
@@ -206,7 +210,8 @@ StaysSafe = (kept : Resumption) (past : Past) (life : List Stage) (old new : Wor
 -- In other words: whatever stages follow a process, a start that then resumes refuses each authenticator that it kept.
 abbrev pub KeptIsRefused : Type 0
 KeptIsRefused = (p : Process) (life : List Stage) (before after new : World)
-    → p.has_begun ≡ true → IsProcess p before after → IsLife life after new → StagesFollow (kept_by_process p) (past_of p) life
+    → p.has_begun ≡ true → IsProcess p before after → IsLife life after new
+    → StagesFollow (kept_by_process p) (past_of p) life
     → (place : Place) (older newer beside : Found) (found : Resumption) (check : Option (List ℕ))
     → IsFound new.older older → IsFound new.newer newer → IsFound new.beside beside
     → next_start place older newer beside ≡ Resumes found check
@@ -231,9 +236,10 @@ LeavesNoSeal = (p : Process) (old new : World) → p.has_begun ≡ true → IsPr
 
 -- And without a seal, a start in a boot in which no journal that it finds was begun refuses, whatever else it finds.
 abbrev pub NextBootRefuses : Type 0
-NextBootRefuses = (w : World) (place : Place) (older newer beside : Found) → IsFound w.older older → IsFound w.newer newer
+NextBootRefuses = (w : World) (place : Place) (older newer beside : Found) → IsFound w.older older
+    → IsFound w.newer newer
     → place.seal.now ≡ [] → ((j : Journal) → newer ≡ Whole j → j.header.boot ≡ place.boot.now → ⊥)
-    → (doubt : Doubt) × (floor : Option ℤ) × (start_of place older newer beside ≡ Refuses doubt floor)
+    → (doubt : ResumeRefusal) × (floor : Option ℤ) × (start_of place older newer beside ≡ Refuses doubt floor)
 
 -- ---- what the files still have
 
@@ -267,7 +273,7 @@ StaysThere = (seen : Seen) (life : List Stage) (old new : World) → FilesHave o
 
 -- So a start that then refuses counts it: its floor is above it, unless it is of the last second of the year 9999.
 abbrev pub ThereIsCounted : Type 0
-ThereIsCounted = (w : World) (place : Place) (older newer beside : Found) (doubt : Doubt) (floor : Option ℤ)
+ThereIsCounted = (w : World) (place : Place) (older newer beside : Found) (doubt : ResumeRefusal) (floor : Option ℤ)
     → IsReadOut w.older older → IsReadOut w.newer newer → IsReadOut w.beside beside
     → next_start place older newer beside ≡ Refuses doubt floor
     → (seen : Seen) → FilesHave w seen → seen.ctime <ℤ last_second → IsSomeAnd floor (λ f. seen.ctime <ℤ f)
@@ -289,7 +295,7 @@ FilesShow w e =
 -- Whatever its clock shows, and whatever became of the files, a start that refuses has a floor above each authenticator
 -- that the files still show. (There is no floor above the last second of the year 9999.)
 abbrev pub ShownIsRefused : Type 0
-ShownIsRefused = (w : World) (place : Place) (older newer beside : Found) (doubt : Doubt) (floor : Option ℤ)
+ShownIsRefused = (w : World) (place : Place) (older newer beside : Found) (doubt : ResumeRefusal) (floor : Option ℤ)
     → IsReadOut w.older older → IsReadOut w.newer newer → IsReadOut w.beside beside
     → start_of place older newer beside ≡ Refuses doubt floor
     → (e : Entry) → FilesShow w e → e.ctime <ℤ last_second → IsSomeAnd floor (λ f. e.ctime <ℤ f)

@@ -6,14 +6,15 @@ use Rattle.journal.specs.Holding.{IsSafe}
 use Rattle.journal.specs.World.{Leaves, Seals, World, with_seal}
 use Rattle.journal.specs.declared.decision.Found.{Found}
 use Rattle.journal.specs.declared.decision.Found.TheVariants.{Whole}
-use Rattle.journal.specs.declared.decision.Doubt.{Doubt}
+use Rattle.journal.specs.declared.decision.ResumeRefusal.{ResumeRefusal}
 use Rattle.journal.specs.declared.decision.Start.TheVariants.{Resumes, Refuses}
 use Rattle.journal.specs.declared.reading.Journal.{Journal}
 use Rattle.journal.specs.declared.sealing.SealOutcome.{SealOutcome}
 use Rattle.journal.specs.declared.sealing.SealOutcome.TheVariants.{Doubted, Sealed}
 
 -- the files are sealed, or a start would refuse them and nothing was done, or the call on the files failed
-abbrev pub HasSealed : {E : Type 0} → Place → Found → Found → Option World → Result SealOutcome E → Option World → Type 0
+abbrev pub HasSealed : {E : Type 0} → Place → Found → Found → Option World → Result SealOutcome E → Option World
+    → Type 0
 HasSealed place older newer old (Ok Sealed) new =
     (check : List ℕ) × (seal_of place older newer ≡ Ok check) × Leaves (Seals check true) old new
 HasSealed place older newer old (Ok (Doubted doubt)) new = (seal_of place older newer ≡ Err doubt) × (new ≡ old)
@@ -44,7 +45,7 @@ SealIsSafe = (low : ℤ) (r : Resumption) (w : World) (seal : List ℕ) → IsSa
 abbrev pub MissealedRefuses : Type 0
 MissealedRefuses = (place : Place) (older newer beside : Found) (j : Journal) → newer ≡ Whole j
     → (place.seal.now ≡ [] → ⊥) → (place.seal.now ≡ j.check → ⊥)
-    → (doubt : Doubt) × (floor : Option ℤ) × (start_of place older newer beside ≡ Refuses doubt floor)
+    → (doubt : ResumeRefusal) × (floor : Option ℤ) × (start_of place older newer beside ≡ Refuses doubt floor)
 
 pub record SealsHold : Type 0 where
   pub resumes : SealsWhatResumes

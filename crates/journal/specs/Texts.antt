@@ -4,8 +4,8 @@ use Rattle.sha2.specs.Sha256.{sha256}
 use Rattle.krb_der.specs.Spelling.{tlv}
 use Rattle.krb_elements.specs.Codec.{written}
 use Rattle.journal.specs.Forms.{Entry, Header, entry, header}
-use Rattle.journal.specs.declared.fault.JournalFault.{JournalFault}
-use Rattle.journal.specs.declared.fault.JournalFault.TheVariants.{Broken, Memory}
+use Rattle.journal.specs.declared.fault.JournalError.{JournalError}
+use Rattle.journal.specs.declared.fault.JournalError.TheVariants.{Broken, Memory}
 
 -- the check of an element: the first 16 octets of the digest of the check before it and of its octets
 abbrev pub check_of : List ℕ → List ℕ → List ℕ
@@ -48,7 +48,7 @@ HaveElements (e ∷ es) = HasElement e × HaveElements es
 -- ---- what is read
 
 -- it was read so, unless memory ran out
-abbrev pub UnlessMemory : {X : Type 0} → Result X JournalFault → (X → Type 0) → Type 0
+abbrev pub UnlessMemory : {X : Type 0} → Result X JournalError → (X → Type 0) → Type 0
 UnlessMemory (Ok x) P = P x
 UnlessMemory (Err Broken) P = ⊥
 UnlessMemory (Err Memory) P = ⊤

@@ -1,7 +1,8 @@
 -- The files of a journal as bytes, and what each call on them may leave.
-use Rattle.std.specs.Prelude.{◌≡◌, ◌⊎◌, ℕ, ⊤, Bool, true, false, List, [], ◌++◌, Option, Some, None, option_map, Result, Ok, Err}
+use Rattle.std.specs.Prelude.{◌≡◌, ◌⊎◌, ℕ, ⊤, Bool, true, false, List, [], ◌++◌, Option, Some, None, option_map, Result}
+use Rattle.std.specs.Prelude.{Ok, Err}
 use Rattle.std.specs.Prelude.{vec_items}
-use Rattle.journal.specs.declared.files.BeginFault.{BeginFault}
+use Rattle.journal.specs.declared.files.BeginError.{BeginError}
 use Rattle.journal.specs.declared.files.Begun.{Begun}
 use Rattle.journal.specs.declared.files.Begun.TheVariants.{Linked, Anew, Roomy}
 use Rattle.journal.specs.declared.files.FileText.{FileText}
@@ -100,7 +101,7 @@ IsLeft how text Before old new = HasBeside text old new
 IsLeft how text Between old new = IsBetween how text old new
 IsLeft how text InPlace old new = IsInPlace how text old new
 
-abbrev pub BeginsAs : {T E : Type 0} → Begun → List ℕ → Result T (BeginFault E) → Option World → Option World → Type 0
+abbrev pub BeginsAs : {T E : Type 0} → Begun → List ℕ → Result T (BeginError E) → Option World → Option World → Type 0
 BeginsAs how text (Ok done) old new = Leaves (λ o n. n ≡ with_file how text o) old new
 BeginsAs how text (Err fault) old new = Leaves (IsLeft how text fault.left) old new
 

@@ -17,7 +17,7 @@ pub struct Element<'a> {
 }
 
 /// Returns the check of an element, from the check before it.
-pub fn check_of(before: &[u8], element: &[u8]) -> [u8; 16]
+pub fn next_check(before: &[u8], element: &[u8]) -> [u8; 16]
     ensures { result ≡ check_of before.now element.now }
 {
     let mut hasher = Sha256::new();
@@ -39,7 +39,7 @@ pub fn take_element<'a>(reader: &mut Reader<'a>, before: &[u8]) -> Result<Elemen
         → IsOkAnd result (λ e. e.octets.now ≡ element) × (reader.new ≡ rest) }
 {
     let octets = reader.read_octets()?;
-    let check = check_of(before, octets);
+    let check = next_check(before, octets);
     take_check(reader, &check)?;
     Ok(Element { octets, check })
 }
@@ -62,7 +62,7 @@ pub fn put_element(out: &mut Writer, before: &[u8], element: &[u8]) -> Result<[u
     ensures text { OnOk result (out.new ≡ out.old ++ checked before.now element.now) }
     ensures check { IfOk result (λ check. check ≡ check_of before.now element.now) }
 {
-    let check = check_of(before, element);
+    let check = next_check(before, element);
     out.put_octets(element)?;
     out.put_octets(&check)?;
     Ok(check)

@@ -4,7 +4,8 @@ ghost use Rattle.std.specs.Int.{int_max, int_min};
 ghost use Rattle.krb_fields.specs.Skew.{skew};
 ghost use Rattle.journal.specs.Decision.{doubt_of, entries_behind, floor_behind, goes_on_behind};
 ghost use Rattle.journal.specs.Decision.{is_above, is_behind, is_early, is_first, is_foreign, is_later, is_linked};
-ghost use Rattle.journal.specs.Decision.{is_other_boot, is_other_realm, is_sealed, is_unlinked, resumed_floor, resumption_of};
+ghost use Rattle.journal.specs.Decision.{is_other_boot, is_other_realm, is_sealed, is_unlinked, resumed_floor};
+ghost use Rattle.journal.specs.Decision.{resumption_of};
 ghost use Rattle.journal.specs.Decision.{seal_of, seen_of, start_by, start_of};
 ghost use Rattle.journal.specs.Decision.{doubt_without, floor_since, found_floor, goes_behind, greater, is_cut};
 ghost use Rattle.journal.specs.Decision.{is_missealed, is_nothing, last_second, shown_by};
@@ -24,8 +25,8 @@ use std::fmt;
 pub enum Found {
     /// No file.
     Nothing,
-    /// A file that is no whole journal, or that others may write. It may still show authenticators: no time below
-    /// this second may be accepted then. `None` if it shows none.
+    /// A file that is no whole journal, or that others may write. If it still shows authenticators, this is the second
+    /// below which no time may be accepted. `None` if it shows none.
     Broken(Option<i64>),
     /// A whole journal.
     Whole(Journal),
@@ -34,11 +35,11 @@ pub enum Found {
 /// What is found in the three files of a journal.
 #[derive(Drop)]
 pub struct FoundFiles {
-    /// In the file that went before the newer one.
+    /// In the file that came before the newer one.
     pub older: Found,
     /// In the file that is appended to.
     pub newer: Found,
-    /// In the file that was begun, before it is the newer one.
+    /// In a file that was begun, and has not become the newer one yet.
     pub beside: Found,
 }
 
@@ -57,29 +58,29 @@ pub struct Place<'a> {
 
 /// Why a start can't resume.
 #[derive(Clone, Copy, Debug, PartialEq, Eq)]
-pub enum Doubt {
+pub enum ResumeRefusal {
     /// There is no journal.
     Absent,
-    /// It was cut within an entry, an entry was changed, or one was left out or added before others; its seal is that
-    /// of another journal; the newer of its files is missing; or others may write it. A journal that was not sealed and
-    /// lacks its last entries is not noticed, nor an older one that was put back.
+    /// An entry was cut or changed, or one was left out or added before others; the seal is that of another journal;
+    /// the newer file is missing; or others may write the file. Two things go unnoticed: that a journal without a seal
+    /// lacks its last entries, and that an older journal was put back.
     Damaged,
     /// The journal is of another realm.
     OtherRealm,
-    /// The system was booted since then, and the journal was not sealed before, so its end may be lost.
+    /// The system was booted since then. The journal was not sealed before, so its end may be lost.
     OtherBoot,
     /// The journal that went before this one is missing.
     Unlinked,
 }
 
-impl fmt::Display for Doubt {
+impl fmt::Display for ResumeRefusal {
     fn fmt<W: fmt::Write>(&self, f: &mut fmt::Formatter<W>) -> fmt::Result {
         f.write_str(match self {
-            Doubt::Absent => "there is none",
-            Doubt::Damaged => "it is damaged, or others may write it",
-            Doubt::OtherRealm => "it is of another realm",
-            Doubt::OtherBoot => "the system was booted since, and it was not sealed before",
-            Doubt::Unlinked => "the journal that goes before it is missing",
+            ResumeRefusal::Absent => "there is none",
+            ResumeRefusal::Damaged => "it is damaged, or others may write it",
+            ResumeRefusal::OtherRealm => "it is of another realm",
+            ResumeRefusal::OtherBoot => "the system was booted since, and it was not sealed before",
+            ResumeRefusal::Unlinked => "the journal that goes before it is missing",
         })
     }
 }
@@ -96,15 +97,19 @@ pub enum Start {
     },
     /// It refuses all authenticators that may have come before it.
     Refuses {
-        doubt: Doubt,
-        /// The floor that the files ask for, if they show any authenticator or header: it is above the times of all
-        /// that they show. So it counts if the clock is behind.
+        doubt: ResumeRefusal,
+        /// The floor that the files ask for, if they show any authenticator or header. It is above the times of all
+        /// that they show, so that it holds though the clock is behind.
         floor: Option<i64>,
     },
 }
 
 /// Decides how a server starts.
-pub fn start_of(alloc: Global, place: &Place<'_>, found: &FoundFiles) -> Result<Start, AllocError>
+pub fn decide_start(
+    alloc: Global,
+    place: &Place<'_>,
+    found: &FoundFiles,
+) -> Result<Start, AllocError>
     // Promise: **a start resumes exactly if** the journal is whole, of this realm, of this boot or sealed, and what it
     // links to is there, likewise whole and of this realm, and below its floor.
     // Promise: a start that doesn't resume gives the first reason why not.
@@ -122,10 +127,10 @@ pub fn start_of(alloc: Global, place: &Place<'_>, found: &FoundFiles) -> Result<
             floor,
         }),
         Found::Broken(_) => Ok(Start::Refuses {
-            doubt: Doubt::Damaged,
+            doubt: ResumeRefusal::Damaged,
             floor,
         }),
-        Found::Whole(journal) => match doubt_of(place, &found.older, journal) {
+        Found::Whole(journal) => match find_refusal(place, &found.older, journal) {
             Some(doubt) => Ok(Start::Refuses { doubt, floor }),
             None => resumes(alloc, place, found, journal),
         },
@@ -143,19 +148,19 @@ fn resumes(
         start ≡ start_by place.now found.now.older journal.now found.now.beside None) }
 {
     Ok(Start::Resumes {
-        resumption: resumption_of(alloc, place, &found.older, journal)?,
+        resumption: make_resumption(alloc, place, &found.older, journal)?,
         check: goes_on_behind(place, &found.older, journal),
     })
 }
 
 /// Returns why a server can't resume without a newer file.
-fn doubt_without(older: &Found, beside: &Found) -> Doubt
+fn doubt_without(older: &Found, beside: &Found) -> ResumeRefusal
     ensures { result ≡ doubt_without older.now beside.now }
 {
     if is_nothing(older) && is_nothing(beside) {
-        Doubt::Absent
+        ResumeRefusal::Absent
     } else {
-        Doubt::Damaged
+        ResumeRefusal::Damaged
     }
 }
 
@@ -176,13 +181,13 @@ pub fn found_floor(found: &FoundFiles) -> Option<i64>
     ensures { result ≡ found_floor found.now.older found.now.newer found.now.beside }
 {
     greater(
-        shown_by(&found.older),
-        greater(shown_by(&found.newer), shown_by(&found.beside)),
+        file_floor(&found.older),
+        greater(file_floor(&found.newer), file_floor(&found.beside)),
     )
 }
 
 /// Returns the floor that one of the files asks for.
-fn shown_by(found: &Found) -> Option<i64>
+fn file_floor(found: &Found) -> Option<i64>
     ensures { result ≡ shown_by found.now }
 {
     match found {
@@ -203,8 +208,8 @@ pub fn greater(floor: Option<i64>, other: Option<i64>) -> Option<i64>
     }
 }
 
-/// Returns a floor that is not below another one, and not below that of a start whose clock shows this second. It is at
-/// most the last second that a time can have.
+/// Returns the greater of a floor and of that of a start whose clock shows this second. It is at most the last second
+/// that a time can have.
 pub(crate) fn floor_since(floor: i64, second: i64) -> i64
     ensures { result ≡ floor_since floor second }
 {
@@ -222,7 +227,7 @@ fn restart_floor(second: i64) -> i64
     }
 }
 
-/// Checks whether a turn was cut: the newer file is missing, and what is beside goes on behind the older one.
+/// Checks whether a turn was cut: the newer file is missing, and the file beside goes on behind the older one.
 pub(crate) fn is_cut(found: &FoundFiles) -> bool
     ensures { result ≡ is_cut found.now.older found.now.newer found.now.beside }
 {
@@ -239,13 +244,17 @@ fn goes_behind(found: &Found, before: &Found) -> bool
 }
 
 /// Returns the seal of these journals: the last check of the newer one, if a start would resume with both.
-pub(crate) fn seal_of(place: &Place<'_>, older: &Found, newer: &Found) -> Result<[u8; 16], Doubt>
+pub(crate) fn decide_seal(
+    place: &Place<'_>,
+    older: &Found,
+    newer: &Found,
+) -> Result<[u8; 16], ResumeRefusal>
     ensures { result ≡ seal_of place.now older.now newer.now }
 {
     match newer {
-        Found::Nothing => Err(Doubt::Absent),
-        Found::Broken(_) => Err(Doubt::Damaged),
-        Found::Whole(journal) => match doubt_of(place, older, journal) {
+        Found::Nothing => Err(ResumeRefusal::Absent),
+        Found::Broken(_) => Err(ResumeRefusal::Damaged),
+        Found::Whole(journal) => match find_refusal(place, older, journal) {
             Some(doubt) => Err(doubt),
             None => Ok(journal.check),
         },
@@ -253,14 +262,14 @@ pub(crate) fn seal_of(place: &Place<'_>, older: &Found, newer: &Found) -> Result
 }
 
 /// Returns why the server can't resume with this journal, if it can't.
-fn doubt_of(place: &Place<'_>, older: &Found, journal: &Journal) -> Option<Doubt>
+fn find_refusal(place: &Place<'_>, older: &Found, journal: &Journal) -> Option<ResumeRefusal>
     ensures { result ≡ doubt_of place.now older.now journal.now }
 {
     first_holding(&[
-        (is_other_realm(place, journal), Doubt::OtherRealm),
-        (is_missealed(place, journal), Doubt::Damaged),
-        (is_other_boot(place, journal), Doubt::OtherBoot),
-        (is_unlinked(place, older, journal), Doubt::Unlinked),
+        (is_other_realm(place, journal), ResumeRefusal::OtherRealm),
+        (is_missealed(place, journal), ResumeRefusal::Damaged),
+        (is_other_boot(place, journal), ResumeRefusal::OtherBoot),
+        (is_unlinked(place, older, journal), ResumeRefusal::Unlinked),
     ])
 }
 
@@ -276,7 +285,7 @@ fn is_other_boot(place: &Place<'_>, journal: &Journal) -> bool
     !(journal.header.boot.as_slice() == place.boot || is_sealed(place, journal))
 }
 
-/// Checks whether there is a seal, and it is that of another journal, or this one has lost its end.
+/// Checks whether there is a seal that is not this journal's: it is another journal's, or this one has lost its end.
 fn is_missealed(place: &Place<'_>, journal: &Journal) -> bool
     ensures { result ≡ is_missealed place.now journal.now }
 {
@@ -319,7 +328,7 @@ fn is_behind(journal: &Journal, before: &Journal) -> bool
     before.check.as_slice() == journal.header.link.as_slice() && is_above(journal, before)
 }
 
-/// Checks whether nothing goes before a journal, or what does is there, and whole.
+/// Checks whether a journal is the first, or the one before it is there, and whole.
 fn is_linked(journal: &Journal, older: &Found) -> bool
     ensures { result ≡ is_linked journal.now older.now }
 {
@@ -329,7 +338,7 @@ fn is_linked(journal: &Journal, older: &Found) -> bool
     }
 }
 
-/// Checks whether what goes before a journal is of another realm.
+/// Checks whether the journal before this one is of another realm.
 fn is_foreign(place: &Place<'_>, journal: &Journal, older: &Found) -> bool
     ensures { result ≡ is_foreign place.now journal.now older.now }
 {
@@ -369,7 +378,7 @@ fn goes_on_behind(place: &Place<'_>, older: &Found, journal: &Journal) -> Option
 }
 
 /// Returns what the server resumes with.
-fn resumption_of(
+fn make_resumption(
     alloc: Global,
     place: &Place<'_>,
     older: &Found,

@@ -3,8 +3,8 @@ ghost use Rattle.std.specs.Prelude.{◌≡◌, Option, IfOk, IfSome};
 ghost use Rattle.std.specs.Result.{is_ok};
 ghost use Rattle.journal.specs.World.{Appends, BeginsAs, Finishes, IsRead, Leaves, Seals, Unseals, World, file_in};
 
-use crate::fault::FilesFault;
-use std::alloc::Global;
+use crate::fault::Unfit;
+use std::alloc::{AllocError, Global};
 
 /// One of the three files of a journal.
 #[derive(Clone, Copy, Debug, PartialEq, Eq)]
@@ -13,7 +13,7 @@ pub enum Part {
     Older,
     /// The file that is appended to.
     Newer,
-    /// A file that was begun, before it is the newer one.
+    /// A file that was begun, and has not become the newer one yet.
     Beside,
 }
 
@@ -26,7 +26,7 @@ pub enum Begun {
     /// There is no older one afterwards. The new file is written and synced beside the newer one, takes its place, and
     /// the folder is synced. Then the older one is removed, and the folder is synced again.
     Anew,
-    /// The same, but the older file is removed first if the newer one is there: it may be why there is no room. The
+    /// As `Anew`, but if the newer file is there, the older one is removed first: it may be why there is no room. The
     /// floor of the newer one is above all that it holds.
     Roomy,
 }
@@ -44,7 +44,7 @@ pub enum Left {
 
 /// Why a file was not begun, and what that left.
 #[derive(Drop)]
-pub struct BeginFault<E> {
+pub struct BeginError<E> {
     /// Why the call failed.
     pub fault: E,
     /// What it left.
@@ -54,9 +54,9 @@ pub struct BeginFault<E> {
 /// The content of one of the files.
 #[derive(Drop)]
 pub enum FileText {
-    /// There is no file.
+    /// No file.
     Nothing,
-    /// There is a file, but no journal is read from it: it is too long, or others may write it.
+    /// A file that is not read as a journal: it is too long, or others may write it.
     Unusable,
     /// These bytes.
     Octets(Vec<u8>),
@@ -66,9 +66,9 @@ pub enum FileText {
 #[derive(Drop)]
 pub enum News<E> {
     /// The files could not take turns. The journal goes on in the same file.
-    NotTurned(FilesFault<E>),
+    NotTurned(E),
     /// An authenticator could not be kept.
-    Lost(FilesFault<E>),
+    Lost(E),
     /// All that could not be kept is kept now.
     Mended,
 }
@@ -76,8 +76,8 @@ pub enum News<E> {
 /// The files of a journal, and its seal: the last check of a journal that no server holds and that is wholly on the
 /// disk. They may keep a record of what the files hold, for contracts alone.
 pub trait JournalFiles {
-    /// Why a call failed.
-    type Fault: Drop;
+    /// Why a call failed, or why the text for one could not be made.
+    type Fault: From<Unfit> + From<AllocError> + Drop;
 
     // What the files hold, if that is recorded.
     ghost world: { Self → Option World };
@@ -92,7 +92,7 @@ pub trait JournalFiles {
         alloc: Global,
         text: &[u8],
         how: Begun,
-    ) -> Result<(), BeginFault<Self::Fault>>
+    ) -> Result<(), BeginError<Self::Fault>>
         ensures { BeginsAs how text.now result (world self.old) (world self.new) };
 
     /// Finishes a turn that was cut: the file beside becomes the newer one, which is missing, and the folder is synced.

@@ -9,17 +9,14 @@ ghost use Rattle.journal.specs.World.{IsRead, file_in};
 ghost use Rattle.journal.specs.declared.decision.Found.TheVariants.{Broken};
 
 use crate::decision::{Found, FoundFiles, is_cut};
-use crate::fault::{FilesFault, JournalFault};
+use crate::fault::JournalError;
 use crate::files::{FileText, JournalFiles, Part};
 use crate::reading::read_journal;
 use crate::showing::shown_in;
 use std::alloc::{AllocError, Global};
 
 /// Reads the files of a journal. A turn that was cut between its two renames is finished first.
-pub fn read_files<F: JournalFiles>(
-    alloc: Global,
-    files: &mut F,
-) -> Result<FoundFiles, FilesFault<F::Fault>>
+pub fn read_files<F: JournalFiles>(alloc: Global, files: &mut F) -> Result<FoundFiles, F::Fault>
     // This is found in them as they are then.
     // Promise (found, shown, finished): **a turn that was cut is finished**: where the newer file is missing, and the
     // one beside goes on behind the older one, a reading makes it the newer one; it does nothing else to the files.
@@ -28,24 +25,16 @@ pub fn read_files<F: JournalFiles>(
     // And nothing else was done to them.
     ensures finished { MayFinish (F.world files.old) (F.world files.new) }
 {
-    let found = match read_each(alloc, files) {
-        Ok(found) => found,
-        Err(fault) => return Err(fault),
-    };
+    let found = read_each(alloc, files)?;
     if !is_cut(&found) {
         return Ok(found);
     }
-    match files.finish() {
-        Ok(()) => Ok(finished(found)),
-        Err(fault) => Err(FilesFault::Files(fault)),
-    }
+    files.finish()?;
+    Ok(finished(found))
 }
 
 /// Reads each of the files.
-fn read_each<F: JournalFiles>(
-    alloc: Global,
-    files: &mut F,
-) -> Result<FoundFiles, FilesFault<F::Fault>>
+fn read_each<F: JournalFiles>(alloc: Global, files: &mut F) -> Result<FoundFiles, F::Fault>
     ensures world { F.world files.new ≡ F.world files.old }
     ensures found { IfOk result (λ found. IfSome (F.world files.old) (AreFound found)) }
     ensures shown { IfOk result (λ found. IfSome (F.world files.old) (AreReadOut found)) }
@@ -77,7 +66,7 @@ pub fn read_part<F: JournalFiles>(
     alloc: Global,
     files: &mut F,
     part: Part,
-) -> Result<Found, FilesFault<F::Fault>>
+) -> Result<Found, F::Fault>
     ensures world { F.world files.new ≡ F.world files.old }
     // Promise (found, shown): a file counts as absent only if it is, and as broken only if it spells no journal or may
     // not be read.
@@ -86,18 +75,12 @@ pub fn read_part<F: JournalFiles>(
     ensures shown { IfOk result (λ found. IfSome (F.world files.old)
         (λ w. IsReadOut (file_in part w) found ⊎ (found ≡ Broken None))) }
 {
-    let text = match files.read(alloc, part) {
-        Ok(text) => text,
-        Err(fault) => return Err(FilesFault::Files(fault)),
-    };
-    match found_of(alloc, &text) {
-        Ok(found) => Ok(found),
-        Err(AllocError) => Err(FilesFault::Memory),
-    }
+    let text = files.read(alloc, part)?;
+    Ok(judge_text(alloc, &text)?)
 }
 
 /// Reads what was read of a file as a journal.
-pub fn found_of(alloc: Global, text: &FileText) -> Result<Found, AllocError>
+pub fn judge_text(alloc: Global, text: &FileText) -> Result<Found, AllocError>
     // Promise, as read_part: a file counts as ..
     ensures { IfOk result (FoundBy text.now) }
 {
@@ -114,7 +97,7 @@ fn found_in(alloc: Global, text: &[u8]) -> Result<Found, AllocError>
 {
     match read_journal(alloc, text) {
         Ok(journal) => Ok(Found::Whole(journal)),
-        Err(JournalFault::Broken) => Ok(Found::Broken(shown_in(text))),
-        Err(JournalFault::Memory) => Err(AllocError),
+        Err(JournalError::Broken) => Ok(Found::Broken(shown_in(text))),
+        Err(JournalError::Memory) => Err(AllocError),
     }
 }

@@ -20,11 +20,11 @@ pub fn may_be_journal(text: &[u8]) -> bool
     // which a start sees that it may touch a file.
     ensures { result ≡ may_be_journal text.now }
 {
-    head_of(text).is_some()
+    after_head(text).is_some()
 }
 
 /// Returns what follows the first tags of a journal, or `None` if the text has other ones.
-fn head_of(text: &[u8]) -> Option<&[u8]>
+fn after_head(text: &[u8]) -> Option<&[u8]>
     ensures { option_map (λ rest. rest.now) result ≡ head_of text.now }
 {
     let string = behind_tag(STRING, text)?;

@@ -6,13 +6,14 @@ ghost use Rattle.replay.specs.declared.seen.Resumption.{Resumption};
 ghost use Rattle.replay.specs.declared.seen.Seen.{Seen as SeenBefore};
 ghost use Rattle.journal.specs.Appending.{HasAppended, HasBegun, HasMended, HasTail, MayKeep, MayTurn};
 ghost use Rattle.journal.specs.Appending.{HasKeptOne, HasStarted, HasTurned, kept_by};
-ghost use Rattle.journal.specs.Holding.{Counts, HasKept, IsRaised, IsSafe, IsStart, StillThere, is_whole, known_by, with_one};
+ghost use Rattle.journal.specs.Holding.{Counts, HasKept, IsRaised, IsSafe, IsStart, StillThere, is_whole, known_by};
+ghost use Rattle.journal.specs.Holding.{with_one};
 ghost use Rattle.journal.specs.Keeping.{BeginsJournal, begun};
 ghost use Rattle.journal.specs.World.{Leaves, SameSeal};
 
 use crate::decision::{Found, Place, Start};
-use crate::fault::FilesFault;
-use crate::files::{BeginFault, Begun, JournalFiles, Left, News};
+use crate::fault::Unfit;
+use crate::files::{BeginError, Begun, JournalFiles, Left, News};
 use crate::keeping::{floor_on, write_beginning, write_seen};
 use crate::reading::Journal;
 use crate::writing::Written;
@@ -43,7 +44,7 @@ struct Tail {
     left: u64,
 }
 
-/// What a file is begun with, and how many octets are appended to it at most.
+/// What a file is begun with, and the most octets that are appended to it.
 #[derive(Drop)]
 struct Next<'a> {
     place: Place<'a>,
@@ -113,7 +114,7 @@ impl<F: JournalFiles> JournalFile<F> {
         start: &Start,
         newer: &Found,
         len: u64,
-    ) -> Result<(), FilesFault<F::Fault>>
+    ) -> Result<(), F::Fault>
         // The files hold all that the start knows.
         // Promise (kept, safe): **what files hold after each call is known**: over files whose calls may fail, a
         // journal that was begun holds all that its start knows.
@@ -138,9 +139,7 @@ impl<F: JournalFiles> JournalFile<F> {
         // Promise: a start breaks the seal, or fails; no call of a running server makes one.
         ensures broken { IfOk result (λ _. IfSome (F.world self.new.files) (λ w. w.seal ≡ [])) }
     {
-        if let Err(fault) = self.files.unseal() {
-            return Err(FilesFault::Files(fault));
-        }
+        self.files.unseal()?;
         let place = Place {
             realm: self.realm.as_slice(),
             boot: self.boot.as_slice(),
@@ -294,12 +293,12 @@ fn begin_in_place<F: JournalFiles>(
     files: &mut F,
     is_said: &mut bool,
     next: &Next<'_>,
-) -> Result<Option<Tail>, FilesFault<F::Fault>>
+) -> Result<Option<Tail>, F::Fault>
     ensures { HasStarted next.now.place next.now.floor (F.world files.old) result (F.world files.new) }
 {
     match begin(alloc, files, next, &[], Begun::Anew) {
         Ok(tail) => Ok(Some(tail)),
-        Err(BeginFault { fault, left }) => match left {
+        Err(BeginError { fault, left }) => match left {
             Left::Before => Err(fault),
             Left::Between => Err(fault),
             Left::InPlace => {
@@ -317,39 +316,35 @@ fn begin<F: JournalFiles>(
     next: &Next<'_>,
     link: &[u8],
     how: Begun,
-) -> Result<Tail, BeginFault<FilesFault<F::Fault>>>
+) -> Result<Tail, BeginError<F::Fault>>
     ensures { HasBegun next.now.place next.now.floor link.now how (F.world files.old) result (F.world files.new) }
 {
     let written = match fit(beginning(alloc, &next.place, next.floor, link)) {
         Ok(written) => written,
         Err(fault) => {
-            return Err(BeginFault {
+            return Err(BeginError {
                 fault,
                 left: Left::Before,
             });
         }
     };
-    match files.begin(alloc, &written.text, how) {
-        Ok(()) => Ok(Tail {
-            check: written.check,
-            last: next.place.at.sec.saturating_add(TURN),
-            left: next.most.saturating_sub(written.text.len() as u64),
-        }),
-        Err(BeginFault { fault, left }) => Err(BeginFault {
-            fault: FilesFault::Files(fault),
-            left,
-        }),
-    }
+    files.begin(alloc, &written.text, how)?;
+    Ok(Tail {
+        check: written.check,
+        last: next.place.at.sec.saturating_add(TURN),
+        left: next.most.saturating_sub(written.text.len() as u64),
+    })
 }
 
 /// Returns what was written, and fails if nothing was.
-fn fit<E>(written: Result<Option<Written>, AllocError>) -> Result<Written, FilesFault<E>>
+fn fit<E: From<Unfit> + From<AllocError>>(
+    written: Result<Option<Written>, AllocError>,
+) -> Result<Written, E>
     ensures { IfOk result (λ w. written ≡ Ok (Some w)) }
 {
-    match written {
-        Ok(Some(written)) => Ok(written),
-        Ok(None) => Err(FilesFault::Unfit),
-        Err(AllocError) => Err(FilesFault::Memory),
+    match written? {
+        Some(written) => Ok(written),
+        None => Err(E::from(Unfit)),
     }
 }
 
@@ -396,7 +391,7 @@ fn turn<F: JournalFiles>(alloc: Global, files: &mut F, next: &Next<'_>, tail: Ta
 {
     match begin(alloc, files, next, &tail.check, Begun::Linked) {
         Ok(end) => Some(end),
-        Err(BeginFault { fault, left }) => {
+        Err(BeginError { fault, left }) => {
             files.say(News::NotTurned(fault));
             match left {
                 Left::Before => Some(Tail {
@@ -445,18 +440,16 @@ fn append_seen<F: JournalFiles>(
     files: &mut F,
     timed: &TimedSeen<'_>,
     tail: Tail,
-) -> Result<Tail, FilesFault<F::Fault>>
+) -> Result<Tail, F::Fault>
     ensures { HasAppended timed.now.at timed.now.seen.now tail (F.world files.old) result (F.world files.new) }
 {
-    let written = fit(write_seen(alloc, &tail.check, timed.at, timed.seen))?;
-    match files.append(&written.text) {
-        Ok(()) => Ok(Tail {
-            check: written.check,
-            last: tail.last,
-            left: tail.left.saturating_sub(written.text.len() as u64),
-        }),
-        Err(fault) => Err(FilesFault::Files(fault)),
-    }
+    let written = fit::<F::Fault>(write_seen(alloc, &tail.check, timed.at, timed.seen))?;
+    files.append(&written.text)?;
+    Ok(Tail {
+        check: written.check,
+        last: tail.last,
+        left: tail.left.saturating_sub(written.text.len() as u64),
+    })
 }
 
 /// Begins a file in place of both, with no link. Its floor is above all that could not be kept.
@@ -481,7 +474,7 @@ fn begin_anew<F: JournalFiles>(
 }
 
 /// Reports that an authenticator could not be kept, unless that was reported.
-fn say_lost<F: JournalFiles>(files: &mut F, is_said: &mut bool, fault: FilesFault<F::Fault>)
+fn say_lost<F: JournalFiles>(files: &mut F, is_said: &mut bool, fault: F::Fault)
     ensures { F.world files.new ≡ F.world files.old }
 {
     if !*is_said {

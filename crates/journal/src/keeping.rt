@@ -31,14 +31,14 @@ pub fn write_seen(
     // came, and stands behind the last check.
     ensures { IfOk result (λ written. IfSome written (λ w. KeepsEntry check.now at seen.now w.text.items w.check)) }
 {
-    let Some(entry) = entry_of(alloc, at, seen)? else {
+    let Some(entry) = make_entry(alloc, at, seen)? else {
         return Ok(None);
     };
     Ok(Some(write_entry(alloc, check, &entry)?))
 }
 
 /// Returns the entry of an authenticator, `None` if its name or a number is too large.
-fn entry_of(alloc: Global, at: Moment, seen: &Seen) -> Result<Option<Entry>, AllocError>
+fn make_entry(alloc: Global, at: Moment, seen: &Seen) -> Result<Option<Entry>, AllocError>
     ensures is { IfOk result (λ entry. IfSome entry (λ e. seen_of e ≡ seen.now)) }
     ensures came { IfOk result (λ entry. IfSome entry (λ e. came e ≡ at.sec)) }
     ensures short { IfOk result (λ entry. IfSome entry (λ e. length (written forms.entry e) < 2 ^ 32)) }
@@ -52,7 +52,7 @@ fn entry_of(alloc: Global, at: Moment, seen: &Seen) -> Result<Option<Entry>, All
     let Some(cusec) = Microseconds::new(seen.cusec) else {
         return Ok(None);
     };
-    let Some(age) = age_of(at, ctime) else {
+    let Some(age) = seconds_since(at, ctime) else {
         return Ok(None);
     };
     Ok(Some(Entry {
@@ -64,7 +64,7 @@ fn entry_of(alloc: Global, at: Moment, seen: &Seen) -> Result<Option<Entry>, All
 }
 
 /// Returns how many seconds after a time the request came, if an `i32` is that number.
-fn age_of(at: Moment, ctime: KTime) -> Option<i32>
+fn seconds_since(at: Moment, ctime: KTime) -> Option<i32>
     ensures { IfSome result (λ age. ctime +ℤ age ≡ at.sec) }
 {
     i32::try_from(at.sec - ctime.seconds()).ok()
@@ -82,13 +82,13 @@ pub fn write_beginning(
     ensures { IfOk result (λ written. IfSome written
         (λ w. BeginsJournal (begun place.now floor link.now) w.text.items w.check)) }
 {
-    let Some(header) = header_of(alloc, place, floor, link)? else {
+    let Some(header) = make_header(alloc, place, floor, link)? else {
         return Ok(None);
     };
     Ok(Some(write_header(alloc, &header)?))
 }
 
-fn header_of(
+fn make_header(
     alloc: Global,
     place: &Place<'_>,
     floor: i64,

@@ -16,8 +16,7 @@ pub fn every_journal()
     ensures { HoldsOn }
 {}
 
-/// What a seal is for: a start in another boot resumes with a sealed journal alone, and only what a start would resume
-/// with is sealed.
+/// A start in another boot resumes only with a sealed journal, and only what a start would resume with is sealed.
 pub fn every_seal()
     // Promise, as seal_journal: **a start in another ..
     // Promise: no start resumes without what was kept, no matter who seals or breaks the journal.
@@ -53,8 +52,7 @@ pub fn every_journal_life()
     ensures { LivesHold }
 {}
 
-/// In such a life, a start that refuses after it read the files forgets nothing that they still have, whatever its
-/// clock shows.
+/// In such a life, a start that read the files and refuses still refuses all that they have, whatever its clock shows.
 pub fn every_counted_life()
     // Promise, as every_journal_life: each later start that ..
     ensures { ReadIsLater }

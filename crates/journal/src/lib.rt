@@ -2,7 +2,7 @@
 //!
 //! ```
 //! let found = read_files(alloc, &mut files)?;
-//! let start = start_of(alloc, &place, &found)?;
+//! let start = decide_start(alloc, &place, &found)?;
 //! let mut journal = JournalFile::new(files, realm, boot, floor, most);
 //! journal.start(alloc, at, &start, &found.newer, len)?;
 //! journal.keep(alloc, at, &seen)?; // before the reply to its request is sent
@@ -10,11 +10,10 @@
 //!
 //! A journal is a header and entries. Each is in DER, in an OCTET STRING, and is followed by its check: a digest of the
 //! check before it and of its octets. So an entry that was cut or changed breaks the chain, and so does one that was
-//! left out or added before others. Nothing shows that the last entries are missing, or that an older journal was put
-//! back.
+//! left out or added before others. Nothing shows that the last entries are missing, or that somebody put an older
+//! journal back.
 //!
-//! A start in another boot resumes only with a journal that was sealed: the system may have lost the end of another
-//! one.
+//! A start in another boot resumes only with a sealed journal. The system may have lost the end of any other.
 //!
 //! It opens no file itself: [`JournalFiles`] are what a [`JournalFile`] reads and writes, and `kdc_files` has those of
 //! the system. It reads no clock.
@@ -37,18 +36,20 @@ mod sealing;
 mod showing;
 mod writing;
 
-pub use decision::{Doubt, Found, FoundFiles, Place, Start, found_floor, greater, start_of};
+pub use decision::{
+    Found, FoundFiles, Place, ResumeRefusal, Start, decide_start, found_floor, greater,
+};
 pub use entry::{Entry, EntryRef};
-pub use fault::{FilesFault, JournalFault, UNFIT};
-pub use files::{BeginFault, Begun, FileText, JournalFiles, Left, News, Part};
-pub use found_files::{found_of, read_files, read_part};
+pub use fault::Unfit;
+pub use files::{BeginError, Begun, FileText, JournalFiles, Left, News, Part};
+pub use found_files::{judge_text, read_files, read_part};
 pub use head::{HEAD, may_be_journal};
 pub use header::{Header, HeaderRef};
 pub use journal_file::{JournalFile, NotKept};
 pub use keeping::{above, floor_on, write_beginning, write_seen};
 pub use laws::{every_counted_life, every_front, every_journal, every_journal_life, every_seal};
 pub use memory_files::{MemoryFiles, WriteFailures};
-pub use reading::{Journal, read_journal};
+pub use reading::Journal;
 pub use sealing::{SealOutcome, seal_journal};
 pub use showing::shown_in;
 pub use writing::{Written, write_entry, write_header};

@@ -1,15 +1,29 @@
 //! The files of a journal, in memory.
 ghost use Rattle.std.specs.Prelude.{◌≡◌, ◌++◌, ℕ, List, [], Some, None, IfOk, OnErr, OnOk, option_map, vec_items};
 ghost use Rattle.std.specs.Result.{is_ok};
-ghost use Rattle.journal.specs.World.{Appends, BeginsAs, Finishes, HasBeside, IsBetween, IsInPlace, IsLeft, IsRead, Leaves, file_in, roomier, with_file, with_more};
+ghost use Rattle.journal.specs.World.{Appends, BeginsAs, Finishes, HasBeside, IsBetween, IsInPlace, IsLeft, IsRead};
+ghost use Rattle.journal.specs.World.{Leaves, file_in, roomier, with_file, with_more};
 ghost use Rattle.journal.specs.MemoryWorld.{memory_world, seal_in};
 
-use crate::files::{BeginFault, Begun, FileText, JournalFiles, Left, News, Part};
+use crate::fault::Unfit;
+use crate::files::{BeginError, Begun, FileText, JournalFiles, Left, News, Part};
 use std::alloc::{AllocError, Global};
 
-/// A call on files in memory failed: it was made to fail, memory ran out, or there was no file to append to.
+/// A call on files in memory failed: it was made to fail, memory ran out, its text was unfit, or no file was there.
 #[derive(Clone, Copy, Debug, PartialEq, Eq)]
-pub struct MemoryFault;
+pub struct MemoryFilesError;
+
+impl From<Unfit> for MemoryFilesError {
+    fn from(_error: Unfit) -> MemoryFilesError {
+        MemoryFilesError
+    }
+}
+
+impl From<AllocError> for MemoryFilesError {
+    fn from(_error: AllocError) -> MemoryFilesError {
+        MemoryFilesError
+    }
+}
 
 /// Which of the calls that change a file in memory fail, and what a failed one leaves.
 #[derive(Clone, Copy, Debug, PartialEq, Eq)]
@@ -62,7 +76,7 @@ impl MemoryFiles {
         self.failures = failures;
     }
 
-    /// Leaves what a `begin` that fails leaves, as far as it is to come, and returns how far it came.
+    /// Leaves what a failed `begin` leaves, as far as it is made to come. Returns how far it came.
     fn leave(&mut self, alloc: Global, part: &[u8], octets: Vec<u8>, how: Begun) -> Left
         ensures { (rest : List ℕ) → octets.items ≡ part.now ++ rest
             → IsLeft how octets.items result (memory_world self.old) (memory_world self.new) }
@@ -155,18 +169,18 @@ impl MemoryFiles {
 }
 
 impl JournalFiles for MemoryFiles {
-    type Fault = MemoryFault;
+    type Fault = MemoryFilesError;
 
     // Promise, as MemoryFiles::new: files in memory, by ..
     ghost world = { λ m. Some (memory_world m) };
 
-    fn append(&mut self, text: &[u8]) -> Result<(), MemoryFault> {
+    fn append(&mut self, text: &[u8]) -> Result<(), MemoryFilesError> {
         if self.fails() {
             let (part, _) = text.split_at(self.failures.cut.min(text.len()));
-            let _ = append_to(&mut self.newer, part);
-            return Err(MemoryFault);
+            let _ = push_text(&mut self.newer, part);
+            return Err(MemoryFilesError);
         }
-        append_to(&mut self.newer, text)
+        push_text(&mut self.newer, text)
     }
 
     fn begin(
@@ -174,7 +188,7 @@ impl JournalFiles for MemoryFiles {
         alloc: Global,
         text: &[u8],
         how: Begun,
-    ) -> Result<(), BeginFault<MemoryFault>> {
+    ) -> Result<(), BeginError<MemoryFilesError>> {
         let Ok(octets) = Vec::from_slice(alloc, text) else {
             return Err(not_begun(Left::Before));
         };
@@ -187,46 +201,43 @@ impl JournalFiles for MemoryFiles {
         Ok(())
     }
 
-    fn finish(&mut self) -> Result<(), MemoryFault> {
+    fn finish(&mut self) -> Result<(), MemoryFilesError> {
         if self.fails() {
-            return Err(MemoryFault);
+            return Err(MemoryFilesError);
         }
         self.newer = self.beside.take();
         Ok(())
     }
 
-    fn read(&mut self, alloc: Global, part: Part) -> Result<FileText, MemoryFault> {
+    fn read(&mut self, alloc: Global, part: Part) -> Result<FileText, MemoryFilesError> {
         match part {
-            Part::Older => text_of(alloc, &self.older),
-            Part::Newer => text_of(alloc, &self.newer),
-            Part::Beside => text_of(alloc, &self.beside),
+            Part::Older => read_text(alloc, &self.older),
+            Part::Newer => read_text(alloc, &self.newer),
+            Part::Beside => read_text(alloc, &self.beside),
         }
     }
 
-    fn read_seal(&mut self, alloc: Global) -> Result<Vec<u8>, MemoryFault> {
-        match seal_text(alloc, &self.seal) {
-            Ok(seal) => Ok(seal),
-            Err(AllocError) => Err(MemoryFault),
-        }
+    fn read_seal(&mut self, alloc: Global) -> Result<Vec<u8>, MemoryFilesError> {
+        Ok(seal_text(alloc, &self.seal)?)
     }
 
-    fn seal(&mut self, check: &[u8; 16]) -> Result<(), MemoryFault> {
+    fn seal(&mut self, check: &[u8; 16]) -> Result<(), MemoryFilesError> {
         if self.fails() {
-            return Err(MemoryFault);
+            return Err(MemoryFilesError);
         }
         self.seal = Some(*check);
         Ok(())
     }
 
-    fn unseal(&mut self) -> Result<(), MemoryFault> {
+    fn unseal(&mut self) -> Result<(), MemoryFilesError> {
         if self.fails() {
-            return Err(MemoryFault);
+            return Err(MemoryFilesError);
         }
         self.seal = None;
         Ok(())
     }
 
-    fn say(&mut self, news: News<MemoryFault>)
+    fn say(&mut self, news: News<MemoryFilesError>)
         // Promise, as MemoryFiles::new: files in memory, by ..
         ensures { memory_world self.new ≡ memory_world self.old }
     {
@@ -235,16 +246,17 @@ impl JournalFiles for MemoryFiles {
 }
 
 /// Appends a text to a file. If it fails, nothing is changed.
-fn append_to(file: &mut Option<Vec<u8>>, text: &[u8]) -> Result<(), MemoryFault>
-    ensures ok { OnOk result (option_map vec_items file.new ≡ option_map (λ front. front ++ text.now) (option_map vec_items file.old)) }
+fn push_text(file: &mut Option<Vec<u8>>, text: &[u8]) -> Result<(), MemoryFilesError>
+    ensures ok { OnOk result (option_map vec_items file.new
+        ≡ option_map (λ front. front ++ text.now) (option_map vec_items file.old)) }
     ensures err { OnErr result (option_map vec_items file.new ≡ option_map vec_items file.old) }
 {
     match file {
         Some(octets) => match octets.extend_from_slice(text) {
             Ok(()) => Ok(()),
-            Err(AllocError) => Err(MemoryFault),
+            Err(AllocError) => Err(MemoryFilesError),
         },
-        None => Err(MemoryFault),
+        None => Err(MemoryFilesError),
     }
 }
 
@@ -259,23 +271,23 @@ fn seal_text(alloc: Global, seal: &Option<[u8; 16]>) -> Result<Vec<u8>, AllocErr
 }
 
 /// Returns the fault of a file that was not begun.
-fn not_begun(left: Left) -> BeginFault<MemoryFault>
+fn not_begun(left: Left) -> BeginError<MemoryFilesError>
     ensures { result.left ≡ left }
 {
-    BeginFault {
-        fault: MemoryFault,
+    BeginError {
+        fault: MemoryFilesError,
         left,
     }
 }
 
-fn text_of(alloc: Global, file: &Option<Vec<u8>>) -> Result<FileText, MemoryFault>
+fn read_text(alloc: Global, file: &Option<Vec<u8>>) -> Result<FileText, MemoryFilesError>
     ensures { IfOk result (IsRead (option_map vec_items file.now)) }
 {
     match file {
         None => Ok(FileText::Nothing),
         Some(octets) => match Vec::from_slice(alloc, octets) {
             Ok(copy) => Ok(FileText::Octets(copy)),
-            Err(_) => Err(MemoryFault),
+            Err(_) => Err(MemoryFilesError),
         },
     }
 }

@@ -9,9 +9,9 @@ ghost use Rattle.journal.specs.Texts.{HasElement, HasHeader, HaveElements, Unles
 ghost use Rattle.journal.specs.Texts.{check_of, checked, chained, header_check, journal_text};
 ghost use Rattle.journal.specs.declared.reading.Journal.{Journal as Journals};
 
-use crate::checks::{check_of, take_check, take_element};
+use crate::checks::{next_check, take_check, take_element};
 use crate::entry::{Entry, EntryRef};
-use crate::fault::JournalFault;
+use crate::fault::JournalError;
 use crate::header::{Header, HeaderRef};
 use crate::keeping::above;
 use krb_der::{DerFault, KTime, Reader};
@@ -19,11 +19,11 @@ use krb_elements::{Octets, Seq, read};
 use krb_fields::SKEW;
 use std::alloc::{AllocError, Global};
 
-/// Entries that are too old are dropped once there are this many, and twice as many as were left the last time.
+/// The number of entries at which those that are too old are dropped for the first time. They are dropped again each
+/// time that there are twice as many as were left.
 const FEW: usize = 1_024;
 
-/// A whole journal, without the entries that are too old to matter. `latest` and `high` are those of all
-/// its entries, also of these.
+/// A whole journal, without the entries that are too old to matter. `latest` and `high` count these entries too.
 #[derive(Drop)]
 pub struct Journal {
     /// The header that the file begins with.
@@ -40,7 +40,7 @@ pub struct Journal {
 }
 
 /// Reads a journal.
-pub fn read_journal(alloc: Global, text: &[u8]) -> Result<Journal, JournalFault>
+pub(crate) fn read_journal(alloc: Global, text: &[u8]) -> Result<Journal, JournalError>
     // What is read spells the text.
     // Promise: **what is read of a journal is what was written**: a text that is read is that of the header and the
     // entries.
@@ -77,7 +77,7 @@ struct Headed {
 }
 
 /// Takes the header at the front.
-fn take_header(alloc: Global, reader: &mut Reader<'_>) -> Result<Headed, JournalFault>
+fn take_header(alloc: Global, reader: &mut Reader<'_>) -> Result<Headed, JournalError>
     ensures found { IfOk result (λ t. reader.old ≡ checked t.header.link (written header t.header) ++ reader.new) }
     ensures check { IfOk result (λ t. t.check ≡ header_check t.header) }
     ensures has { IfOk result (λ t. HasHeader t.header) }
@@ -86,7 +86,7 @@ fn take_header(alloc: Global, reader: &mut Reader<'_>) -> Result<Headed, Journal
 {
     let octets = reader.read_octets()?;
     let found = header_in(octets)?;
-    let check = check_of(found.link.as_slice(), octets);
+    let check = next_check(found.link.as_slice(), octets);
     take_check(reader, &check)?;
     Ok(Headed {
         header: owned_header(alloc, &found)?,
@@ -124,15 +124,17 @@ struct Entries {
     high: i64,
 }
 
-/// Takes all entries to the end, which follow this check, in a file that was begun at this time with this floor.
+/// Takes all entries to the end, in a file that was begun at this time with this floor. The first one follows this
+/// check.
 fn take_entries(
     alloc: Global,
     reader: &mut Reader<'_>,
     before: [u8; 16],
     at: KTime,
     floor: KTime,
-) -> Result<Entries, JournalFault>
-    ensures found { IfOk result (λ t. (all : List Listed) × HaveEntries reader.old before at floor all t.entries.items t.check t.latest t.high) }
+) -> Result<Entries, JournalError>
+    ensures found { IfOk result (λ t. (all : List Listed)
+        × HaveEntries reader.old before at floor all t.entries.items t.check t.latest t.high) }
     ensures only { (es : List Listed) → HaveElements es → reader.old ≡ chained before es
         → UnlessMemory result (λ t. t.entries.items ≡ recent (latest_of at es) es) }
 {
@@ -200,7 +202,7 @@ fn take_entry(
     alloc: Global,
     reader: &mut Reader<'_>,
     before: &[u8; 16],
-) -> Result<Taken, JournalFault>
+) -> Result<Taken, JournalError>
     ensures found { IfOk result (λ t. reader.old ≡ checked before.now (written entry t.entry) ++ reader.new) }
     ensures check { IfOk result (λ t. t.check ≡ check_of before.now (written entry t.entry)) }
     ensures has { IfOk result (λ t. HasElement t.entry) }

@@ -1,7 +1,7 @@
 //! Sealing a journal, so that a start in another boot may resume with it.
 ghost use Rattle.journal.specs.Sealing.{HasSealed};
 
-use crate::decision::{Doubt, Found, Place, seal_of};
+use crate::decision::{Found, Place, ResumeRefusal, decide_seal};
 use crate::files::JournalFiles;
 
 /// What became of a journal that was to be sealed.
@@ -10,7 +10,7 @@ pub enum SealOutcome {
     /// It is sealed.
     Sealed,
     /// It is as it was, since a start would not resume with it.
-    Doubted(Doubt),
+    Doubted(ResumeRefusal),
 }
 
 /// Seals a journal that no server holds, if a start at this place would resume with it. Fails if a call on the files
@@ -26,7 +26,7 @@ pub fn seal_journal<F: JournalFiles>(
     // Promise: only what a start at the same place would resume with is sealed.
     ensures { HasSealed place.now older.now newer.now (F.world files.old) result (F.world files.new) }
 {
-    match seal_of(place, older, newer) {
+    match decide_seal(place, older, newer) {
         Ok(check) => match files.seal(&check) {
             Ok(()) => Ok(SealOutcome::Sealed),
             Err(fault) => Err(fault),

@@ -8,7 +8,7 @@ ghost use Rattle.journal.specs.Showing.{AreFrom, BeginsWith, StandsAt, Shows, Sh
 ghost use Rattle.journal.specs.Showing.{floor_with, shown_floor};
 ghost use Rattle.journal.specs.Texts.{HasElement, checked};
 
-use crate::checks::{check_of, take_check};
+use crate::checks::{next_check, take_check};
 use crate::decision::{floor_since, greater};
 use crate::entry::EntryRef;
 use crate::header::HeaderRef;
@@ -39,23 +39,23 @@ struct Walk {
     floor: Option<i64>,
 }
 
-/// Returns the floor that a text asks for, which need not be a whole journal. It is above the time of each
-/// authenticator that the text still shows: one whose check follows from the 16 octets before its entry. What has
-/// another check counts for nothing. `None` if the text shows none.
+/// Returns the floor that a text asks for, which need not be a whole journal. The floor is above the time of each
+/// authenticator that the text still shows: one whose check follows from the 16 octets before its entry. An entry with
+/// another check is not counted. Returns `None` if the text shows nothing.
 pub fn shown_in(text: &[u8]) -> Option<i64>
     // Promise: files show each authenticator of a journal, and in a text that is none, each whose check follows from
     // the 16 octets before its entry.
     // Promise: not so for a file that others may write, which is not read, nor for the last second of the year 9999.
     ensures { (shown : Shown) × Shows text.now shown × (result ≡ shown_floor shown) }
 {
-    match head_of(text) {
-        Some(head) => shown_from(text, head.len, Some(head.floor)),
-        None => shown_from(text, 0, None),
+    match front_header(text) {
+        Some(head) => greatest_floor(text, head.len, Some(head.floor)),
+        None => greatest_floor(text, 0, None),
     }
 }
 
 /// Returns the header at the front of a text, if its check holds.
-fn head_of(text: &[u8]) -> Option<Standing>
+fn front_header(text: &[u8]) -> Option<Standing>
     ensures some { IfSome result (λ s. (h : Headers) × BeginsWith text.now h
         × (s.floor ≡ floor_since h.floor h.at) × (s.len ≡ element_length (written header h))) }
     ensures none { IfNone result ((h : Headers) → BeginsWith text.now h → ⊥) }
@@ -68,7 +68,7 @@ fn head_of(text: &[u8]) -> Option<Standing>
     let Ok(found) = header_in(octets) else {
         return None;
     };
-    let check = check_of(found.link.as_slice(), octets);
+    let check = next_check(found.link.as_slice(), octets);
     let Ok(()) = take_check(&mut reader, &check) else {
         return None;
     };
@@ -86,7 +86,7 @@ fn head_floor(header: &HeaderRef<'_>) -> i64
 }
 
 /// Returns the greatest of a floor and those that the entries from a place on ask for.
-fn shown_from(text: &[u8], from: usize, floor: Option<i64>) -> Option<i64>
+fn greatest_floor(text: &[u8], from: usize, floor: Option<i64>) -> Option<i64>
     requires { from ≤ length text.now }
     ensures { (es : List Listed) × AreFrom text.now from es × (result ≡ floor_with floor es) }
 {
@@ -130,11 +130,11 @@ fn entry_standing(text: &[u8], place: usize) -> Option<Standing>
     }
     let (front, rest) = text.split_at(place);
     let (_, before) = front.split_at(place - CHECK_LEN);
-    entry_at(before, rest)
+    front_entry(before, rest)
 }
 
 /// Returns the entry at the front of a text, if its check follows from these octets.
-fn entry_at(before: &[u8], rest: &[u8]) -> Option<Standing>
+fn front_entry(before: &[u8], rest: &[u8]) -> Option<Standing>
     ensures some { IfSome result (λ s. (e : Listed) × (after : List ℕ) × HasElement e
         × (rest.now ≡ checked before.now (written entry e) ++ after)
         × (s.floor ≡ entry_floor e) × (s.len ≡ element_length (written entry e))) }
@@ -149,7 +149,7 @@ fn entry_at(before: &[u8], rest: &[u8]) -> Option<Standing>
     let Ok(found) = entry_in(octets) else {
         return None;
     };
-    let check = check_of(before, octets);
+    let check = next_check(before, octets);
     let Ok(()) = take_check(&mut reader, &check) else {
         return None;
     };

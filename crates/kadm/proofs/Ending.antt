@@ -3,13 +3,13 @@ use Rattle.std.proofs.Common.{◌≡◌, ◌∙◌, List, Bool, true, false, Opt
 use Rattle.std.specs.Result.{result_unwrap_or}
 use Rattle.file_store.specs.Input.{Input}
 use Rattle.file_store.specs.World.{World}
-use Rattle.file_store.specs.declared.faults.FileCause.{FileCause}
-use Rattle.file_store.specs.declared.faults.FileCause.TheVariants.{LongFile, ShortSeed, Failed}
+use Rattle.file_store.specs.declared.faults.FileError.{FileError}
+use Rattle.file_store.specs.declared.faults.FileError.TheVariants.{LongFile, ShortSeed, Failed}
 use Rattle.kadm.specs.Batches.{IsBatchDone}
 use Rattle.kadm_changes.specs.Stops.{IsFailed, IsFailure}
-use Rattle.kadm.specs.Ends.{IsEnd, IsFileCauseStatus, IsReported, IsCommandEnd, IsCommandStopped, IsStatusOf, IsStopped, IsDone, IsKindDone, IsTried, IsWriteDone}
-use Rattle.kadm.specs.Printed.{HasDatabase, IsPrinted}
-use Rattle.kadm_changes.specs.Texts.{Text}
+use Rattle.kadm.specs.Ends.{IsEnd, IsFileCauseStatus, IsReported, IsCommandEnd, IsCommandStopped, IsStatusOf, IsStopped, IsDone, IsKindDone, IsStoppedPart, IsTried, IsWriteDone}
+use Rattle.kadm.specs.Printed.{IsPrinted, IsPrintedOf}
+use Rattle.kadm_changes.specs.Texts.{Text, texts}
 use Rattle.kadm.specs.Words.{Spells}
 use Rattle.kadm_changes.specs.declared.target.Target.{Target}
 use Rattle.kadm.specs.declared.commands.Command.{Command}
@@ -19,16 +19,15 @@ use Rattle.kadm.specs.declared.writing.WriteCommand.{WriteCommand}
 use Rattle.kadm.specs.declared.writing.WriteCommand.TheVariants as writes
 use Rattle.command_line.specs.declared.status.Status.{Status}
 use Rattle.command_line.specs.declared.status.Status.TheVariants as statuses
-use Rattle.kadm_changes.specs.declared.stop.Stop.{Stop}
-use Rattle.kadm_changes.specs.declared.stop.Stop.TheVariants as stops
+use Rattle.kadm_changes.specs.declared.stop.CommandError.{CommandError}
+use Rattle.kadm_changes.specs.declared.stop.CommandError.TheVariants as stops
 
 -- ---- commands that write
 
-pub batch_write : {E : Type 0} (r : Result Bool E) (before : Option World) (input : Option Input) (target : Target) (keep : Bool) (after : Option World)
-    → IfOk r (λ whole. IsBatchDone before input target.whole_realm target.db.now keep whole after) → IfOk r (λ whole. IsWriteDone before input target (writes.Batch keep) whole after)
-batch_write (Ok true) before input target keep after done = done
-batch_write (Ok false) before input target keep after (keeps, tried) = (ap writes.Batch keeps, tried)
-batch_write (Err e) before input target keep after done = tt
+pub batch_write : (before : Option World) (input : Option Input) (target : Target) (keep whole : Bool) (after : Option World)
+    → IsBatchDone before input target.whole_realm target.db.now keep whole after → IsWriteDone before input target (writes.Batch keep) whole after
+batch_write before input target keep true after done = done
+batch_write before input target keep false after (keeps, tried) = (ap writes.Batch keeps, tried)
 
 -- ---- commands
 
@@ -46,8 +45,14 @@ pub write_refused : (before : Option World) (input : Option Input) (command : Co
     → IsCommandEnd before input command statuses.Refused after
 write_refused before input command write after is tried = inr (write_tried before input command write after is tried)
 
+-- some of several files were written
+pub write_stopped : (before : Option World) (input : Option Input) (command : Command) (write : WriteCommand) (stop : CommandError) (after : Option World)
+    → command.kind ≡ kinds.Write write → IsStoppedPart before input command.target write stop after → IsCommandStopped before input command stop after
+write_stopped before input command write stop after is (failed, done) =
+    inr (failed, subst (λ kind. IsKindDone before input command.target kind after) (sym is) done)
+
 pub print_end : {E : Type 0} (r : Result Status E) (before : Option World) (input : Option Input) (command : Command) (print : PrintCommand) (after : Option World)
-    → command.kind ≡ kinds.Print print → after ≡ before → IfOk r (λ status. HasDatabase before command.target.db.now) → IfOk r (λ status. IsPrinted status print) → IfOk r (λ status. IsCommandEnd before input command status after)
+    → command.kind ≡ kinds.Print print → after ≡ before → IfOk r (λ status. IsPrintedOf before command.target.db.now (texts command.target.names.items) print) → IfOk r (λ status. IsPrinted status print) → IfOk r (λ status. IsCommandEnd before input command status after)
 print_end (Ok statuses.Done) before input command print after is same has printed =
     subst (λ kind. IsKindDone before input command.target kind after) (sym is) (same, has)
 print_end (Ok statuses.Refused) before input command print after is same has printed = inl same
@@ -67,14 +72,14 @@ spelled_end (Ok statuses.Failed) words before input command after spelled (inl d
 spelled_end (Ok statuses.Failed) words before input command after spelled (inr tried) = inr (inr (command, spelled, tried))
 spelled_end (Err e) words before input command after spelled done = tt
 
-pub spelled_stop : {A : Type 0} (r : Result A Stop) (words : List Text) (before : Option World) (input : Option Input) (command : Command) (after : Option World)
+pub spelled_stop : {A : Type 0} (r : Result A CommandError) (words : List Text) (before : Option World) (input : Option Input) (command : Command) (after : Option World)
     → Spells words command → IfErr r (λ stop. IsCommandStopped before input command stop after) → IfErr r (λ stop. IsStopped words before input stop after)
 spelled_stop (Ok x) words before input command after spelled stopped = tt
 spelled_stop (Err stop) words before input command after spelled (inl same) = inl same
 spelled_stop (Err stop) words before input command after spelled (inr (failed, done)) = inr (failed, inl (command, spelled, done))
 
 -- the output fails after a command
-pub failed_after : (words : List Text) (before : Option World) (input : Option Input) (status : Status) (stop : Stop) (after : Option World)
+pub failed_after : (words : List Text) (before : Option World) (input : Option Input) (status : Status) (stop : CommandError) (after : Option World)
     → IsEnd words before input status after → IsFailed stop → IsStopped words before input stop after
 failed_after words before input statuses.Done stop after (inl (asks, same)) failed = inl same
 failed_after words before input statuses.Done stop after (inr done) failed = inr (failed, inl done)
@@ -101,7 +106,7 @@ IsOther statuses.Refused = Unit {0}
 IsOther statuses.Usage = Unit {0}
 IsOther statuses.Failed = Unit {0}
 
-cause_other : (cause : FileCause) (status : Status) → IsFileCauseStatus cause status → IsOther status
+cause_other : (cause : FileError) (status : Status) → IsFileCauseStatus cause status → IsOther status
 cause_other LongFile statuses.Refused is = tt
 cause_other LongFile statuses.Failed is = tt
 cause_other LongFile statuses.Done is = absurd is
@@ -112,7 +117,7 @@ cause_other ShortSeed statuses.Done is = absurd is
 cause_other ShortSeed statuses.Usage is = tt
 cause_other (Failed error) status is = subst IsOther (sym is) tt
 
-other : (stop : Stop) (status : Status) → IsStatusOf stop status → IsOther status
+other : (stop : CommandError) (status : Status) → IsStatusOf stop status → IsOther status
 other stops.Usage status is = subst IsOther (sym is) tt
 other stops.LineRefused status is = subst IsOther (sym is) tt
 other stops.LineFailed status is = subst IsOther (sym is) tt
@@ -127,12 +132,12 @@ same_end words before input statuses.Refused after is same = inl same
 same_end words before input statuses.Usage after is same = same
 same_end words before input statuses.Failed after is same = inl same
 
-failed_cause : (cause : FileCause) (status : Status) → IsFailure cause → IsFileCauseStatus cause status → status ≡ statuses.Failed
+failed_cause : (cause : FileError) (status : Status) → IsFailure cause → IsFileCauseStatus cause status → status ≡ statuses.Failed
 failed_cause LongFile status failed is = absurd failed
 failed_cause ShortSeed status failed is = absurd failed
 failed_cause (Failed error) status failed is = is
 
-failed_status : (stop : Stop) (status : Status) → IsFailed stop → IsStatusOf stop status → status ≡ statuses.Failed
+failed_status : (stop : CommandError) (status : Status) → IsFailed stop → IsStatusOf stop status → status ≡ statuses.Failed
 failed_status stops.Usage status failed is = absurd failed
 failed_status stops.LineRefused status failed is = absurd failed
 failed_status stops.LineFailed status failed is = absurd failed
@@ -141,20 +146,20 @@ failed_status (stops.Refused refusal) status failed is = absurd failed
 failed_status (stops.File fault) status failed is = failed_cause fault.cause status failed is
 
 -- a command that stopped early, with the status of what stopped it
-stopped_end : (words : List Text) (before : Option World) (input : Option Input) (stop : Stop) (status : Status) (after : Option World)
+stopped_end : (words : List Text) (before : Option World) (input : Option Input) (stop : CommandError) (status : Status) (after : Option World)
     → IsStopped words before input stop after → IsStatusOf stop status → IsEnd words before input status after
 stopped_end words before input stop status after (inl same) is = same_end words before input status after (other stop status is) same
 stopped_end words before input stop status after (inr (failed, done)) is =
     subst (λ s. IsEnd words before input s after) (sym (failed_status stop status failed is)) (inr done)
 
 -- the report of it fails
-stopped_failed : (words : List Text) (before : Option World) (input : Option Input) (stop : Stop) (after : Option World)
+stopped_failed : (words : List Text) (before : Option World) (input : Option Input) (stop : CommandError) (after : Option World)
     → IsStopped words before input stop after → IsEnd words before input statuses.Failed after
 stopped_failed words before input stop after (inl same) = inl same
 stopped_failed words before input stop after (inr (failed, done)) = inr done
 
 -- whatever the output says at the end
-pub ended : {E : Type 0} (end : Result Status Stop) (r : Result Status E) (words : List Text) (before : Option World) (input : Option Input) (after : Option World)
+pub ended : {E : Type 0} (end : Result Status CommandError) (r : Result Status E) (words : List Text) (before : Option World) (input : Option Input) (after : Option World)
     → IfOk end (λ status. IsEnd words before input status after) → IfErr end (λ stop. IsStopped words before input stop after)
     → IfOk r (λ status. IsReported end status) → IsEnd words before input (result_unwrap_or r statuses.Failed) after
 ended (Ok status) (Ok reported) words before input after done stopped is = subst (λ s. IsEnd words before input s after) (sym is) done

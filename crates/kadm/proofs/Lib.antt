@@ -6,3 +6,5 @@ mod Naming
 mod Opening
 mod ReadDatabases
 mod Reading
+mod RowsThere
+mod TypesRead

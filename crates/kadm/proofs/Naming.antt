@@ -3,7 +3,8 @@ use Rattle.std.proofs.Common.{◌≡◌, ◌∙◌, ◌<◌, ◌≤◌, ◌-◌,
 use Rattle.std.specs.Borrow.{Bor}
 use Rattle.std.proofs.lemmas.List.{append-nil, append_assoc, take_all}
 use Rattle.kadm_changes.specs.Texts.{Text, texts}
-use Rattle.kadm.specs.Words.{is_value_next, named, spelled}
+use Rattle.kadm.specs.Values.{is_value_next}
+use Rattle.kadm.specs.Words.{named, spelled}
 
 named_first : (words : List (Bor Text)) (other : Bor Text) (v : Bool) → 1 ≤ length words
     → named v (texts words) ≡ spelled v (get_or words 0 other).now

@@ -18,6 +18,9 @@ use Rattle.file_store.specs.World.{IsThere, World, with_file}
 use Rattle.command_line.specs.declared.status.Status.{Status}
 use Rattle.command_line.specs.declared.status.Status.TheVariants as statuses
 use Rattle.principal_keys.specs.Keys.{drawn_keys, seeded}
+use Rattle.kadm_changes.specs.KeytabFolders.{WroteKeytabs}
+use Rattle.kadm_changes.specs.WorldLaws.{keytabs_beside}
+use Rattle.kadm_changes.specs.declared.keytab_folder.FolderArgs.{FolderArgs}
 use Rattle.kadm_changes.specs.Realm.{IsAsOpen, KeepsRealm, StaysOpen, found_policy, text_policy, tgs_policy}
 use Rattle.kadm_changes.specs.Restoring.{HasOrNot, Restored, replaced_policy}
 use Rattle.kadm_changes.specs.Updates.{IsUpdated}
@@ -168,6 +171,14 @@ keytab_open (Some held) db to after is =
     (λ same. is.free.no_database is.read.0 is.old (ap held.files same ∙ is.read.1) is.read.2)))
     (as_open held.now (text_policy (held.files db))))
 
+keytabs_open : (before : Option World) (db : List ℕ) (to : FolderArgs) (after : Option World) → WroteKeytabs before db to after → StaysOpen db before after
+keytabs_open None db to after (files, are, written) = subst (StaysOpen db None) (sym written) tt
+keytabs_open (Some held) db to after is =
+    let (world, at, same) = keytabs_beside held db to after is in
+    subst (StaysOpen db (Some held)) (sym at)
+    (open_at db held world (text_policy (held.files db)) (text_policy (held.files db)) refl (ap text_policy same)
+    (as_open held.now (text_policy (held.files db))))
+
 -- a realm that is as open as a new one is as open as any
 open_always : (now : ℕ) (p q : Policy) → IsAsOpen now default_policy q → IsAsOpen now p q
 open_always now p q is = record {
@@ -208,6 +219,7 @@ command_open before input target (writes.Batch keep_going) after without (lines,
     (λ p q. lines_kept before false target.db.now lines p q)
     (subst (λ whole. Rewritten before target.db.now (AreDone before whole target.db.now lines) after) without is)
 command_open before input target (writes.Keytab to) after without is = keytab_open before target.db.now to after is
+command_open before input target (writes.Keytabs to) after without is = keytabs_open before target.db.now to after is
 command_open before input target (writes.Dump from) after without is =
     new_open before target.db.now is.new after is.free
     (subst (λ whole. KeepsRealm whole before default_policy (tgs_policy is.new)) without is.kept) is.read_back is.written

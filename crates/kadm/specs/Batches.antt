@@ -27,4 +27,5 @@ IsLineRead world line = IfSome line.password (λ found. IsFound world found)
 -- the changes of all lines, or of some of them if it keeps going
 abbrev pub IsBatchDone : Option World → Option Input → Bool → Text → Bool → Bool → Option World → Type 0
 IsBatchDone before input whole_realm db keep_going true after = Batched before input whole_realm db after
-IsBatchDone before input whole_realm db keep_going false after = (keep_going ≡ true) × Tried before input whole_realm db after
+IsBatchDone before input whole_realm db keep_going false after = (keep_going ≡ true)
+    × Tried before input whole_realm db after

@@ -23,7 +23,8 @@ IsCommandMade world whole command p new =
 
 -- the change that words spell is made
 abbrev pub IsSpelledMade : Option World → Bool → List Text → Principals → Principals → Type 0
-IsSpelledMade world whole words p new = (command : Command) × Spells words command × IsCommandMade world whole command p new
+IsSpelledMade world whole words p new = (command : Command) × Spells words command
+    × IsCommandMade world whole command p new
 
 -- the same for a line of a batch
 abbrev pub IsLineDone : Option World → Bool → Text → List Text → Principals → Principals → Type 0
@@ -32,7 +33,8 @@ IsLineDone world whole db line p new = IsSpelledMade world whole (in_batch db li
 -- all of them, one after another
 abbrev pub AreDone : Option World → Bool → Text → List (List Text) → Principals → Principals → Type 0
 AreDone world whole db [] p new = new ≡ p
-AreDone world whole db (line ∷ lines) p new = (next : Principals) × IsLineDone world whole db line p next × AreDone world whole db lines next new
+AreDone world whole db (line ∷ lines) p new = (next : Principals) × IsLineDone world whole db line p next
+    × AreDone world whole db lines next new
 
 -- each of them, or what it changes is left as it was
 abbrev pub AreTried : Option World → Bool → Text → List (List Text) → Principals → Principals → Type 0

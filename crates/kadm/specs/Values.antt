@@ -1,37 +1,47 @@
 -- The values of options among the words of a command line.
-use Rattle.std.specs.Prelude.{◌==◌, ◌&&◌, ◌||◌, ◌++◌, Bool, true, false, List, [], ◌∷◌, length, nat_lt, slice_get}
-use Rattle.std.specs.Prelude.{Option, Some, None, bytes_eq, if◌then◌else◌}
-use Rattle.std.specs.List.{before_first, after_first, position_or_len}
+use Rattle.std.specs.Prelude.{◌&&◌, ◌||◌, ◌++◌, Bool, true, false, not, List, [], ◌∷◌}
+use Rattle.std.specs.Prelude.{Option, Some, None, bytes_eq, codes}
+use Rattle.command_line.specs.Values.{first_of, value_at}
 use Rattle.kadm_changes.specs.Texts.{Text}
-
--- a word is any text of a command line; an option is a word such as --db
-abbrev pub has_equals : Text → Bool
-has_equals word = nat_lt (position_or_len (λ b. b == 0x3D) word) (length word)
-
--- the word before the first equals sign, if there is one, is the option
-abbrev pub is_before : Text → Text → Bool
-is_before option word = has_equals word && bytes_eq (before_first (λ b. b == 0x3D) word) option
-
--- the value that an option has at a word: the next word, or what follows the equals sign
-abbrev pub value_at : Text → Text → List Text → Option Text
-value_at option word others =
-    if bytes_eq word option then slice_get others 0
-    else if is_before option word then Some (after_first (λ b. b == 0x3D) word)
-    else None
-
-abbrev pub first_of : Option Text → Option Text → Option Text
-first_of (Some value) later = Some value
-first_of None later = later
 
 -- the first value of an option
 abbrev pub value_of : List Text → Text → Option Text
 value_of [] option = None
 value_of (word ∷ others) option = first_of (value_at option word others) (value_of others option)
 
+-- the options whose value is the path of a file or of a folder
+abbrev pub takes_path : Text → Bool
+takes_path word =
+    bytes_eq word (codes "--db") || (bytes_eq word (codes "--password-file") || (bytes_eq word (codes "--seed")
+    || (bytes_eq word (codes "--out") || (bytes_eq word (codes "--keytab") || (bytes_eq word (codes "--from")
+    || (bytes_eq word (codes "--folder") || (bytes_eq word (codes "--dump") || bytes_eq word (codes "--stash"))))))))
+
+-- the options of a policy whose value is the next word
+abbrev pub takes_setting : Text → Bool
+takes_setting word =
+    bytes_eq word (codes "--set") || (bytes_eq word (codes "--field") || (bytes_eq word (codes "--value")
+    || bytes_eq word (codes "--expires")))
+
+-- an option whose value is the next word
+abbrev pub takes_value : Text → Bool
+takes_value word =
+    bytes_eq word (codes "--name") || (bytes_eq word (codes "--like") || (bytes_eq word (codes "--realm")
+    || (bytes_eq word (codes "--types") || (bytes_eq word (codes "--version") || (takes_setting word
+    || takes_path word)))))
+
+-- the word after this one is the value of an option
+abbrev pub is_value_next : Bool → Text → Bool
+is_value_next is_value word = not is_value && takes_value word
+
+-- a flag is among the words; the first may be the value of an option before it, which is no flag
+abbrev pub flag_in : Bool → List Text → Text → Bool
+flag_in is_value [] flag = false
+flag_in is_value (word ∷ others) flag =
+    (not is_value && bytes_eq word flag) || flag_in (is_value_next is_value word) others flag
+
 -- the option is there, as a flag without a value
 abbrev pub has_flag : List Text → Text → Bool
-has_flag [] flag = false
-has_flag (word ∷ others) flag = bytes_eq word flag || has_flag others flag
+has_flag words flag = flag_in false words flag
 
 -- what is there, as a list
 abbrev pub listed : {A : Type 0} → Option A → List A

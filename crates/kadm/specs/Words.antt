@@ -7,9 +7,12 @@ use Rattle.kadm_changes.specs.Texts.{Text, path_of, texts}
 use Rattle.kadm_changes.specs.declared.changes.ChangeArgs.{ChangeArgs}
 use Rattle.kadm_changes.specs.declared.changes.ChangeArgs.TheVariants.{Drop, DropOlder, Policy, Remove}
 use Rattle.kadm_changes.specs.declared.granting.Grant.{Grant}
-use Rattle.kadm_changes.specs.declared.granting.Grant.TheVariants.{New, NewUser, Next, Replace, Either}
+use Rattle.kadm_changes.specs.declared.granting.Grant.TheVariants as grants
+use Rattle.kadm_changes.specs.declared.keytabs.KeytabContent.{KeytabContent}
+use Rattle.kadm_changes.specs.declared.keytabs.KeytabContent.TheVariants.{Current, Appended, Next}
 use Rattle.kadm.specs.Assigning.{settings_of}
-use Rattle.kadm.specs.Values.{has_flag, value_of, values_of}
+use Rattle.kadm.specs.Types.{AreTypesAsked}
+use Rattle.kadm.specs.Values.{has_flag, is_value_next, value_of, values_of}
 use Rattle.kadm.specs.declared.commands.Command.{Command}
 use Rattle.kadm.specs.declared.printing.PrintCommand.{PrintCommand}
 use Rattle.kadm.specs.declared.printing.PrintCommand.TheVariants as prints
@@ -55,18 +58,6 @@ takes_names command =
     || (bytes_eq command (codes "drop") || (bytes_eq command (codes "policy") || (bytes_eq command (codes "remove")
     || (bytes_eq command (codes "keytab") || bytes_eq command (codes "show")))))))
 
--- the options of these commands whose value is the next word
-abbrev pub takes_text : Text → Bool
-takes_text word =
-    bytes_eq word (codes "--password-file") || (bytes_eq word (codes "--set") || (bytes_eq word (codes "--field")
-    || (bytes_eq word (codes "--value") || bytes_eq word (codes "--like"))))
-
-abbrev pub takes_value : Text → Bool
-takes_value word =
-    bytes_eq word (codes "--db") || (bytes_eq word (codes "--name") || (bytes_eq word (codes "--types")
-    || (bytes_eq word (codes "--expires") || (bytes_eq word (codes "--seed") || (bytes_eq word (codes "--version")
-    || (bytes_eq word (codes "--out") || takes_text word))))))
-
 -- a word that begins with a hyphen
 abbrev pub is_option : Text → Bool
 is_option [] = false
@@ -78,9 +69,6 @@ is_name is_value word = not is_value && not (is_option word)
 
 abbrev pub spelled : Bool → Text → List Text
 spelled is_value word = if is_name is_value word then codes "--name" ∷ word ∷ [] else word ∷ []
-
-abbrev pub is_value_next : Bool → Text → Bool
-is_value_next is_value word = not is_value && takes_value word
 
 abbrev pub named : Bool → List Text → List Text
 named is_value [] = []
@@ -137,19 +125,27 @@ shows_some words =
 
 -- the principal to add is new, or has keys already
 abbrev pub IsPasswordGrant : List Text → Grant → Type 0
-IsPasswordGrant words New = (command_of words ≡ Some (codes "add")) × (has_flag words (codes "--service") ≡ true)
-IsPasswordGrant words NewUser = (command_of words ≡ Some (codes "add")) × (has_flag words (codes "--service") ≡ false)
-IsPasswordGrant words Next = (command_of words ≡ Some (codes "passwd")) × (has_flag words (codes "--replace") ≡ false)
-IsPasswordGrant words Replace = (command_of words ≡ Some (codes "passwd")) × (has_flag words (codes "--replace") ≡ true)
-IsPasswordGrant words Either = ⊥
+IsPasswordGrant words grants.New = (command_of words ≡ Some (codes "add")) × (has_flag words (codes "--service") ≡ true)
+IsPasswordGrant words grants.NewUser =
+    (command_of words ≡ Some (codes "add")) × (has_flag words (codes "--service") ≡ false)
+IsPasswordGrant words grants.Next =
+    (command_of words ≡ Some (codes "passwd")) × (has_flag words (codes "--replace") ≡ false)
+IsPasswordGrant words grants.Replace =
+    (command_of words ≡ Some (codes "passwd")) × (has_flag words (codes "--replace") ≡ true)
+IsPasswordGrant words grants.Either = ⊥
+
+-- the command is `random`, and no keytab has the keys
+abbrev pub IsRandomSpelled : List Text → Type 0
+IsRandomSpelled words =
+    (command_of words ≡ Some (codes "random")) × (value_of words (codes "--from") ≡ None)
 
 abbrev pub IsRandomGrant : List Text → Grant → Type 0
-IsRandomGrant words New = (command_of words ≡ Some (codes "add")) × (has_flag words (codes "--random") ≡ true)
-IsRandomGrant words NewUser = ⊥
-IsRandomGrant words Next = (command_of words ≡ Some (codes "random")) × (has_flag words (codes "--existing") ≡ true)
-IsRandomGrant words Replace = (command_of words ≡ Some (codes "random")) × (has_flag words (codes "--replace") ≡ true)
-IsRandomGrant words Either =
-    (command_of words ≡ Some (codes "random")) × (has_flag words (codes "--replace") ≡ false)
+IsRandomGrant words grants.New = (command_of words ≡ Some (codes "add")) × (has_flag words (codes "--random") ≡ true)
+IsRandomGrant words grants.NewUser = ⊥
+IsRandomGrant words grants.Next = IsRandomSpelled words × (has_flag words (codes "--existing") ≡ true)
+IsRandomGrant words grants.Replace = IsRandomSpelled words × (has_flag words (codes "--replace") ≡ true)
+IsRandomGrant words grants.Either =
+    IsRandomSpelled words × (has_flag words (codes "--replace") ≡ false)
     × (has_flag words (codes "--existing") ≡ false)
 
 abbrev pub IsChangeSpelled : List Text → ChangeArgs → Type 0
@@ -164,6 +160,8 @@ abbrev pub IsRowSpelled : List Text → RowUpdate → Type 0
 IsRowSpelled words (rows.Password to) =
     IsPasswordGrant words to.grant × (path_of to.password.file ≡ value_of words (codes "--password-file"))
 IsRowSpelled words (rows.Random to) = IsRandomGrant words to.grant × (path_of to.seed ≡ value_of words (codes "--seed"))
+IsRowSpelled words (rows.Staged keytab) =
+    (command_of words ≡ Some (codes "random")) × (value_of words (codes "--from") ≡ Some keytab.now)
 IsRowSpelled words (rows.Import keytab) =
     (command_of words ≡ Some (codes "import")) × (value_of words (codes "--keytab") ≡ Some keytab.now)
 
@@ -173,7 +171,18 @@ IsUpdateSpelled words (updates.Row to) =
 IsUpdateSpelled words (updates.Changes how) =
     (is_some (value_of words (codes "--name")) ≡ true) × IsChangeSpelled words how
 IsUpdateSpelled words (updates.Migrate users_are_no_services) =
-    (command_of words ≡ Some (codes "migrate")) × (users_are_no_services ≡ has_flag words (codes "--users-are-no-services"))
+    (command_of words ≡ Some (codes "migrate"))
+    × (users_are_no_services ≡ has_flag words (codes "--users-are-no-services"))
+
+-- what a keytab has beside the current keys
+abbrev pub IsContentSpelled : List Text → KeytabContent → Type 0
+IsContentSpelled words Current =
+    (has_flag words (codes "--next") ≡ false) × (has_flag words (codes "--append") ≡ false)
+IsContentSpelled words Appended =
+    (has_flag words (codes "--next") ≡ false) × (has_flag words (codes "--append") ≡ true)
+IsContentSpelled words (Next seed) =
+    (has_flag words (codes "--next") ≡ true) × (has_flag words (codes "--append") ≡ false)
+    × (path_of seed ≡ value_of words (codes "--seed"))
 
 abbrev pub IsWriteSpelled : List Text → WriteCommand → Type 0
 IsWriteSpelled words (writes.Init new) =
@@ -184,7 +193,10 @@ IsWriteSpelled words (writes.Batch keep_going) =
     (command_of words ≡ Some (codes "batch")) × (keep_going ≡ has_flag words (codes "--keep-going"))
 IsWriteSpelled words (writes.Keytab to) =
     (command_of words ≡ Some (codes "keytab")) × (value_of words (codes "--name") ≡ Some to.name.now)
-    × (value_of words (codes "--out") ≡ Some to.out.now) × (to.append ≡ has_flag words (codes "--append"))
+    × (value_of words (codes "--out") ≡ Some to.out.now) × IsContentSpelled words to.content
+IsWriteSpelled words (writes.Keytabs to) =
+    (command_of words ≡ Some (codes "keytab")) × (value_of words (codes "--like") ≡ Some to.like.now)
+    × (value_of words (codes "--folder") ≡ Some to.folder.now)
 IsWriteSpelled words (writes.Restore from) =
     (command_of words ≡ Some (codes "restore")) × (value_of words (codes "--from") ≡ Some from.now)
 IsWriteSpelled words (writes.Dump from) =
@@ -207,11 +219,12 @@ abbrev pub IsKindSpelled : List Text → CommandKind → Type 0
 IsKindSpelled words (kinds.Print print) = IsPrintSpelled words print
 IsKindSpelled words (kinds.Write write) = IsWriteSpelled words write
 
--- the command that the words of a command line spell: its database, its principals, their settings, whether it may end
--- the whole realm, and what to do
+-- the command that the words of a command line spell: its database, its principals, their settings, the types of new
+-- keys, whether it may end the whole realm, and what to do
 pub record Spells (words : List Text) (command : Command) : Type 0 where
   pub db : value_of words (codes "--db") ≡ Some command.target.db.now
   pub names : texts command.target.names.items ≡ values_of words (codes "--name")
   pub settings : all_asked command.target.settings.items ≡ settings_of words
+  pub etypes : AreTypesAsked (value_of words (codes "--types")) command.target.etypes.items
   pub whole_realm : command.target.whole_realm ≡ has_flag words (codes "--whole-realm")
   pub kind : IsKindSpelled words command.kind

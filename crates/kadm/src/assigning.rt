@@ -5,7 +5,8 @@ ghost use Rattle.kadm_changes.specs.Texts.{texts};
 ghost use Rattle.kadm.specs.Assigning.{assigned, setting_at, settings_of};
 ghost use Rattle.kadm.specs.Values.{listed, value_of};
 
-use crate::values::{has_flag, value_at, value_of};
+use crate::values::{has_flag, option_value};
+use command_line::value_at;
 use kadm_changes::{AskedSetting, SettingForm};
 use std::alloc::{AllocError, Global};
 
@@ -31,7 +32,7 @@ pub(crate) fn value_option(form: SettingForm) -> &'static str {
 }
 
 /// Returns the settings that words ask for, in their order.
-pub(crate) fn settings_of<'a>(
+pub(crate) fn read_settings<'a>(
     alloc: Global,
     words: &[&'a str],
 ) -> Result<Vec<AskedSetting<'a>>, AllocError>
@@ -53,7 +54,8 @@ fn push_setting<'a>(
     settings: &mut Vec<AskedSetting<'a>>,
     setting: Option<AskedSetting<'a>>,
 ) -> Result<(), AllocError>
-    ensures { OnOk result (all_asked settings.new.items ≡ all_asked settings.old.items ++ listed (option_map asked_of setting.entry)) }
+    ensures { OnOk result (all_asked settings.new.items
+        ≡ all_asked settings.old.items ++ listed (option_map asked_of setting.entry)) }
 {
     if let Some(setting) = setting {
         settings.push(setting)?;
@@ -123,7 +125,7 @@ fn assigned(text: &str, ahead: bool) -> AskedSetting<'_>
 fn value_or_empty<'a>(words: &[&'a str], option: &str) -> &'a str
     ensures { result.now ≡ unwrap_or (value_of (texts words.now) option.now) [] }
 {
-    match value_of(words, option) {
+    match option_value(words, option) {
         Some(value) => value,
         None => "",
     }

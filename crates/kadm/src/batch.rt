@@ -4,23 +4,24 @@ ghost use Rattle.file_store.specs.Input.{HasEnded, TakesLine};
 ghost use Rattle.kadm_changes.specs.Found.{IsFound, IsFoundIn};
 ghost use Rattle.kadm_changes.specs.Texts.{texts};
 ghost use Rattle.kadm.specs.Batches.{IsBatchDone, IsLineRead, input_texts, line_text, line_texts};
-ghost use Rattle.kadm.specs.Lines.{AreDone, AreInput, IsCommandMade, IsLineAdded, IsLineDone, IsRun, IsSpelledMade, IsTurn};
+ghost use Rattle.kadm.specs.Lines.{AreDone, AreInput, IsCommandMade, IsLineAdded, IsLineDone, IsRun, IsSpelledMade};
+ghost use Rattle.kadm.specs.Lines.{IsTurn};
 
 use crate::commands::{Command, CommandKind, WHOLE_REALM, read_args, read_command};
 use crate::outcome::Outcome;
 use crate::reports::report;
 use crate::subject::{Subject, begin_line};
-use crate::usage::{CommandFault, report_command_fault, report_fault};
-use crate::values::{NAME, has_flag, value_of};
+use crate::usage::{UsageError, report_command_fault, report_fault};
+use crate::values::{NAME, has_flag, option_value};
 use crate::words::{in_batch, is_given};
 use crate::writing::WriteCommand;
 use clap::ArgMatches;
 use clap::error::Error;
 use command_line::Status;
-use file_store::{FileCause, FileFault, STANDARD_INPUT, Store};
+use file_store::{FileError, PathError, STANDARD_INPUT, Store};
 use kadm_changes::{
-    Context, Draft, FoundPassword, Note, Stop, Target, find_password, lock_database, read_database,
-    report_realm, update_in_batch, write_database,
+    CommandError, Context, Draft, FoundPassword, Note, Target, find_password, lock_database,
+    read_database, report_realm, update_in_batch, write_database,
 };
 use std::alloc::{AllocError, Global};
 use std::io::{ErrorKind, Write};
@@ -32,16 +33,16 @@ const LONGEST_LINE: usize = 65_536;
 /// How many lines a batch may have.
 const MOST_LINES: usize = 1_000_000;
 
-/// What is said of more lines.
+/// The error of a batch with more lines.
 const TOO_MANY: &str = "a batch has at most 1,000,000 lines";
 
 /// The option that a line must not have.
 const KEEP_MODE: &str = "--keep-mode";
 
-/// What is said of it.
+/// The error of a line that has it.
 const NO_MODE: &str = "--keep-mode is an option of batch itself, and not of its lines";
 
-/// What is said of a line that has `--whole-realm`.
+/// The error of a line that has `--whole-realm`.
 const NO_WHOLE_REALM: &str = "--whole-realm is an option of batch itself, and not of its lines";
 
 /// What a terminal shows before each line.
@@ -87,11 +88,12 @@ pub(crate) fn run_batch<'p, T: Store, W: Write, E: Write>(
     store: &mut T,
     target: &Target<'p>,
     keep_going: bool,
-) -> Result<Outcome, Stop<'p>>
+) -> Result<Outcome, CommandError<'p>>
     // Promise (done, unchanged): `batch`: the same, with the changes of all lines one after another, each the change
     // that its words spell for the database of the batch. If one is not done, the file is as it was.
     // Promise: with `--keep-going` each line of a batch is done, or leaves the database as it was.
-    ensures done { IfOk result (λ end. IsBatchDone (T.world store.old) (T.input store.old) target.now.whole_realm target.now.db.now keep_going end.whole (T.world store.new)) }
+    ensures done { IfOk result (λ end. IsBatchDone (T.world store.old)
+        (T.input store.old) target.now.whole_realm target.now.db.now keep_going end.whole (T.world store.new)) }
     // Promise, as make_update of kadm_changes: a command that ends ..
     ensures unchanged { OnErr result (T.world store.new ≡ T.world store.old) }
 {
@@ -116,13 +118,13 @@ pub(crate) fn run_batch<'p, T: Store, W: Write, E: Write>(
     Ok(Outcome { whole, written })
 }
 
-/// Reads the lines to the end of standard input. An empty line and a comment are none.
+/// Reads the lines of standard input up to its end. Skips empty lines and comments.
 #[tactic(auto, using(crate::proofs::InputLines::none_read, crate::proofs::InputLines::read_on, crate::proofs::InputLines::all_read))]
 fn read_lines<T: Store, E: Write>(
     alloc: Global,
     store: &mut T,
     errors: &mut E,
-) -> Result<Vec<InputLine>, Stop<'static>>
+) -> Result<Vec<InputLine>, CommandError<'static>>
     // Promise: the lines of a batch are those of standard input: each of them, once, in their order.
     ensures read { IfOk result (λ lines. AreInput (T.input store.old) (input_texts lines.items)) }
     ensures unchanged { T.world store.new ≡ T.world store.old }
@@ -140,19 +142,23 @@ fn read_lines<T: Store, E: Write>(
 }
 
 /// Reads the next line. `None` if the input has ended.
-fn next_line<T: Store>(alloc: Global, store: &mut T) -> Result<Option<Vec<u8>>, Stop<'static>>
-    ensures line { IfOk result (λ found. IfSome found (λ line. TakesLine (T.input store.old) line.items (T.input store.new))) }
+fn next_line<T: Store>(
+    alloc: Global,
+    store: &mut T,
+) -> Result<Option<Vec<u8>>, CommandError<'static>>
+    ensures line { IfOk result (λ found. IfSome found
+        (λ line. TakesLine (T.input store.old) line.items (T.input store.new))) }
     ensures ended { IfOk result (λ found. IfNone found (HasEnded (T.input store.old))) }
     ensures unchanged { T.world store.new ≡ T.world store.old }
 {
     match store.ask(alloc, PROMPT, LONGEST_LINE) {
         Ok(Some(line)) => Ok(Some(line)),
-        Ok(None) => Err(Stop::from(FileFault {
+        Ok(None) => Err(CommandError::from(PathError {
             path: STANDARD_INPUT,
-            cause: FileCause::LongFile,
+            cause: FileError::LongFile,
         })),
         Err(error) if error.kind() == ErrorKind::UnexpectedEof => Ok(None),
-        Err(error) => Err(Stop::from(FileFault::failed(STANDARD_INPUT, error))),
+        Err(error) => Err(CommandError::from(PathError::failed(STANDARD_INPUT, error))),
     }
 }
 
@@ -191,7 +197,7 @@ fn with_passwords<T: Store>(
 {
     let mut all = Vec::new(alloc);
     for line in lines {
-        let password = password_of(alloc, store, db, &line.words)?;
+        let password = line_password(alloc, store, db, &line.words)?;
         all.push(BatchLine {
             number: line.number,
             words: line.words,
@@ -203,7 +209,7 @@ fn with_passwords<T: Store>(
 
 /// Reads the file of the password that a line takes. `None` if it takes none; what is wrong with the line is reported
 /// when it is run.
-fn password_of<T: Store>(
+fn line_password<T: Store>(
     alloc: Global,
     store: &mut T,
     db: &str,
@@ -243,21 +249,26 @@ fn command_password<T: Store>(
 }
 
 /// Reports why a line is no command. Returns how the batch ends. Ignores a failed write.
-fn report_line_fault<E: Write>(errors: &mut E, number: usize, fault: &str) -> Stop<'static> {
+fn report_line_fault<E: Write>(
+    errors: &mut E,
+    number: usize,
+    fault: &str,
+) -> CommandError<'static> {
     let _ = writeln!(errors, "kadm: line {number}: {fault}");
-    Stop::Usage
+    CommandError::Usage
 }
 
-/// Runs the commands, and returns whether all were done. If one is not, that is the end, unless the batch keeps going.
+/// Runs the commands, and returns whether all were done. Ends with the first that is not, unless the batch keeps going.
 #[tactic(auto, using(crate::proofs::Batching::run_kept))]
 fn run_lines<T: Store, W: Write, E: Write>(
     context: &mut Context<W, E>,
     store: &mut T,
     batch: &Batch<'_>,
     draft: &mut Draft,
-) -> Result<bool, Stop<'static>>
+) -> Result<bool, CommandError<'static>>
     requires read { All (IsLineRead (T.world store.old)) batch.now.lines.now }
-    ensures run { IfOk result (λ whole. IsRun (T.world store.old) batch.now.whole_realm batch.now.db.now batch.now.keep_going
+    ensures run { IfOk result (λ whole. IsRun
+        (T.world store.old) batch.now.whole_realm batch.now.db.now batch.now.keep_going
         (line_texts batch.now.lines.now) draft.old.database draft.new.database whole) }
     ensures unchanged { T.world store.new ≡ T.world store.old }
 {
@@ -274,10 +285,11 @@ fn run_all<T: Store, W: Write, E: Write>(
     store: &mut T,
     batch: &Batch<'_>,
     draft: &mut Draft,
-) -> Result<(), Stop<'static>>
+) -> Result<(), CommandError<'static>>
     requires read { All (IsLineRead (T.world store.old)) batch.now.lines.now }
     // Promise (done, unchanged), as run_batch: `batch`: the same, with ..
-    ensures done { OnOk result (AreDone (T.world store.old) batch.now.whole_realm batch.now.db.now (line_texts batch.now.lines.now)
+    ensures done { OnOk result (AreDone (T.world store.old) batch.now.whole_realm batch.now.db.now
+        (line_texts batch.now.lines.now)
         draft.old.database draft.new.database) }
     ensures unchanged { T.world store.new ≡ T.world store.old }
 {
@@ -290,19 +302,19 @@ fn run_all<T: Store, W: Write, E: Write>(
                 "kadm: line {}: nothing was written",
                 line.number
             );
-            return Err(stop_of(status));
+            return Err(batch_end(status));
         }
         rest = others;
     }
     Ok(())
 }
 
-/// Returns how a batch ends whose line ends so.
-fn stop_of(status: Status) -> Stop<'static> {
+/// Returns how a batch ends that ends with this line.
+fn batch_end(status: Status) -> CommandError<'static> {
     match status {
-        Status::Usage => Stop::Usage,
-        Status::Failed => Stop::LineFailed,
-        Status::Done | Status::Refused => Stop::LineRefused,
+        Status::Usage => CommandError::Usage,
+        Status::Failed => CommandError::LineFailed,
+        Status::Done | Status::Refused => CommandError::LineRefused,
     }
 }
 
@@ -312,10 +324,11 @@ fn run_each<T: Store, W: Write, E: Write>(
     store: &mut T,
     batch: &Batch<'_>,
     draft: &mut Draft,
-) -> Result<bool, Stop<'static>>
+) -> Result<bool, CommandError<'static>>
     requires read { All (IsLineRead (T.world store.old)) batch.now.lines.now }
     // Promise (run, unchanged), as run_batch: with `--keep-going` each line ..
-    ensures run { IfOk result (λ whole. IsRun (T.world store.old) batch.now.whole_realm batch.now.db.now true (line_texts batch.now.lines.now)
+    ensures run { IfOk result (λ whole. IsRun (T.world store.old) batch.now.whole_realm batch.now.db.now true
+        (line_texts batch.now.lines.now)
         draft.old.database draft.new.database whole) }
     ensures unchanged { T.world store.new ≡ T.world store.old }
 {
@@ -337,9 +350,10 @@ fn try_line<T: Store, W: Write, E: Write>(
     line: &BatchLine,
     whole: bool,
     draft: &mut Draft,
-) -> Result<bool, Stop<'static>>
+) -> Result<bool, CommandError<'static>>
     requires read { IsLineRead (T.world store.old) line.now }
-    ensures turn { IfOk result (λ whole_then. IsTurn (T.world store.old) batch.now.whole_realm batch.now.db.now (line_text line.now)
+    ensures turn { IfOk result (λ whole_then. IsTurn (T.world store.old) batch.now.whole_realm batch.now.db.now
+        (line_text line.now)
         whole draft.old.database draft.new.database whole_then) }
     ensures unchanged { T.world store.new ≡ T.world store.old }
 {
@@ -365,7 +379,7 @@ fn run_line<T: Store, W: Write, E: Write>(
     batch: &Batch<'_>,
     line: &BatchLine,
     draft: &mut Draft,
-) -> Result<Option<Status>, Stop<'static>>
+) -> Result<Option<Status>, CommandError<'static>>
     requires read { IsLineRead (T.world store.old) line.now }
     ensures done { IfOk result (λ end. IfNone end (IsLineDone (T.world store.old) batch.now.whole_realm batch.now.db.now
         (line_text line.now) draft.old.database draft.new.database)) }
@@ -392,13 +406,13 @@ fn run_line<T: Store, W: Write, E: Write>(
     }
 }
 
-/// Keeps what is to be said of a line once the database is written. Fails if memory runs out.
+/// Keeps the note on a line until the database is written. Fails if memory runs out.
 fn keep_note(
     notes: &mut Vec<u8>,
     subject: &Subject<'_>,
     note: Option<Note>,
 ) -> Result<(), AllocError> {
-    let (Some(note), Some(name)) = (note, value_of(subject.words, NAME)) else {
+    let (Some(note), Some(name)) = (note, option_value(subject.words, NAME)) else {
         return Ok(());
     };
     begin_line(notes, subject);
@@ -408,7 +422,7 @@ fn keep_note(
     }
 }
 
-/// Makes the change that the words of a line ask for. Returns what an administrator may not expect of it.
+/// Makes the change that the words of a line ask for. Returns a note on what the administrator may not expect.
 fn run_words<'a, T: Store, E: Write>(
     errors: &mut E,
     store: &mut T,
@@ -416,9 +430,10 @@ fn run_words<'a, T: Store, E: Write>(
     draft: &mut Draft,
     whole: bool,
     found: Option<&FoundPassword>,
-) -> Result<Option<Note>, Stop<'a>>
+) -> Result<Option<Note>, CommandError<'a>>
     requires found { IsFoundIn (T.world store.old) found }
-    ensures done { OnOk result (IsSpelledMade (T.world store.old) whole (texts subject.now.words.now) draft.old.database draft.new.database) }
+    ensures done { OnOk result (IsSpelledMade (T.world store.old) whole
+        (texts subject.now.words.now) draft.old.database draft.new.database) }
     ensures unchanged { T.world store.new ≡ T.world store.old }
 {
     let matches = read_args(draft.alloc, subject.words);
@@ -438,7 +453,7 @@ fn check_words<E: Write>(
     errors: &mut E,
     subject: &Subject<'_>,
     matches: &Result<ArgMatches<'_>, Error>,
-) -> Result<(), Stop<'static>> {
+) -> Result<(), CommandError<'static>> {
     match matches {
         Err(error) => {
             begin_line(errors, subject);
@@ -459,9 +474,9 @@ fn refused_option<E: Write>(
     errors: &mut E,
     subject: &Subject<'_>,
     fault: &'static str,
-) -> Stop<'static> {
+) -> CommandError<'static> {
     begin_line(errors, subject);
-    report_command_fault(errors, CommandFault::BadValue(fault))
+    report_command_fault(errors, UsageError::BadValue(fault))
 }
 
 /// Makes a change that a line asks for.
@@ -471,16 +486,17 @@ fn run_command<'a, T: Store>(
     draft: &mut Draft,
     whole: bool,
     found: Option<&FoundPassword>,
-) -> Result<Option<Note>, Stop<'a>>
+) -> Result<Option<Note>, CommandError<'a>>
     requires found { IsFoundIn (T.world store.old) found }
-    ensures done { OnOk result (IsCommandMade (T.world store.old) whole command.now draft.old.database draft.new.database) }
+    ensures done { OnOk result (IsCommandMade
+        (T.world store.old) whole command.now draft.old.database draft.new.database) }
     ensures unchanged { T.world store.new ≡ T.world store.old }
 {
     match command.kind {
         CommandKind::Write(WriteCommand::Update(update)) => {
             update_in_batch(store, draft, &command.target, whole, update, found)
         }
-        _ => Err(Stop::NotInBatch),
+        _ => Err(CommandError::NotInBatch),
     }
 }
 

@@ -3,14 +3,16 @@
 ghost use Rattle.std.specs.Prelude.{◌≡◌, IfOk, IfSome, Some, codes};
 ghost use Rattle.kadm_changes.specs.Texts.{path_of, texts};
 ghost use Rattle.kadm.specs.Values.{value_of};
-ghost use Rattle.kadm.specs.Words.{IsChangeSpelled, IsPasswordGrant, IsRandomGrant, IsRowSpelled, IsWriteSpelled, command_of};
+ghost use Rattle.kadm.specs.Words.{IsChangeSpelled, IsPasswordGrant, IsRandomGrant, IsRandomSpelled, IsRowSpelled};
+ghost use Rattle.kadm.specs.Words.{IsWriteSpelled};
+ghost use Rattle.kadm.specs.Words.{command_of};
 
 use crate::options::{
     ANY_PASSWORDS, DATABASE, KEEPS_MODE, NAME, NAMES, PASSWORD, REPLACES, TYPES, WHOLE_REALM,
 };
 use crate::settings::sets_some;
-use crate::usage::{CommandFault, NO_COMMAND, required, setting_fault};
-use crate::values::{KEYTAB, has_flag, value_of};
+use crate::usage::{NO_COMMAND, UsageError, required, setting_fault};
+use crate::values::{KEYTAB, has_flag, option_value};
 use crate::words::is_given;
 use crate::writing::WriteCommand;
 use command_line::{FlagRow, OptionRow, SubcommandRow, Times};
@@ -44,7 +46,7 @@ pub(crate) const CHANGES: &[SubcommandRow] = &[
     SubcommandRow {
         name: "random",
         about: "Gives a principal random keys, or adds it with them; standard error says which",
-        options: &[DATABASE, NAME, SEED, TYPES],
+        options: &[DATABASE, NAME, SEED, TYPES, STAGED],
         flags: &[REPLACES, EXISTINGS, KEEPS_MODE],
     },
     SubcommandRow {
@@ -114,6 +116,13 @@ const SEED: OptionRow = OptionRow {
     name: "seed",
     shape: "FILE",
     help: "A file of 32 random bytes, for these keys alone; by default the system draws them",
+    times: Times::AtMostOnce,
+};
+
+const STAGED: OptionRow = OptionRow {
+    name: "from",
+    shape: "FILE",
+    help: "Takes the new keys from the keytab that `keytab --next` wrote for this principal; draws none",
     times: Times::AtMostOnce,
 };
 
@@ -201,6 +210,9 @@ const KEEPS_GOING: FlagRow = FlagRow {
 
 const NO_SOURCE: &str = "--random makes random keys: leave out --password-file and --any-password";
 
+const NO_STAGED: &str =
+    "--from takes the keys of the keytab: leave out --seed, --types and --replace";
+
 const NO_IMPORT: &str = "\
 give either --name and --keytab, for one principal, or --dump and --stash, for a whole realm; --types goes with the \
 first, --skip with the second";
@@ -211,31 +223,31 @@ const NO_VERSION: &str =
 const NO_SETTING: &str = "give --set FIELD=VALUE, once or more, or --field with --value";
 
 /// Returns what the command writes. `None` if it is not one of these.
-pub(crate) fn change_of<'a>(
+pub(crate) fn read_change<'a>(
     command: &str,
     words: &'a [&'a str],
-) -> Result<Option<WriteCommand<'a>>, CommandFault<'a>>
+) -> Result<Option<WriteCommand<'a>>, UsageError<'a>>
     ensures { command_of (texts words.now) ≡ Some command.now
         → IfOk result (λ found. IfSome found (λ write. IsWriteSpelled (texts words.now) write)) }
 {
     match command {
-        "add" => Ok(Some(row_of(words, added(words)?)?)),
-        "passwd" => Ok(Some(row_of(words, renewed(words))?)),
-        "random" => Ok(Some(row_of(words, random_args(words))?)),
+        "add" => Ok(Some(row_change(words, added(words)?)?)),
+        "passwd" => Ok(Some(row_change(words, renewed(words))?)),
+        "random" => Ok(Some(row_change(words, random_args(words)?)?)),
         "import" => Ok(Some(import_args(words)?)),
-        "drop" => Ok(Some(changes_of(words, drop_args(words)?)?)),
-        "policy" => Ok(Some(changes_of(words, policy_args(words)?)?)),
+        "drop" => Ok(Some(named_changes(words, drop_args(words)?)?)),
+        "policy" => Ok(Some(named_changes(words, policy_args(words)?)?)),
         "batch" => Ok(Some(batch_args(words)?)),
-        "remove" => Ok(Some(changes_of(words, ChangeArgs::Remove)?)),
+        "remove" => Ok(Some(named_changes(words, ChangeArgs::Remove)?)),
         _ => Ok(None),
     }
 }
 
 /// Returns the change that gives the principal keys, and then makes the settings of the words.
-fn row_of<'a>(
+fn row_change<'a>(
     words: &'a [&'a str],
     how: RowUpdate<'a>,
-) -> Result<WriteCommand<'a>, CommandFault<'a>>
+) -> Result<WriteCommand<'a>, UsageError<'a>>
     ensures { IsRowSpelled (texts words.now) how.entry → IfOk result (λ write. IsWriteSpelled (texts words.now) write) }
 {
     let name = required(words, "--name", NO_COMMAND)?;
@@ -244,8 +256,9 @@ fn row_of<'a>(
 
 /// Returns the keys of the principal to add. Fails if both random keys and a password are asked for, or a setting is
 /// invalid.
-fn added<'a>(words: &[&'a str]) -> Result<RowUpdate<'a>, CommandFault<'a>>
-    ensures { command_of (texts words.now) ≡ Some (codes "add") → IfOk result (λ how. IsRowSpelled (texts words.now) how) }
+fn added<'a>(words: &[&'a str]) -> Result<RowUpdate<'a>, UsageError<'a>>
+    ensures { command_of (texts words.now) ≡ Some (codes "add")
+        → IfOk result (λ how. IsRowSpelled (texts words.now) how) }
 {
     if let Some(fault) = setting_fault(words) {
         return Err(fault);
@@ -258,10 +271,10 @@ fn added<'a>(words: &[&'a str]) -> Result<RowUpdate<'a>, CommandFault<'a>>
         }));
     }
     if password.any || password.file.is_some() {
-        return Err(CommandFault::BadValue(NO_SOURCE));
+        return Err(UsageError::BadValue(NO_SOURCE));
     }
     Ok(RowUpdate::Random(RandomGrant {
-        seed: value_of(words, "--seed"),
+        seed: option_value(words, "--seed"),
         grant: Grant::New,
     }))
 }
@@ -281,7 +294,7 @@ fn password_args<'a>(words: &[&'a str]) -> PasswordArgs<'a>
     ensures { path_of result.file ≡ value_of (texts words.now) (codes "--password-file") }
 {
     PasswordArgs {
-        file: value_of(words, "--password-file"),
+        file: option_value(words, "--password-file"),
         any: has_flag(words, "--any-password"),
     }
 }
@@ -306,20 +319,37 @@ fn next_grant(words: &[&str]) -> Grant
     }
 }
 
-/// Returns the random keys of a principal.
-fn random_args<'a>(words: &[&'a str]) -> RowUpdate<'a>
-    ensures { command_of (texts words.now) ≡ Some (codes "random") → IsRowSpelled (texts words.now) result }
+/// Returns the random keys of a principal: new ones, or those of the keytab that `--from` names.
+fn random_args<'a>(words: &[&'a str]) -> Result<RowUpdate<'a>, UsageError<'a>>
+    ensures { command_of (texts words.now) ≡ Some (codes "random")
+        → IfOk result (λ how. IsRowSpelled (texts words.now) how) }
 {
-    RowUpdate::Random(RandomGrant {
-        seed: value_of(words, "--seed"),
-        grant: random_grant(words),
-    })
+    match option_value(words, "--from") {
+        Some(keytab) => staged_args(words, keytab),
+        None => Ok(RowUpdate::Random(RandomGrant {
+            seed: option_value(words, "--seed"),
+            grant: random_grant(words),
+        })),
+    }
+}
+
+/// Returns the keys of a keytab. Fails if the words say how to draw keys, or drop the older ones, which hosts still
+/// need.
+fn staged_args<'a>(words: &[&'a str], keytab: &'a str) -> Result<RowUpdate<'a>, UsageError<'a>>
+    ensures { command_of (texts words.now) ≡ Some (codes "random")
+        → value_of (texts words.now) (codes "--from") ≡ Some keytab.now
+        → IfOk result (λ how. IsRowSpelled (texts words.now) how) }
+{
+    if is_given(words, "--seed") || is_given(words, "--types") || has_flag(words, "--replace") {
+        return Err(UsageError::BadValue(NO_STAGED));
+    }
+    Ok(RowUpdate::Staged { keytab })
 }
 
 /// Returns the grant of random keys. Only without an option it may add the principal: a name with a typing error then
 /// gets no row in place of the one that needs new keys.
 fn random_grant(words: &[&str]) -> Grant
-    ensures { command_of (texts words.now) ≡ Some (codes "random") → IsRandomGrant (texts words.now) result }
+    ensures { IsRandomSpelled (texts words.now) → IsRandomGrant (texts words.now) result }
 {
     if has_flag(words, "--replace") {
         Grant::Replace
@@ -331,14 +361,15 @@ fn random_grant(words: &[&str]) -> Grant
 }
 
 /// Returns what an import writes: a whole realm, or one principal. Fails if the options are of both.
-fn import_args<'a>(words: &'a [&'a str]) -> Result<WriteCommand<'a>, CommandFault<'a>>
-    ensures { command_of (texts words.now) ≡ Some (codes "import") → IfOk result (λ write. IsWriteSpelled (texts words.now) write) }
+fn import_args<'a>(words: &'a [&'a str]) -> Result<WriteCommand<'a>, UsageError<'a>>
+    ensures { command_of (texts words.now) ≡ Some (codes "import")
+        → IfOk result (λ write. IsWriteSpelled (texts words.now) write) }
 {
-    let Some(dump) = value_of(words, "--dump") else {
+    let Some(dump) = option_value(words, "--dump") else {
         return import_row(words);
     };
     if is_given(words, "--name") || is_given(words, KEYTAB) || is_given(words, "--types") {
-        return Err(CommandFault::BadValue(NO_IMPORT));
+        return Err(UsageError::BadValue(NO_IMPORT));
     }
     Ok(WriteCommand::Dump(DumpArgs {
         dump,
@@ -348,11 +379,12 @@ fn import_args<'a>(words: &'a [&'a str]) -> Result<WriteCommand<'a>, CommandFaul
 }
 
 /// Returns the import of one principal.
-fn import_row<'a>(words: &'a [&'a str]) -> Result<WriteCommand<'a>, CommandFault<'a>>
-    ensures { command_of (texts words.now) ≡ Some (codes "import") → IfOk result (λ write. IsWriteSpelled (texts words.now) write) }
+fn import_row<'a>(words: &'a [&'a str]) -> Result<WriteCommand<'a>, UsageError<'a>>
+    ensures { command_of (texts words.now) ≡ Some (codes "import")
+        → IfOk result (λ write. IsWriteSpelled (texts words.now) write) }
 {
     if has_flag(words, "--skip") || is_given(words, "--stash") {
-        return Err(CommandFault::BadValue(NO_IMPORT));
+        return Err(UsageError::BadValue(NO_IMPORT));
     }
     Ok(WriteCommand::Update(Update::Row(RowArgs {
         name: required(words, "--name", NO_IMPORT)?,
@@ -363,48 +395,51 @@ fn import_row<'a>(words: &'a [&'a str]) -> Result<WriteCommand<'a>, CommandFault
 }
 
 /// Returns the change of each principal that the words name. An `Err` says that they name none.
-fn changes_of<'a>(
+fn named_changes<'a>(
     words: &'a [&'a str],
     how: ChangeArgs,
-) -> Result<WriteCommand<'a>, CommandFault<'a>>
+) -> Result<WriteCommand<'a>, UsageError<'a>>
     ensures { IsChangeSpelled (texts words.now) how → IfOk result (λ write. IsWriteSpelled (texts words.now) write) }
 {
     if !is_given(words, "--name") {
-        return Err(CommandFault::BadValue(NO_COMMAND));
+        return Err(UsageError::BadValue(NO_COMMAND));
     }
     Ok(WriteCommand::Update(Update::Changes(how)))
 }
 
 /// Returns which versions to drop. Fails unless exactly one of `--version` and `--older` is given.
-fn drop_args<'a>(words: &[&'a str]) -> Result<ChangeArgs, CommandFault<'a>>
-    ensures { command_of (texts words.now) ≡ Some (codes "drop") → IfOk result (λ how. IsChangeSpelled (texts words.now) how) }
+fn drop_args<'a>(words: &[&'a str]) -> Result<ChangeArgs, UsageError<'a>>
+    ensures { command_of (texts words.now) ≡ Some (codes "drop")
+        → IfOk result (λ how. IsChangeSpelled (texts words.now) how) }
 {
-    match (value_of(words, "--version"), has_flag(words, "--older")) {
+    match (option_value(words, "--version"), has_flag(words, "--older")) {
         (Some(version), false) => match number_u32(version) {
             Some(version) => Ok(ChangeArgs::Drop { version }),
-            None => Err(CommandFault::BadValue(NO_VERSION)),
+            None => Err(UsageError::BadValue(NO_VERSION)),
         },
         (None, true) => Ok(ChangeArgs::DropOlder),
-        _ => Err(CommandFault::BadValue(NO_VERSION)),
+        _ => Err(UsageError::BadValue(NO_VERSION)),
     }
 }
 
 /// Returns the change by the settings that the words ask for. Fails if there is none, or one is invalid.
-fn policy_args<'a>(words: &[&'a str]) -> Result<ChangeArgs, CommandFault<'a>>
-    ensures { command_of (texts words.now) ≡ Some (codes "policy") → IfOk result (λ how. IsChangeSpelled (texts words.now) how) }
+fn policy_args<'a>(words: &[&'a str]) -> Result<ChangeArgs, UsageError<'a>>
+    ensures { command_of (texts words.now) ≡ Some (codes "policy")
+        → IfOk result (λ how. IsChangeSpelled (texts words.now) how) }
 {
     if let Some(fault) = setting_fault(words) {
         return Err(fault);
     }
     if !sets_some(words) {
-        return Err(CommandFault::BadValue(NO_SETTING));
+        return Err(UsageError::BadValue(NO_SETTING));
     }
     Ok(ChangeArgs::Policy)
 }
 
 /// Returns whether a batch keeps going.
-fn batch_args<'a>(words: &'a [&'a str]) -> Result<WriteCommand<'a>, CommandFault<'a>>
-    ensures { command_of (texts words.now) ≡ Some (codes "batch") → IfOk result (λ write. IsWriteSpelled (texts words.now) write) }
+fn batch_args<'a>(words: &'a [&'a str]) -> Result<WriteCommand<'a>, UsageError<'a>>
+    ensures { command_of (texts words.now) ≡ Some (codes "batch")
+        → IfOk result (λ write. IsWriteSpelled (texts words.now) write) }
 {
     Ok(WriteCommand::Batch {
         keep_going: has_flag(words, "--keep-going"),

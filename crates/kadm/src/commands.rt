@@ -4,22 +4,22 @@ ghost use Rattle.kadm_changes.specs.Texts.{texts};
 ghost use Rattle.kadm.specs.Words.{IsKindSpelled, Spells, command_of};
 ghost use Rattle.kadm_changes.specs.Asking.{all_asked};
 ghost use Rattle.kadm.specs.Assigning.{settings_of};
+ghost use Rattle.kadm.specs.Types.{AreTypesAsked};
 ghost use Rattle.kadm.specs.Values.{has_flag, value_of, values_of};
 
-use crate::assigning::settings_of;
-use crate::printing::{PrintCommand, print_of, with_prints};
+use crate::assigning::read_settings;
+use crate::key_types::key_types;
+use crate::printing::{PrintCommand, print_command, with_prints};
 use crate::restoring::RESTORE_NAME;
-use crate::usage::{CommandFault, NO_COMMAND, required};
-use crate::values::{DB, NAME, has_flag, value_of, values_of};
+use crate::usage::{NO_COMMAND, UsageError, required};
+use crate::values::{DB, NAME, has_flag, option_values};
 use crate::words::command_of;
-use crate::writing::{WriteCommand, with_changes, with_later_changes, write_of};
+use crate::writing::{WriteCommand, with_changes, with_later_changes, write_command};
 use clap::error::Error;
 use clap::{ArgMatches, Command as Parser};
-use enctypes::Etype;
 use file_store::NewMode;
 use kadm_changes::Target;
 use std::alloc::{AllocError, Global};
-use text_fields::{offered, read_etypes};
 
 const EXAMPLE: &str = "\
 A first realm:
@@ -38,9 +38,6 @@ Without --db the database is the file that KADM_DB names in the environment.
 A name is components joined by `/`. Write `/`, `\\` and `@` inside a component, and all bytes other than 21 to 7e, as `\\`
 and two lower case hexadecimal digits.";
 
-const NO_TYPES: &str = "\
---types takes the numbers 18, 17, 20 and 19, each at most once, separated by commas";
-
 /// The option that allows a command to end the whole realm.
 pub(crate) const WHOLE_REALM: &str = "--whole-realm";
 
@@ -58,8 +55,8 @@ pub(crate) enum CommandKind<'a> {
     Write(WriteCommand<'a>),
 }
 
-/// Parses the command line, whose first word is the program's name. Its values are then where `value_of` finds them:
-/// the parser takes no word that begins with `--` as a value, and no option twice.
+/// Parses the command line, whose first word is the program's name. Its values are then where `option_value` finds
+/// them: the parser takes no word that begins with `--` as a value, and no option twice.
 pub(crate) fn read_args<'a>(alloc: Global, words: &'a [&'a str]) -> Result<ArgMatches<'a>, Error> {
     parser(alloc)?.try_get_matches_from(words)
 }
@@ -78,46 +75,51 @@ fn parser<'a>(alloc: Global) -> Result<Parser<'a>, AllocError> {
 pub(crate) fn read_command<'a>(
     alloc: Global,
     words: &'a [&'a str],
-) -> Result<Command<'a>, CommandFault<'a>>
+) -> Result<Command<'a>, UsageError<'a>>
     // Promise: the command is read from the words, once: all names, with or without `--name`, the paths, all fields and
-    // their values.
+    // their values, and the types of new keys.
     ensures { IfOk result (λ command. Spells (texts words.now) command) }
 {
     let Some(command) = command_of(words) else {
-        return Err(CommandFault::BadValue(NO_COMMAND));
+        return Err(UsageError::BadValue(NO_COMMAND));
     };
-    let kind = kind_of(command, words)?;
-    match target_of(alloc, words) {
+    let kind = command_kind(command, words)?;
+    match read_target(alloc, words) {
         Ok(target) => Ok(Command { target, kind }),
         Err(fault) => Err(fault),
     }
 }
 
 /// Returns what the command works on.
-fn target_of<'a>(alloc: Global, words: &'a [&'a str]) -> Result<Target<'a>, CommandFault<'a>>
+fn read_target<'a>(alloc: Global, words: &'a [&'a str]) -> Result<Target<'a>, UsageError<'a>>
     ensures db { IfOk result (λ target. value_of (texts words.now) (codes "--db") ≡ Some target.db.now) }
     ensures names { IfOk result (λ target. texts target.names.items ≡ values_of (texts words.now) (codes "--name")) }
     ensures settings { IfOk result (λ target. all_asked target.settings.items ≡ settings_of (texts words.now)) }
-    ensures whole_realm { IfOk result (λ target. target.whole_realm ≡ has_flag (texts words.now) (codes "--whole-realm")) }
+    ensures etypes { IfOk result (λ target. AreTypesAsked (value_of (texts words.now) (codes "--types"))
+        target.etypes.items) }
+    ensures whole_realm { IfOk result (λ target. target.whole_realm
+        ≡ has_flag (texts words.now) (codes "--whole-realm")) }
 {
     let db = required(words, DB, NO_COMMAND)?;
     let etypes = key_types(alloc, words)?;
-    let (Ok(names), Ok(settings)) = (values_of(alloc, words, NAME), settings_of(alloc, words))
-    else {
-        return Err(CommandFault::Memory);
+    let (Ok(names), Ok(settings)) = (
+        option_values(alloc, words, NAME),
+        read_settings(alloc, words),
+    ) else {
+        return Err(UsageError::Memory);
     };
     Ok(Target {
         db,
         names,
         settings,
         etypes,
-        mode: mode_of(words),
+        mode: new_mode(words),
         whole_realm: has_flag(words, WHOLE_REALM),
     })
 }
 
 /// Returns the mode of a file that the command changes. A restore keeps it.
-fn mode_of(words: &[&str]) -> NewMode {
+fn new_mode(words: &[&str]) -> NewMode {
     if has_flag(words, "--keep-mode") || command_of(words) == Some(RESTORE_NAME) {
         NewMode::Kept
     } else {
@@ -125,29 +127,13 @@ fn mode_of(words: &[&str]) -> NewMode {
     }
 }
 
-/// Returns the encryption types of the new keys: all four by default. Fails if `--types` is no list of types.
-fn key_types(alloc: Global, words: &[&str]) -> Result<Vec<Etype>, CommandFault<'static>> {
-    match read_key_types(alloc, words) {
-        Ok(Some(etypes)) => Ok(etypes),
-        Ok(None) => Err(CommandFault::BadValue(NO_TYPES)),
-        Err(_) => Err(CommandFault::Memory),
-    }
-}
-
-/// Returns the encryption types of the new keys. `None` if `--types` is no list of types.
-fn read_key_types(alloc: Global, words: &[&str]) -> Result<Option<Vec<Etype>>, AllocError> {
-    match value_of(words, "--types") {
-        Some(text) => read_etypes(alloc, text),
-        None => Ok(Some(offered(alloc)?)),
-    }
-}
-
 /// Returns what the command does.
-fn kind_of<'a>(command: &str, words: &'a [&'a str]) -> Result<CommandKind<'a>, CommandFault<'a>>
-    ensures { command_of (texts words.now) ≡ Some command.now → IfOk result (λ kind. IsKindSpelled (texts words.now) kind) }
+fn command_kind<'a>(command: &str, words: &'a [&'a str]) -> Result<CommandKind<'a>, UsageError<'a>>
+    ensures { command_of (texts words.now) ≡ Some command.now
+        → IfOk result (λ kind. IsKindSpelled (texts words.now) kind) }
 {
-    match print_of(command, words)? {
+    match print_command(command, words)? {
         Some(print) => Ok(CommandKind::Print(print)),
-        None => Ok(CommandKind::Write(write_of(command, words)?)),
+        None => Ok(CommandKind::Write(write_command(command, words)?)),
     }
 }

@@ -5,7 +5,7 @@ ghost use Rattle.kadm.specs.Printed.{HasDatabase};
 use crate::json_lines::json_finding;
 use enctypes::Etype;
 use file_store::{FileRights, RIGHTS_OF_OTHERS, Store, file_rights, read_clock};
-use kadm_changes::{Context, Stop, read_database};
+use kadm_changes::{CommandError, Context, read_database};
 use krb_fields::Name;
 use principal_rows::Row;
 use principals::Database;
@@ -25,7 +25,7 @@ const KRBTGT: &[u8] = b"krbtgt";
 /// How to print what is found.
 #[derive(Clone, Copy)]
 pub(crate) struct LintArgs {
-    /// Whether the status says that there is a line.
+    /// Whether to end with `Refused` if there is a line.
     pub check: bool,
     /// Whether a line is an object of JSON.
     pub json: bool,
@@ -39,7 +39,7 @@ pub(crate) fn print_lint<'p, T: Store, W: Write, E: Write>(
     store: &mut T,
     db: &'p str,
     lint: LintArgs,
-) -> Result<bool, Stop<'p>>
+) -> Result<bool, CommandError<'p>>
     ensures read { IfOk result (λ found. HasDatabase (T.world store.old) db.now) }
     ensures unchanged { T.world store.new ≡ T.world store.old }
 {
@@ -54,7 +54,7 @@ pub(crate) fn print_findings_of<'p, T: Store, W: Write, E: Write>(
     db: &'p str,
     database: &Database,
     json: bool,
-) -> Result<bool, Stop<'p>>
+) -> Result<bool, CommandError<'p>>
     ensures unchanged { T.world store.new ≡ T.world store.old }
 {
     let rights = file_rights(store, db)?;
@@ -74,7 +74,7 @@ fn print_findings<'p, W: Write, E: Write>(
     rights: FileRights,
     database: &Database,
     json: bool,
-) -> Result<bool, Stop<'p>> {
+) -> Result<bool, CommandError<'p>> {
     let of_file = file_findings(place.alloc, place.db, rights)?;
     print_lines(place.alloc, &of_file, json, &mut context.out)?;
     let of_principals = findings(place, database)?;
@@ -87,7 +87,7 @@ fn print_lines<'p, W: Write>(
     lines: &[String],
     json: bool,
     out: &mut W,
-) -> Result<(), Stop<'p>> {
+) -> Result<(), CommandError<'p>> {
     for line in lines {
         if json {
             out.write_all(&json_finding(alloc, line)?)?;

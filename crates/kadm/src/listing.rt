@@ -3,9 +3,8 @@ ghost use Rattle.std.specs.Prelude.{◌≡◌, OnOk};
 ghost use Rattle.kadm.specs.Printed.{HasDatabase};
 
 use crate::json_lines::{behind_name, json_line};
-use crate::patterns::is_like;
 use file_store::Store;
-use kadm_changes::{Context, Stop, read_database};
+use kadm_changes::{CommandError, Context, is_like, read_database};
 use krb_fields::Second;
 use principal_rows::{KeyList, Row};
 use principals::Database;
@@ -32,12 +31,12 @@ pub(crate) fn print_list<'p, T: Store, W: Write, E: Write>(
     store: &mut T,
     db: &'p str,
     list: ListArgs<'_>,
-) -> Result<(), Stop<'p>>
+) -> Result<(), CommandError<'p>>
     ensures read { OnOk result (HasDatabase (T.world store.old) db.now) }
     ensures unchanged { T.world store.new ≡ T.world store.old }
 {
     let database = read_database(context, store, db)?;
-    let lines = lines_of(context.alloc, &database, list)?;
+    let lines = listed_lines(context.alloc, &database, list)?;
     Ok(print_lines(&lines, list.json, &mut context.out)?)
 }
 
@@ -56,7 +55,7 @@ fn print_lines<W: Write>(lines: &[Vec<u8>], json: bool, out: &mut W) -> io::Resu
 }
 
 /// Returns the line of each principal whose name fits, in the order of the names.
-fn lines_of(
+fn listed_lines(
     alloc: Global,
     database: &Database,
     list: ListArgs<'_>,
@@ -66,7 +65,7 @@ fn lines_of(
         if let Some((name, row)) = database.at(place) {
             let name = name.to_text(alloc)?;
             if fits(list.like, &name) {
-                lines.push(line_of(alloc, &name, row, list)?)?;
+                lines.push(listed_line(alloc, &name, row, list)?)?;
             }
         }
     }
@@ -84,7 +83,7 @@ fn fits(like: Option<&str>, name: &str) -> bool {
 }
 
 /// Returns the line of a principal. An object of JSON is behind its name and a space.
-fn line_of(
+fn listed_line(
     alloc: Global,
     name: &str,
     row: &Row,

@@ -9,11 +9,11 @@ mod commands;
 mod escaping;
 mod hints;
 mod json_lines;
+mod key_types;
 mod linting;
 mod listing;
 mod options;
 mod outcome;
-mod patterns;
 mod printing;
 mod reasons;
 mod reports;
@@ -28,12 +28,15 @@ mod words;
 mod writing;
 
 use crate::run::{CommandLine, kadm_run};
-use command_line::{NOT_UTF8, Status, open_missing_streams, read_words, report_failure};
+use command_line::{GivenError, Status, UsageStream, open_missing_streams, read_words};
 use file_store::{FileStore, Variable};
+use std::env;
 use std::env::VarError;
 use std::io::IsTerminal;
 use std::process::ExitCode;
-use std::{env, io};
+
+/// The name of the program, in front of what it says on standard error.
+const PROGRAM: &str = "kadm";
 
 /// The variable of the environment with the database of a command line that names none.
 const KADM_DB: &str = "KADM_DB";
@@ -49,69 +52,43 @@ struct Given<'a> {
     db: Option<&'a str>,
 }
 
-/// Why a command line can't be run.
-enum GivenFault {
-    /// A word, or the variable, is not UTF-8. The text says which.
-    NotUtf8(&'static str),
-    /// A call of the system failed.
-    System(io::Error),
-}
-
 impl<'a> Given<'a> {
     fn read(
         rt: &HostRuntime,
         named: &'a Result<String, VarError>,
-    ) -> Result<Given<'a>, GivenFault> {
-        let args = match read_words(rt) {
-            Ok(Some(args)) => args,
-            Ok(None) => return Err(GivenFault::NotUtf8(NOT_UTF8)),
-            Err(error) => return Err(GivenFault::System(error)),
-        };
-        match Variable::new(named) {
-            Ok(Variable::Absent) => Ok(Given { args, db: None }),
-            Ok(Variable::Text(path)) => Ok(Given {
+    ) -> Result<Given<'a>, GivenError> {
+        let args = read_words(rt)?;
+        match Variable::new(named)? {
+            Variable::Absent => Ok(Given { args, db: None }),
+            Variable::Text(path) => Ok(Given {
                 args,
                 db: Some(path),
             }),
-            Ok(Variable::NotUtf8) => Err(GivenFault::NotUtf8(DB_NOT_UTF8)),
-            Err(error) => Err(GivenFault::System(io::Error::from(error))),
+            Variable::NotUtf8 => Err(GivenError::not_utf8(DB_NOT_UTF8)),
         }
     }
 }
 
 fn main(rt: HostRuntime) -> ExitCode {
-    if let Err(fault) = open_missing_streams(&rt) {
-        return ExitCode::from(report_failure(&rt, "kadm", &fault).code());
-    }
-    let named = env::var(&rt, KADM_DB);
-    let given = match Given::read(&rt, &named) {
-        Ok(given) => given,
-        Err(fault) => return ExitCode::from(report(&rt, fault).code()),
+    let status = match run_given(&rt) {
+        Ok(status) => status,
+        Err(error) => error.report(&rt, PROGRAM, UsageStream::Errors),
     };
-    let mut store = FileStore::new(&rt);
+    ExitCode::from(status.code())
+}
+
+/// Runs the command line that the program is given, with its environment, and returns its status.
+fn run_given(rt: &HostRuntime) -> Result<Status, GivenError> {
+    open_missing_streams(rt)?;
+    let named = env::var(rt, KADM_DB);
+    let given = Given::read(rt, &named)?;
     let errors = rt.stderr();
     let line = CommandLine {
         args: given.args.as_slice(),
         db: given.db,
         is_watched: errors.is_terminal(),
     };
+    let mut store = FileStore::new(rt);
     let status = kadm_run(rt.alloc(), line, &mut store, rt.stdout(), errors);
-    ExitCode::from(status.code())
-}
-
-/// Reports why a command line can't be run. If that can't be written, there is nowhere to report it.
-fn report(rt: &HostRuntime, fault: GivenFault) -> Status {
-    match fault {
-        GivenFault::NotUtf8(why) => {
-            let _ = eprintln!(rt; "error: {why}");
-            Status::Usage
-        }
-        GivenFault::System(error) => {
-            report_failure(
-                rt,
-                "kadm",
-                &format_args!("cannot read the command line: {error}"),
-            )
-        }
-    }
+    Ok(status)
 }

@@ -12,7 +12,7 @@ pub(crate) struct Outcome {
 }
 
 impl Outcome {
-    /// Returns the outcome of a command that has done all, and has written its file so.
+    /// Returns the outcome of a command that has done all.
     pub(crate) fn whole(written: Written) -> Outcome
         ensures { result.whole ≡ true }
     {

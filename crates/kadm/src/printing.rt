@@ -2,7 +2,7 @@
 ghost use Rattle.std.specs.Prelude.{◌≡◌, IfOk, IfSome, Some, codes};
 ghost use Rattle.kadm_changes.specs.Texts.{texts};
 ghost use Rattle.kadm.specs.Words.{IsPrintSpelled, command_of, shows_some};
-ghost use Rattle.kadm.specs.Printed.{HasDatabase, IsPrinted};
+ghost use Rattle.kadm.specs.Printed.{IsPrinted, IsPrintedOf};
 ghost use Rattle.kadm.specs.declared.printing.PrintCommand.TheVariants as prints;
 
 use crate::checking::print_check;
@@ -10,13 +10,13 @@ use crate::linting::{LintArgs, print_lint};
 use crate::listing::{ListArgs, print_list};
 use crate::options::DATABASE;
 use crate::showing::{ShowArgs, print_rows};
-use crate::usage::CommandFault;
-use crate::values::{NAME, has_flag, value_of};
+use crate::usage::UsageError;
+use crate::values::{NAME, has_flag, option_value};
 use crate::words::is_given;
 use clap::Command as Parser;
 use command_line::{FlagRow, OptionRow, Status, SubcommandRow, Times, with_subcommands};
 use file_store::Store;
-use kadm_changes::{Context, Stop, Target};
+use kadm_changes::{CommandError, Context, Target};
 use std::alloc::{AllocError, Global};
 use std::convert::AsStr;
 use std::io::Write;
@@ -105,16 +105,16 @@ pub(crate) enum PrintCommand<'a> {
 }
 
 /// Returns what the command prints. `None` if it is a command that writes.
-pub(crate) fn print_of<'a>(
+pub(crate) fn print_command<'a>(
     command: &str,
     words: &'a [&'a str],
-) -> Result<Option<PrintCommand<'a>>, CommandFault<'a>>
+) -> Result<Option<PrintCommand<'a>>, UsageError<'a>>
     ensures { command_of (texts words.now) ≡ Some command.now
         → IfOk result (λ found. IfSome found (λ print. IsPrintSpelled (texts words.now) print)) }
 {
     match command {
         "list" => Ok(Some(PrintCommand::List(ListArgs {
-            like: value_of(words, "--like"),
+            like: option_value(words, "--like"),
             long: has_flag(words, "--long"),
             json: has_flag(words, "--json"),
         }))),
@@ -129,14 +129,15 @@ pub(crate) fn print_of<'a>(
 }
 
 /// Returns which rows to show. Fails unless there are either names or a pattern.
-fn show_args<'a>(words: &'a [&'a str]) -> Result<PrintCommand<'a>, CommandFault<'a>>
-    ensures { command_of (texts words.now) ≡ Some (codes "show") → IfOk result (λ print. IsPrintSpelled (texts words.now) print) }
+fn show_args<'a>(words: &'a [&'a str]) -> Result<PrintCommand<'a>, UsageError<'a>>
+    ensures { command_of (texts words.now) ≡ Some (codes "show")
+        → IfOk result (λ print. IsPrintSpelled (texts words.now) print) }
 {
     if !shows_some(words) {
-        return Err(CommandFault::BadValue(NONE_SHOWN));
+        return Err(UsageError::BadValue(NONE_SHOWN));
     }
     Ok(PrintCommand::Show(ShowArgs {
-        like: value_of(words, "--like"),
+        like: option_value(words, "--like"),
         json: has_flag(words, "--json"),
     }))
 }
@@ -152,14 +153,17 @@ fn shows_some(words: &[&str]) -> bool
 }
 
 /// Runs a command that only prints.
+#[tactic(auto, using(crate::proofs::ReadDatabases::check_printed))]
 pub(crate) fn run_print<'a, T: Store, W: Write, E: Write>(
     context: &mut Context<W, E>,
     store: &mut T,
     target: &Target<'a>,
     print: PrintCommand<'a>,
-) -> Result<Status, Stop<'a>>
-    // Promise: `list`, `lint`, `show` and `check` print what they found, with status `Done`, only of a database.
-    ensures read { IfOk result (λ status. HasDatabase (T.world store.old) target.now.db.now) }
+) -> Result<Status, CommandError<'a>>
+    // Promise: `list`, `lint`, `show` and `check` print what they found, with status `Done`, only of a database; `show`
+    // only if that has each principal that the words name.
+    ensures read { IfOk result (λ status. IsPrintedOf
+        (T.world store.old) target.now.db.now (texts target.now.names.items) print.entry) }
     // Promise (printed, unchanged): these four leave all as it was; a `Refused` that is no refusal comes only from
     // `lint --check`.
     ensures printed { IfOk result (λ status. IsPrinted status print.entry) }

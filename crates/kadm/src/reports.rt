@@ -7,42 +7,42 @@ use crate::assigning::value_option;
 use crate::changing::NOT_IN_BATCH;
 use crate::reasons::{reason_text, reason_word};
 use crate::subject::{Subject, begin_line};
-use crate::values::{DB, KEYTAB, NAME, value_of};
+use crate::values::{DB, KEYTAB, NAME, option_value};
 use command_line::{Status, print_failure, print_refusal};
-use file_store::FileCause;
-use kadm_changes::{Context, Part, Reason, Refusal, Stop};
+use file_store::FileError;
+use kadm_changes::{CommandError, CommandRefusal, Context, Part, Refusal};
 use std::io;
 use std::io::Write;
-use text_fields::{Setting, UtcDate, setting_of};
+use text_fields::{Setting, UtcDate, parse_setting};
 
 /// Reports why a command ended early: a word for programs on standard output, and the subject and reason on
 /// standard error. Returns the status.
 pub(crate) fn report<W: Write, E: Write>(
     context: &mut Context<W, E>,
     subject: &Subject<'_>,
-    stop: Stop<'_>,
+    stop: CommandError<'_>,
 ) -> io::Result<Status>
     ensures { IfOk result (λ status. IsStatusOf stop.entry status) }
 {
     match stop {
-        Stop::Usage => Ok(Status::Usage),
-        Stop::LineRefused => Ok(Status::Refused),
-        Stop::LineFailed => Ok(Status::Failed),
-        Stop::NotInBatch => {
+        CommandError::Usage => Ok(Status::Usage),
+        CommandError::LineRefused => Ok(Status::Refused),
+        CommandError::LineFailed => Ok(Status::Failed),
+        CommandError::NotInBatch => {
             begin_line(&mut context.errors, subject);
             let _ = writeln!(context.errors, "{NOT_IN_BATCH}");
             print_refusal(&mut context.out, &"NotInBatch")
         }
-        Stop::Refused(refusal) => {
+        CommandError::Refused(refusal) => {
             report_refusal(&mut context.errors, subject, refusal);
             print_refusal(&mut context.out, &reason_word(refusal.reason))
         }
-        Stop::File(fault) => {
+        CommandError::File(fault) => {
             begin_line(&mut context.errors, subject);
             name_imported(&mut context.errors, subject, fault.path);
             let _ = writeln!(context.errors, "{fault}");
             match (fault.cause, fault.cause.refusal()) {
-                (FileCause::Failed(_), _) | (_, None) => print_failure(&mut context.out),
+                (FileError::Failed(_), _) | (_, None) => print_failure(&mut context.out),
                 (_, Some(name)) => print_refusal(&mut context.out, &name),
             }
         }
@@ -85,16 +85,16 @@ fn option_of(part: Part) -> &'static str {
 fn refused_value<'a>(words: &[&'a str], refusal: Refusal<'a>) -> Option<&'a str> {
     let value = match refusal.value {
         Some(value) => value,
-        None => value_of(words, option_of(refusal.part))?,
+        None => option_value(words, option_of(refusal.part))?,
     };
     if value.is_empty() { None } else { Some(value) }
 }
 
-/// Names the principal that is imported, if the word is the keytab with its keys: it may be that of many. Ignores a
+/// Names the imported principal, if the word is the keytab with its keys, which may have those of many. Ignores a
 /// failed write.
 fn name_imported<E: Write>(errors: &mut E, subject: &Subject<'_>, word: &str) {
-    if value_of(subject.words, KEYTAB) == Some(word)
-        && let Some(name) = value_of(subject.words, NAME)
+    if option_value(subject.words, KEYTAB) == Some(word)
+        && let Some(name) = option_value(subject.words, NAME)
     {
         let _ = write!(errors, "{name}: ");
     }
@@ -113,15 +113,15 @@ fn report_refusal<E: Write>(errors: &mut E, subject: &Subject<'_>, refusal: Refu
     }
     let _ = writeln!(errors, "{value}: {text}");
     let _ = match refusal.reason {
-        Reason::BadName | Reason::BadRealm => explain_spelling(errors, value),
-        Reason::Past => explain_number(errors, value),
+        CommandRefusal::BadName | CommandRefusal::BadRealm => explain_spelling(errors, value),
+        CommandRefusal::Past => explain_number(errors, value),
         _ => Ok(()),
     };
 }
 
 /// Explains a time that is a number of eight digits: it was meant as a date.
 fn explain_number<E: Write>(errors: &mut E, word: &str) -> io::Result<()> {
-    let Some(Setting::Time(_, Some(second))) = setting_of("expires", word) else {
+    let Some(Setting::Time(_, Some(second))) = parse_setting("expires", word) else {
         return Ok(());
     };
     if word.len() != 8 || !word.bytes().all(|octet| octet.is_ascii_digit()) {

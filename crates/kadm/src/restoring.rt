@@ -4,7 +4,7 @@ ghost use Rattle.kadm_changes.specs.Texts.{texts};
 ghost use Rattle.kadm.specs.Words.{IsWriteSpelled, command_of};
 
 use crate::options::{DATABASE, WHOLE_REALM};
-use crate::usage::{CommandFault, required};
+use crate::usage::{UsageError, required};
 use crate::writing::WriteCommand;
 use command_line::{OptionRow, SubcommandRow, Times};
 
@@ -29,8 +29,9 @@ const FROM: OptionRow = OptionRow {
 const NO_BACKUP: &str = "--from names the database to put in place";
 
 /// Returns which file to put in place.
-pub(crate) fn restore_args<'a>(words: &'a [&'a str]) -> Result<WriteCommand<'a>, CommandFault<'a>>
-    ensures { command_of (texts words.now) ≡ Some (codes "restore") → IfOk result (λ write. IsWriteSpelled (texts words.now) write) }
+pub(crate) fn restore_args<'a>(words: &'a [&'a str]) -> Result<WriteCommand<'a>, UsageError<'a>>
+    ensures { command_of (texts words.now) ≡ Some (codes "restore")
+        → IfOk result (λ write. IsWriteSpelled (texts words.now) write) }
 {
     Ok(WriteCommand::Restore {
         from: required(words, "--from", NO_BACKUP)?,

@@ -12,11 +12,11 @@ use crate::printing::run_print;
 use crate::reports::{report, report_unsynced};
 use crate::subject::Subject;
 use crate::usage::{report_command_fault, report_fault};
-use crate::words::{asks_help, with_db, with_names, words_of};
+use crate::words::{asks_help, with_db, with_names, words_as_texts};
 use crate::writing::{write_files, written_path};
 use command_line::Status;
 use file_store::{Store, Written};
-use kadm_changes::{Context, Progress, Stop};
+use kadm_changes::{CommandError, Context, Progress};
 use std::alloc::{AllocError, Global};
 use std::io;
 use std::io::{BufWriter, Write};
@@ -34,8 +34,8 @@ pub(crate) struct CommandLine<'a> {
 
 /// Runs a command line. Prints the outcome to `writer`, and the reason of a refusal or failure and what is wrong with
 /// the words to `errors`. `Done` means that what the words ask for was done, or that they ask for help. Otherwise the
-/// files are unchanged, but for two cases: the words ask for a batch that keeps going (`Refused`), or all was done, and
-/// then only the printing or the sync of a folder failed (`Failed`).
+/// files are unchanged, but for three cases: the words ask for a batch that keeps going (`Refused`); all was done, and
+/// then only the printing or the sync of a folder failed (`Failed`); or a write of several keytabs failed (`Failed`).
 #[tactic(auto, using(crate::proofs::Opening::unchanged_open))]
 pub(crate) fn kadm_run<T: Store, W: Write + Drop, E: Write + Drop>(
     alloc: Global,
@@ -46,18 +46,21 @@ pub(crate) fn kadm_run<T: Store, W: Write + Drop, E: Write + Drop>(
 ) -> Status
     // Promise: `Done` means that what the words ask for was done, on the path that `--db` names, or without it the
     // environment, or that they ask for the help or the version and no path has changed.
-    // Promise: with `Refused`, `Usage` and `Failed` all paths have what they had, but for two cases.
+    // Promise: with `Refused`, `Usage` and `Failed` all paths have what they had, but for three cases.
     // Promise: with `Refused` some lines of a batch may be done, if the words ask for a batch that keeps going.
     // Promise: with `Failed` all may be done, or what such a batch does, if only the printing or the sync of a folder
     // failed.
+    // Promise: with `Failed` some of the keytabs of `keytab --like` may be written, if a write failed.
     // Promise: a password that is typed, and the lines of a batch, are the next lines of standard input.
-    ensures ended { IsEnd (with_db (path_of line.entry.db) (with_names (map string_bytes line.entry.args.now))) (T.world store.old)
+    ensures ended { IsEnd (with_db (path_of line.entry.db) (with_names (map string_bytes line.entry.args.now)))
+        (T.world store.old)
         (T.input store.old) result (T.world store.new) }
     // Promise: without `--whole-realm` no command keeps out who could log in, whatever its status, a batch and an
     // import too.
     // Promise: without it, `krbtgt/R` is disabled, no service, expired at the clock's second or limited to tickets of
     // less than 300 seconds only if it was before; a new database has none of these.
-    ensures open { KeepsOpen (with_db (path_of line.entry.db) (with_names (map string_bytes line.entry.args.now))) (T.world store.old) (T.world store.new) }
+    ensures open { KeepsOpen (with_db (path_of line.entry.db) (with_names (map string_bytes line.entry.args.now)))
+        (T.world store.old) (T.world store.new) }
 {
     let Ok(words) = words_with_db(alloc, line) else {
         return Status::Failed;
@@ -86,9 +89,10 @@ pub(crate) fn kadm_run<T: Store, W: Write + Drop, E: Write + Drop>(
 /// Returns the words of a command line, with `--name` before its names, and with the database that is its default if
 /// they name none.
 fn words_with_db<'a>(alloc: Global, line: CommandLine<'a>) -> Result<Vec<&'a str>, AllocError>
-    ensures { IfOk result (λ words. texts words.items ≡ with_db (path_of line.entry.db) (with_names (map string_bytes line.entry.args.now))) }
+    ensures { IfOk result (λ words. texts words.items
+        ≡ with_db (path_of line.entry.db) (with_names (map string_bytes line.entry.args.now))) }
 {
-    let words = words_of(alloc, line.args)?;
+    let words = words_as_texts(alloc, line.args)?;
     let named = with_names(alloc, &words)?;
     with_db(alloc, named, line.db)
 }
@@ -97,7 +101,7 @@ fn words_with_db<'a>(alloc: Global, line: CommandLine<'a>) -> Result<Vec<&'a str
 fn report_end<W: Write, E: Write>(
     context: &mut Context<W, E>,
     words: &[&str],
-    end: Result<Status, Stop<'_>>,
+    end: Result<Status, CommandError<'_>>,
 ) -> io::Result<Status>
     ensures { IfOk result (λ status. IsReported end.entry status) }
 {
@@ -120,9 +124,11 @@ fn run_words<'a, T: Store, W: Write, E: Write>(
     context: &mut Context<W, E>,
     store: &mut T,
     words: &'a [&'a str],
-) -> Result<Status, Stop<'a>>
-    ensures done { IfOk result (λ status. IsEnd (texts words.entry.now) (T.world store.old) (T.input store.old) status (T.world store.new)) }
-    ensures stopped { IfErr result (λ stop. IsStopped (texts words.entry.now) (T.world store.old) (T.input store.old) stop (T.world store.new)) }
+) -> Result<Status, CommandError<'a>>
+    ensures done { IfOk result (λ status. IsEnd (texts words.entry.now) (T.world store.old) (T.input store.old) status
+        (T.world store.new)) }
+    ensures stopped { IfErr result (λ stop. IsStopped (texts words.entry.now) (T.world store.old)
+        (T.input store.old) stop (T.world store.new)) }
 {
     if asks(context, words)? {
         context.out.flush()?;
@@ -142,7 +148,7 @@ fn run_words<'a, T: Store, W: Write, E: Write>(
 fn asks<'a, W: Write, E: Write>(
     context: &mut Context<W, E>,
     words: &'a [&'a str],
-) -> Result<bool, Stop<'static>>
+) -> Result<bool, CommandError<'static>>
     ensures { IfOk result (λ asks. asks ≡ true → asks_help (texts words.now) ≡ true) }
 {
     let matches = read_args(context.alloc, words);
@@ -161,19 +167,25 @@ fn asks<'a, W: Write, E: Write>(
 }
 
 /// Runs a command that was read. One that writes prints `ok` if all was done and is on the disk.
-#[tactic(auto, using(crate::proofs::Ending::write_done, crate::proofs::Ending::write_tried, crate::proofs::Ending::write_refused, crate::proofs::Ending::print_end))]
+#[tactic(auto, using(crate::proofs::Ending::write_done, crate::proofs::Ending::write_tried, crate::proofs::Ending::write_refused, crate::proofs::Ending::write_stopped, crate::proofs::Ending::print_end))]
 fn run_command<'a, T: Store, W: Write, E: Write>(
     context: &mut Context<W, E>,
     store: &mut T,
     command: &Command<'a>,
-) -> Result<Status, Stop<'a>>
-    ensures done { IfOk result (λ status. IsCommandEnd (T.world store.old) (T.input store.old) command.now status (T.world store.new)) }
-    ensures stopped { IfErr result (λ stop. IsCommandStopped (T.world store.old) (T.input store.old) command.now stop (T.world store.new)) }
+) -> Result<Status, CommandError<'a>>
+    ensures done { IfOk result (λ status. IsCommandEnd (T.world store.old) (T.input store.old) command.now status
+        (T.world store.new)) }
+    ensures stopped { IfErr result (λ stop. IsCommandStopped (T.world store.old) (T.input store.old) command.now stop
+        (T.world store.new)) }
 {
     match command.kind {
         CommandKind::Print(print) => run_print(context, store, &command.target, print),
         CommandKind::Write(write) => {
-            let Outcome { whole, written } = write_files(context, store, &command.target, write)?;
+            let outcome = match write_files(context, store, &command.target, write)? {
+                Ok(outcome) => outcome,
+                Err(stop) => return Err(stop),
+            };
+            let Outcome { whole, written } = outcome;
             match written {
                 Written::NotSynced(error) => {
                     Ok(report_unsynced(context, written_path(command, write), error))

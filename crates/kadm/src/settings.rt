@@ -6,7 +6,7 @@ ghost use Rattle.kadm.specs.Words.{sets_some};
 use crate::assigning::setting_at;
 use crate::words::is_given;
 use kadm_changes::AskedSetting;
-use text_fields::{FieldKind, field_kind, setting_from, setting_of};
+use text_fields::{FieldKind, field_kind, parse_setting, setting_from};
 
 const FLAGS: &str = "true or false";
 
@@ -40,7 +40,7 @@ pub(crate) fn invalid_setting<'a>(words: &[&'a str]) -> Option<AskedSetting<'a>>
     let mut rest = words;
     while let [word, others @ ..] = rest {
         if let Some(setting) = setting_at(words, word, others)
-            && setting_of(setting.field, setting.value).is_none()
+            && parse_setting(setting.field, setting.value).is_none()
             && setting_from(setting.field, setting.value, 0).is_none()
         {
             return Some(setting);

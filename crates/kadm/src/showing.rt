@@ -1,12 +1,17 @@
 //! The command that prints whole rows, without their keys.
-ghost use Rattle.std.specs.Prelude.{◌≡◌, OnOk};
-ghost use Rattle.kadm.specs.Printed.{HasDatabase};
+ghost use Rattle.std.specs.Prelude.{◌≡◌, All, IfOk, OnOk};
+ghost use Rattle.krb_fields.specs.NameText.{IsNameText};
+ghost use Rattle.principals.specs.Database.{Principals};
+ghost use Rattle.kadm_changes.specs.Texts.{path_of, texts};
+ghost use Rattle.kadm_changes.specs.Worlds.{HoldsDatabase};
+ghost use Rattle.kadm.specs.Printed.{AreThere, HasRow};
 
 use crate::json_lines::json_row;
 use crate::listing::types_of;
-use crate::patterns::is_like;
 use file_store::Store;
-use kadm_changes::{Context, Part, Reason, Refusal, Stop, Target, read_database};
+use kadm_changes::{
+    CommandError, CommandRefusal, Context, Part, Refusal, Target, is_like, read_database,
+};
 use krb_fields::{Name, NameFault};
 use principal_rows::Row;
 use principals::{ChangeFault, Database};
@@ -32,8 +37,9 @@ pub(crate) fn print_rows<'p, T: Store, W: Write, E: Write>(
     store: &mut T,
     target: &Target<'p>,
     show: ShowArgs<'_>,
-) -> Result<(), Stop<'p>>
-    ensures read { OnOk result (HasDatabase (T.world store.old) target.now.db.now) }
+) -> Result<(), CommandError<'p>>
+    ensures read { OnOk result ((p : Principals) × HoldsDatabase (T.world store.old) target.now.db.now p
+        × AreThere (path_of show.entry.like) (texts target.now.names.items) p) }
     ensures unchanged { T.world store.new ≡ T.world store.old }
 {
     let alloc = context.alloc;
@@ -51,17 +57,19 @@ pub(crate) fn print_rows<'p, T: Store, W: Write, E: Write>(
 }
 
 /// Reads the text of a name. A refusal has this text.
-fn read_name(alloc: Global, text: &str) -> Result<Name, Stop<'_>> {
+fn read_name(alloc: Global, text: &str) -> Result<Name, CommandError<'_>>
+    ensures { IfOk result (λ name. IsNameText name.components text.now) }
+{
     match Name::from_text(alloc, text) {
         Ok(name) => Ok(name),
-        Err(NameFault::BadName) => Err(refused(text, Reason::BadName)),
-        Err(NameFault::Memory) => Err(Stop::from(AllocError)),
+        Err(NameFault::BadName) => Err(refused(text, CommandRefusal::BadName)),
+        Err(NameFault::Memory) => Err(CommandError::from(AllocError)),
     }
 }
 
 /// Returns the refusal of a name.
-fn refused(name: &str, reason: Reason) -> Stop<'_> {
-    Stop::Refused(Refusal {
+fn refused(name: &str, reason: CommandRefusal) -> CommandError<'_> {
+    CommandError::Refused(Refusal {
         part: Part::Name,
         value: Some(name),
         reason,
@@ -69,14 +77,28 @@ fn refused(name: &str, reason: Reason) -> Stop<'_> {
 }
 
 /// Refuses the first of these names that has no row.
-fn check_rows<'p>(alloc: Global, database: &Database, names: &[&'p str]) -> Result<(), Stop<'p>> {
+fn check_rows<'p>(
+    alloc: Global,
+    database: &Database,
+    names: &[&'p str],
+) -> Result<(), CommandError<'p>>
+    ensures { OnOk result (All (HasRow database.now) (texts names.now)) }
+{
     for name in names {
-        let who = read_name(alloc, name)?;
-        if database.get(&who).is_none() {
-            return Err(refused(name, Reason::Change(ChangeFault::Absent)));
-        }
+        check_row(alloc, database, name)?;
     }
     Ok(())
+}
+
+/// Refuses a name that has no row.
+fn check_row<'p>(alloc: Global, database: &Database, name: &'p str) -> Result<(), CommandError<'p>>
+    ensures { OnOk result (HasRow database.now name.now) }
+{
+    let who = read_name(alloc, name)?;
+    match database.get(&who) {
+        Some(_) => Ok(()),
+        None => Err(refused(name, CommandRefusal::Change(ChangeFault::Absent))),
+    }
 }
 
 /// Prints the rows of these names.
@@ -86,7 +108,7 @@ fn print_named<'p, W: Write>(
     database: &Database,
     names: &[&'p str],
     json: bool,
-) -> Result<(), Stop<'p>> {
+) -> Result<(), CommandError<'p>> {
     for name in names {
         let who = read_name(alloc, name)?;
         if let Some(row) = database.get(&who) {
@@ -103,7 +125,7 @@ fn print_like<'p, W: Write>(
     database: &Database,
     pattern: &str,
     json: bool,
-) -> Result<(), Stop<'p>> {
+) -> Result<(), CommandError<'p>> {
     for text in &texts_like(alloc, database, pattern)? {
         if let Ok(who) = Name::from_text(alloc, text)
             && let Some(row) = database.get(&who)
@@ -141,7 +163,7 @@ fn print_row<'p, W: Write>(
     row: &Row,
     json: bool,
     title: bool,
-) -> Result<(), Stop<'p>> {
+) -> Result<(), CommandError<'p>> {
     if json {
         out.write_all(&json_row(alloc, name, row)?)?;
         return Ok(writeln!(out)?);
@@ -160,7 +182,11 @@ fn print_policy<W: Write>(row: &Row, out: &mut W) -> io::Result<()> {
     Ok(())
 }
 
-fn print_versions<'p, W: Write>(alloc: Global, row: &Row, out: &mut W) -> Result<(), Stop<'p>> {
+fn print_versions<'p, W: Write>(
+    alloc: Global,
+    row: &Row,
+    out: &mut W,
+) -> Result<(), CommandError<'p>> {
     for version in row.versions.as_slice() {
         let types = types_of(alloc, &version.keys)?;
         writeln!(out, "version {} {types}", version.number)?;

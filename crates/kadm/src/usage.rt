@@ -5,10 +5,10 @@ ghost use Rattle.kadm.specs.Values.{value_of};
 
 use crate::assigning::{field_option, value_option};
 use crate::settings::{accepted_by, invalid_setting};
-use crate::values::value_of;
+use crate::values::option_value;
 use clap::error::{Error, ErrorKind};
 use command_line::print_usage_error;
-use kadm_changes::{AskedSetting, Stop};
+use kadm_changes::{AskedSetting, CommandError};
 use std::alloc::AllocError;
 use std::io::Write;
 
@@ -17,7 +17,7 @@ pub(crate) const NO_COMMAND: &str = "give a command; 'kadm --help' lists them";
 
 /// Why a command line gives no command.
 #[derive(Clone, Copy)]
-pub(crate) enum CommandFault<'a> {
+pub(crate) enum UsageError<'a> {
     /// An option is wrong. The text says what is right.
     BadValue(&'static str),
     /// A policy has no field with this name.
@@ -32,41 +32,41 @@ pub(crate) fn required<'a>(
     words: &[&'a str],
     option: &str,
     text: &'static str,
-) -> Result<&'a str, CommandFault<'a>>
+) -> Result<&'a str, UsageError<'a>>
     ensures { IfOk result (λ value. value_of (texts words.now) option.now ≡ Some value.now) }
 {
-    match value_of(words, option) {
+    match option_value(words, option) {
         Some(value) => Ok(value),
-        None => Err(CommandFault::BadValue(text)),
+        None => Err(UsageError::BadValue(text)),
     }
 }
 
 /// Returns what is wrong with the first invalid setting, if there is one.
-pub(crate) fn setting_fault<'a>(words: &[&'a str]) -> Option<CommandFault<'a>> {
+pub(crate) fn setting_fault<'a>(words: &[&'a str]) -> Option<UsageError<'a>> {
     let setting = invalid_setting(words)?;
     match accepted_by(setting.field) {
-        Some(accepted) => Some(CommandFault::NoSetting(setting, accepted)),
-        None => Some(CommandFault::NoField(setting)),
+        Some(accepted) => Some(UsageError::NoSetting(setting, accepted)),
+        None => Some(UsageError::NoField(setting)),
     }
 }
 
 /// Reports what the parser says of a command line. Returns how it ends. Ignores a failed write.
-pub(crate) fn report_fault<E: Write>(errors: &mut E, error: &Error) -> Stop<'static> {
+pub(crate) fn report_fault<E: Write>(errors: &mut E, error: &Error) -> CommandError<'static> {
     if error.kind() == ErrorKind::OutOfMemory {
-        return Stop::from(AllocError);
+        return CommandError::from(AllocError);
     }
     let _ = write!(errors, "{error}");
-    Stop::Usage
+    CommandError::Usage
 }
 
 /// Reports what is wrong with the options of a subcommand. Returns how it ends. Ignores a failed write.
 pub(crate) fn report_command_fault<E: Write>(
     errors: &mut E,
-    fault: CommandFault<'_>,
-) -> Stop<'static> {
+    fault: UsageError<'_>,
+) -> CommandError<'static> {
     let _ = match fault {
-        CommandFault::BadValue(fault) => print_usage_error(errors, &fault),
-        CommandFault::NoField(setting) => print_usage_error(
+        UsageError::BadValue(fault) => print_usage_error(errors, &fault),
+        UsageError::NoField(setting) => print_usage_error(
             errors,
             &format_args!(
                 "{}: a policy has no field {}; 'kadm policy --help' lists the fields",
@@ -74,7 +74,7 @@ pub(crate) fn report_command_fault<E: Write>(
                 setting.field
             ),
         ),
-        CommandFault::NoSetting(setting, accepted) => print_usage_error(
+        UsageError::NoSetting(setting, accepted) => print_usage_error(
             errors,
             &format_args!(
                 "{}: {} takes {accepted}, not '{}'",
@@ -83,7 +83,7 @@ pub(crate) fn report_command_fault<E: Write>(
                 setting.value
             ),
         ),
-        CommandFault::Memory => return Stop::from(AllocError),
+        UsageError::Memory => return CommandError::from(AllocError),
     };
-    Stop::Usage
+    CommandError::Usage
 }

@@ -2,17 +2,18 @@
 ghost use Rattle.std.specs.Prelude.{◌≡◌, ◌++◌, IfOk, OnOk, false, is_some, map, option_map, string_bytes};
 ghost use Rattle.kadm_changes.specs.Texts.{path_of, texts};
 ghost use Rattle.kadm.specs.Values.{value_of};
-ghost use Rattle.kadm.specs.Words.{asks_help, batch_words, begins_help, behind_check, behind_command, behind_names, command_of, in_batch, is_name, with_file};
-ghost use Rattle.kadm.specs.Words.{is_option, is_value_next, lacks_db, named, spelled, takes_names, takes_text, takes_value, with_db, with_names};
+ghost use Rattle.kadm.specs.Words.{asks_help, batch_words, begins_help, behind_check, behind_command, behind_names};
+ghost use Rattle.kadm.specs.Words.{command_of, in_batch, is_name, with_file};
+ghost use Rattle.kadm.specs.Words.{is_option, lacks_db, named, spelled, takes_names, with_db, with_names};
 
-use crate::values::{DB, has_flag, value_of};
+use crate::values::{DB, has_flag, is_value_next, option_value};
 use std::alloc::{AllocError, Global};
 
 /// The word that asks for the help of the command after it.
 const HELP: &str = "help";
 
 /// Returns the words as texts.
-pub(crate) fn words_of(alloc: Global, args: &[String]) -> Result<Vec<&str>, AllocError>
+pub(crate) fn words_as_texts(alloc: Global, args: &[String]) -> Result<Vec<&str>, AllocError>
     ensures { IfOk result (λ words. texts words.items ≡ map string_bytes args.now) }
 {
     let mut words = Vec::new(alloc);
@@ -137,37 +138,6 @@ fn is_option(word: &str) -> bool
     }
 }
 
-/// Checks whether the word after this one is the value of an option.
-fn is_value_next(word: &str, is_value: bool) -> bool
-    ensures { result ≡ is_value_next is_value word.now }
-{
-    !is_value && takes_value(word)
-}
-
-/// Checks whether a word is an option whose value is the next word.
-fn takes_value(word: &str) -> bool
-    ensures { result ≡ takes_value word.now }
-{
-    word == "--db"
-        || word == "--name"
-        || word == "--types"
-        || word == "--expires"
-        || word == "--seed"
-        || word == "--version"
-        || word == "--out"
-        || takes_text(word)
-}
-
-fn takes_text(word: &str) -> bool
-    ensures { result ≡ takes_text word.now }
-{
-    word == "--password-file"
-        || word == "--set"
-        || word == "--field"
-        || word == "--value"
-        || word == "--like"
-}
-
 /// Returns the words with this database after the command, if they name none.
 pub(crate) fn with_db<'a>(
     alloc: Global,
@@ -273,7 +243,7 @@ pub(crate) fn command_of<'a>(words: &[&'a str]) -> Option<&'a str>
 pub(crate) fn is_given(words: &[&str], option: &str) -> bool
     ensures { result ≡ is_some (value_of (texts words.now) option.now) }
 {
-    match value_of(words, option) {
+    match option_value(words, option) {
         Some(_) => true,
         None => false,
     }

@@ -19,7 +19,7 @@ use Rattle.principals.specs.declared.change.ChangeFault.{ChangeFault}
 use Rattle.principals.specs.declared.change.RowChange.{RowChange}
 use Rattle.kadm_changes.specs.Granting.{Makes}
 use Rattle.kadm_changes.specs.Importing.{Imports}
-use Rattle.kadm_changes.specs.Keytabs.{IsBehind, IsFreePath, IsFront, IsKeytabFor, IsNewKeytab, IsOldKeytab, entries_of}
+use Rattle.kadm_changes.specs.Keytabs.{IsBehind, IsFreePath, IsFront, IsKeytabFor, IsNewKeytab, IsOldKeytab, all_entries, appends}
 use Rattle.kadm_changes.specs.Updates.{AreKept, IsRowKept, IsRowUpdated, IsSecretOf}
 use Rattle.kadm_changes.specs.Asking.{all_asked}
 use Rattle.kadm_changes.specs.Worlds.{HoldsDatabase, Rewritten, WroteKeytab, with_database}
@@ -84,13 +84,13 @@ wrote_keytab (Ok x) before locked opened checked filled after db to who p octets
 }
 wrote_keytab (Err e) before locked opened checked filled after db to who p octets first kept same still spelled read free holds written = tt
 
--- what comes before the new entries: the content of an old keytab that is extended, or none
+-- what comes before the new entries: the content of an old keytab that is appended to, or none
 front : (world : Option World) (append : Bool) (path : List ℕ) (old : Option (List ℕ)) (new entries all : List ℕ)
     → IsOldKeytab world append path old → new ≡ 5 ∷ 2 ∷ entries → IsBehind old new all
     → (first : List ℕ) × IsFront world append path first × (all ≡ first ++ entries)
-front world true path (Some old) new entries all (is, ours, read) text (size, behind) =
-    (take size old, inr (ours, old, read, size, refl), behind ∙ ap (λ octets. take size old ++ drop 2 octets) text)
-front world false path (Some old) new entries all (is, ours, read) text behind = absurd (subst (λ b. cond_type b) is tt)
+front world true path (Some kept) new entries all (is, ours, old, read, keeps) text behind =
+    (kept, inr (ours, old, read, keeps), behind ∙ ap (λ octets. kept ++ drop 2 octets) text)
+front world false path (Some kept) new entries all (is, ours, old, read, keeps) text behind = absurd (subst (λ b. cond_type b) is tt)
   where
     cond_type : Bool → Type 0
     cond_type false = ⊤
@@ -98,9 +98,11 @@ front world false path (Some old) new entries all (is, ours, read) text behind =
 front world true path None new entries all free text same = (5 ∷ 2 ∷ [], inl (free, refl), same ∙ text)
 front world false path None new entries all free text same = (5 ∷ 2 ∷ [], refl, same ∙ text)
 
-pub keytab_for : (world : Option World) (to : KeytabArgs) (name : Name) (p : Principals) (old : Option (List ℕ)) (new all : List ℕ)
-    → IsOldKeytab world to.append to.out.now old → IsNewKeytab p name new → IsBehind old new all
-    → IsKeytabFor world to name.components p all
-keytab_for world to name p old new all was (row, found, text) behind =
-    let made = front world to.append to.out.now old new (flat_map part_text (entries_of p.realm name (current row.versions))) all was text behind in
-    record { row = row; found = found; name = name; named = refl; front = made.0; starts = made.1; holds = made.2 }
+pub keytab_for : (before world : Option World) (to : KeytabArgs) (append : Bool) (name : Name) (p : Principals) (old : Option (List ℕ)) (new all : List ℕ)
+    → world ≡ before → append ≡ appends to.content → IsOldKeytab before append to.out.now old → IsNewKeytab world to.content p name new
+    → IsBehind old new all → IsKeytabFor before to name.components p all
+keytab_for before world to append name p old new all same way was made behind =
+    let (row, found, versions, given, text) = subst (λ w. IsNewKeytab w to.content p name new) same made in
+    let first = front before (appends to.content) to.out.now old new (flat_map part_text (all_entries p.realm name versions)) all
+    (subst (λ b. IsOldKeytab before b to.out.now old) way was) text behind in
+    record { row = row; found = found; versions = versions; given = given; name = name; named = refl; front = first.0; starts = first.1; holds = first.2 }

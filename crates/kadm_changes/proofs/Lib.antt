@@ -1,4 +1,5 @@
 mod Doing
+mod KeytabParts
 mod Making
 mod Moved
 mod Older
@@ -7,3 +8,4 @@ mod PutBack
 mod Realms
 mod Typing
 mod Users
+mod Written

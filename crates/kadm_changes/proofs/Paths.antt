@@ -9,7 +9,7 @@ use Rattle.serde_json.specs.Read.{read}
 use Rattle.file_store.specs.World.{World, IsFirst, IsThere, first_octet}
 use Rattle.principals.specs.Database.{Principals}
 use Rattle.principals_text.specs.Value.{database_or, text_database}
-use Rattle.principals_text.specs.declared.read_fault.ReadFault.{ReadFault}
+use Rattle.principals_text.specs.declared.read_fault.ReadError.{ReadError}
 use Rattle.kadm_changes.specs.Keytabs.{IsFreePath, IsKeytabStart, IsNoDatabase, lock_of}
 
 -- no JSON begins with the first byte of a keytab
@@ -21,7 +21,7 @@ nothing_is_no_json : read [] ≡ None
 unfolding lex punctuate value
 nothing_is_no_json = refl
 
-abbrev is_err : Result Principals ReadFault → Type 0
+abbrev is_err : Result Principals ReadError → Type 0
 is_err (Ok p) = ⊥
 is_err (Err fault) = ⊤
 

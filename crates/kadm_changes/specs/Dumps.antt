@@ -45,7 +45,8 @@ abbrev pub LosesNothing : List ℕ → DumpedPrincipal → Type 0
 LosesNothing realm p = (is_own p.name.components ≡ true) ⊎ (losses realm p ≡ [])
 
 -- the database of the principals of a dump
-pub record IsDatabaseOf (found : List DumpedPrincipal) (stash : List KeytabEntry) (skip : Bool) (new : Principals) : Type 0 where
+pub record IsDatabaseOf (found : List DumpedPrincipal) (stash : List KeytabEntry) (skip : Bool)
+    (new : Principals) : Type 0 where
   pub realm : IsRealmOf found new.realm
   pub kept : (skip ≡ true) ⊎ All (LosesNothing new.realm) found
   pub entries : List (Entry Row)

@@ -5,10 +5,12 @@ pub mod Dumps
 pub mod Found
 pub mod Granting
 pub mod Importing
+pub mod KeytabFolders
 pub mod Keytabs
 pub mod Owners
 pub mod Realm
 pub mod Restoring
+pub mod Staging
 pub mod Stops
 pub mod Updates
 pub mod Texts

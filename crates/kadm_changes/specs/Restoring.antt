@@ -4,8 +4,8 @@ use Rattle.principal_rows.specs.Policy.{default_policy}
 use Rattle.principal_rows.specs.declared.policy.Policy.{Policy}
 use Rattle.principals.specs.Database.{Principals}
 use Rattle.principals_text.specs.RefusedBytes.{RefusesBytes}
-use Rattle.principals_text.specs.declared.read_fault.ReadFault.{ReadFault}
-use Rattle.principals_text.specs.declared.read_fault.ReadFault.TheVariants.{Memory}
+use Rattle.principals_text.specs.declared.read_fault.ReadError.{ReadError}
+use Rattle.principals_text.specs.declared.read_fault.ReadError.TheVariants.{Memory}
 use Rattle.file_store.specs.World.{World, IsRead, IsThere}
 use Rattle.kadm_changes.specs.Realm.{KeepsRealm, tgs_policy}
 use Rattle.kadm_changes.specs.Worlds.{HoldsDatabase, IsReadBack, with_database}
@@ -13,7 +13,7 @@ use Rattle.kadm_changes.specs.Worlds.{HoldsDatabase, IsReadBack, with_database}
 -- the path has a file with other bytes than those of a database
 abbrev pub HoldsOther : Option World → List ℕ → Type 0
 HoldsOther world db =
-    (octets : List ℕ) × IsRead world db octets × (fault : ReadFault) × (fault ≢ Memory) × RefusesBytes octets fault
+    (octets : List ℕ) × IsRead world db octets × (fault : ReadError) × (fault ≢ Memory) × RefusesBytes octets fault
 
 -- the database that a path has, or none
 abbrev pub HasOrNot : Option World → List ℕ → Option Principals → Type 0

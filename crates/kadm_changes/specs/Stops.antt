@@ -1,16 +1,17 @@
 -- Which commands that end early failed.
-use Rattle.file_store.specs.declared.faults.FileCause.{FileCause}
-use Rattle.file_store.specs.declared.faults.FileCause.TheVariants.{LongFile, ShortSeed, Failed}
-use Rattle.kadm_changes.specs.declared.stop.Stop.{Stop}
-use Rattle.kadm_changes.specs.declared.stop.Stop.TheVariants.{Usage, LineRefused, LineFailed, NotInBatch, Refused, File}
+use Rattle.file_store.specs.declared.faults.FileError.{FileError}
+use Rattle.file_store.specs.declared.faults.FileError.TheVariants.{LongFile, ShortSeed, Failed}
+use Rattle.kadm_changes.specs.declared.stop.CommandError.{CommandError}
+use Rattle.kadm_changes.specs.declared.stop.CommandError.TheVariants.{Usage, LineRefused, LineFailed, NotInBatch}
+use Rattle.kadm_changes.specs.declared.stop.CommandError.TheVariants.{Refused, File}
 
-abbrev pub IsFailure : FileCause → Type 0
+abbrev pub IsFailure : FileError → Type 0
 IsFailure LongFile = ⊥
 IsFailure ShortSeed = ⊥
 IsFailure (Failed error) = Unit {0}
 
 -- a file or the output failed
-abbrev pub IsFailed : Stop → Type 0
+abbrev pub IsFailed : CommandError → Type 0
 IsFailed Usage = ⊥
 IsFailed LineRefused = ⊥
 IsFailed LineFailed = ⊥

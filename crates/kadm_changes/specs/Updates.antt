@@ -15,6 +15,7 @@ use Rattle.kadm_changes.specs.Denying.{migrated_rows}
 use Rattle.kadm_changes.specs.Granting.{IsCleared, IsGranted}
 use Rattle.kadm_changes.specs.Importing.{HasVersions, Imports}
 use Rattle.kadm_changes.specs.Realm.{KeepsRealm, MayHaveKeys, tgs_policy}
+use Rattle.kadm_changes.specs.Staging.{IsStaged}
 use Rattle.kadm_changes.specs.Texts.{Text, path_of, texts}
 use Rattle.kadm_changes.specs.declared.changes.ChangeArgs.{ChangeArgs}
 use Rattle.kadm_changes.specs.declared.granting.Grant.{Grant}
@@ -36,6 +37,7 @@ IsPasswordOf world input None pass = IsTyped input pass
 abbrev pub IsSecretOf : Option World → Option Input → RowUpdate → List ℕ → Type 0
 IsSecretOf world input (rows.Password to) pass = IsPasswordOf world input (path_of to.password.file) pass
 IsSecretOf world input (rows.Random to) pass = ⊤
+IsSecretOf world input (rows.Staged keytab) pass = ⊤
 IsSecretOf world input (rows.Import keytab) pass = ⊤
 
 -- the keys of a password, and the expiry of the old one is cleared
@@ -57,21 +59,25 @@ IsImported world etypes keytab who p new =
 abbrev pub IsRowGiven : Option World → List Etype → List ℕ → RowUpdate → Components → Principals → Principals → Type 0
 IsRowGiven world etypes pass (rows.Password to) who p new = GivesPassword world etypes pass to.grant who p new
 IsRowGiven world etypes pass (rows.Random to) who p new = GivesRandom world etypes (path_of to.seed) to.grant who p new
+IsRowGiven world etypes pass (rows.Staged keytab) who p new = IsStaged world keytab.now who p new
 IsRowGiven world etypes pass (rows.Import keytab) who p new = IsImported world etypes keytab.now who p new
 
 -- a principal is given keys, and then these settings
-abbrev pub IsRowChanged : Option World → List Etype → List Asked → List ℕ → RowUpdate → Components → Principals → Principals → Type 0
+abbrev pub IsRowChanged : Option World → List Etype → List Asked → List ℕ → RowUpdate → Components → Principals
+    → Principals → Type 0
 IsRowChanged world etypes settings pass how who p new =
     (given : Principals) × IsRowGiven world etypes pass how who p given × AreSet world settings who given new
 
 -- the same, and nobody is kept out of the realm: krbtgt/REALM gets no keys of a password, and stays as open as it was
-abbrev pub IsRowKept : Option World → Bool → List Etype → List Asked → List ℕ → RowUpdate → Components → Principals → Principals → Type 0
+abbrev pub IsRowKept : Option World → Bool → List Etype → List Asked → List ℕ → RowUpdate → Components → Principals
+    → Principals → Type 0
 IsRowKept world whole etypes settings pass how who p new =
     IsRowChanged world etypes settings pass how who p new × MayHaveKeys whole new.realm who how
     × KeepsRealm whole world (tgs_policy p) (tgs_policy new)
 
 -- the row of the principal that a text names is changed
-pub record IsRowUpdated (world : Option World) (input : Option Input) (whole : Bool) (target : Target) (to : RowArgs) (p : Principals) (new : Principals) : Type 0 where
+pub record IsRowUpdated (world : Option World) (input : Option Input) (whole : Bool) (target : Target) (to : RowArgs)
+    (p : Principals) (new : Principals) : Type 0 where
   pub who : Components
   pub spelled : IsNameText who to.name.now
   pub pass : List ℕ
@@ -91,4 +97,5 @@ IsMigrated world whole users_are_no_services p new =
 abbrev pub IsUpdated : Option World → Option Input → Bool → Target → Update → Principals → Principals → Type 0
 IsUpdated world input whole target (updates.Row to) p new = IsRowUpdated world input whole target to p new
 IsUpdated world input whole target (updates.Changes how) p new = AreKept world whole target how p new
-IsUpdated world input whole target (updates.Migrate users_are_no_services) p new = IsMigrated world whole users_are_no_services p new
+IsUpdated world input whole target (updates.Migrate users_are_no_services) p new =
+    IsMigrated world whole users_are_no_services p new

@@ -36,7 +36,8 @@ IsReadBack p = text_database (compact_text (database_value p)) ≡ Ok p
 -- ---- the effect of each command, from the world before it to the one after it
 
 -- a first database of a realm, at a path without a file
-pub record MadeNew (before : Option World) (db : List ℕ) (etypes : List Etype) (realm : List ℕ) (named : Option (List ℕ)) (after : Option World) : Type 0 where
+pub record MadeNew (before : Option World) (db : List ℕ) (etypes : List Etype) (realm : List ℕ)
+    (named : Option (List ℕ)) (after : Option World) : Type 0 where
   pub free : IsThere before db false
   pub seed : List ℕ
   pub drawn : HasSeed before named seed
@@ -49,7 +50,8 @@ MadeRealm before db etypes text named after =
     (realm : List ℕ) × IsComponentText realm text × MadeNew before db etypes realm named after
 
 -- the database at a path is read, changed as this relation says, and written in its place
-pub record Rewritten (before : Option World) (db : List ℕ) (makes : Principals → Principals → Type 0) (after : Option World) : Type 0 where
+pub record Rewritten (before : Option World) (db : List ℕ) (makes : Principals → Principals → Type 0)
+    (after : Option World) : Type 0 where
   pub old : Principals
   pub read : HoldsDatabase before db old
   pub new : Principals
@@ -73,7 +75,8 @@ pub record WroteKeytab (before : Option World) (db : List ℕ) (to : KeytabArgs)
   pub written : after ≡ option_map (with_file to.out.now octets) before
 
 -- the database of the realm of a dump, at a path without a file; its krbtgt/REALM is as open as that of a new realm
-pub record MadeFromDump (before : Option World) (whole : Bool) (db : List ℕ) (from : DumpArgs) (after : Option World) : Type 0 where
+pub record MadeFromDump (before : Option World) (whole : Bool) (db : List ℕ) (from : DumpArgs)
+    (after : Option World) : Type 0 where
   pub free : IsThere before db false
   pub new : Principals
   pub made : HasRealm before from new

@@ -14,8 +14,8 @@ use crate::databases::{apply, lock_database, write_database};
 use crate::denying::deny_users;
 use crate::draft::Draft;
 use crate::granting::drop_older;
-use crate::reason::{Part, Reason};
-use crate::stop::{Stop, of_realm};
+use crate::reason::{CommandRefusal, Part};
+use crate::stop::{CommandError, of_realm};
 use crate::target::Target;
 use file_store::{Store, Written, has_file, read_clock, read_or_draw_seed};
 use krb_elements::KerberosString;
@@ -24,7 +24,7 @@ use principal_keys::random_keys;
 use principals::{ChangeFault, Database, RowChange};
 use std::alloc::Global;
 use std::io::Write;
-use text_fields::{Setting, TimeField, setting_from, setting_of};
+use text_fields::{Setting, TimeField, parse_setting, setting_from};
 
 /// What a new realm is made from.
 #[derive(Clone, Copy)]
@@ -54,9 +54,10 @@ pub fn make_realm<'p, T: Store, W: Write, E: Write>(
     store: &mut T,
     target: &Target<'p>,
     new: InitArgs<'p>,
-) -> Result<Written, Stop<'p>>
+) -> Result<Written, CommandError<'p>>
     // Promise: `init`: there was no file, and now there is the first database of the realm, with keys of the seed.
-    ensures done { OnOk result (MadeRealm (T.world store.old) target.now.db.now target.now.etypes.items new.entry.realm.now
+    ensures done { OnOk result (MadeRealm (T.world store.old) target.now.db.now target.now.etypes.items
+        new.entry.realm.now
         (path_of new.entry.seed) (T.world store.new)) }
     // Promise, as make_update: a command that ends ..
     ensures unchanged { OnErr result (T.world store.new ≡ T.world store.old) }
@@ -73,7 +74,7 @@ fn make_new_realm<'p, T: Store, W: Write, E: Write>(
     target: &Target<'p>,
     realm: &KerberosString,
     seed: Option<&'p str>,
-) -> Result<Written, Stop<'p>>
+) -> Result<Written, CommandError<'p>>
     ensures done { OnOk result (MadeNew (T.world store.old) target.now.db.now target.now.etypes.items realm.now
         (path_of seed.entry) (T.world store.new)) }
     ensures unchanged { OnErr result (T.world store.new ≡ T.world store.old) }
@@ -81,7 +82,7 @@ fn make_new_realm<'p, T: Store, W: Write, E: Write>(
     let alloc = context.alloc;
     let locked = lock_database(context, store, target)?;
     if has_file(store, target.db)? {
-        return Err(Stop::refused(Part::Database, Reason::FileExists));
+        return Err(CommandError::refused(Part::Database, CommandRefusal::FileExists));
     }
     let keys = random_keys(
         alloc,
@@ -95,10 +96,10 @@ fn make_new_realm<'p, T: Store, W: Write, E: Write>(
 }
 
 /// Fails if one of the texts is not the name of a principal.
-pub(crate) fn check_names<'p>(alloc: Global, names: &[&'p str]) -> Result<(), Stop<'p>> {
+pub(crate) fn check_names<'p>(alloc: Global, names: &[&'p str]) -> Result<(), CommandError<'p>> {
     for name in names {
         if let Err(fault) = Name::from_text(alloc, name) {
-            return Err(Stop::from(fault).about(Part::Name, name));
+            return Err(CommandError::from(fault).about(Part::Name, name));
         }
     }
     Ok(())
@@ -110,7 +111,7 @@ pub(crate) fn change_all<'p, T: Store>(
     draft: &mut Draft,
     target: &Target<'p>,
     how: ChangeArgs,
-) -> Result<(), Stop<'p>>
+) -> Result<(), CommandError<'p>>
     // Promise: `drop`, `policy`, `remove`: of each principal that the command names, in their order, what `principals`
     // makes of the database that was read.
     ensures changed { OnOk result (AreChanged (T.world store.old) (all_asked target.now.settings.items) how
@@ -133,8 +134,9 @@ fn change_named<'p, T: Store>(
     target: &Target<'p>,
     how: ChangeArgs,
     name: &'p str,
-) -> Result<(), Stop<'p>>
-    ensures changed { OnOk result (IsNamedChanged (T.world store.old) (all_asked target.now.settings.items) how name.entry.now
+) -> Result<(), CommandError<'p>>
+    ensures changed { OnOk result (IsNamedChanged (T.world store.old)
+        (all_asked target.now.settings.items) how name.entry.now
         draft.old.database draft.new.database) }
     ensures unchanged { T.world store.new ≡ T.world store.old }
 {
@@ -151,7 +153,7 @@ fn change_text<'p, T: Store>(
     target: &Target<'p>,
     how: ChangeArgs,
     name: &str,
-) -> Result<(), Stop<'p>>
+) -> Result<(), CommandError<'p>>
     ensures changed { OnOk result (IsNamedChanged (T.world store.old) (all_asked target.now.settings.items) how name.now
         draft.old.database draft.new.database) }
     ensures unchanged { T.world store.new ≡ T.world store.old }
@@ -167,8 +169,9 @@ fn change<'p, T: Store>(
     who: &Name,
     target: &Target<'p>,
     how: ChangeArgs,
-) -> Result<(), Stop<'p>>
-    ensures changed { OnOk result (IsChanged (T.world store.old) (all_asked target.now.settings.items) how who.now.components
+) -> Result<(), CommandError<'p>>
+    ensures changed { OnOk result (IsChanged (T.world store.old)
+        (all_asked target.now.settings.items) how who.now.components
         draft.old.database draft.new.database) }
     ensures unchanged { T.world store.new ≡ T.world store.old }
 {
@@ -186,7 +189,7 @@ pub(crate) fn set_all<'p, T: Store>(
     draft: &mut Draft,
     who: &Name,
     target: &Target<'p>,
-) -> Result<(), Stop<'p>>
+) -> Result<(), CommandError<'p>>
     // Promise: all settings that a command has are made, in their order, after `add` too; a policy's field has the
     // value that its text spells.
     // Promise: a time span such as `7d` of a time counts from the second that the clock showed.
@@ -206,11 +209,12 @@ pub(crate) fn set_all<'p, T: Store>(
 }
 
 /// Drops the keys of an old version.
-fn drop_keys(draft: &mut Draft, who: &Name, version: u32) -> Result<(), Stop<'static>>
-    ensures { OnOk result (Makes draft.old.database who.now.components (row_changes.DropKeys version) draft.new.database) }
+fn drop_keys(draft: &mut Draft, who: &Name, version: u32) -> Result<(), CommandError<'static>>
+    ensures { OnOk result (Makes draft.old.database who.now.components
+        (row_changes.DropKeys version) draft.new.database) }
 {
     if lacks_version(&draft.database, who, version) {
-        return Err(Stop::refused(Part::Name, Reason::NoVersion));
+        return Err(CommandError::refused(Part::Name, CommandRefusal::NoVersion));
     }
     Ok(apply(draft, who, RowChange::DropKeys(version))?)
 }
@@ -229,13 +233,13 @@ fn set_policy<'p, T: Store>(
     draft: &mut Draft,
     who: &Name,
     asked: AskedSetting<'p>,
-) -> Result<(), Stop<'p>>
+) -> Result<(), CommandError<'p>>
     ensures changed { OnOk result (IsPolicySet (T.world store.old) (asked_of asked.entry) who.now.components
         draft.old.database draft.new.database) }
     ensures unchanged { T.world store.new ≡ T.world store.old }
 {
     let Some(row) = draft.database.get(who) else {
-        return Err(Stop::from(ChangeFault::Absent));
+        return Err(CommandError::from(ChangeFault::Absent));
     };
     let policy = row.policy;
     let setting = setting(store, asked)?;
@@ -245,16 +249,24 @@ fn set_policy<'p, T: Store>(
 }
 
 /// Returns a field with its value. It reads the clock if the value is a time from now.
-fn setting<'p, T: Store>(store: &mut T, asked: AskedSetting<'p>) -> Result<Setting, Stop<'p>>
-    ensures setting { IfOk result (λ setting. IsValueOf (T.world store.old) setting asked.entry.field.now asked.entry.value.now) }
+fn setting<'p, T: Store>(
+    store: &mut T,
+    asked: AskedSetting<'p>,
+) -> Result<Setting, CommandError<'p>>
+    ensures setting { IfOk result (λ setting. IsValueOf
+        (T.world store.old) setting asked.entry.field.now asked.entry.value.now) }
     ensures unchanged { T.world store.new ≡ T.world store.old }
 {
-    if let Some(setting) = setting_of(asked.field, asked.value) {
+    if let Some(setting) = parse_setting(asked.field, asked.value) {
         return Ok(setting);
     }
     match setting_from(asked.field, asked.value, read_clock(store)?) {
         Some(setting) => Ok(setting),
-        None => Err(Stop::refused_value(Part::Setting(asked.form), asked.value, Reason::BadTime)),
+        None => Err(CommandError::refused_value(
+            Part::Setting(asked.form),
+            asked.value,
+            CommandRefusal::BadTime,
+        )),
     }
 }
 
@@ -263,7 +275,7 @@ fn check_time<'p, T: Store>(
     store: &mut T,
     asked: AskedSetting<'p>,
     setting: Setting,
-) -> Result<(), Stop<'p>>
+) -> Result<(), CommandError<'p>>
     ensures timely { OnOk result (IsTimely asked.entry.ahead (T.world store.old) setting) }
     ensures unchanged { T.world store.new ≡ T.world store.old }
 {
@@ -271,7 +283,11 @@ fn check_time<'p, T: Store>(
         return Ok(());
     }
     if is_before_now(store, expiry(setting))? {
-        return Err(Stop::refused_value(Part::Setting(asked.form), asked.value, Reason::Past));
+        return Err(CommandError::refused_value(
+            Part::Setting(asked.form),
+            asked.value,
+            CommandRefusal::Past,
+        ));
     }
     Ok(())
 }
@@ -289,7 +305,10 @@ fn expiry(setting: Setting) -> Option<Second>
 
 /// Checks whether a time, if there is one, comes before the clock's second.
 #[tactic(auto, using(crate::proofs::Realms::never_before, crate::proofs::Realms::from_now))]
-fn is_before_now<T: Store>(store: &mut T, expires: Option<Second>) -> Result<bool, Stop<'static>>
+fn is_before_now<T: Store>(
+    store: &mut T,
+    expires: Option<Second>,
+) -> Result<bool, CommandError<'static>>
     ensures ahead { IfOk result (λ past. IsFalse past → IfSome (T.world store.old) (λ held. IsFrom held.now expires)) }
     ensures unchanged { T.world store.new ≡ T.world store.old }
 {

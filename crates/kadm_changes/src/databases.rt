@@ -5,13 +5,13 @@ ghost use Rattle.kadm_changes.specs.Worlds.{HoldsDatabase, IsReadBack, with_data
 
 use crate::context::Context;
 use crate::draft::Draft;
-use crate::reason::{Part, Reason};
-use crate::stop::Stop;
+use crate::reason::{CommandRefusal, Part};
+use crate::stop::CommandError;
 use crate::target::Target;
 use file_store::{NewMode, Store, Written, lock_file, read_at_most, update_file};
 use krb_fields::Name;
 use principals::{Change, ChangeFault, Database, RowChange};
-use principals_text::{DatabaseFault, LONGEST_TEXT, read_bytes};
+use principals_text::{DatabaseError, LONGEST_TEXT, read_bytes};
 use std::alloc::Global;
 use std::io::Write;
 use std::marker::Model;
@@ -44,7 +44,7 @@ pub fn lock_database<'p, T: Store, W: Write, E: Write>(
     context: &mut Context<W, E>,
     store: &mut T,
     target: &Target<'p>,
-) -> Result<Locked<'p>, Stop<'p>>
+) -> Result<Locked<'p>, CommandError<'p>>
     // Promise: a database is written only by who has locked it: `write_database` takes a `Locked`, and only
     // `lock_database` makes one, after the store has given the lock of that path.
     ensures locked { IfOk result (λ locked. locked ≡ target.now.db.now) }
@@ -67,7 +67,7 @@ pub fn lock_database<'p, T: Store, W: Write, E: Write>(
     if lock_file(context.alloc, store, target.db)? {
         Ok(locked)
     } else {
-        Err(Stop::refused(Part::Database, Reason::Locked))
+        Err(CommandError::refused(Part::Database, CommandRefusal::Locked))
     }
 }
 
@@ -82,7 +82,7 @@ pub fn read_database<'p, T: Store, W: Write, E: Write>(
     context: &mut Context<W, E>,
     store: &mut T,
     db: &'p str,
-) -> Result<Database, Stop<'p>>
+) -> Result<Database, CommandError<'p>>
     ensures read { IfOk result (λ database. HoldsDatabase (T.world store.old) db.now database) }
     // Promise, as lock_database: what a command reads, ..
     ensures unchanged { T.world store.new ≡ T.world store.old }
@@ -93,13 +93,13 @@ pub fn read_database<'p, T: Store, W: Write, E: Write>(
         Ok(database) => Ok(database),
         Err(fault) => {
             report_place(&mut context.errors, db, &fault);
-            Err(Stop::from(fault.cause))
+            Err(CommandError::from(fault.cause))
         }
     }
 }
 
 /// Reports where a text is wrong, if that was found. Ignores a failed write.
-fn report_place<E: Write>(errors: &mut E, db: &str, fault: &DatabaseFault) {
+fn report_place<E: Write>(errors: &mut E, db: &str, fault: &DatabaseError) {
     if let Some(place) = &fault.place {
         let _ = writeln!(errors, "kadm: {db}: {place}");
     }
@@ -111,7 +111,7 @@ pub fn write_database<'p, T: Store>(
     store: &mut T,
     locked: &Locked<'p>,
     database: &Database,
-) -> Result<Written, Stop<'p>>
+) -> Result<Written, CommandError<'p>>
     ensures written { OnOk result (T.world store.new ≡ with_database locked.now database.now (T.world store.old)) }
     ensures read_back { OnOk result (IsReadBack database.now) }
     ensures unchanged { OnErr result (T.world store.new ≡ T.world store.old) }

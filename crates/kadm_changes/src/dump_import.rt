@@ -19,10 +19,10 @@ use crate::dump_reports::{
     report_fault, report_key_fault, report_losses, report_no_database, report_taken,
 };
 use crate::realm::{realm_end, report_realm, tgs_policy};
-use crate::reason::{Part, Reason};
-use crate::stop::Stop;
+use crate::reason::{CommandRefusal, Part};
+use crate::stop::CommandError;
 use crate::target::Target;
-use cred_files::{CredFault, Keytab, KeytabEntry};
+use cred_files::{CredError, Keytab, KeytabEntry};
 use file_store::{Store, Written, has_file, read_at_most, read_file};
 use krb_elements::KerberosString;
 use mit_dump::{DumpedPrincipal, dump_realm, read_dump};
@@ -50,20 +50,21 @@ pub fn import_dump<'p, T: Store, W: Write, E: Write>(
     store: &mut T,
     target: &Target<'p>,
     from: DumpArgs<'p>,
-) -> Result<Written, Stop<'p>>
+) -> Result<Written, CommandError<'p>>
     // Promise (done, unchanged): `import --dump` makes a database at a path without a file: that of the realm of the
     // dump's `krbtgt/REALM@REALM`.
     // Promise: an imported database has a row for each principal that has a place in it, with all versions of its keys,
     // decrypted with the master key in the stash file, and the policy that its numbers say.
     // Promise: without `--skip` nothing of a principal is lost, but for `K/M`, `kadmin/..` and `kiprop/..` (that each
     // dump is read, and which fault a refused one gets, is tested).
-    ensures done { OnOk result (MadeFromDump (T.world store.old) target.now.whole_realm target.now.db.now from.entry (T.world store.new)) }
+    ensures done { OnOk result (MadeFromDump (T.world store.old) target.now.whole_realm target.now.db.now from.entry
+        (T.world store.new)) }
     // Promise, as make_update: a command that ends ..
     ensures unchanged { OnErr result (T.world store.new ≡ T.world store.old) }
 {
     let locked = lock_database(context, store, target)?;
     if has_file(store, target.db)? {
-        return Err(Stop::refused(Part::Database, Reason::FileExists));
+        return Err(CommandError::refused(Part::Database, CommandRefusal::FileExists));
     }
     let database = read_realm(context, store, from)?;
     check_new_realm(store, &database, target.whole_realm)?;
@@ -79,7 +80,7 @@ fn check_new_realm<T: Store>(
     store: &mut T,
     database: &Database,
     whole: bool,
-) -> Result<(), Stop<'static>>
+) -> Result<(), CommandError<'static>>
     ensures kept { OnOk result (KeepsRealm whole (T.world store.old) default_policy (tgs_policy database.now)) }
     ensures unchanged { T.world store.new ≡ T.world store.old }
 {
@@ -88,7 +89,7 @@ fn check_new_realm<T: Store>(
     }
     let end = realm_end(store, Policy::default(), tgs_policy(database))?;
     match end {
-        Some(_) => Err(Stop::refused(Part::Dump, Reason::EndedRealm)),
+        Some(_) => Err(CommandError::refused(Part::Dump, CommandRefusal::EndedRealm)),
         None => Ok(()),
     }
 }
@@ -98,7 +99,7 @@ fn read_realm<'p, T: Store, W: Write, E: Write>(
     context: &mut Context<W, E>,
     store: &mut T,
     from: DumpArgs<'p>,
-) -> Result<Database, Stop<'p>>
+) -> Result<Database, CommandError<'p>>
     ensures read { IfOk result (λ database. HasRealm (T.world store.old) from.entry database) }
     ensures unchanged { T.world store.new ≡ T.world store.old }
 {
@@ -108,29 +109,33 @@ fn read_realm<'p, T: Store, W: Write, E: Write>(
         Ok(found) => found,
         Err(fault) => return Err(report_fault(&mut context.errors, from.dump, fault)),
     };
-    database_of(context, &found, &stash, from.skip)
+    import_database(context, &found, &stash, from.skip)
 }
 
 /// Reads MIT's stash file, which is a keytab.
-fn read_stash<'p, T: Store>(alloc: Global, store: &mut T, path: &'p str) -> Result<Keytab, Stop<'p>>
+fn read_stash<'p, T: Store>(
+    alloc: Global,
+    store: &mut T,
+    path: &'p str,
+) -> Result<Keytab, CommandError<'p>>
     ensures read { IfOk result (λ stash. IsStash (T.world store.old) path.now stash) }
     ensures unchanged { T.world store.new ≡ T.world store.old }
 {
     let octets = read_file(alloc, store, path)?;
     match Keytab::read(alloc, &octets) {
         Ok(stash) => Ok(stash),
-        Err(CredFault::Memory) => Err(Stop::from(AllocError)),
-        Err(_) => Err(Stop::refused(Part::Stash, Reason::BadStash)),
+        Err(CredError::Memory) => Err(CommandError::from(AllocError)),
+        Err(_) => Err(CommandError::refused(Part::Stash, CommandRefusal::BadStash)),
     }
 }
 
 /// Returns the database with the principals of a dump that have a place in it.
-fn database_of<W, E: Write>(
+fn import_database<W, E: Write>(
     context: &mut Context<W, E>,
     found: &[DumpedPrincipal],
     stash: &Keytab,
     skip: bool,
-) -> Result<Database, Stop<'static>>
+) -> Result<Database, CommandError<'static>>
     ensures { IfOk result (λ database. IsDatabaseOf found.now stash.now skip database) }
 {
     let Some(realm) = dump_realm(found) else {
@@ -138,9 +143,9 @@ fn database_of<W, E: Write>(
     };
     let is_whole = report_losses(context.alloc, &mut context.errors, found, realm)?;
     if !is_whole && !skip {
-        return Err(Stop::refused(Part::Dump, Reason::NoPlace));
+        return Err(CommandError::refused(Part::Dump, CommandRefusal::NoPlace));
     }
-    let rows = rows_of(context, found, realm, stash)?;
+    let rows = import_rows(context, found, realm, stash)?;
     report_taken(context.alloc, &mut context.errors, found, rows.len())?;
     match with_rows(context.alloc, realm, rows)? {
         Some(database) => Ok(database),
@@ -171,12 +176,12 @@ fn with_rows(
 }
 
 /// Returns the rows of the principals that have a place, the last one first.
-fn rows_of<W, E: Write>(
+fn import_rows<W, E: Write>(
     context: &mut Context<W, E>,
     found: &[DumpedPrincipal],
     realm: &[u8],
     stash: &Keytab,
-) -> Result<Vec<Entry<Row>>, Stop<'static>>
+) -> Result<Vec<Entry<Row>>, CommandError<'static>>
     ensures { IfOk result (λ rows. AreRowsOf realm.now stash.now found.now rows.items) }
 {
     let mut rows = Vec::new(context.alloc);
@@ -193,40 +198,40 @@ fn push_row<W, E: Write>(
     principal: &DumpedPrincipal,
     realm: &[u8],
     stash: &Keytab,
-) -> Result<(), Stop<'static>>
+) -> Result<(), CommandError<'static>>
     ensures { OnOk result
         (IsPushedRow (has_place realm.now principal.now) stash.now principal.now rows.old.items rows.new.items) }
 {
     if principal.has_place(realm) {
-        rows.push(entry_of(context, principal, stash)?)?;
+        rows.push(import_entry(context, principal, stash)?)?;
     }
     Ok(())
 }
 
 /// Returns the row of a principal, with its name.
-fn entry_of<W, E: Write>(
+fn import_entry<W, E: Write>(
     context: &mut Context<W, E>,
     principal: &DumpedPrincipal,
     stash: &Keytab,
-) -> Result<Entry<Row>, Stop<'static>>
+) -> Result<Entry<Row>, CommandError<'static>>
     ensures name { IfOk result (λ e. e.name.components ≡ principal.now.name.components) }
     ensures row { IfOk result (λ e. IsRowOf stash.now principal.now e.value) }
 {
     match principal.entries(context.alloc, stash) {
         Ok(entries) => Ok(Entry {
             name: principal.name.copy(context.alloc)?,
-            value: row_of(context.alloc, principal, &entries)?,
+            value: import_row(context.alloc, principal, &entries)?,
         }),
         Err(fault) => Err(report_key_fault(context.alloc, &mut context.errors, principal, fault)),
     }
 }
 
 /// Returns the row of a principal that has these keys.
-fn row_of(
+fn import_row(
     alloc: Global,
     principal: &DumpedPrincipal,
     entries: &[KeytabEntry],
-) -> Result<Row, Stop<'static>>
+) -> Result<Row, CommandError<'static>>
     ensures versions { IfOk result (λ row. AreVersionsOf entries.now
         (principal.now.realm ∷ principal.now.name.components) (preference principal.now.keys.items) row.versions) }
     ensures policy { IfOk result (λ row. row.policy ≡ policy_of principal.now.numbers) }

@@ -2,10 +2,10 @@
 ghost use Rattle.std.specs.Prelude.{◌≡◌, All, IfOk, true};
 ghost use Rattle.kadm_changes.specs.Dumps.{LosesNothing};
 
-use crate::reason::{Part, Reason};
-use crate::stop::Stop;
+use crate::reason::{CommandRefusal, Part};
+use crate::stop::CommandError;
 use krb_fields::component_to_text;
-use mit_dump::{DumpFault, DumpedPrincipal, KeyFault, LineFault};
+use mit_dump::{DumpError, DumpedPrincipal, LineError};
 use std::alloc::{AllocError, Global};
 use std::io::Write;
 
@@ -13,22 +13,22 @@ use std::io::Write;
 pub(crate) fn report_fault<E: Write>(
     errors: &mut E,
     dump: &str,
-    fault: DumpFault,
-) -> Stop<'static> {
-    if fault.cause == LineFault::Memory {
-        return Stop::from(AllocError);
+    fault: DumpError,
+) -> CommandError<'static> {
+    if fault.cause == LineError::Memory {
+        return CommandError::from(AllocError);
     }
     let _ = writeln!(errors, "kadm: {dump}: line {}: {}", fault.line, fault.cause);
-    Stop::refused(Part::Dump, Reason::BadDump)
+    CommandError::refused(Part::Dump, CommandRefusal::BadDump)
 }
 
 /// Reports that the principals of a dump make no database. Returns how the command ends.
-pub(crate) fn report_no_database<E: Write>(errors: &mut E) -> Stop<'static> {
+pub(crate) fn report_no_database<E: Write>(errors: &mut E) -> CommandError<'static> {
     let _ = writeln!(
         errors,
         "kadm: no principal with a key is krbtgt/REALM@REALM, or one is there twice"
     );
-    Stop::refused(Part::Dump, Reason::BadDump)
+    CommandError::refused(Part::Dump, CommandRefusal::BadDump)
 }
 
 /// Reports that the keys of a principal can't be decrypted. Returns how the command ends.
@@ -36,16 +36,16 @@ pub(crate) fn report_key_fault<E: Write>(
     alloc: Global,
     errors: &mut E,
     principal: &DumpedPrincipal,
-    fault: KeyFault,
-) -> Stop<'static> {
-    if fault == KeyFault::Memory {
-        return Stop::from(AllocError);
+    fault: LineError,
+) -> CommandError<'static> {
+    if fault == LineError::Memory {
+        return CommandError::from(AllocError);
     }
     if let Err(error) = begin_principal(alloc, errors, principal) {
-        return Stop::from(error);
+        return CommandError::from(error);
     }
     let _ = writeln!(errors, "{fault}");
-    Stop::refused(Part::Stash, Reason::BadStash)
+    CommandError::refused(Part::Stash, CommandRefusal::BadStash)
 }
 
 /// Reports what has no place in a database of this realm, a line each. Returns whether there is nothing.

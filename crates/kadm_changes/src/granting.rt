@@ -12,7 +12,7 @@ ghost use Rattle.kadm_changes.specs.Texts.{path_of};
 use crate::databases::apply;
 use crate::denying::deny_service;
 use crate::draft::Draft;
-use crate::stop::Stop;
+use crate::stop::CommandError;
 use enctypes::Etype;
 use file_store::{Store, read_or_draw_seed};
 use krb_fields::{Name, Second};
@@ -85,15 +85,16 @@ pub(crate) fn give_password<'p, T: Store>(
     draft: &mut Draft,
     to: &Recipient<'_>,
     grant: Grant,
-) -> Result<(), Stop<'p>>
+) -> Result<(), CommandError<'p>>
     // Promise: `passwd` and `add`: keys of the password and the default salt, given as the words say.
     // Promise: besides, the `password_expires` of the old password is cleared.
-    ensures given { OnOk result (GivesPassword (T.world store.old) to.now.etypes.now to.now.pass.now grant to.now.who.now.components
+    ensures given { OnOk result (GivesPassword
+        (T.world store.old) to.now.etypes.now to.now.pass.now grant to.now.who.now.components
         draft.old.database draft.new.database) }
     // Promise, as lock_database: what a command reads, ..
     ensures unchanged { T.world store.new ≡ T.world store.old }
 {
-    let keys = keys_of(draft, to)?;
+    let keys = derive_keys(draft, to)?;
     give(draft, to.who, keys, grant)?;
     Ok(clear_expiry(draft, to.who)?)
 }
@@ -104,10 +105,11 @@ pub(crate) fn give_random<'p, T: Store>(
     draft: &mut Draft,
     to: &Recipient<'_>,
     random: RandomGrant<'p>,
-) -> Result<(), Stop<'p>>
+) -> Result<(), CommandError<'p>>
     // Promise: `random` and `add --random`: the same with keys drawn from the seed's 32 bytes, which are the file's
     // first or the store's own.
-    ensures given { OnOk result (GivesRandom (T.world store.old) to.now.etypes.now (path_of random.entry.seed) random.entry.grant
+    ensures given { OnOk result (GivesRandom (T.world store.old) to.now.etypes.now
+        (path_of random.entry.seed) random.entry.grant
         to.now.who.now.components draft.old.database draft.new.database) }
     // Promise, as lock_database: what a command reads, ..
     ensures unchanged { T.world store.new ≡ T.world store.old }
@@ -118,9 +120,10 @@ pub(crate) fn give_random<'p, T: Store>(
 }
 
 /// Derives the keys of a password, with the principal's default salt.
-fn keys_of(draft: &Draft, to: &Recipient<'_>) -> Result<KeyList, AllocError>
+fn derive_keys(draft: &Draft, to: &Recipient<'_>) -> Result<KeyList, AllocError>
     ensures { IfOk result (λ keys. keys ≡ map
-        (password_key to.now.pass.now (default_salt draft.now.database.realm to.now.who.now.components)) to.now.etypes.now) }
+        (password_key to.now.pass.now (default_salt draft.now.database.realm to.now.who.now.components))
+        to.now.etypes.now) }
 {
     let salt = to.who.salt(draft.alloc, draft.database.realm())?;
     password_keys(draft.alloc, to.etypes, to.pass, salt.as_slice())
@@ -135,10 +138,10 @@ fn give(draft: &mut Draft, who: &Name, keys: KeyList, grant: Grant) -> Result<()
     ensures { OnOk result (IsGranted grant who.now.components keys draft.old.database draft.new.database) }
 {
     let how = grant.key_change(is_there(&draft.database, who));
-    give_by(draft, who, keys, how)
+    put_keys(draft, who, keys, how)
 }
 
-fn give_by(draft: &mut Draft, who: &Name, keys: KeyList, how: KeyChange) -> Result<(), ChangeFault>
+fn put_keys(draft: &mut Draft, who: &Name, keys: KeyList, how: KeyChange) -> Result<(), ChangeFault>
     ensures { OnOk result (IsGiven how who.now.components keys draft.old.database draft.new.database) }
 {
     match how {
@@ -228,7 +231,8 @@ fn clear_expiry(draft: &mut Draft, who: &Name) -> Result<(), ChangeFault>
 
 /// Returns the policy of a principal whose password expires, and when it does.
 pub(crate) fn expiring(database: &Database, who: &Name) -> Option<(Policy, Second)>
-    ensures some { IfSome result (λ found. (row : rows.Row) × (finite.get database.now.rows who.now.components ≡ Some row)
+    ensures some { IfSome result (λ found. (row : rows.Row)
+        × (finite.get database.now.rows who.now.components ≡ Some row)
         × (row.policy ≡ found.0) × (row.policy.password_expires ≡ Some found.1)) }
     ensures none { IfNone result (password_expiry (finite.get database.now.rows who.now.components) ≡ None) }
 {

@@ -6,7 +6,7 @@ ghost use Rattle.kadm_changes.specs.Updates.{IsImported};
 use crate::draft::Draft;
 use crate::granting::Recipient;
 use crate::reason::Part;
-use crate::stop::Stop;
+use crate::stop::CommandError;
 use cred_files::Keytab;
 use file_store::{Store, read_file};
 use krb_fields::Name;
@@ -20,11 +20,12 @@ pub(crate) fn import<'p, T: Store>(
     draft: &mut Draft,
     to: &Recipient<'_>,
     keytab: &'p str,
-) -> Result<(), Stop<'p>>
+) -> Result<(), CommandError<'p>>
     // Promise: `import` adds a principal that is not there, with the keys that the keytab has of it in the database's
     // realm, of the types asked for.
     // Promise: an imported principal has every version that has such a key, with its number.
-    ensures imported { OnOk result (IsImported (T.world store.old) to.now.etypes.now keytab.now to.now.who.now.components
+    ensures imported { OnOk result (IsImported
+        (T.world store.old) to.now.etypes.now keytab.now to.now.who.now.components
         draft.old.database draft.new.database) }
     // Promise, as lock_database: what a command reads, ..
     ensures unchanged { T.world store.new ≡ T.world store.old }
@@ -49,7 +50,7 @@ fn read_versions<'p, T: Store>(
     draft: &Draft,
     to: &Recipient<'_>,
     path: &'p str,
-) -> Result<Versions, Stop<'p>>
+) -> Result<Versions, CommandError<'p>>
     ensures read { IfOk result (λ versions. HasVersions (T.world store.old) path.now
         (draft.now.database.realm ∷ to.now.who.now.components) to.now.etypes.now versions) }
     ensures unchanged { T.world store.new ≡ T.world store.old }

@@ -1,26 +1,26 @@
 //! The command that writes a keytab.
-ghost use Rattle.std.specs.Prelude.{◌≡◌, IfOk, IsFalse, OnOk, OnErr, option_map};
+ghost use Rattle.std.specs.Prelude.{◌≡◌, ℕ, List, IfOk, IsFalse, OnOk, OnErr, option_map};
 ghost use Rattle.file_store.specs.World.{IsRead, IsThere, with_file};
-ghost use Rattle.kadm_changes.specs.Keytabs.{IsBehind, IsFreePath, IsKeytabFor, IsKeytabStart, IsNewKeytab, IsOldKeytab, entries_of, lock_of};
+ghost use Rattle.kadm_changes.specs.Keytabs.{IsBehind, IsFreePath, IsKept, IsKeytabFor, IsKeytabStart};
+ghost use Rattle.kadm_changes.specs.Keytabs.{IsOldKeytab, appends, lock_of};
 ghost use Rattle.kadm_changes.specs.Owners.{IsOurs, is_closed, is_ours, is_own};
 ghost use Rattle.kadm_changes.specs.Worlds.{WroteKeytab};
 
 use crate::context::Context;
 use crate::databases::{lock_database, read_database};
-use crate::joining::joined;
-use crate::reason::{Part, Reason};
-use crate::stop::Stop;
+use crate::joining::{joined, without_end};
+use crate::keytab_text::new_keytab;
+use crate::reason::{CommandRefusal, Part};
+use crate::stop::CommandError;
 use crate::target::Target;
-use cred_files::{CredFault, Keytab, KeytabEntry};
+use cred_files::{CredError, Keytab};
 use file_store::{
-    FileFault, FileRights, LOCK_END, Store, Written, file_rights, first_octet, folder_of, has_file,
+    FileRights, LOCK_END, PathError, Store, Written, file_rights, first_octet, folder_of, has_file,
     read_file, update_file, write_file,
 };
-use krb_elements::KerberosString;
 use krb_fields::Name;
-use principal_rows::KeyVersion;
-use principals::{ChangeFault, Database};
-use std::alloc::{AllocError, Global};
+use principals::Database;
+use std::alloc::Global;
 use std::io::Write;
 
 /// The first byte of a keytab. No text of a database begins with it.
@@ -35,26 +35,53 @@ const OTHERS_WRITE: u32 = 0o022;
 /// The keytab that is written, and for whom.
 #[derive(Clone, Copy)]
 pub struct KeytabArgs<'a> {
-    /// The principal whose current keys are written, as text.
+    /// The principal whose keys are written, as text.
     pub name: &'a str,
     /// The path of the keytab.
     pub out: &'a str,
-    /// Whether the new entries follow what the keytab has already.
-    pub append: bool,
+    /// What the keytab has beside the current keys.
+    pub content: KeytabContent<'a>,
 }
 
-/// Writes a keytab of a principal's current keys. With `append` the keytab keeps its content, before the new entries,
-/// and its owner and group; that of another user is refused.
+/// What a keytab has beside a principal's current keys.
+#[derive(Clone, Copy)]
+pub enum KeytabContent<'a> {
+    /// Nothing.
+    Current,
+    /// Before them the entries that it has already.
+    Appended,
+    /// After them new keys of the same types, with the next version, which the database does not have yet.
+    Next {
+        /// The path of the file with the seed of the new keys, or `None` to draw a seed from the system.
+        seed: Option<&'a str>,
+    },
+}
+
+/// Checks whether a keytab keeps the entries that it has.
+fn appends(content: KeytabContent<'_>) -> bool
+    ensures { result ≡ appends content.entry }
+{
+    match content {
+        KeytabContent::Current => false,
+        KeytabContent::Appended => true,
+        KeytabContent::Next { seed: _ } => false,
+    }
+}
+
+/// Writes a keytab of a principal's keys. One that is appended to keeps its entries, before the new ones, and its owner
+/// and group; that of another user is refused.
 pub fn write_keytab<'p, T: Store, W: Write, E: Write>(
     context: &mut Context<W, E>,
     store: &mut T,
     target: &Target<'p>,
     to: KeytabArgs<'p>,
-) -> Result<Written, Stop<'p>>
+) -> Result<Written, CommandError<'p>>
     // Promise: `keytab` reads a database that has the principal, and writes one file: its current keys as entries of a
     // keytab.
-    // Promise: a keytab's entries stand after the first two bytes of a keytab, or with `--append` after the start of
-    // the one that is there.
+    // Promise: `keytab --next` writes the current keys, and after them new ones of the same types, drawn from the seed,
+    // with the version after the current one; the database stays as it is; it is never `krbtgt/R`.
+    // Promise: a keytab's entries stand after the first two bytes of a keytab, or with `--append` after all parts of
+    // the one that is there: its entries, those with other types too, and its holes.
     // Promise: what the path of a keytab had is no database, the path is no lock's, and no lock stands beside it.
     // Promise: a keytab that is extended is the user's own, or root works in a folder where nobody but root and the
     // keytab's owner may write.
@@ -73,19 +100,23 @@ pub fn write_keytab<'p, T: Store, W: Write, E: Write>(
 
 /// Refuses the path of a lock, a path with a lock beside it, and a file that is neither empty nor a keytab. Each
 /// database that a command writes has a lock, and so has the one that this command locks, whatever path names it.
-fn check_path<'p, T: Store>(alloc: Global, store: &mut T, path: &'p str) -> Result<(), Stop<'p>>
+pub(crate) fn check_path<'p, T: Store>(
+    alloc: Global,
+    store: &mut T,
+    path: &'p str,
+) -> Result<(), CommandError<'p>>
     ensures free { OnOk result (IsFreePath (T.world store.old) path.now) }
     ensures unchanged { T.world store.new ≡ T.world store.old }
 {
     if path.ends_with(LOCK_END) {
-        return Err(Stop::refused(Part::NewKeytab, Reason::IsLock));
+        return Err(CommandError::refused(Part::NewKeytab, CommandRefusal::IsLock));
     }
     if has_lock(alloc, store, path)? {
-        return Err(Stop::refused(Part::NewKeytab, Reason::IsDatabase));
+        return Err(CommandError::refused(Part::NewKeytab, CommandRefusal::IsDatabase));
     }
     let first = first_octet(alloc, store, path)?;
     if is_other_file(first) {
-        return Err(Stop::from(CredFault::BadMagic));
+        return Err(CommandError::from(CredError::BadMagic));
     }
     Ok(())
 }
@@ -101,14 +132,18 @@ fn is_other_file(first: Option<u8>) -> bool
 }
 
 /// Checks whether there is a lock beside a file.
-fn has_lock<'p, T: Store>(alloc: Global, store: &mut T, path: &'p str) -> Result<bool, Stop<'p>>
+fn has_lock<'p, T: Store>(
+    alloc: Global,
+    store: &mut T,
+    path: &'p str,
+) -> Result<bool, CommandError<'p>>
     ensures there { IfOk result (λ found. IsThere (T.world store.old) (lock_of path.now) found) }
     ensures unchanged { T.world store.new ≡ T.world store.old }
 {
     let beside = format!(in alloc; "{path}{LOCK_END}")?;
     match store.exists(&beside) {
         Ok(found) => Ok(found),
-        Err(error) => Err(Stop::from(FileFault::failed(path, error))),
+        Err(error) => Err(CommandError::from(PathError::failed(path, error))),
     }
 }
 
@@ -119,13 +154,14 @@ fn new_octets<'p, T: Store>(
     database: &Database,
     name: &Name,
     to: KeytabArgs<'p>,
-) -> Result<Vec<u8>, Stop<'p>>
-    ensures holds { IfOk result (λ octets. IsKeytabFor (T.world store.old) to.entry name.now.components database.now octets.items) }
+) -> Result<Vec<u8>, CommandError<'p>>
+    ensures holds { IfOk result (λ octets. IsKeytabFor
+        (T.world store.old) to.entry name.now.components database.now octets.items) }
     ensures unchanged { T.world store.new ≡ T.world store.old }
 {
-    let old = read_old(alloc, store, to.out, to.append)?;
-    let new = keytab_of(alloc, database, name)?;
-    Ok(behind(alloc, old, new)?)
+    let old = read_old(alloc, store, to.out, appends(to.content))?;
+    let new = new_keytab(alloc, store, database, name, to.content)?;
+    Ok(behind(old, new)?)
 }
 
 /// Writes the bytes of the keytab.
@@ -135,24 +171,26 @@ fn put_octets<'p, T: Store>(
     target: &Target<'p>,
     to: KeytabArgs<'p>,
     octets: &[u8],
-) -> Result<Written, Stop<'p>>
-    ensures written { OnOk result (T.world store.new ≡ option_map (with_file to.entry.out.now octets.now) (T.world store.old)) }
+) -> Result<Written, CommandError<'p>>
+    ensures written { OnOk result (T.world store.new
+        ≡ option_map (with_file to.entry.out.now octets.now) (T.world store.old)) }
     ensures unchanged { OnErr result (T.world store.new ≡ T.world store.old) }
 {
-    if to.append {
+    if appends(to.content) {
         return Ok(update_file(alloc, store, to.out, octets, target.mode)?);
     }
     Ok(write_file(alloc, store, to.out, octets)?)
 }
 
-/// Returns the content of a keytab that is extended.
+/// Returns the content of a keytab that is appended to, up to its end.
 fn read_old<'p, T: Store>(
     alloc: Global,
     store: &mut T,
     path: &'p str,
     append: bool,
-) -> Result<Option<Vec<u8>>, Stop<'p>>
-    ensures old { IfOk result (λ old. IsOldKeytab (T.world store.old) append path.now (option_map (λ octets. octets.items) old)) }
+) -> Result<Option<Vec<u8>>, CommandError<'p>>
+    ensures old { IfOk result (λ old. IsOldKeytab (T.world store.old) append path.now
+        (option_map (λ octets. octets.items) old)) }
     ensures unchanged { T.world store.new ≡ T.world store.old }
 {
     if append && has_file(store, path)? {
@@ -164,7 +202,7 @@ fn read_old<'p, T: Store>(
 }
 
 /// Refuses the keytab of another user, who may have put it there to get the new keys.
-fn check_owner<'p, T: Store>(store: &mut T, path: &'p str) -> Result<(), Stop<'p>>
+fn check_owner<'p, T: Store>(store: &mut T, path: &'p str) -> Result<(), CommandError<'p>>
     ensures ours { OnOk result (IsOurs (T.world store.old) path.now) }
     ensures unchanged { T.world store.new ≡ T.world store.old }
 {
@@ -174,7 +212,7 @@ fn check_owner<'p, T: Store>(store: &mut T, path: &'p str) -> Result<(), Stop<'p
     }
     let folder = match file_rights(store, folder_of(path)) {
         Ok(folder) => folder,
-        Err(fault) => return Err(Stop::from(FileFault {
+        Err(fault) => return Err(CommandError::from(PathError {
             path,
             cause: fault.cause,
         })),
@@ -182,7 +220,7 @@ fn check_owner<'p, T: Store>(store: &mut T, path: &'p str) -> Result<(), Stop<'p
     if is_ours(file, folder) {
         return Ok(());
     }
-    Err(Stop::refused(Part::NewKeytab, Reason::NotOurs))
+    Err(CommandError::refused(Part::NewKeytab, CommandRefusal::NotOurs))
 }
 
 /// Checks whether the user who runs the program owns a file.
@@ -212,60 +250,27 @@ fn is_closed(file: FileRights, folder: FileRights) -> bool
     folder.mode & OTHERS_WRITE == 0 && (folder.owner == ROOT || folder.owner == file.owner)
 }
 
-/// Returns the bytes of a file that is a keytab.
+/// Returns the bytes of a file that is a keytab, up to the keytab's end.
 fn read_judged<'p, T: Store>(
     alloc: Global,
     store: &mut T,
     path: &'p str,
-) -> Result<Vec<u8>, Stop<'p>>
-    ensures read { IfOk result (λ octets. IsRead (T.world store.old) path.now octets.items) }
+) -> Result<Vec<u8>, CommandError<'p>>
+    ensures read { IfOk result (λ front. (old : List ℕ) × IsRead (T.world store.old) path.now old
+        × IsKept old front.items) }
     ensures unchanged { T.world store.new ≡ T.world store.old }
 {
     let octets = read_file(alloc, store, path)?;
     let _read = Keytab::read(alloc, &octets)?;
-    Ok(octets)
+    Ok(without_end(octets))
 }
 
-/// Returns the content of an old keytab that was checked, followed by the entries of a new one.
-fn behind(alloc: Global, old: Option<Vec<u8>>, new: Vec<u8>) -> Result<Vec<u8>, CredFault>
+/// Returns the entries of a new keytab behind those of an old one, if there is one.
+fn behind(old: Option<Vec<u8>>, new: Vec<u8>) -> Result<Vec<u8>, CommandError<'static>>
     ensures { IfOk result (λ all. IsBehind (option_map (λ octets. octets.items) old) new.items all.items) }
 {
     match old {
-        Some(old) => joined(alloc, &old, &new),
+        Some(old) => Ok(joined(old, &new)?),
         None => Ok(new),
     }
-}
-
-/// Returns a keytab of a principal's current keys.
-fn keytab_of(alloc: Global, database: &Database, name: &Name) -> Result<Vec<u8>, Stop<'static>>
-    ensures { IfOk result (λ octets. IsNewKeytab database.now name.now octets.items) }
-{
-    let Some(row) = database.get(name) else {
-        return Err(Stop::from(ChangeFault::Absent));
-    };
-    let current = row.versions.current();
-    let entries = entries_of(alloc, database.realm(), name, current)?;
-    Ok(Keytab::new(alloc, &entries)?.write(alloc)?)
-}
-
-/// Returns the keys of a version, as entries of a keytab.
-fn entries_of(
-    alloc: Global,
-    realm: &[u8],
-    name: &Name,
-    version: &KeyVersion,
-) -> Result<Vec<KeytabEntry>, AllocError>
-    ensures { IfOk result (λ entries. entries.items ≡ entries_of realm.now name.now version.now) }
-{
-    let mut entries = Vec::new(alloc);
-    let keys = version.keys.keys();
-    for key in keys {
-        entries.push(KeytabEntry {
-            realm: KerberosString::from_slice(alloc, realm)?,
-            name: name.copy(alloc)?,
-            version: version.number,
-            key: *key,
-        })?;
-    }
-    Ok(entries)
 }

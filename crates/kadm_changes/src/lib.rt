@@ -1,8 +1,9 @@
 //! The changes of a realm's database: what its file, or a keytab, holds after a command of the administration tool.
 //!
-//! `make_realm`, `make_update`, `write_keytab` and `import_dump` each do a command that was read, with the files of a
-//! `Store`, and return whether the file that they wrote is on the disk. A batch reads its passwords by `find_password`
-//! and a database by `read_database`, changes it by `update_in_batch`, and writes it by `write_database`.
+//! `make_realm`, `make_update`, `write_keytab`, `write_keytabs`, `import_dump` and `restore` each do a command that was
+//! read, with the files of a `Store`, and return whether what they wrote is on the disk. A batch reads its passwords by
+//! `find_password` and a database by `read_database`. It changes the database by `update_in_batch`, and writes it by
+//! `write_database`.
 //!
 //! ```
 //! make_update(&mut context, &mut store, &target, Update::Row(row))?;
@@ -31,13 +32,17 @@ mod dump_reports;
 mod granting;
 mod importing;
 mod joining;
+mod keytab_folder;
+mod keytab_text;
 mod keytabs;
 mod note;
 mod passwords;
+mod patterns;
 mod realm;
 mod reason;
 mod restoring;
 mod set_times;
+mod staging;
 mod stop;
 mod target;
 mod updates;
@@ -49,12 +54,14 @@ pub use databases::{Locked, lock_database, read_database, write_database};
 pub use draft::Draft;
 pub use dump_import::{DumpArgs, import_dump};
 pub use granting::{Grant, RandomGrant};
-pub use keytabs::{KeytabArgs, write_keytab};
+pub use keytab_folder::{FolderArgs, write_keytabs};
+pub use keytabs::{KeytabArgs, KeytabContent, write_keytab};
 pub use note::{Note, OldExpiry};
 pub use passwords::{FoundLine, FoundPassword, PasswordArgs, PasswordGrant, find_password};
+pub use patterns::is_like;
 pub use realm::report_realm;
-pub use reason::{Part, RealmEnd, Reason, Refusal};
+pub use reason::{CommandRefusal, Part, RealmEnd, Refusal};
 pub use restoring::restore;
-pub use stop::Stop;
+pub use stop::CommandError;
 pub use target::Target;
 pub use updates::{RowArgs, RowUpdate, Update, make_update, update_in_batch};

@@ -10,11 +10,11 @@ use crate::context::Context;
 use crate::databases::read_database;
 use crate::granting::Grant;
 use crate::realm::is_tgs_text;
-use crate::reason::{Part, RealmEnd, Reason};
-use crate::stop::Stop;
+use crate::reason::{CommandRefusal, Part, RealmEnd};
+use crate::stop::CommandError;
 use crate::target::Target;
 use crate::updates::{RowArgs, RowUpdate, Update};
-use file_store::{FileCause, FileFault, STANDARD_INPUT, Store, ask_password, read_password};
+use file_store::{FileError, PathError, STANDARD_INPUT, Store, ask_password, read_password};
 use krb_fields::component_to_text;
 use std::alloc::{AllocError, Global};
 use std::io::Write;
@@ -54,7 +54,7 @@ pub enum FoundLine {
     /// It has more than 1,024 bytes.
     TooLong,
     /// The file could not be read.
-    Fault(FileCause),
+    Fault(FileError),
 }
 
 /// Reads the file of the password that a line of a batch takes, before the database is locked: the file may be a FIFO,
@@ -89,6 +89,7 @@ fn find_row_password<T: Store>(
     match how {
         RowUpdate::Password(to) => find_at(alloc, store, to.password.file),
         RowUpdate::Random(_) => Ok(None),
+        RowUpdate::Staged { keytab: _ } => Ok(None),
         RowUpdate::Import { keytab: _ } => Ok(None),
     }
 }
@@ -130,7 +131,7 @@ pub(crate) fn new_password<'p, T: Store, W: Write, E: Write>(
     store: &mut T,
     target: &Target<'p>,
     row: &RowArgs<'p>,
-) -> Result<Vec<u8>, Stop<'p>>
+) -> Result<Vec<u8>, CommandError<'p>>
     // Promise: the password is the first line of its file, if one is named.
     // Promise: without a file it is the next line of standard input; at a terminal that line is there twice.
     ensures given { IfOk result (λ pass. IsSecretOf (T.world store.old) (T.input store.old) row.now.how pass.items) }
@@ -147,6 +148,7 @@ pub(crate) fn new_password<'p, T: Store, W: Write, E: Write>(
             any_password(context, store, asked, to.password)
         }
         RowUpdate::Random(_) => Ok(Vec::new(context.alloc)),
+        RowUpdate::Staged { keytab: _ } => Ok(Vec::new(context.alloc)),
         RowUpdate::Import { keytab: _ } => Ok(Vec::new(context.alloc)),
     }
 }
@@ -171,25 +173,26 @@ fn any_password<'p, T: Store, W: Write, E: Write>(
     store: &mut T,
     asked: Asked<'p>,
     args: PasswordArgs<'p>,
-) -> Result<Vec<u8>, Stop<'p>>
-    ensures given { IfOk result (λ pass. IsPasswordOf (T.world store.old) (T.input store.old) (path_of args.entry.file) pass.items) }
+) -> Result<Vec<u8>, CommandError<'p>>
+    ensures given { IfOk result (λ pass. IsPasswordOf (T.world store.old) (T.input store.old)
+        (path_of args.entry.file) pass.items) }
     ensures unchanged { T.world store.new ≡ T.world store.old }
 {
     let pass = match args.file {
-        Some(path) => password_at(context.alloc, store, path)?,
+        Some(path) => read_password_file(context.alloc, store, path)?,
         None => asked_password(context, store, asked)?,
     };
     likely(pass, args.any)
 }
 
-/// Gets the password that a line of a batch takes. It is in a file, since standard input has the batch: as the file was
-/// read before, if it was.
+/// Gets the password for a line of a batch. It comes from a file, since standard input has the batch. If the file was
+/// read before the lock, it is what was read then.
 pub(crate) fn batch_password<'p, T: Store>(
     alloc: Global,
     store: &mut T,
     how: &RowUpdate<'p>,
     found: Option<&FoundPassword>,
-) -> Result<Vec<u8>, Stop<'p>>
+) -> Result<Vec<u8>, CommandError<'p>>
     requires found { IsFoundIn (T.world store.old) found }
     // Promise, as new_password: the password is the ..
     ensures given { IfOk result (λ pass. IsSecretOf (T.world store.old) no_input how.now pass.items) }
@@ -199,6 +202,7 @@ pub(crate) fn batch_password<'p, T: Store>(
     match how {
         RowUpdate::Password(to) => file_password(alloc, store, to.password, found),
         RowUpdate::Random(_) => Ok(Vec::new(alloc)),
+        RowUpdate::Staged { keytab: _ } => Ok(Vec::new(alloc)),
         RowUpdate::Import { keytab: _ } => Ok(Vec::new(alloc)),
     }
 }
@@ -209,13 +213,14 @@ fn file_password<'p, T: Store>(
     store: &mut T,
     args: PasswordArgs<'p>,
     found: Option<&FoundPassword>,
-) -> Result<Vec<u8>, Stop<'p>>
+) -> Result<Vec<u8>, CommandError<'p>>
     requires found { IsFoundIn (T.world store.old) found }
-    ensures given { IfOk result (λ pass. IsPasswordOf (T.world store.old) no_input (path_of args.entry.file) pass.items) }
+    ensures given { IfOk result (λ pass. IsPasswordOf (T.world store.old) no_input
+        (path_of args.entry.file) pass.items) }
     ensures unchanged { T.world store.new ≡ T.world store.old }
 {
     let Some(path) = args.file else {
-        return Err(Stop::refused(Part::Name, Reason::NoPassword));
+        return Err(CommandError::refused(Part::Name, CommandRefusal::NoPassword));
     };
     likely(found_or_read(alloc, store, path, found)?, args.any)
 }
@@ -226,25 +231,29 @@ fn found_or_read<'p, T: Store>(
     store: &mut T,
     path: &'p str,
     found: Option<&FoundPassword>,
-) -> Result<Vec<u8>, Stop<'p>>
+) -> Result<Vec<u8>, CommandError<'p>>
     requires found { IsFoundIn (T.world store.old) found }
     ensures line { IfOk result (λ pass. HasFirstLine (T.world store.old) path.now pass.items) }
     ensures unchanged { T.world store.new ≡ T.world store.old }
 {
     match found {
         Some(found) if found.path.as_str() == path => password_in(alloc, path, &found.line),
-        _ => password_at(alloc, store, path),
+        _ => read_password_file(alloc, store, path),
     }
 }
 
 /// Returns the password that was found in a file.
-fn password_in<'p>(alloc: Global, path: &'p str, line: &FoundLine) -> Result<Vec<u8>, Stop<'p>>
+fn password_in<'p>(
+    alloc: Global,
+    path: &'p str,
+    line: &FoundLine,
+) -> Result<Vec<u8>, CommandError<'p>>
     ensures { IfOk result (λ pass. HasPassword line.now pass.items) }
 {
     match line {
         FoundLine::Password(pass) => Ok(Vec::from_slice(alloc, pass)?),
         FoundLine::TooLong => Err(too_long(path)),
-        FoundLine::Fault(cause) => Err(Stop::from(FileFault {
+        FoundLine::Fault(cause) => Err(CommandError::from(PathError {
             path,
             cause: *cause,
         })),
@@ -252,11 +261,11 @@ fn password_in<'p>(alloc: Global, path: &'p str, line: &FoundLine) -> Result<Vec
 }
 
 /// Reads the password in a file.
-fn password_at<'p, T: Store>(
+fn read_password_file<'p, T: Store>(
     alloc: Global,
     store: &mut T,
     path: &'p str,
-) -> Result<Vec<u8>, Stop<'p>>
+) -> Result<Vec<u8>, CommandError<'p>>
     ensures line { IfOk result (λ pass. HasFirstLine (T.world store.old) path.now pass.items) }
     ensures unchanged { T.world store.new ≡ T.world store.old }
 {
@@ -267,16 +276,16 @@ fn password_at<'p, T: Store>(
 }
 
 /// Returns the stop for a source with too long a password.
-fn too_long(source: &str) -> Stop<'_> {
-    Stop::refused_value(Part::PasswordFile, source, Reason::LongPassword)
+fn too_long(source: &str) -> CommandError<'_> {
+    CommandError::refused_value(Part::PasswordFile, source, CommandRefusal::LongPassword)
 }
 
 /// Returns the password, unless it is unlikely and only likely ones are accepted.
-fn likely(pass: Vec<u8>, any: bool) -> Result<Vec<u8>, Stop<'static>>
+fn likely(pass: Vec<u8>, any: bool) -> Result<Vec<u8>, CommandError<'static>>
     ensures { IfOk result (λ likely. likely.items ≡ pass.items) }
 {
     if !any && is_unlikely(&pass) {
-        return Err(Stop::refused(Part::Name, Reason::BadPassword));
+        return Err(CommandError::refused(Part::Name, CommandRefusal::BadPassword));
     }
     Ok(pass)
 }
@@ -294,13 +303,16 @@ fn asked_password<'p, T: Store, W: Write, E: Write>(
     context: &mut Context<W, E>,
     store: &mut T,
     asked: Asked<'p>,
-) -> Result<Vec<u8>, Stop<'p>>
+) -> Result<Vec<u8>, CommandError<'p>>
     ensures typed { IfOk result (λ pass. IsTyped (T.input store.old) pass.items) }
     ensures unchanged { T.world store.new ≡ T.world store.old }
 {
     let database = read_database(context, store, asked.db)?;
     if !asked.may_be_tgs && is_tgs_text(context.alloc, &database, asked.name) {
-        return Err(Stop::refused(Part::Name, Reason::EndsRealm(RealmEnd::Guessable)));
+        return Err(CommandError::refused(
+            Part::Name,
+            CommandRefusal::EndsRealm(RealmEnd::Guessable),
+        ));
     }
     let realm = component_to_text(context.alloc, database.realm())?;
     ask_twice(context.alloc, store, asked.name, &realm)
@@ -313,7 +325,7 @@ fn ask_twice<T: Store>(
     store: &mut T,
     name: &str,
     realm: &str,
-) -> Result<Vec<u8>, Stop<'static>>
+) -> Result<Vec<u8>, CommandError<'static>>
     ensures typed { IfOk result (λ pass. IsTyped (T.input store.old) pass.items) }
     ensures unchanged { T.world store.new ≡ T.world store.old }
 {
@@ -323,7 +335,7 @@ fn ask_twice<T: Store>(
     }
     let again = ask_once(alloc, store, name, realm)?;
     if again != pass {
-        return Err(Stop::refused(Part::Name, Reason::Mismatch));
+        return Err(CommandError::refused(Part::Name, CommandRefusal::Mismatch));
     }
     Ok(pass)
 }
@@ -334,7 +346,7 @@ fn ask_once<T: Store>(
     store: &mut T,
     name: &str,
     realm: &str,
-) -> Result<Vec<u8>, Stop<'static>>
+) -> Result<Vec<u8>, CommandError<'static>>
     ensures line { IfOk result (λ pass. TakesLine (T.input store.old) pass.items (T.input store.new)) }
     ensures unchanged { T.world store.new ≡ T.world store.old }
 {

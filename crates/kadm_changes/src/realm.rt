@@ -1,10 +1,11 @@
 //! Keeps a change from ending a whole realm: what every login needs of `krbtgt/REALM`.
 ghost use Rattle.std.specs.Prelude.{◌≡◌, ◌&&◌, ◌<◌, ◌↔◌, not, IfNone, IfOk, IfSome, IsFalse, IsTrue, OnOk, false, true};
 ghost use Rattle.krb_fields.specs.Granting.{tgs_principal};
-ghost use Rattle.kadm_changes.specs.Realm.{IsAhead, IsAsOpen, IsGone, KeepsRealm, MayHaveKeys, MayHavePassword, tgs_policy};
+ghost use Rattle.kadm_changes.specs.Realm.{IsAhead, IsAsOpen, IsGone, IsOther, KeepsRealm, MayHaveKeys};
+ghost use Rattle.kadm_changes.specs.Realm.{MayHavePassword, tgs_policy};
 
-use crate::reason::{Part, RealmEnd, Reason};
-use crate::stop::Stop;
+use crate::reason::{CommandRefusal, Part, RealmEnd};
+use crate::stop::CommandError;
 use crate::updates::RowUpdate;
 use file_store::{Store, read_clock};
 use krb_fields::{Name, Second, component_to_text, tgs_name};
@@ -38,7 +39,7 @@ pub(crate) fn check_realm<'p, T: Store>(
     whole: bool,
     before: Policy,
     names: &[&'p str],
-) -> Result<(), Stop<'p>>
+) -> Result<(), CommandError<'p>>
     ensures kept { OnOk result (KeepsRealm whole (T.world store.old) before (tgs_policy database.now)) }
     ensures unchanged { T.world store.new ≡ T.world store.old }
 {
@@ -58,7 +59,7 @@ pub(crate) fn realm_end<T: Store>(
     store: &mut T,
     old: Policy,
     new: Policy,
-) -> Result<Option<RealmEnd>, Stop<'static>>
+) -> Result<Option<RealmEnd>, CommandError<'static>>
     ensures open { IfOk result (λ end. IfNone end (IfSome (T.world store.old) (λ held. IsAsOpen held.now old new))) }
     ensures unchanged { T.world store.new ≡ T.world store.old }
 {
@@ -104,7 +105,7 @@ fn has_gone<T: Store>(
     store: &mut T,
     old: Option<Second>,
     new: Option<Second>,
-) -> Result<bool, Stop<'static>>
+) -> Result<bool, CommandError<'static>>
     ensures lasting { IfOk result (λ gone. IsFalse gone → IfSome (T.world store.old) (λ held.
         IsGone held.now new → IsGone held.now old)) }
     ensures unchanged { T.world store.new ≡ T.world store.old }
@@ -142,12 +143,13 @@ pub(crate) fn check_password(
     whole: bool,
     who: &Name,
     how: &RowUpdate<'_>,
-) -> Result<(), Stop<'static>>
+) -> Result<(), CommandError<'static>>
     ensures { OnOk result (MayHaveKeys whole database.now.realm who.now.components how.now) }
 {
     match how {
         RowUpdate::Password(_) => check_guess(alloc, database, whole, who),
         RowUpdate::Random(_) => Ok(()),
+        RowUpdate::Staged { keytab: _ } => Ok(()),
         RowUpdate::Import { keytab: _ } => Ok(()),
     }
 }
@@ -157,14 +159,27 @@ fn check_guess(
     database: &Database,
     whole: bool,
     who: &Name,
-) -> Result<(), Stop<'static>>
+) -> Result<(), CommandError<'static>>
     ensures { OnOk result (MayHavePassword whole database.now.realm who.now.components) }
 {
     if whole {
         return Ok(());
     }
+    refuse_tgs(alloc, database, who, RealmEnd::Guessable)
+}
+
+/// Refuses the principal `krbtgt/REALM`, for this reason.
+#[tactic(auto, unfolding(crate::specs::Realm::IsOther))]
+pub(crate) fn refuse_tgs(
+    alloc: Global,
+    database: &Database,
+    who: &Name,
+    end: RealmEnd,
+) -> Result<(), CommandError<'static>>
+    ensures { OnOk result (IsOther database.now.realm who.now.components) }
+{
     if is_tgs(alloc, database, who)? {
-        return Err(Stop::refused(Part::Name, Reason::EndsRealm(RealmEnd::Guessable)));
+        return Err(CommandError::refused(Part::Name, CommandRefusal::EndsRealm(end)));
     }
     Ok(())
 }
@@ -178,8 +193,13 @@ pub(crate) fn is_tgs(alloc: Global, database: &Database, who: &Name) -> Result<b
 }
 
 /// Returns the refusal of the end of a realm. It names `krbtgt/REALM` as the command does.
-fn protected<'p>(alloc: Global, database: &Database, names: &[&'p str], end: RealmEnd) -> Stop<'p> {
-    let stop = Stop::refused(Part::Name, Reason::EndsRealm(end));
+fn protected<'p>(
+    alloc: Global,
+    database: &Database,
+    names: &[&'p str],
+    end: RealmEnd,
+) -> CommandError<'p> {
+    let stop = CommandError::refused(Part::Name, CommandRefusal::EndsRealm(end));
     match tgs_text(alloc, database, names) {
         Some(name) => stop.about(Part::Name, name),
         None => stop,

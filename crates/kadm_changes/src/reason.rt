@@ -1,8 +1,8 @@
 //! Why a command is refused, and for which value.
 use crate::asking::SettingForm;
-use cred_files::CredFault;
+use cred_files::CredError;
 use principals::ChangeFault;
-use principals_text::ReadFault;
+use principals_text::ReadError;
 
 /// What of a command is refused.
 #[derive(Clone, Copy, PartialEq, Eq)]
@@ -35,7 +35,7 @@ pub struct Refusal<'p> {
     /// Its text; `None` if it is the first that the command has for this part.
     pub value: Option<&'p str>,
     /// Why it is refused.
-    pub reason: Reason,
+    pub reason: CommandRefusal,
 }
 
 /// How a change of `krbtgt/REALM` ends a realm.
@@ -51,11 +51,13 @@ pub enum RealmEnd {
     Short,
     /// Its keys come from a password, on which anyone with a ticket-granting ticket can try passwords.
     Guessable,
+    /// Its next keys are in a keytab. A thief of that could make tickets of any client for any service.
+    Staged,
 }
 
 /// Why a command is refused.
 #[derive(Clone, Copy)]
-pub enum Reason {
+pub enum CommandRefusal {
     /// The text is not the name of a principal.
     BadName,
     /// The text is not the name of a realm.
@@ -65,11 +67,11 @@ pub enum Reason {
     /// The file of a new realm already exists.
     FileExists,
     /// A file is not a database that can be read.
-    Database(ReadFault),
+    Database(ReadError),
     /// The database refuses a change.
     Change(ChangeFault),
     /// A file is not a keytab that can be read, or an entry is too long for one.
-    Keytab(CredFault),
+    Keytab(CredError),
     /// The second answer for a password differs from the first.
     Mismatch,
     /// A password is empty, or ends in a carriage return.
@@ -82,7 +84,7 @@ pub enum Reason {
     BadTime,
     /// A time at which something expires is past.
     Past,
-    /// Nobody in the realm could log in, or anyone could guess the password of the ticket-granting service.
+    /// Nobody in the realm could log in, or others could learn the keys of the ticket-granting service.
     EndsRealm(RealmEnd),
     /// Nobody could log in to the realm of a dump, or of a database to restore.
     EndedRealm,
@@ -98,6 +100,8 @@ pub enum Reason {
     NotOurs,
     /// A keytab has no key of the principal, or one with version 0.
     NoKeys,
+    /// A keytab does not have the current and the next version of the principal's keys, and nothing else.
+    NotNext,
     /// A file is not a dump of MIT's database.
     BadDump,
     /// A file is not MIT's stash file with the master key of a dump.

@@ -7,28 +7,29 @@ ghost use Rattle.kadm_changes.specs.Worlds.{HoldsDatabase};
 use crate::context::Context;
 use crate::databases::{lock_database, read_database, write_database};
 use crate::realm::{realm_end, report_realm, tgs_policy};
-use crate::reason::{Part, Reason};
-use crate::stop::Stop;
+use crate::reason::{CommandRefusal, Part};
+use crate::stop::CommandError;
 use crate::target::Target;
 use file_store::{Store, Written, has_file, read_at_most};
 use principal_rows::Policy;
 use principals::Database;
-use principals_text::{LONGEST_TEXT, ReadFault, read_bytes};
+use principals_text::{LONGEST_TEXT, ReadError, read_bytes};
 use std::alloc::{AllocError, Global};
 use std::io::Write;
 
-/// Puts the database of the file `from` in place, in the current version of the text. It has to be of the realm of the
-/// database that it replaces, if that can be read, and no more closed.
+/// Puts the database of the file `from` in place, in the current version of the text. If the database that it replaces
+/// can be read, it must be of the same realm and must not keep out everybody whom that one lets in.
 pub fn restore<'p, T: Store, W: Write, E: Write>(
     context: &mut Context<W, E>,
     store: &mut T,
     target: &Target<'p>,
     from: &'p str,
-) -> Result<Written, Stop<'p>>
+) -> Result<Written, CommandError<'p>>
     // Promise: `restore`: the path then has the database that the other file has, which is of the realm of the one
     // that was there, if there was one.
     // Promise, as kadm_run of kadm: without `--whole-realm` no command ..
-    ensures done { OnOk result (Restored (T.world store.old) target.now.whole_realm target.now.db.now from.now (T.world store.new)) }
+    ensures done { OnOk result (Restored (T.world store.old) target.now.whole_realm target.now.db.now from.now
+        (T.world store.new)) }
     // Promise, as make_update: a command that ends ..
     ensures unchanged { OnErr result (T.world store.new ≡ T.world store.old) }
 {
@@ -50,7 +51,7 @@ fn read_from<'p, T: Store, W: Write, E: Write>(
     context: &mut Context<W, E>,
     store: &mut T,
     from: &'p str,
-) -> Result<Database, Stop<'p>>
+) -> Result<Database, CommandError<'p>>
     ensures read { IfOk result (λ database. HoldsDatabase (T.world store.old) from.now database) }
     ensures unchanged { T.world store.new ≡ T.world store.old }
 {
@@ -66,7 +67,7 @@ fn read_replaced<'p, T: Store>(
     alloc: Global,
     store: &mut T,
     db: &'p str,
-) -> Result<Option<Database>, Stop<'p>>
+) -> Result<Option<Database>, CommandError<'p>>
     ensures there { IfOk result (λ old. HasOrNot (T.world store.old) db.now old) }
     ensures unchanged { T.world store.new ≡ T.world store.old }
 {
@@ -85,15 +86,15 @@ fn read_replaced<'p, T: Store>(
 }
 
 /// Fails if a text was not read because memory ran out.
-fn check_memory(cause: ReadFault) -> Result<(), Stop<'static>>
-    ensures { OnOk result (cause ≢ ReadFault.Memory) }
+fn check_memory(cause: ReadError) -> Result<(), CommandError<'static>>
+    ensures { OnOk result (cause ≢ ReadError.Memory) }
 {
     match cause {
-        ReadFault::Memory => Err(Stop::from(AllocError)),
-        ReadFault::NotJson => Ok(()),
-        ReadFault::BadVersion => Ok(()),
-        ReadFault::BadRow => Ok(()),
-        ReadFault::NoTicketGranter => Ok(()),
+        ReadError::Memory => Err(CommandError::from(AllocError)),
+        ReadError::NotJson => Ok(()),
+        ReadError::BadVersion => Ok(()),
+        ReadError::BadRow => Ok(()),
+        ReadError::NoTicketGranter => Ok(()),
     }
 }
 
@@ -102,7 +103,7 @@ fn check_same_realm<'p>(
     old: &Option<Database>,
     new: &Database,
     from: &'p str,
-) -> Result<(), Stop<'p>>
+) -> Result<(), CommandError<'p>>
     ensures { OnOk result (IsOfRealm old.now new.now) }
 {
     match old {
@@ -111,13 +112,13 @@ fn check_same_realm<'p>(
     }
 }
 
-fn check_realm_of<'p>(old: &Database, new: &Database, from: &'p str) -> Result<(), Stop<'p>>
+fn check_realm_of<'p>(old: &Database, new: &Database, from: &'p str) -> Result<(), CommandError<'p>>
     ensures { OnOk result (bytes_eq new.now.realm old.now.realm ≡ true) }
 {
     if has_realm(new, old.realm()) {
         return Ok(());
     }
-    Err(Stop::refused_value(Part::Database, from, Reason::OtherRealm))
+    Err(CommandError::refused_value(Part::Database, from, CommandRefusal::OtherRealm))
 }
 
 /// Checks whether a database is of this realm.
@@ -127,14 +128,14 @@ fn has_realm(database: &Database, realm: &[u8]) -> bool
     database.realm() == realm
 }
 
-/// Refuses a database in which nobody could log in, if that is not so in the one that it replaces. `whole` allows that.
+/// Refuses a database in which nobody can log in, unless nobody could in the one that it replaces. `whole` allows it.
 fn check_open<'p, T: Store>(
     store: &mut T,
     old: &Option<Database>,
     new: &Database,
     from: &'p str,
     whole: bool,
-) -> Result<(), Stop<'p>>
+) -> Result<(), CommandError<'p>>
     ensures kept { OnOk result (KeepsRealm whole (T.world store.old) (replaced_policy old.now) (tgs_policy new.now)) }
     ensures unchanged { T.world store.new ≡ T.world store.old }
 {
@@ -143,7 +144,11 @@ fn check_open<'p, T: Store>(
     }
     let end = realm_end(store, policy_of(old), tgs_policy(new))?;
     match end {
-        Some(_) => Err(Stop::refused_value(Part::Database, from, Reason::EndedRealm)),
+        Some(_) => Err(CommandError::refused_value(
+            Part::Database,
+            from,
+            CommandRefusal::EndedRealm,
+        )),
         None => Ok(()),
     }
 }

@@ -1,13 +1,13 @@
 //! Why a command ends early.
 ghost use Rattle.kadm_changes.specs.Stops.{IsFailed};
 
-use crate::reason::{Part, Reason, Refusal};
-use cred_files::CredFault;
-use file_store::FileFault;
+use crate::reason::{CommandRefusal, Part, Refusal};
+use cred_files::CredError;
+use file_store::PathError;
 use krb_fields::NameFault;
-use principal_rows::KeyListFault;
+use principal_rows::KeyListError;
 use principals::ChangeFault;
-use principals_text::ReadFault;
+use principals_text::ReadError;
 use std::alloc::{AllocError, AllocFailed};
 use std::io;
 
@@ -19,7 +19,7 @@ const STANDARD_OUTPUT: &str = "standard output";
 
 /// Why a command ends early.
 #[derive(Clone, Copy)]
-pub enum Stop<'p> {
+pub enum CommandError<'p> {
     /// The command line is wrong, and the error has been printed.
     Usage,
     /// A line of a batch is refused, and the reason has been printed.
@@ -31,135 +31,156 @@ pub enum Stop<'p> {
     /// The command is refused.
     Refused(Refusal<'p>),
     /// A file, a standard stream or an allocation is refused or failed.
-    File(FileFault<'p>),
+    File(PathError<'p>),
 }
 
-impl Stop<'_> {
+impl CommandError<'_> {
     /// Returns the refusal of what the command has for a part.
-    pub(crate) fn refused(part: Part, reason: Reason) -> Stop<'static> {
-        Stop::Refused(Refusal {
+    pub(crate) fn refused(part: Part, reason: CommandRefusal) -> CommandError<'static> {
+        CommandError::Refused(Refusal {
             part,
             value: None,
             reason,
         })
     }
 
-    fn failed(path: &'static str, error: io::Error) -> Stop<'static>
+    fn failed(path: &'static str, error: io::Error) -> CommandError<'static>
         ensures { IsFailed result }
     {
-        Stop::File(FileFault::failed(path, error))
+        CommandError::File(PathError::failed(path, error))
     }
 }
 
-impl<'p> Stop<'p> {
+impl<'p> CommandError<'p> {
     /// Returns the refusal of this text of a part.
-    pub(crate) fn refused_value(part: Part, value: &'p str, reason: Reason) -> Stop<'p> {
-        Stop::Refused(Refusal {
+    pub(crate) fn refused_value(
+        part: Part,
+        value: &'p str,
+        reason: CommandRefusal,
+    ) -> CommandError<'p> {
+        CommandError::Refused(Refusal {
             part,
             value: Some(value),
             reason,
         })
     }
 
-    /// Returns the same; a refusal without a text now has this text of this part.
-    pub(crate) fn about(self, part: Part, value: &'p str) -> Stop<'p> {
+    /// Returns the same about another path.
+    pub(crate) fn at<'a>(self, path: &'a str) -> CommandError<'a> {
         match self {
-            Stop::Refused(refusal) if refusal.value.is_none() => {
-                Stop::refused_value(part, value, refusal.reason)
+            CommandError::Refused(refusal) => {
+                CommandError::refused_value(refusal.part, path, refusal.reason)
+            }
+            CommandError::File(fault) => CommandError::File(PathError {
+                path,
+                cause: fault.cause,
+            }),
+            CommandError::Usage => CommandError::Usage,
+            CommandError::LineRefused => CommandError::LineRefused,
+            CommandError::LineFailed => CommandError::LineFailed,
+            CommandError::NotInBatch => CommandError::NotInBatch,
+        }
+    }
+
+    /// Returns the same; a refusal without a text now has this text of this part.
+    pub(crate) fn about(self, part: Part, value: &'p str) -> CommandError<'p> {
+        match self {
+            CommandError::Refused(refusal) if refusal.value.is_none() => {
+                CommandError::refused_value(part, value, refusal.reason)
             }
             stop => stop,
         }
     }
 }
 
-impl From<AllocError> for Stop<'_> {
+impl From<AllocError> for CommandError<'_> {
     fn from(error: AllocError) -> Self {
-        Stop::failed(MEMORY, io::Error::from(error))
+        CommandError::failed(MEMORY, io::Error::from(error))
     }
 }
 
-impl<T: Drop> From<AllocFailed<T>> for Stop<'_> {
+impl<T: Drop> From<AllocFailed<T>> for CommandError<'_> {
     fn from(_: AllocFailed<T>) -> Self {
-        Stop::from(AllocError)
+        CommandError::from(AllocError)
     }
 }
 
 /// Converts an error on standard output.
-impl From<io::Error> for Stop<'_> {
+impl From<io::Error> for CommandError<'_> {
     ghost use Rattle.kadm_changes.specs.Stops.{IsFailed};
 
     ghost from_gives = { λ _ stop. IsFailed stop };
 
     fn from(error: io::Error) -> Self {
-        Stop::failed(STANDARD_OUTPUT, error)
+        CommandError::failed(STANDARD_OUTPUT, error)
     }
 }
 
 /// Converts a fault in a principal's name.
-impl From<NameFault> for Stop<'_> {
+impl From<NameFault> for CommandError<'_> {
     fn from(fault: NameFault) -> Self {
         match fault {
-            NameFault::BadName => Stop::refused(Part::Name, Reason::BadName),
-            NameFault::Memory => Stop::from(AllocError),
+            NameFault::BadName => CommandError::refused(Part::Name, CommandRefusal::BadName),
+            NameFault::Memory => CommandError::from(AllocError),
         }
     }
 }
 
-impl From<ReadFault> for Stop<'_> {
-    fn from(fault: ReadFault) -> Self {
+impl From<ReadError> for CommandError<'_> {
+    fn from(fault: ReadError) -> Self {
         match fault {
-            ReadFault::Memory => Stop::from(AllocError),
-            fault => Stop::refused(Part::Database, Reason::Database(fault)),
+            ReadError::Memory => CommandError::from(AllocError),
+            fault => CommandError::refused(Part::Database, CommandRefusal::Database(fault)),
         }
     }
 }
 
-impl From<ChangeFault> for Stop<'_> {
+impl From<ChangeFault> for CommandError<'_> {
     fn from(fault: ChangeFault) -> Self {
         match fault {
-            ChangeFault::Memory => Stop::from(AllocError),
-            ChangeFault::BadName => Stop::refused(Part::Name, Reason::BadName),
-            fault => Stop::refused(Part::Name, Reason::Change(fault)),
+            ChangeFault::Memory => CommandError::from(AllocError),
+            ChangeFault::BadName => CommandError::refused(Part::Name, CommandRefusal::BadName),
+            fault => CommandError::refused(Part::Name, CommandRefusal::Change(fault)),
         }
     }
 }
 
 /// Converts what is wrong with the keytab that a command writes. An import names its own.
-impl From<CredFault> for Stop<'_> {
-    fn from(fault: CredFault) -> Self {
+impl From<CredError> for CommandError<'_> {
+    fn from(fault: CredError) -> Self {
         match fault {
-            CredFault::BadMagic | CredFault::Truncated | CredFault::BadEntry => {
-                Stop::refused(Part::NewKeytab, Reason::Keytab(fault))
+            CredError::BadMagic | CredError::Truncated | CredError::BadEntry => {
+                CommandError::refused(Part::NewKeytab, CommandRefusal::Keytab(fault))
             }
             // the others concern caches
-            _ => Stop::from(AllocError),
+            _ => CommandError::from(AllocError),
         }
     }
 }
 
 /// Converts a fault in a principal's keys from a keytab.
-impl From<KeyListFault> for Stop<'_> {
-    fn from(fault: KeyListFault) -> Self {
+impl From<KeyListError> for CommandError<'_> {
+    fn from(fault: KeyListError) -> Self {
         match fault {
-            KeyListFault::Empty | KeyListFault::Doubled => Stop::refused(
+            KeyListError::Empty | KeyListError::Doubled => CommandError::refused(
                 Part::Keytab,
-                Reason::NoKeys,
+                CommandRefusal::NoKeys,
             ),
-            KeyListFault::Memory => Stop::from(AllocError),
+            KeyListError::Memory => CommandError::from(AllocError),
         }
     }
 }
 
-impl<'p> From<FileFault<'p>> for Stop<'p> {
-    fn from(fault: FileFault<'p>) -> Stop<'p> {
-        Stop::File(fault)
+impl<'p> From<PathError<'p>> for CommandError<'p> {
+    fn from(fault: PathError<'p>) -> CommandError<'p> {
+        CommandError::File(fault)
     }
 }
 
 /// Returns what is wrong with a realm.
-pub(crate) fn of_realm(fault: NameFault) -> Stop<'static> {
+pub(crate) fn of_realm(fault: NameFault) -> CommandError<'static> {
     match fault {
-        NameFault::BadName => Stop::refused(Part::Realm, Reason::BadRealm),
-        NameFault::Memory => Stop::from(AllocError),
+        NameFault::BadName => CommandError::refused(Part::Realm, CommandRefusal::BadRealm),
+        NameFault::Memory => CommandError::from(AllocError),
     }
 }

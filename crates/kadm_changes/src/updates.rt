@@ -4,7 +4,8 @@ ghost use Rattle.file_store.specs.Input.{no_input};
 ghost use Rattle.kadm_changes.specs.Asking.{all_asked};
 ghost use Rattle.kadm_changes.specs.Found.{IsFoundIn};
 ghost use Rattle.kadm_changes.specs.Realm.{KeepsRealm, MayHaveKeys, tgs_policy};
-ghost use Rattle.kadm_changes.specs.Updates.{AreKept, IsMigrated, IsRowChanged, IsRowGiven, IsRowKept, IsRowUpdated, IsUpdated};
+ghost use Rattle.kadm_changes.specs.Updates.{AreKept, IsMigrated, IsRowChanged, IsRowGiven, IsRowKept, IsRowUpdated};
+ghost use Rattle.kadm_changes.specs.Updates.{IsUpdated};
 ghost use Rattle.kadm_changes.specs.Worlds.{Rewritten, Updated};
 
 use crate::changes::{ChangeArgs, change_all, check_names, migrate_rows, set_all};
@@ -18,7 +19,8 @@ use crate::note::{Note, OldExpiry};
 use crate::passwords::{FoundPassword, PasswordGrant, batch_password, new_password};
 use crate::realm::{check_password, check_realm, report_realm, tgs_policy};
 use crate::set_times::report_times;
-use crate::stop::Stop;
+use crate::staging::give_staged;
+use crate::stop::CommandError;
 use crate::target::Target;
 use file_store::{Store, Written, read_clock};
 use krb_fields::Name;
@@ -54,6 +56,8 @@ pub enum RowUpdate<'a> {
     Password(PasswordGrant<'a>),
     /// Gives the principal random keys.
     Random(RandomGrant<'a>),
+    /// Gives the principal the next version of its keys, which a keytab has beside the current one.
+    Staged { keytab: &'a str },
     /// Adds the principal with keys from a keytab.
     Import { keytab: &'a str },
 }
@@ -64,7 +68,7 @@ pub fn make_update<'p, T: Store, W: Write, E: Write>(
     store: &mut T,
     target: &Target<'p>,
     update: Update<'p>,
-) -> Result<Written, Stop<'p>>
+) -> Result<Written, CommandError<'p>>
     // Promise: who changes a database reads it once and writes it once: the path then has the text of what the change
     // made of the database that was read.
     // Promise, as kadm_run of kadm: without `--whole-realm` no command ..
@@ -90,9 +94,10 @@ fn update_row<'p, T: Store, W: Write, E: Write>(
     store: &mut T,
     target: &Target<'p>,
     to: &RowArgs<'p>,
-) -> Result<Written, Stop<'p>>
+) -> Result<Written, CommandError<'p>>
     ensures done { OnOk result (Rewritten (T.world store.old) target.now.db.now
-        (IsRowUpdated (T.world store.old) (T.input store.old) target.now.whole_realm target.now to.now) (T.world store.new)) }
+        (IsRowUpdated (T.world store.old) (T.input store.old) target.now.whole_realm target.now to.now)
+        (T.world store.new)) }
     // Promise, as make_update: a command that ends ..
     ensures unchanged { OnErr result (T.world store.new ≡ T.world store.old) }
 {
@@ -120,7 +125,7 @@ fn update_row<'p, T: Store, W: Write, E: Write>(
     report_note(
         &mut context.errors,
         to.name,
-        note_of(to, &who, &draft.database, expired),
+        row_note(to, &who, &draft.database, expired),
     );
     Ok(written)
 }
@@ -139,7 +144,7 @@ fn update_rows<'p, T: Store, W: Write, E: Write>(
     store: &mut T,
     target: &Target<'p>,
     how: ChangeArgs,
-) -> Result<Written, Stop<'p>>
+) -> Result<Written, CommandError<'p>>
     ensures done { OnOk result (Rewritten (T.world store.old) target.now.db.now
         (AreKept (T.world store.old) target.now.whole_realm target.now how) (T.world store.new)) }
     // Promise, as make_update: a command that ends ..
@@ -165,7 +170,7 @@ fn migrate<'p, T: Store, W: Write, E: Write>(
     store: &mut T,
     target: &Target<'p>,
     users_are_no_services: bool,
-) -> Result<Written, Stop<'p>>
+) -> Result<Written, CommandError<'p>>
     ensures done { OnOk result (Rewritten (T.world store.old) target.now.db.now
         (IsMigrated (T.world store.old) target.now.whole_realm users_are_no_services) (T.world store.new)) }
     // Promise, as make_update: a command that ends ..
@@ -180,8 +185,8 @@ fn migrate<'p, T: Store, W: Write, E: Write>(
     Ok(written)
 }
 
-/// Makes the change of a line of a batch in a database that was read; `whole` lets it end the whole realm. Returns what
-/// an administrator may not expect of it. A password is what `find_password` found; without that its file is read now.
+/// Makes the change for a line of a batch. `whole` allows one after which nobody can log in. Takes the password that
+/// `find_password` found, or else reads its file. Returns a note on what the administrator may not expect.
 pub fn update_in_batch<'p, T: Store>(
     store: &mut T,
     draft: &mut Draft,
@@ -189,12 +194,13 @@ pub fn update_in_batch<'p, T: Store>(
     whole: bool,
     update: Update<'p>,
     found: Option<&FoundPassword>,
-) -> Result<Option<Note>, Stop<'p>>
+) -> Result<Option<Note>, CommandError<'p>>
     requires found { IsFoundIn (T.world store.old) found }
     // Promise, as kadm_run of kadm: without `--whole-realm` no command ..
     // Promise, as kadm_run of kadm: without it, `krbtgt/R` is ..
     // Promise, as make_update: without `--whole-realm` `krbtgt/R` gets ..
-    ensures done { OnOk result (IsUpdated (T.world store.old) no_input whole target.now update.entry draft.old.database draft.new.database) }
+    ensures done { OnOk result (IsUpdated (T.world store.old) no_input whole target.now update.entry
+        draft.old.database draft.new.database) }
     // Promise, as lock_database: what a command reads, ..
     ensures unchanged { T.world store.new ≡ T.world store.old }
 {
@@ -213,7 +219,7 @@ pub fn update_in_batch<'p, T: Store>(
     }
 }
 
-/// Changes the row of a principal, as a line of a batch orders.
+/// Changes the row of a principal, for a line of a batch.
 fn row_in_batch<'p, T: Store>(
     store: &mut T,
     draft: &mut Draft,
@@ -221,9 +227,10 @@ fn row_in_batch<'p, T: Store>(
     whole: bool,
     to: &RowArgs<'p>,
     found: Option<&FoundPassword>,
-) -> Result<Option<Note>, Stop<'p>>
+) -> Result<Option<Note>, CommandError<'p>>
     requires found { IsFoundIn (T.world store.old) found }
-    ensures done { OnOk result (IsRowUpdated (T.world store.old) no_input whole target.now to.now draft.old.database draft.new.database) }
+    ensures done { OnOk result (IsRowUpdated
+        (T.world store.old) no_input whole target.now to.now draft.old.database draft.new.database) }
     ensures unchanged { T.world store.new ≡ T.world store.old }
 {
     let who = Name::from_text(draft.alloc, to.name)?;
@@ -235,7 +242,7 @@ fn row_in_batch<'p, T: Store>(
         pass: &pass,
     };
     keep_row(store, draft, &recipient, &to.how, target, whole)?;
-    Ok(note_of(to, &who, &draft.database, expired))
+    Ok(row_note(to, &who, &draft.database, expired))
 }
 
 /// Changes the row of a principal, and refuses what would end the whole realm, unless `whole` allows it. After an `Err`
@@ -247,9 +254,10 @@ fn keep_row<'p, T: Store>(
     how: &RowUpdate<'p>,
     target: &Target<'p>,
     whole: bool,
-) -> Result<(), Stop<'p>>
+) -> Result<(), CommandError<'p>>
     ensures changed { OnOk result (IsRowKept (T.world store.old) whole recipient.now.etypes.now
-        (all_asked target.now.settings.items) recipient.now.pass.now how.now recipient.now.who.now.components draft.old.database draft.new.database) }
+        (all_asked target.now.settings.items) recipient.now.pass.now how.now recipient.now.who.now.components
+        draft.old.database draft.new.database) }
     ensures unchanged { T.world store.new ≡ T.world store.old }
 {
     let before = tgs_policy(&draft.database);
@@ -272,7 +280,7 @@ fn keep_all<'p, T: Store>(
     target: &Target<'p>,
     how: ChangeArgs,
     whole: bool,
-) -> Result<(), Stop<'p>>
+) -> Result<(), CommandError<'p>>
     ensures changed { OnOk result (AreKept (T.world store.old) whole target.now how
         draft.old.database draft.new.database) }
     ensures unchanged { T.world store.new ≡ T.world store.old }
@@ -295,8 +303,9 @@ fn keep_migrated<T: Store>(
     draft: &mut Draft,
     users_are_no_services: bool,
     whole: bool,
-) -> Result<(), Stop<'static>>
-    ensures migrated { OnOk result (IsMigrated (T.world store.old) whole users_are_no_services draft.old.database draft.new.database) }
+) -> Result<(), CommandError<'static>>
+    ensures migrated { OnOk result (IsMigrated
+        (T.world store.old) whole users_are_no_services draft.old.database draft.new.database) }
     ensures unchanged { T.world store.new ≡ T.world store.old }
 {
     let before = tgs_policy(&draft.database);
@@ -312,9 +321,10 @@ fn change_row<'p, T: Store>(
     recipient: &Recipient<'_>,
     how: &RowUpdate<'p>,
     target: &Target<'p>,
-) -> Result<(), Stop<'p>>
+) -> Result<(), CommandError<'p>>
     ensures changed { OnOk result (IsRowChanged (T.world store.old) recipient.now.etypes.now
-        (all_asked target.now.settings.items) recipient.now.pass.now how.now recipient.now.who.now.components draft.old.database draft.new.database) }
+        (all_asked target.now.settings.items) recipient.now.pass.now how.now recipient.now.who.now.components
+        draft.old.database draft.new.database) }
     ensures unchanged { T.world store.new ≡ T.world store.old }
 {
     give_row(store, draft, recipient, how)?;
@@ -327,14 +337,16 @@ fn give_row<'p, T: Store>(
     draft: &mut Draft,
     recipient: &Recipient<'_>,
     how: &RowUpdate<'p>,
-) -> Result<(), Stop<'p>>
+) -> Result<(), CommandError<'p>>
     ensures given { OnOk result (IsRowGiven (T.world store.old) recipient.now.etypes.now recipient.now.pass.now how.now
-        recipient.now.who.now.components draft.old.database draft.new.database) }
+        recipient.now.who.now.components
+        draft.old.database draft.new.database) }
     ensures unchanged { T.world store.new ≡ T.world store.old }
 {
     match how {
         RowUpdate::Password(to) => give_password(store, draft, recipient, to.grant),
         RowUpdate::Random(to) => give_random(store, draft, recipient, *to),
+        RowUpdate::Staged { keytab } => give_staged(store, draft, recipient.who, *keytab),
         RowUpdate::Import { keytab } => import(store, draft, recipient, *keytab),
     }
 }
@@ -354,7 +366,7 @@ fn old_expiry<T: Store>(store: &mut T, database: &Database, who: &Name) -> Optio
 }
 
 /// Returns what an administrator may not expect of a change of a row. `expired` is when the old password expires.
-fn note_of(
+fn row_note(
     to: &RowArgs<'_>,
     who: &Name,
     database: &Database,
@@ -363,7 +375,8 @@ fn note_of(
     match &to.how {
         RowUpdate::Password(_) => password_note(who, database, expired),
         RowUpdate::Random(random) => random_note(random.grant, who, database),
-        _ => None,
+        RowUpdate::Staged { keytab: _ } => random_note(Grant::Next, who, database),
+        RowUpdate::Import { keytab: _ } => None,
     }
 }
 
@@ -380,7 +393,7 @@ fn password_note(who: &Name, database: &Database, expired: Option<OldExpiry>) ->
     Some(Note::Password { cleared, guessable })
 }
 
-/// Returns the key version of a principal that got random keys. A new principal that was to be new has none to tell.
+/// Returns the note on a principal that got random keys. `add` needs none.
 fn random_note(grant: Grant, who: &Name, database: &Database) -> Option<Note> {
     let version = database.get(who)?.versions.current().number;
     match grant {

@@ -1,6 +1,6 @@
 -- The effect of a command, from the effects of its calls.
-use Rattle.std.proofs.Common.{◌≡◌, ◌∙◌, ℕ, ℤ, List, [], ◌∷◌, ◌++◌, Option, Result, Ok, Err, OnOk, option_map}
-use Rattle.std.proofs.Common.{ap, refl, subst, sym, inl, inr}
+use Rattle.std.proofs.Common.{◌≡◌, ◌∙◌, ℕ, ℤ, List, [], ◌∷◌, ◌++◌, Option, Some, Result, Ok, Err, OnOk, option_map}
+use Rattle.std.proofs.Common.{ap, false, refl, subst, sym, true, inl, inr}
 use Rattle.std.specs.Prelude.{◌⊎◌, IfErr, IfOk, OnErr}
 use Rattle.std.specs.String.{string_bytes}
 use Rattle.std.specs.declared.net.socket_addr.SocketAddr.{SocketAddr}
@@ -10,9 +10,10 @@ use Rattle.cred_files.specs.declared.credential.Credential.{Credential}
 use Rattle.file_store.specs.World.{World, with_file, without_file}
 use Rattle.client_core.specs.declared.asked.Asked.{Asked}
 use Rattle.client_files.specs.Caches.{HasCache, new_cache}
+use Rattle.client_files.specs.Holding.{granting_credential}
 use Rattle.client_login.specs.Logins.{IsFirst, IsFurther}
 use Rattle.client_login.specs.Replies.{IsExchanged}
-use Rattle.client_login.specs.declared.faults.LoginFault.{LoginFault}
+use Rattle.client_login.specs.declared.faults.TicketError.{TicketError}
 use Rattle.client_login.specs.declared.kdc_places.KdcPlace.{KdcPlace}
 use Rattle.client_login.specs.declared.secrets.Secret.{Secret}
 use Rattle.kclient.specs.CacheSessions.{Collected}
@@ -20,9 +21,12 @@ use Rattle.client_login.specs.declared.ticket_requests.Renewal.{Renewal}
 use Rattle.command_line.specs.declared.status.Status.{Status}
 use Rattle.command_line.specs.declared.status.Status.TheVariants.{Done, Refused, Usage, Failed}
 use Rattle.client_files.specs.declared.host.Host.{Host}
-use Rattle.kclient.specs.Ends.{IsCommandEnd, IsKindDone, IsKindTried, IsTried}
-use Rattle.kclient.specs.Words.{IsCacheOf}
-use Rattle.kclient.specs.Worlds.{Added, CameFirst, CameFurther, Filled, Made, Removed, Served, with_tickets}
+use Rattle.kclient.specs.Ends.{Came, CameBy, IsCommandEnd, IsKindDone, IsKindTried, IsTried}
+use Rattle.kclient.specs.Principals.{IsFirstOf}
+use Rattle.command_line.specs.Values.{texts}
+use Rattle.kclient.specs.Words.{IsCacheOf, text_of}
+use Rattle.kclient.specs.Worlds.{Added, CameFirst, CameFurther, Filled, IsGranted, IsRenewed, Made, Removed, Served}
+use Rattle.kclient.specs.Worlds.{with_tickets}
 use Rattle.kclient.specs.declared.commands.Command.{Command}
 use Rattle.kclient.specs.declared.commands.CommandKind.{CommandKind}
 use Rattle.kclient.specs.declared.commands.CommandKind.TheVariants.{Kinit, Renew, Kvno, Klist, Kdestroy}
@@ -33,26 +37,32 @@ use Rattle.kclient.specs.declared.run.Printed.{Printed}
 
 module _ (finds : List ℕ → ℕ → SocketAddr → Type 0) (places : List KdcPlace) (carries : List ℕ → Type 0)
     (answers : SocketAddr → List ℕ → List ℕ → Type 0) where
-  pub came_first : (secret : Secret) (asked : Asked) (now : ℤ) (result : Result Credential LoginFault)
+  pub came_first : (secret : Secret) (asked : Asked) (now : ℤ) (result : Result Credential TicketError)
       → IfOk result (λ ticket. IsFirst (IsExchanged finds places carries answers) secret asked now ticket)
       → IfOk result (λ ticket. CameFirst finds carries answers ticket)
   came_first secret asked now (Ok ticket) is =
       record { places = places; secret = secret; asked = asked; now = now; first = is }
   came_first secret asked now (Err fault) is = tt
 
-  pub came_further : (granting : Credential) (asked : Asked) (now : ℤ) (result : Result Credential LoginFault)
+  pub came_further : (granting : Credential) (asked : Asked) (now : ℤ) (result : Result Credential TicketError)
       → IfOk result (λ ticket. IsFurther (IsExchanged finds places carries answers) granting asked now ticket)
-      → IfOk result (λ ticket. CameFurther finds carries answers ticket)
-  came_further granting asked now (Ok ticket) is =
-      record { places = places; granting = granting; asked = asked; now = now; further = is }
+      → IfOk result (λ ticket. CameFurther finds carries answers granting ticket)
+  came_further granting asked now (Ok ticket) is = record { places = places; asked = asked; now = now; further = is }
   came_further granting asked now (Err fault) is = tt
+
+  pub came_granted : (granting : Credential) (asked : Asked) (now : ℤ) (result : Result Credential TicketError)
+      → IfOk result (λ ticket. IsFurther (IsExchanged finds places carries answers) granting asked now ticket)
+      → IfOk result (λ ticket. IsGranted (CameFurther finds carries answers) ticket)
+  came_granted granting asked now (Ok ticket) is =
+      record { granting = granting; came = record { places = places; asked = asked; now = now; further = is } }
+  came_granted granting asked now (Err fault) is = tt
 
 -- ---- a new cache, and one that is removed
 
-pub made : {A E : Type 0} (result : Result A E) (IsReceived : Credential → Type 0) (IsPath : List ℕ → Type 0)
+pub made : {A E : Type 0} (result : Result A E) (IsReceived : List ℕ → Credential → Type 0) (IsPath : List ℕ → Type 0)
     (before came after : Option World) (path : List ℕ) (ticket : Credential)
     → OnOk result (after ≡ option_map (with_file path (cache_text (new_cache ticket))) came)
-    → IsReceived ticket → IsPath path → came ≡ before → OnOk result (Made IsReceived IsPath before after)
+    → IsReceived path ticket → IsPath path → came ≡ before → OnOk result (Made IsReceived IsPath before after)
 made (Ok x) IsReceived IsPath before came after path ticket written is named kept = record {
   path = path;
   named = named;
@@ -62,18 +72,26 @@ made (Ok x) IsReceived IsPath before came after path ticket written is named kep
 }
 made (Err fault) IsReceived IsPath before came after path ticket written is named kept = tt
 
--- at a path that was known before
-pub made_there : {A E : Type 0} (result : Result A E) (IsReceived : Credential → Type 0) (IsPath : List ℕ → Type 0)
-    (before came after : Option World) (path : List ℕ) → OnOk result (Made IsReceived (λ p. p ≡ path) came after)
-    → IsPath path → came ≡ before → OnOk result (Made IsReceived IsPath before after)
-made_there (Ok x) IsReceived IsPath before came after path is named kept = record {
+-- of a ticket that was renewed, at the path of the cache that has the one before
+pub renewed_there : {A E : Type 0} (result : Result A E) (IsFurther : Credential → Credential → Type 0)
+    (IsPath : List ℕ → Type 0) (before came after : Option World) (path : List ℕ) (cache : CacheContents)
+    (granting : Credential) → OnOk result (Made (λ p. IsFurther granting) (λ p. p ≡ path) came after)
+    → HasCache before path cache → granting_credential cache ≡ Some granting → IsPath path → came ≡ before
+    → OnOk result (Made (IsRenewed IsFurther before) IsPath before after)
+renewed_there (Ok x) IsFurther IsPath before came after path cache granting is held found named kept = record {
   path = is.path;
   named = subst IsPath (sym is.named) named;
   ticket = is.ticket;
-  came = is.came;
+  came = record {
+    cache = cache;
+    held = subst (λ p. HasCache before p cache) (sym is.named) held;
+    granting = granting;
+    found = found;
+    came = is.came;
+  };
   written = is.written ∙ ap (option_map (with_file is.path (cache_text (new_cache is.ticket)))) kept;
 }
-made_there (Err fault) IsReceived IsPath before came after path is named kept = tt
+renewed_there (Err fault) IsFurther IsPath before came after path cache granting is held found named kept = tt
 
 pub removed : {A E : Type 0} (result : Result A E) (IsPath : List ℕ → Type 0) (before read after : Option World)
     (path : List ℕ) → OnOk result (after ≡ option_map (without_file path) read) → IsPath path → read ≡ before
@@ -84,6 +102,9 @@ removed (Err fault) IsPath before read after path is named kept = tt
 
 -- ---- a session
 
+true_false : true ≡ false → ⊥
+true_false same = absurd cc
+
 module _ (IsReceived : Credential → Type 0) where
   more : (tickets others : List Credential) (cache : CacheContents)
       → with_tickets (tickets ++ others) cache ≡ with_tickets others (with_tickets tickets cache)
@@ -92,7 +113,8 @@ module _ (IsReceived : Credential → Type 0) where
       more tickets others (record cache { credentials = put_first ticket cache.credentials })
 
   pub collected_none : (session : CacheSession) → Collected IsReceived session session
-  collected_none session = record { tickets = []; came = All-nil IsReceived; cache = refl; path = refl }
+  collected_none session =
+      record { tickets = []; came = All-nil IsReceived; cache = refl; path = refl; kept = λ same. (same, refl) }
 
   pub collected_more : (first between last : CacheSession) → Collected IsReceived first between → Collected IsReceived between last
       → Collected IsReceived first last
@@ -101,21 +123,30 @@ module _ (IsReceived : Credential → Type 0) where
     came = All-append IsReceived one.tickets other.tickets one.came other.came;
     cache = other.cache ∙ ap (with_tickets other.tickets) one.cache ∙ sym (more one.tickets other.tickets first.cache);
     path = other.path ∙ one.path;
+    kept = λ same. ((one.kept (other.kept same).0).0, (other.kept same).1 ∙ (one.kept (other.kept same).0).1);
   }
 
   -- after a ticket was asked for, it was put or not
   pub collected_one : {A E : Type 0} (result : Result A E) (first asked last : CacheSession) (ticket : Credential)
       → OnOk result (last.cache ≡ record asked.cache { credentials = put_first ticket asked.cache.credentials })
-      → OnErr result (last.cache ≡ asked.cache) → last.path ≡ asked.path → IsReceived ticket → asked.cache ≡ first.cache
-      → asked.path ≡ first.path → Collected IsReceived first last
-  collected_one (Ok x) first asked last ticket put kept stays is same at = record {
+      → OnErr result (last.cache ≡ asked.cache) → OnOk result (last.is_changed ≡ true)
+      → OnErr result (last.is_changed ≡ asked.is_changed) → last.path ≡ asked.path → IsReceived ticket
+      → asked.cache ≡ first.cache → asked.path ≡ first.path → asked.is_changed ≡ first.is_changed
+      → Collected IsReceived first last
+  collected_one (Ok x) first asked last ticket put kept changed unchanged stays is same at before = record {
     tickets = ticket ∷ [];
     came = All-cons IsReceived ticket [] is (All-nil IsReceived);
     cache = put ∙ ap (λ (cache : CacheContents). record cache { credentials = put_first ticket cache.credentials }) same;
     path = stays ∙ at;
+    kept = λ same. absurd (true_false (sym changed ∙ same));
   }
-  collected_one (Err fault) first asked last ticket put kept stays is same at =
-      record { tickets = []; came = All-nil IsReceived; cache = kept ∙ same; path = stays ∙ at }
+  collected_one (Err fault) first asked last ticket put kept changed unchanged stays is same at before = record {
+    tickets = [];
+    came = All-nil IsReceived;
+    cache = kept ∙ same;
+    path = stays ∙ at;
+    kept = λ no. (sym (unchanged ∙ before) ∙ no, kept ∙ same);
+  }
 
   -- its cache is written, or not
   pub added : (before asked after : Option World) (first last : CacheSession)
@@ -151,24 +182,6 @@ module _ (IsReceived : Credential → Type 0) where
     };
   })
 
-  pub served : {A E : Type 0} (result : Result A E) (IsPath : List ℕ → Type 0) (before read after : Option World)
-      (path : List ℕ) (cache : CacheContents) → (after ≡ read) ⊎ Added IsReceived path cache read after → IsPath path
-      → HasCache before path cache → read ≡ before → OnOk result (Served IsReceived IsPath before after)
-  served (Ok x) IsPath before read after path cache (inl same) named holds kept =
-      record { path = path; named = named; cache = cache; held = holds; left = inl (same ∙ kept) }
-  served (Ok x) IsPath before read after path cache (inr is) named holds kept = record {
-    path = path;
-    named = named;
-    cache = cache;
-    held = holds;
-    left = inr (record {
-      tickets = is.tickets;
-      came = is.came;
-      written = is.written ∙ ap (option_map (with_file path (cache_text (with_tickets is.tickets cache)))) kept;
-    });
-  }
-  served (Err fault) IsPath before read after path cache added named holds kept = tt
-
 pub written_or_kept : {A E : Type 0} (result : Result A E) (before written after : Option World)
     → OnOk result (after ≡ written) → OnErr result (after ≡ before) → (after ≡ before) ⊎ (after ≡ written)
 written_or_kept (Ok x) before written after is kept = inr is
@@ -176,47 +189,48 @@ written_or_kept (Err fault) before written after is kept = inl kept
 
 -- ---- a command
 
-module _ (First Further : Credential → Type 0) (command : Command) (host : Host) (before after : Option World) where
+module _ (First : Came) (Further : CameBy) (now : ℤ) (command : Command) (host : Host) (before after : Option World) where
   did : (kind : CommandKind) (status : Status) → command.kind ≡ kind → status ≡ Done
-      → IsKindDone First Further (IsCacheOf command host) kind before after
-      → IsCommandEnd First Further command host before status after
+      → IsKindDone First Further now command host kind before after
+      → IsCommandEnd First Further now command host before status after
   did kind status is done left =
-      subst (λ s. IsCommandEnd First Further command host before s after) (sym done)
-      (subst (λ k. IsKindDone First Further (IsCacheOf command host) k before after) (sym is) left)
+      subst (λ s. IsCommandEnd First Further now command host before s after) (sym done)
+      (subst (λ k. IsKindDone First Further now command host k before after) (sym is) left)
 
   pub did_make_first : {E : Type 0} (result : Result Printed E) → command.kind ≡ Kinit
-      → OnOk result (Made First (IsCacheOf command host) before after) → IfOk result (λ p. p.status ≡ Done)
-      → IfOk result (λ p. IsCommandEnd First Further command host before p.status after)
+      → OnOk result (Made (IsFirstOf First (texts command.names.items) (text_of command.realm) host before)
+      (IsCacheOf command host) before after) → IfOk result (λ p. p.status ≡ Done)
+      → IfOk result (λ p. IsCommandEnd First Further now command host before p.status after)
   did_make_first (Ok p) is made done = did Kinit p.status is done made
   did_make_first (Err fault) is made done = tt
 
   pub did_make_further : {E : Type 0} (result : Result Printed E) (again : Renewal) → command.kind ≡ Renew again
-      → OnOk result (Made Further (IsCacheOf command host) before after) → IfOk result (λ p. p.status ≡ Done)
-      → IfOk result (λ p. IsCommandEnd First Further command host before p.status after)
+      → OnOk result (Made (IsRenewed Further before) (IsCacheOf command host) before after) → IfOk result (λ p. p.status ≡ Done)
+      → IfOk result (λ p. IsCommandEnd First Further now command host before p.status after)
   did_make_further (Ok p) again is made done = did (Renew again) p.status is done made
   did_make_further (Err fault) again is made done = tt
 
   pub did_serve : {E : Type 0} (result : Result Printed E) → command.kind ≡ Kvno
-      → OnOk result (Served Further (IsCacheOf command host) before after) → IfOk result (λ p. p.status ≡ Done)
-      → IfOk result (λ p. IsCommandEnd First Further command host before p.status after)
+      → OnOk result (Served (IsGranted Further) now (texts command.names.items) (IsCacheOf command host) before after) → IfOk result (λ p. p.status ≡ Done)
+      → IfOk result (λ p. IsCommandEnd First Further now command host before p.status after)
   did_serve (Ok p) is served done = did Kvno p.status is done served
   did_serve (Err fault) is served done = tt
 
   pub did_remove : {E : Type 0} (result : Result Printed E) → command.kind ≡ Kdestroy
       → OnOk result (Removed (IsCacheOf command host) before after) → IfOk result (λ p. p.status ≡ Done)
-      → IfOk result (λ p. IsCommandEnd First Further command host before p.status after)
+      → IfOk result (λ p. IsCommandEnd First Further now command host before p.status after)
   did_remove (Ok p) is removed done = did Kdestroy p.status is done removed
   did_remove (Err fault) is removed done = tt
 
   listed : (status : Status) → command.kind ≡ Klist → after ≡ before
-      → IsCommandEnd First Further command host before status after
-  listed Done is same = subst (λ k. IsKindDone First Further (IsCacheOf command host) k before after) (sym is) same
+      → IsCommandEnd First Further now command host before status after
+  listed Done is same = subst (λ k. IsKindDone First Further now command host k before after) (sym is) same
   listed Refused is same = same
   listed Usage is same = same
   listed Failed is same = same
 
   pub did_list : {E : Type 0} (result : Result Printed E) → command.kind ≡ Klist → after ≡ before
-      → IfOk result (λ p. IsCommandEnd First Further command host before p.status after)
+      → IfOk result (λ p. IsCommandEnd First Further now command host before p.status after)
   did_list (Ok p) is same = listed p.status is same
   did_list (Err fault) is same = tt
 
@@ -226,7 +240,7 @@ module _ (First Further : Credential → Type 0) (command : Command) (host : Hos
   did_stop (Err fault) kept = inl kept
 
   pub did_stop_filling : {A E : Type 0} (result : Result A E) → command.kind ≡ Kvno
-      → (after ≡ before) ⊎ Filled Further (IsCacheOf command host) before after
+      → (after ≡ before) ⊎ Filled (IsGranted Further) (IsCacheOf command host) before after
       → IfErr result (λ fault. (after ≡ before) ⊎ IsTried Further command host before after)
   did_stop_filling (Ok x) is left = tt
   did_stop_filling (Err fault) is (inl same) = inl same

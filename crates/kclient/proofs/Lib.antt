@@ -1,2 +1,5 @@
 mod Doing
 mod Ending
+mod Giving
+mod Making
+mod Serving

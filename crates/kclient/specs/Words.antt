@@ -1,9 +1,11 @@
 -- The words of a command line, and the command that they spell.
-use Rattle.std.specs.Prelude.{◌≡◌, ◌==◌, ◌&&◌, ◌||◌, ℕ, Bool, true, false, not, List, [], ◌∷◌, length, map, nat_lt, slice_get}
+use Rattle.std.specs.Prelude.{◌≡◌, ◌==◌, ◌&&◌, ◌||◌, ◌++◌, Bool, true, false, not, List, [], ◌∷◌, slice_get}
 use Rattle.std.specs.Prelude.{Option, Some, None, option_map, codes, bytes_eq, if◌then◌else◌}
 use Rattle.std.specs.Borrow.{Bor}
-use Rattle.std.specs.List.{before_first, after_first, position_or_len}
+use Rattle.std.specs.List.{after_first, before_first}
+use Rattle.command_line.specs.Values.{Text, first_of, texts, value_at}
 use Rattle.client_files.specs.CachePaths.{IsDefaultCache, path_in}
+use Rattle.client_files.specs.Configs.{has_realm}
 use Rattle.client_login.specs.declared.ticket_requests.Renewal.{Renewal}
 use Rattle.client_login.specs.declared.ticket_requests.Renewal.TheVariants as renewals
 use Rattle.client_files.specs.declared.host.Host.{Host}
@@ -13,13 +15,6 @@ use Rattle.kclient.specs.declared.commands.CommandKind.TheVariants.{Kinit, Renew
 
 -- ---- words
 
--- a word is any text of a command line; an option is a word such as --cache
-abbrev pub Text : Type 0
-Text = List ℕ
-
-abbrev pub texts : List (Bor Text) → List Text
-texts lent = map (λ text. text.now) lent
-
 abbrev pub text_of : Option (Bor Text) → Option Text
 text_of named = option_map (λ text. text.now) named
 
@@ -27,35 +22,93 @@ text_of named = option_map (λ text. text.now) named
 abbrev pub command_of : List Text → Option Text
 command_of words = slice_get words 1
 
-abbrev pub has_equals : Text → Bool
-has_equals word = nat_lt (position_or_len (λ b. b == 0x3D) word) (length word)
+-- ---- options
 
--- the word before the first equals sign, if there is one, is the option
-abbrev pub is_before : Text → Text → Bool
-is_before option word = has_equals word && bytes_eq (before_first (λ b. b == 0x3D) word) option
+-- the options whose value is the next word
+abbrev pub takes_file : Text → Bool
+takes_file word =
+    bytes_eq word (codes "--cache") || (bytes_eq word (codes "--keytab") || (bytes_eq word (codes "--password-file")
+    || bytes_eq word (codes "--seed")))
 
--- the value that an option has at a word: the next word, or what follows the equals sign
-abbrev pub value_at : Text → Text → List Text → Option Text
-value_at option word others =
-    if bytes_eq word option then slice_get others 0
-    else if is_before option word then Some (after_first (λ b. b == 0x3D) word)
-    else None
+abbrev pub takes_value : Text → Bool
+takes_value word =
+    bytes_eq word (codes "--kdc") || (bytes_eq word (codes "--realm") || (bytes_eq word (codes "--name")
+    || (bytes_eq word (codes "--service") || (bytes_eq word (codes "--life") || (bytes_eq word (codes "--start")
+    || (bytes_eq word (codes "--least-count") || takes_file word))))))
 
-abbrev pub first_of : Option Text → Option Text → Option Text
-first_of (Some value) later = Some value
-first_of None later = later
+-- a word is the value of the option before it, if that takes one
+abbrev pub is_value_next : Bool → Text → Bool
+is_value_next is_value word = not is_value && takes_value word
 
--- the first value of an option; behind the word `--` there is no option
+-- behind the word `--`, unless it is a value, there is no option
+abbrev pub is_end : Bool → Text → Bool
+is_end is_value word = not is_value && bytes_eq word (codes "--")
+
+-- the first value of an option
 abbrev pub value_of : List Text → Text → Option Text
 value_of [] option = None
 value_of (word ∷ others) option =
     if bytes_eq word (codes "--") then None else first_of (value_at option word others) (value_of others option)
 
--- the option is there, as a flag without a value
+-- what is there, as a list
+abbrev pub listed : {A : Type 0} → Option A → List A
+listed None = []
+listed (Some one) = one ∷ []
+
+-- all values of an option, in their order
+abbrev pub values_of : List Text → Text → List Text
+values_of [] option = []
+values_of (word ∷ others) option =
+    if bytes_eq word (codes "--") then [] else listed (value_at option word others) ++ values_of others option
+
+-- a flag is an option without a value
+abbrev pub is_flag : Bool → Text → Text → Bool
+is_flag is_value word flag = not is_value && bytes_eq word flag
+
+abbrev pub has_flag_in : Bool → List Text → Text → Bool
+has_flag_in is_value [] flag = false
+has_flag_in is_value (word ∷ others) flag =
+    if is_end is_value word then false
+    else is_flag is_value word flag || has_flag_in (is_value_next is_value word) others flag
+
+-- it is among the words after the program's name
 abbrev pub has_flag : List Text → Text → Bool
 has_flag [] flag = false
-has_flag (word ∷ others) flag =
-    if bytes_eq word (codes "--") then false else bytes_eq word flag || has_flag others flag
+has_flag (program ∷ others) flag = has_flag_in false others flag
+
+-- ---- names
+
+-- a word of more than a hyphen that begins with one
+abbrev pub is_option : Text → Bool
+is_option (octet ∷ other ∷ octets) = octet == 0x2D
+is_option (octet ∷ []) = false
+is_option [] = false
+
+-- a word that is neither an option nor the value of one is a name; behind the word `--` each is one
+abbrev pub name_at : Bool → Text → List Text
+name_at is_value word = if not is_value && not (is_option word) then word ∷ [] else []
+
+abbrev pub plain_words : Bool → List Text → List Text
+plain_words is_value [] = []
+plain_words is_value (word ∷ others) =
+    if is_end is_value word then others
+    else name_at is_value word ++ plain_words (is_value_next is_value word) others
+
+-- the names of principals: the plain words after the command, and the values of --name
+abbrev pub names_of : List Text → List Text
+names_of (program ∷ command ∷ others) = plain_words false others ++ values_of others (codes "--name")
+names_of (program ∷ []) = []
+names_of [] = []
+
+-- what stands before the `@` (40) of a name with a realm
+abbrev pub name_in : Text → Text
+name_in word = if has_realm word then before_first (λ b. b == 0x40) word else word
+
+-- the realm behind the name, or else the value of --realm
+abbrev pub realm_in : Text → Option Text → Option Text
+realm_in word option = if has_realm word then Some (after_first (λ b. b == 0x40) word) else option
+
+-- ---- the help
 
 -- the subcommand is `help`
 abbrev pub is_help : Option Text → Bool
@@ -92,6 +145,8 @@ IsKindSpelled words Kdestroy = command_of words ≡ Some (codes "kdestroy")
 pub record Spells (words : List Text) (command : Command) : Type 0 where
   pub kind : IsKindSpelled words command.kind
   pub cache : text_of command.cache ≡ value_of words (codes "--cache")
+  pub names : texts command.names.items ≡ names_of words
+  pub realm : text_of command.realm ≡ value_of words (codes "--realm")
 
 -- ---- the path of its cache
 

@@ -1,8 +1,8 @@
 //! The context of a command.
 ghost use Rattle.std.specs.Prelude.{◌≡◌};
 
-use client_files::{Fault, unknown_hosts};
-use client_login::{KdcClient, LoginFault};
+use client_files::{ClientError, unknown_hosts};
+use client_login::{KdcClient, TicketError};
 use std::alloc::{AllocError, Global};
 
 /// What a command uses besides its words: memory, files, and a client of KDCs, whose addresses the command finds.
@@ -11,7 +11,7 @@ pub struct Context<T, X> {
     pub alloc: Global,
     pub store: T,
     pub client: KdcClient<X>,
-    /// Lines for standard error, besides that of the fault that ends the command.
+    /// Lines for standard error, besides that of the error that ends the command.
     notes: String,
 }
 
@@ -29,6 +29,7 @@ impl<T, X> Context<T, X> {
     /// Begins a command: forgets what the one before noted.
     pub(crate) fn begin(&mut self)
         ensures store { self.new.store ≡ self.old.store }
+        ensures clock { self.new.client.at.sec ≡ self.old.client.at.sec }
     {
         self.notes.clear();
     }
@@ -37,7 +38,7 @@ impl<T, X> Context<T, X> {
         self.notes.as_str()
     }
 
-    /// Notes each of these lines, unless that was done before.
+    /// Notes each of these lines that was not noted before.
     pub(crate) fn note_lines(&mut self, lines: &str) -> Result<(), AllocError>
         ensures store { self.new.store ≡ self.old.store }
     {
@@ -49,7 +50,7 @@ impl<T, X> Context<T, X> {
         Ok(())
     }
 
-    /// Notes hosts that were not asked because their addresses are unknown.
+    /// Notes the hosts that were not asked because their addresses are unknown.
     pub(crate) fn note_unknown(&mut self) -> Result<(), AllocError>
         ensures store { self.new.store ≡ self.old.store }
     {
@@ -74,9 +75,9 @@ impl<T, X> Context<T, X> {
         )
     }
 
-    /// Takes the time of a KDC that refuses because the clocks differ, once. Otherwise the fault ends the command;
-    /// `source` is the file with the keys of the request.
-    pub(crate) fn take_clock(&mut self, source: &str, fault: LoginFault) -> Result<(), Fault>
+    /// Takes the time of a KDC that refuses because the clocks differ, once. Otherwise returns the error. `source` is
+    /// the file with the keys of the request.
+    pub(crate) fn take_clock(&mut self, source: &str, fault: TicketError) -> Result<(), ClientError>
         ensures store { self.new.store ≡ self.old.store }
     {
         if let Some(ahead) = self.client.take_clock(fault) {
@@ -85,13 +86,13 @@ impl<T, X> Context<T, X> {
         Err(self.fault(source, fault))
     }
 
-    /// Returns the fault for a login that got no ticket. `source` is the file with the keys of the request.
-    pub(crate) fn fault(&self, source: &str, fault: LoginFault) -> Fault {
-        Fault::of_login(self.alloc, &self.client.kdcs, source, fault)
+    /// Returns the error for a login that got no ticket. `source` is the file with the keys of the request.
+    pub(crate) fn fault(&self, source: &str, fault: TicketError) -> ClientError {
+        ClientError::of_login(self.alloc, &self.client.kdcs, source, fault)
     }
 }
 
-/// What is shown in place of an empty word.
+/// The text that is shown in place of an empty word.
 pub(crate) const NO_WORD: &str = "an empty name";
 
 /// Notes by how many seconds the KDC's clock is ahead.

@@ -11,7 +11,8 @@ use crate::run::Printed;
 use crate::words::keytab_path;
 use clap::ArgMatches;
 use client_files::{
-    Cause, ClientStore, Fault, Host, good_credential, read_cache, read_keytab, remove_cache,
+    ClientError, ClientStore, Host, StepError, good_credential, read_cache, read_keytab,
+    remove_cache,
 };
 use command_line::Status;
 use krb_fields::{Moment, tgs_name};
@@ -27,7 +28,7 @@ pub(crate) fn list<T: ClientStore, X>(
     cache: Option<&str>,
     options: &ArgMatches<'_>,
     host: &Host<'_>,
-) -> Result<Printed, Fault>
+) -> Result<Printed, ClientError>
     // Promise, as destroy: `kdestroy` that succeeds removes ..
     ensures unchanged { T.world context.new.store ≡ T.world context.old.store }
 {
@@ -41,7 +42,7 @@ fn list_keytab<T: ClientStore, X>(
     context: &mut Context<T, X>,
     options: &ArgMatches<'_>,
     path: &str,
-) -> Result<Printed, Fault>
+) -> Result<Printed, ClientError>
     ensures unchanged { T.world context.new.store ≡ T.world context.old.store }
 {
     check_alone(options)?;
@@ -54,7 +55,7 @@ fn list_cache<T: ClientStore, X>(
     cache: Option<&str>,
     options: &ArgMatches<'_>,
     host: &Host<'_>,
-) -> Result<Printed, Fault>
+) -> Result<Printed, ClientError>
     ensures unchanged { T.world context.new.store ≡ T.world context.old.store }
 {
     let alloc = context.alloc;
@@ -69,12 +70,12 @@ fn list_cache<T: ClientStore, X>(
 }
 
 /// Checks that no option of a cache stands beside a keytab.
-fn check_alone(options: &ArgMatches<'_>) -> Result<(), Fault> {
+fn check_alone(options: &ArgMatches<'_>) -> Result<(), ClientError> {
     if options.get_flag("s") {
-        return Err(Fault::usage(SILENT_KEYTAB));
+        return Err(ClientError::usage(SILENT_KEYTAB));
     }
     if options.get_str("cache").is_some() {
-        return Err(Fault::usage(TWO_FILES));
+        return Err(ClientError::usage(TWO_FILES));
     }
     Ok(())
 }
@@ -85,7 +86,7 @@ fn has_good_ticket<T: ClientStore>(
     store: &mut T,
     path: &str,
     at: Moment,
-) -> Result<bool, Fault>
+) -> Result<bool, ClientError>
     ensures unchanged { T.world store.new ≡ T.world store.old }
 {
     let cache = read_cache(alloc, store, path)?;
@@ -95,10 +96,10 @@ fn has_good_ticket<T: ClientStore>(
 
 /// Returns the status of `klist -s`, as MIT's has it. A cache that is missing or can't be read counts as one without a
 /// ticket.
-fn status_of(found: &Result<bool, Fault>) -> Status {
+fn status_of(found: &Result<bool, ClientError>) -> Status {
     match found {
         Ok(true) => Status::Done,
-        Err(fault) if matches!(fault.cause, Cause::Memory) => Status::Failed,
+        Err(fault) if matches!(fault.cause, StepError::Memory) => Status::Failed,
         _ => Status::Refused,
     }
 }
@@ -109,7 +110,7 @@ pub(crate) fn destroy<T: ClientStore, X>(
     context: &mut Context<T, X>,
     cache: Option<&str>,
     host: &Host<'_>,
-) -> Result<Printed, Fault>
+) -> Result<Printed, ClientError>
     // Promise (removed, status, unchanged): `kdestroy` that succeeds removes the file, and a refused one changes none;
     // `klist` changes none.
     ensures removed { OnOk result (Removed (IsCacheNamed (text_of cache.entry) host.now)

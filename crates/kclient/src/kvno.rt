@@ -1,15 +1,18 @@
 //! `kvno`: gets tickets for services, one after another.
-ghost use Rattle.std.specs.Prelude.{◌≡◌, ◌⊎◌, IfOk, IfSome, OnErr, OnOk, option_map};
+ghost use Rattle.std.specs.Prelude.{◌≡◌, ◌⊎◌, All, IfOk, IfSome, OnErr, OnOk, false, map, option_map, true};
 ghost use Rattle.std.specs.String.{string_bytes};
 ghost use Rattle.command_line.specs.declared.status.Status.TheVariants.{Done};
 ghost use Rattle.cred_files.specs.Cache.{cache_text, put_first};
 ghost use Rattle.client_files.specs.Caches.{HasCache};
 ghost use Rattle.client_login.specs.Verifying.{IsTicketOf};
 ghost use Rattle.file_store.specs.World.{with_file};
-ghost use Rattle.kclient.specs.CacheSessions.{Collected};
+ghost use Rattle.kclient.specs.CacheSessions.{Answered, Collected, IsGoodIn, IsHeld, IsSpelled, IsWritten};
+ghost use Rattle.kclient.specs.Principals.{HasTicket};
+ghost use Rattle.command_line.specs.Values.{texts};
 ghost use Rattle.kclient.specs.Words.{IsCacheNamed, text_of};
-ghost use Rattle.kclient.specs.Worlds.{Added, CameFurther, Filled, Served};
+ghost use Rattle.kclient.specs.Worlds.{Added, CameFurther, Filled, IsGranted, Served};
 
+use crate::commands::Command;
 use crate::context::Context;
 use crate::kinit::generator;
 use crate::places::{Granting, cache_path, use_given_kdcs, use_kdcs_of};
@@ -17,10 +20,10 @@ use crate::run::Printed;
 use crate::words::{NO_SERVICE, keytab_path, read_name, read_realm};
 use clap::ArgMatches;
 use client_files::{
-    Cause, ClientStore, Fault, Host, at, good_credential, granting_ticket, put_credential,
-    read_cache, read_keytab, write_cache,
+    ClientError, ClientStore, Host, StepError, at, good_credential, granting_ticket,
+    put_credential, read_cache, read_keytab, write_cache,
 };
-use client_login::{AnyMessage, LoginError, opened_ticket};
+use client_login::{AnyMessage, opened_ticket};
 use cred_files::{Cache, Credential, Keytab};
 use krb_elements::{KerberosString, read};
 use krb_fields::{Moment, Name};
@@ -35,7 +38,7 @@ struct Checks {
     keytab: Keytab,
 }
 
-/// The cache, and what is needed to get and to check tickets.
+/// A cache, and what `kvno` needs to get and check tickets for it.
 #[derive(Drop)]
 struct CacheSession {
     path: String,
@@ -44,53 +47,69 @@ struct CacheSession {
     rng: ChaCha20Rng,
     /// Whether to request each ticket, even if the cache has one that can be used.
     fresh: bool,
-    /// Whether the cache has more than its file.
+    /// Whether the cache has a ticket that its file lacks.
     is_changed: bool,
 }
 
 /// Gets a ticket for each service, unless the cache has one that can be used, and puts it into the cache. It prints the
-/// key versions of the tickets, in the order of the names. A name that ends the command keeps the tickets before it.
-#[tactic(auto, using(crate::proofs::Doing::filled, crate::proofs::Doing::unfilled, crate::proofs::Doing::served))]
+/// key versions of the tickets, in the order of the names. If a name ends the command, the tickets before it are kept.
+#[tactic(auto, using(crate::proofs::Doing::filled, crate::proofs::Doing::unfilled, crate::proofs::Serving::served))]
 pub(crate) fn get_tickets<T: ClientStore, X: AnyMessage>(
     context: &mut Context<T, X>,
-    cache: Option<&str>,
+    command: &Command<'_>,
     options: &ArgMatches<'_>,
     host: &Host<'_>,
-) -> Result<Printed, Fault>
+) -> Result<Printed, ClientError>
     // Promise (world, served, status): `kvno`, refused or not, writes nothing, or the user's own cache with the tickets
     // that came.
     ensures world { (T.world context.new.store ≡ T.world context.old.store)
-        ⊎ Filled (CameFurther X.finds X.carries X.answers) (IsCacheNamed (text_of cache.entry) host.now)
+        ⊎ Filled (IsGranted (CameFurther X.finds X.carries X.answers))
+        (IsCacheNamed (text_of command.now.cache) host.now)
         (T.world context.old.store) (T.world context.new.store) }
-    ensures served { OnOk result (Served (CameFurther X.finds X.carries X.answers)
-        (IsCacheNamed (text_of cache.entry) host.now) (T.world context.old.store) (T.world context.new.store)) }
+    // Promise (served): after a `kvno` that succeeds the cache has a ticket for each name of its words: one that came,
+    // or one that can still be used by the clock that it began with.
+    ensures served { OnOk result (Served (IsGranted (CameFurther X.finds X.carries X.answers)) context.old.client.at.sec
+        (texts command.now.names.items) (IsCacheNamed (text_of command.now.cache) host.now)
+        (T.world context.old.store) (T.world context.new.store)) }
     ensures status { IfOk result (λ printed. printed.status ≡ Done) }
 {
-    let names = service_words(context.alloc, options)?;
+    let at = context.client.at;
+    check_some(&command.names)?;
     let keytab = keytab_path(options)?;
-    let path = cache_path(context.alloc, cache, host)?;
+    let path = cache_path(context.alloc, command.cache, host)?;
     use_given_kdcs(context.alloc, &mut context.client.kdcs, options)?;
-    let services = read_services(context, &names)?;
+    let services = read_services(context, &command.names)?;
     let mut session = read_session(context, options, path, keytab)?;
-    fill(context, host, &mut session, &services)
+    fill(context, host, &mut session, &services, at)
+}
+
+/// Checks that there is a name.
+fn check_some(names: &[&str]) -> Result<(), ClientError> {
+    if names.is_empty() {
+        return Err(ClientError::usage(NO_SERVICE));
+    }
+    Ok(())
 }
 
 /// Gets a ticket for each service, until one fails, and writes the cache with those that came. Prints a line for each.
-/// Asks for none unless the cache serves the realms of all.
-#[tactic(auto, using(crate::proofs::Doing::added))]
+/// It asks for none if a service has another realm than the cache.
+#[tactic(auto, using(crate::proofs::Doing::added, crate::proofs::Serving::answered))]
 fn fill<T: ClientStore, X: AnyMessage>(
     context: &mut Context<T, X>,
     host: &Host<'_>,
     session: &mut CacheSession,
     services: &[Service],
-) -> Result<Printed, Fault>
+    at: Moment,
+) -> Result<Printed, ClientError>
     ensures world { (T.world context.new.store ≡ T.world context.old.store)
-        ⊎ Added (CameFurther X.finds X.carries X.answers) (string_bytes session.old.path) session.old.cache
+        ⊎ Added (IsGranted (CameFurther X.finds X.carries X.answers)) (string_bytes session.old.path) session.old.cache
         (T.world context.old.store) (T.world context.new.store) }
+    ensures answered { OnOk result (Answered (IsGranted (CameFurther X.finds X.carries X.answers)) at.sec services.now
+        (string_bytes session.old.path) session.old.cache (T.world context.old.store) (T.world context.new.store)) }
     ensures status { IfOk result (λ printed. printed.status ≡ Done) }
 {
     check_realms(context, services, &session.cache)?;
-    let lines = get_each(context, host, session, services);
+    let lines = get_each(context, host, session, services, at);
     let written = write_changed(context.alloc, &mut context.store, session);
     // Why the command ends is what counts, not whether the tickets before can be written.
     let lines = lines?;
@@ -99,19 +118,22 @@ fn fill<T: ClientStore, X: AnyMessage>(
 }
 
 /// Gets a ticket for each service, until one fails. Returns a line for each.
-#[tactic(auto, using(crate::proofs::Doing::collected_none, crate::proofs::Doing::collected_more))]
+#[tactic(auto, using(crate::proofs::Doing::collected_none, crate::proofs::Doing::collected_more, crate::proofs::Serving::held_more))]
 fn get_each<T: ClientStore, X: AnyMessage>(
     context: &mut Context<T, X>,
     host: &Host<'_>,
     session: &mut CacheSession,
     services: &[Service],
-) -> Result<String, Fault>
-    ensures collected { Collected (CameFurther X.finds X.carries X.answers) session.old session.new }
+    at: Moment,
+) -> Result<String, ClientError>
+    ensures collected { Collected (IsGranted (CameFurther X.finds X.carries X.answers)) session.old session.new }
+    ensures held { OnOk result (All (IsHeld (IsGranted (CameFurther X.finds X.carries X.answers)) at.sec
+        session.new.cache.credentials) services.now) }
     ensures unchanged { T.world context.new.store ≡ T.world context.old.store }
 {
     let mut lines = String::new(context.alloc);
     for service in services {
-        match get_ticket(context, host, session, &service.name) {
+        match get_ticket(context, host, session, &service.name, at) {
             Ok(version) => push_line(&mut lines, service, version, session.checks.is_some())?,
             Err(fault) => return Err(at_name(
                 context,
@@ -129,7 +151,7 @@ fn read_session<T: ClientStore, X>(
     options: &ArgMatches<'_>,
     path: String,
     keytab: Option<&str>,
-) -> Result<CacheSession, Fault>
+) -> Result<CacheSession, ClientError>
     ensures held { IfOk result (λ session.
         HasCache (T.world context.old.store) (string_bytes session.path) session.cache) }
     ensures path { IfOk result (λ session. session.path ≡ path) }
@@ -148,14 +170,15 @@ fn read_session<T: ClientStore, X>(
     })
 }
 
-#[tactic(auto, using(crate::proofs::Doing::written_or_kept))]
+#[tactic(auto, using(crate::proofs::Doing::written_or_kept, crate::proofs::Serving::not_written, crate::proofs::Serving::written))]
 fn write_changed<T: ClientStore>(
     alloc: Global,
     store: &mut T,
     session: &CacheSession,
-) -> Result<(), Fault>
+) -> Result<(), ClientError>
     ensures world { (T.world store.new ≡ T.world store.old) ⊎ (T.world store.new
         ≡ option_map (with_file (string_bytes session.now.path) (cache_text session.now.cache)) (T.world store.old)) }
+    ensures written { OnOk result (IsWritten session.now (T.world store.old) (T.world store.new)) }
 {
     if !session.is_changed {
         return Ok(());
@@ -171,18 +194,14 @@ struct Service {
     realm: Option<KerberosString>,
 }
 
-/// Returns the names of services: the plain words, and those of options.
-fn service_words<'a>(alloc: Global, options: &ArgMatches<'a>) -> Result<Vec<&'a str>, Fault> {
-    let mut names = Vec::new(alloc);
-    names.extend_from_slice(options.get_strs("service").unwrap_or(&[]))?;
-    names.extend_from_slice(options.get_strs("name").unwrap_or(&[]))?;
-    if names.is_empty() {
-        return Err(Fault::usage(NO_SERVICE));
-    }
-    Ok(names)
-}
-
-fn read_services<T, X>(context: &mut Context<T, X>, names: &[&str]) -> Result<Vec<Service>, Fault>
+#[tactic(auto, using(crate::proofs::Serving::words_more, crate::proofs::Serving::spelled_more))]
+fn read_services<T, X>(
+    context: &mut Context<T, X>,
+    names: &[&str],
+) -> Result<Vec<Service>, ClientError>
+    ensures words { IfOk result (λ services.
+        map (λ service. string_bytes service.word) services.items ≡ texts names.now) }
+    ensures spelled { IfOk result (λ services. All IsSpelled services.items) }
     ensures store { context.new.store ≡ context.old.store }
 {
     let mut services = Vec::new(context.alloc);
@@ -195,7 +214,10 @@ fn read_services<T, X>(context: &mut Context<T, X>, names: &[&str]) -> Result<Ve
     Ok(services)
 }
 
-fn read_service(alloc: Global, word: &str) -> Result<Service, Fault> {
+fn read_service(alloc: Global, word: &str) -> Result<Service, ClientError>
+    ensures word { IfOk result (λ service. string_bytes service.word ≡ word.now) }
+    ensures spelled { IfOk result (λ service. IsSpelled service) }
+{
     let Some((name, realm)) = word.split_once('@') else {
         return Ok(Service {
             word: String::from_str(alloc, word)?,
@@ -210,12 +232,12 @@ fn read_service(alloc: Global, word: &str) -> Result<Service, Fault> {
     })
 }
 
-/// Checks that each realm behind a service's name is the cache's: tickets come from its KDCs alone.
+/// Checks that each service has the cache's realm: only that realm's KDCs are asked.
 fn check_realms<T, X>(
     context: &mut Context<T, X>,
     services: &[Service],
     cache: &Cache,
-) -> Result<(), Fault>
+) -> Result<(), ClientError>
     ensures store { context.new.store ≡ context.old.store }
 {
     for service in services {
@@ -227,23 +249,28 @@ fn check_realms<T, X>(
     Ok(())
 }
 
-fn check_realm(service: &Service, cache: &Cache) -> Result<(), Cause> {
+fn check_realm(service: &Service, cache: &Cache) -> Result<(), StepError> {
     match &service.realm {
         Some(realm) if realm.as_slice() != cache.principal().realm.as_slice() => {
-            Err(Cause::OtherRealm)
+            Err(StepError::OtherRealm)
         }
         _ => Ok(()),
     }
 }
 
-/// Notes the name that ends the command, if there are several.
-fn at_name<T, X>(context: &mut Context<T, X>, count: usize, name: &str, fault: Fault) -> Fault
+/// Returns the error. If there are several names, it notes the one that ends the command.
+fn at_name<T, X>(
+    context: &mut Context<T, X>,
+    count: usize,
+    name: &str,
+    fault: ClientError,
+) -> ClientError
     ensures store { context.new.store ≡ context.old.store }
 {
     if count > 1
         && let Err(error) = context.note_name(name)
     {
-        return Fault::from(error);
+        return ClientError::from(error);
     }
     fault
 }
@@ -252,7 +279,7 @@ fn read_checks<T: ClientStore>(
     alloc: Global,
     store: &mut T,
     path: Option<&str>,
-) -> Result<Option<Checks>, Fault>
+) -> Result<Option<Checks>, ClientError>
     ensures unchanged { T.world store.new ≡ T.world store.old }
 {
     match path {
@@ -270,7 +297,7 @@ fn push_line(
     service: &Service,
     version: i64,
     opened: bool,
-) -> Result<(), Fault> {
+) -> Result<(), ClientError> {
     let more = if opened { OPENED } else { "" };
     let word = service.word.as_str();
     Ok(writeln!(lines, "{word} kvno {version}{more}")?)
@@ -279,20 +306,23 @@ fn push_line(
 /// The text after a version if the keytab has decrypted the ticket.
 const OPENED: &str = ", keytab entry valid";
 
-/// Returns the key version of the service's ticket: of the cache's own, if it need not be requested again, or of a new
-/// one. Only a request needs KDCs.
-#[tactic(auto, using(crate::proofs::Doing::collected_none, crate::proofs::Doing::collected_one))]
+/// Returns the key version of a ticket for the service: of the one in the cache, if it can be used, or of a new one.
+/// Only a request needs KDCs.
+#[tactic(auto, using(crate::proofs::Doing::collected_none, crate::proofs::Doing::collected_one, crate::proofs::Serving::held_there, crate::proofs::Serving::put_there))]
 fn get_ticket<T: ClientStore, X: AnyMessage>(
     context: &mut Context<T, X>,
     host: &Host<'_>,
     session: &mut CacheSession,
     service: &Name,
-) -> Result<i64, Fault>
-    ensures collected { Collected (CameFurther X.finds X.carries X.answers) session.old session.new }
+    at: Moment,
+) -> Result<i64, ClientError>
+    ensures collected { Collected (IsGranted (CameFurther X.finds X.carries X.answers)) session.old session.new }
+    ensures held { OnOk result (HasTicket (IsGranted (CameFurther X.finds X.carries X.answers)) at.sec
+        service.now.components session.new.cache.credentials) }
     ensures unchanged { T.world context.new.store ≡ T.world context.old.store }
 {
     let alloc = context.alloc;
-    if let Some(version) = held_version(alloc, session, service, context.client.at)? {
+    if let Some(version) = held_version(alloc, session, service, at)? {
         return Ok(version);
     }
     let path = session.path.as_str();
@@ -305,15 +335,16 @@ fn get_ticket<T: ClientStore, X: AnyMessage>(
     keep(alloc, session, &credential)
 }
 
-/// Returns a new ticket for a service. It is requested once more if the KDC's time is taken.
-#[tactic(auto, using(crate::proofs::Doing::came_further))]
+/// Requests a ticket for a service; once more, if the KDC's time is taken.
+#[tactic(auto, using(crate::proofs::Doing::came_granted, crate::proofs::Serving::came_for))]
 fn requested<T, X: AnyMessage>(
     context: &mut Context<T, X>,
     rng: &mut ChaCha20Rng,
     granting: &Granting<'_>,
     service: &Name,
-) -> Result<Credential, Fault>
-    ensures came { IfOk result (λ ticket. CameFurther X.finds X.carries X.answers ticket) }
+) -> Result<Credential, ClientError>
+    ensures came { IfOk result (λ ticket. IsGranted (CameFurther X.finds X.carries X.answers) ticket) }
+    ensures service { IfOk result (λ ticket. ticket.server.name.components ≡ service.now.components) }
     ensures store { context.new.store ≡ context.old.store }
 {
     match context
@@ -332,17 +363,21 @@ fn requested<T, X: AnyMessage>(
     }
 }
 
-/// Returns the key version of the cache's own ticket, if it need not be requested again.
+/// Returns the key version of the ticket in the cache, if it can be used and no fresh one is asked for.
+#[tactic(auto, using(crate::proofs::Serving::good_there))]
 fn held_version(
     alloc: Global,
     session: &CacheSession,
     service: &Name,
-    now: Moment,
-) -> Result<Option<i64>, Fault> {
+    at: Moment,
+) -> Result<Option<i64>, ClientError>
+    ensures { IfOk result (λ held. IfSome held (λ version. IsGoodIn at.sec session.now.cache.credentials
+        service.now.components)) }
+{
     if session.fresh {
         return Ok(None);
     }
-    match good_credential(&session.cache, service, now) {
+    match good_credential(&session.cache, service, at) {
         Some(credential) => Ok(Some(checked_version(alloc, &session.checks, credential)?)),
         None => Ok(None),
     }
@@ -354,26 +389,32 @@ fn unended<'c>(
     path: &str,
     cache: &'c Cache,
     now: Moment,
-) -> Result<&'c Credential, Fault> {
+) -> Result<&'c Credential, ClientError> {
     let granting = at(alloc, path, granting_ticket(alloc, cache))?;
     let end = granting.times.end_time.seconds();
     if now.sec < end {
         return Ok(granting);
     }
-    Err(Fault::new(alloc, path, Cause::Ended(end)))
+    Err(ClientError::new(alloc, path, StepError::Ended(end)))
 }
 
 /// Puts a credential into the cache, and returns its key version.
-fn keep(alloc: Global, session: &mut CacheSession, credential: &Credential) -> Result<i64, Fault>
+fn keep(
+    alloc: Global,
+    session: &mut CacheSession,
+    credential: &Credential,
+) -> Result<i64, ClientError>
     ensures put { OnOk result (session.new.cache
         ≡ record session.old.cache { credentials = put_first credential.now session.old.cache.credentials }) }
+    ensures changed { OnOk result (session.new.is_changed ≡ true) }
     ensures unchanged { OnErr result (session.new.cache ≡ session.old.cache) }
+    ensures same { OnErr result (session.new.is_changed ≡ session.old.is_changed) }
     ensures path { session.new.path ≡ session.old.path }
 {
     let version = checked_version(alloc, &session.checks, credential)?;
     match put_credential(alloc, &mut session.cache, credential) {
         Ok(()) => {}
-        Err(cause) => return Err(Fault::new(alloc, session.path.as_str(), cause)),
+        Err(cause) => return Err(ClientError::new(alloc, session.path.as_str(), cause)),
     }
     session.is_changed = true;
     Ok(version)
@@ -385,7 +426,7 @@ fn checked_version(
     alloc: Global,
     checks: &Option<Checks>,
     credential: &Credential,
-) -> Result<i64, Fault>
+) -> Result<i64, ClientError>
     // Promise: a ticket that is reported as valid is decrypted by the keytab's key of its type and version, to the
     // credential's client and session key.
     ensures { IfOk result (λ version. IfSome checks.now (λ c. IsTicketOf c.keytab credential.now)) }
@@ -400,12 +441,12 @@ fn checked_version(
     Ok(version_of(credential))
 }
 
-fn check_ticket(alloc: Global, keytab: &Keytab, credential: &Credential) -> Result<(), Cause>
+fn check_ticket(alloc: Global, keytab: &Keytab, credential: &Credential) -> Result<(), StepError>
     ensures { IfOk result (λ done. IsTicketOf keytab.now credential.now) }
 {
     match opened_ticket(alloc, keytab, credential)? {
         Ok(_) => Ok(()),
-        Err(doubt) => Err(Cause::Login(LoginError::Unverified(doubt))),
+        Err(doubt) => Err(StepError::Login(doubt)),
     }
 }
 

@@ -132,7 +132,7 @@ const TCP: FlagRow = FlagRow {
     help: "Uses only TCP; by default UDP first",
 };
 
-/// `kinit`, with what describes a first ticket. `--renew` and `--validate` take none of it.
+/// `kinit` with the options that describe a first ticket. None of them goes with `--renew` or `--validate`.
 const KINIT: SubcommandRow = SubcommandRow {
     name: "kinit",
     about: "Gets a ticket-granting ticket with a password or a keytab, and makes a credential cache with it",
@@ -162,7 +162,7 @@ const KINIT: SubcommandRow = SubcommandRow {
     ],
 };
 
-/// What every `kinit` takes.
+/// The options that go with every `kinit`.
 const KINIT_OPTIONS: &[OptionRow] = &[SEED, KDC, CACHE];
 
 const KINIT_FLAGS: &[FlagRow] = &[
@@ -236,8 +236,8 @@ impl Subcommand {
     }
 }
 
-/// Parses the command line, whose first word is the program's name. Its values are then where `value_of` finds them:
-/// the parser takes no word that begins with `--` as a value, and no option of one value twice.
+/// Parses the command line, whose first word is the program's name. Values are then where `value_of` finds them: the
+/// parser takes no word that begins with `--` as a value, and no option with one value twice.
 pub(crate) fn read_args<'a>(alloc: Global, words: &'a [&'a str]) -> Result<ArgMatches<'a>, Error> {
     parser(alloc)?.try_get_matches_from(words)
 }

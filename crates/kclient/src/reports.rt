@@ -3,7 +3,7 @@ ghost use Rattle.std.specs.Prelude.{◌≡◌, IfOk};
 ghost use Rattle.kclient.specs.Ends.{IsOther, IsPrinted, IsReported};
 
 use crate::run::Printed;
-use client_files::{Cause, Fault};
+use client_files::{ClientError, StepError};
 use client_login::LoginError;
 use command_line::{Status, print_failure, print_refusal, print_usage_error};
 use std::io;
@@ -15,7 +15,7 @@ pub(crate) fn report<W: Write, E: Write>(
     out: &mut W,
     errors: &mut E,
     notes: &str,
-    end: &Result<Printed, Fault>,
+    end: &Result<Printed, ClientError>,
 ) -> Status
     ensures { IsReported end.now result }
 {
@@ -28,12 +28,12 @@ pub(crate) fn report<W: Write, E: Write>(
     }
 }
 
-/// Prints what a command comes to, and returns its status. An error is a failed write.
+/// Prints the result of a command, and returns its status. An error is a failed write.
 fn print<W: Write, E: Write>(
     out: &mut W,
     errors: &mut E,
     notes: &str,
-    end: &Result<Printed, Fault>,
+    end: &Result<Printed, ClientError>,
 ) -> io::Result<Status>
     ensures { IfOk result (λ status. IsPrinted end.now status) }
 {
@@ -54,12 +54,16 @@ fn print_text<W: Write>(out: &mut W, printed: &Printed) -> io::Result<Status>
     Ok(printed.status)
 }
 
-/// Prints one word of a fault on standard output, and on standard error what it is and what it concerns. A usage error
-/// goes to standard output alone.
-fn print_fault<W: Write, E: Write>(out: &mut W, errors: &mut E, fault: &Fault) -> io::Result<Status>
+/// Prints `refused` with a word, or `failed`, on standard output, and the error on standard error. A usage error goes
+/// to standard output alone.
+fn print_fault<W: Write, E: Write>(
+    out: &mut W,
+    errors: &mut E,
+    fault: &ClientError,
+) -> io::Result<Status>
     ensures { IfOk result (λ status. IsOther status) }
 {
-    if matches!(fault.cause, Cause::Usage(_)) {
+    if matches!(fault.cause, StepError::Usage(_)) {
         return print_usage_error(out, fault);
     }
     let status = print_word(out, fault.cause)?;
@@ -67,12 +71,12 @@ fn print_fault<W: Write, E: Write>(out: &mut W, errors: &mut E, fault: &Fault) -
     Ok(status)
 }
 
-fn print_word<W: Write>(out: &mut W, cause: Cause) -> io::Result<Status>
+fn print_word<W: Write>(out: &mut W, cause: StepError) -> io::Result<Status>
     ensures { IfOk result (λ status. IsOther status) }
 {
     match (cause, cause.name()) {
-        (Cause::Login(LoginError::Refused(error)), _) => print_refusal(out, &error.code),
-        (Cause::OldKey(LoginError::Refused(error)), _) => print_refusal(out, &error.code),
+        (StepError::Login(LoginError::Refused(error)), _) => print_refusal(out, &error.code),
+        (StepError::OldKey(LoginError::Refused(error)), _) => print_refusal(out, &error.code),
         (_, Some(name)) => print_refusal(out, &name),
         (_, None) => print_failure(out),
     }

@@ -2,7 +2,8 @@
 ghost use Rattle.std.specs.Prelude.{◌≡◌, ◌⊎◌, IfErr, IfOk, true};
 ghost use Rattle.command_line.specs.declared.status.Status.TheVariants.{Done};
 ghost use Rattle.kclient.specs.Ends.{IsCommandEnd, IsEnd, IsStopped, IsTried};
-ghost use Rattle.kclient.specs.Words.{asks_help, texts};
+ghost use Rattle.command_line.specs.Values.{texts};
+ghost use Rattle.kclient.specs.Words.{asks_help};
 ghost use Rattle.kclient.specs.Worlds.{CameFirst, CameFurther};
 
 use crate::commands::{Command, CommandKind, NO_COMMAND, read_command};
@@ -17,13 +18,13 @@ use crate::values::asks_help;
 use crate::words::check_renewal;
 use clap::ArgMatches;
 use clap::error::{Error, ErrorKind};
-use client_files::{Cause, ClientStore, Fault, Host};
+use client_files::{ClientError, ClientStore, Host, StepError};
 use client_login::AnyMessage;
 use command_line::{Status, parse_status};
 use std::alloc::{AllocError, Global};
 use std::io::{BufWriter, Write};
 
-/// What a command prints on standard output if no fault ends it, and its status.
+/// What a command prints on standard output if no error ends it, and its status.
 #[derive(Drop)]
 pub(crate) struct Printed {
     pub text: String,
@@ -72,10 +73,13 @@ pub fn kclient_run<T: ClientStore, X: AnyMessage, W: Write + Drop, E: Write + Dr
     // cache that they or the computer name, or the help is asked for.
     // Promise: with another status the files are as before, or `kvno` keeps the tickets before the name that stopped
     // it; with 3 all may be done, and the printing failed.
+    // Promise: `kinit` gets the ticket of the client that the words name, and after `kvno` the cache has a ticket for
+    // each name of the words: one that came, or one that can still be used.
     // Promise: what is done leaves a new cache of the one ticket; or the cache that the path had, with the tickets that
     // came, each in place of the first one of its service, else at the end; or no file. No other path changes.
     ensures ended { IsEnd (CameFirst X.finds X.carries X.answers) (CameFurther X.finds X.carries X.answers)
-        (texts words.now) host.now (T.world context.old.store) result (T.world context.new.store) }
+        context.old.client.at.sec (texts words.now) host.now
+        (T.world context.old.store) result (T.world context.new.store) }
 {
     let Ok(mut errors) = BufWriter::new(context.alloc, errors) else {
         return Status::Failed;
@@ -94,13 +98,13 @@ pub fn kclient_run<T: ClientStore, X: AnyMessage, W: Write + Drop, E: Write + Dr
 }
 
 /// Notes the hosts that have no known address, unless the command ended because of them.
-fn note_hosts<T, X>(context: &mut Context<T, X>, end: &Result<Printed, Fault>)
+fn note_hosts<T, X>(context: &mut Context<T, X>, end: &Result<Printed, ClientError>)
     ensures store { context.new.store ≡ context.old.store }
 {
     match end {
         Err(
-            Fault {
-                cause: Cause::NotAnAddress,
+            ClientError {
+                cause: StepError::NotAnAddress,
                 ..
             },
         ) => {}
@@ -117,9 +121,9 @@ fn run_words<T: ClientStore, X: AnyMessage>(
     context: &mut Context<T, X>,
     words: &[&str],
     host: &Host<'_>,
-) -> Result<Printed, Fault>
+) -> Result<Printed, ClientError>
     ensures done { IfOk result (λ printed. IsEnd (CameFirst X.finds X.carries X.answers)
-        (CameFurther X.finds X.carries X.answers) (texts words.now) host.now
+        (CameFurther X.finds X.carries X.answers) context.old.client.at.sec (texts words.now) host.now
         (T.world context.old.store) printed.status (T.world context.new.store)) }
     ensures stopped { IfErr result (λ fault. IsStopped (CameFurther X.finds X.carries X.answers)
         (texts words.now) host.now (T.world context.old.store) (T.world context.new.store)) }
@@ -129,9 +133,9 @@ fn run_words<T: ClientStore, X: AnyMessage>(
         Err(error) => return words_ended(context.alloc, words, &error),
     };
     let Some((_, options)) = matches.subcommand() else {
-        return Err(Fault::usage(NO_COMMAND));
+        return Err(ClientError::usage(NO_COMMAND));
     };
-    let command = read_command(words)?;
+    let command = read_command(context.alloc, words)?;
     run_command(context, &command, options, host)
 }
 
@@ -142,9 +146,9 @@ fn run_command<T: ClientStore, X: AnyMessage>(
     command: &Command<'_>,
     options: &ArgMatches<'_>,
     host: &Host<'_>,
-) -> Result<Printed, Fault>
+) -> Result<Printed, ClientError>
     ensures done { IfOk result (λ printed. IsCommandEnd (CameFirst X.finds X.carries X.answers)
-        (CameFurther X.finds X.carries X.answers) command.now host.now
+        (CameFurther X.finds X.carries X.answers) context.old.client.at.sec command.now host.now
         (T.world context.old.store) printed.status (T.world context.new.store)) }
     ensures stopped { IfErr result (λ fault. (T.world context.new.store ≡ T.world context.old.store)
         ⊎ IsTried (CameFurther X.finds X.carries X.answers) command.now host.now
@@ -152,23 +156,23 @@ fn run_command<T: ClientStore, X: AnyMessage>(
 {
     let cache = command.cache;
     match command.kind {
-        CommandKind::Kinit => get_first(context, cache, options, host),
+        CommandKind::Kinit => get_first(context, command, options, host),
         CommandKind::Renew(renewal) => {
             check_renewal(options)?;
             renew_ticket(context, cache, options, host, renewal)
         }
-        CommandKind::Kvno => get_tickets(context, cache, options, host),
+        CommandKind::Kvno => get_tickets(context, command, options, host),
         CommandKind::Klist => list(context, cache, options, host),
         CommandKind::Kdestroy => destroy(context, cache, host),
     }
 }
 
-/// Returns what is wrong with the words, or the help that they ask for.
-fn words_ended(alloc: Global, words: &[&str], error: &Error) -> Result<Printed, Fault>
+/// Returns the text of the parser: what is wrong with the words, or the help that they ask for.
+fn words_ended(alloc: Global, words: &[&str], error: &Error) -> Result<Printed, ClientError>
     ensures { IfOk result (λ printed. printed.status ≡ Done → asks_help (texts words.now) ≡ true) }
 {
     if error.kind() == ErrorKind::OutOfMemory {
-        return Err(Fault::from(AllocError));
+        return Err(ClientError::from(AllocError));
     }
     let text = format!(in alloc; "{error}")?;
     Ok(Printed {
@@ -177,7 +181,7 @@ fn words_ended(alloc: Global, words: &[&str], error: &Error) -> Result<Printed, 
     })
 }
 
-/// Returns the status of words that the parser doesn't take.
+/// Returns the status if the parser returns a text: `Done` only if the words ask for help.
 fn status_of_words(words: &[&str], error: &Error) -> Status
     ensures { result ≡ Done → asks_help (texts words.now) ≡ true }
 {

@@ -1,14 +1,23 @@
 //! The words of a command line, and the values of the options among them.
-ghost use Rattle.std.specs.Prelude.{◌≡◌, IfOk, map, option_map, string_bytes};
-ghost use Rattle.kclient.specs.Words.{asks_help, begins_help, command_of, has_flag, texts, value_at, value_of};
+ghost use Rattle.std.specs.Prelude.{◌≡◌, IfOk, false, map, option_map, string_bytes};
+ghost use Rattle.command_line.specs.Values.{texts};
+ghost use Rattle.kclient.specs.Words.{asks_help, begins_help, command_of, has_flag, has_flag_in, is_end, is_flag};
+ghost use Rattle.kclient.specs.Words.{is_value_next, takes_file, takes_value, value_of};
 
+use command_line::value_at;
 use std::alloc::{AllocError, Global};
 
 /// The option that names a cache.
 pub(crate) const CACHE: &str = "--cache";
 
+/// The option that names a principal.
+pub(crate) const NAME: &str = "--name";
+
+/// The option that names a realm.
+pub(crate) const REALM: &str = "--realm";
+
 /// The word behind which there is no option.
-const END: &str = "--";
+pub(crate) const END: &str = "--";
 
 /// Returns the words as texts.
 pub(crate) fn words_of(alloc: Global, args: &[String]) -> Result<Vec<&str>, AllocError>
@@ -47,35 +56,76 @@ pub(crate) fn value_of<'a>(words: &[&'a str], option: &str) -> Option<&'a str>
     None
 }
 
-/// Returns the value that an option has at a word, if it is this option.
-fn value_at<'a>(option: &str, word: &'a str, others: &[&'a str]) -> Option<&'a str>
-    ensures { option_map (λ value. value.now) result ≡ value_at option.now word.now (texts others.now) }
-{
-    if word == option {
-        return others.first().copied();
-    }
-    match word.split_once('=') {
-        Some((name, value)) if name == option => Some(value),
-        _ => None,
-    }
-}
-
 /// Checks whether an option without a value is there.
 pub(crate) fn has_flag(words: &[&str], flag: &str) -> bool
     // Promise, as read_command: the command is the ..
     ensures { result ≡ has_flag (texts words.now) flag.now }
 {
+    match words {
+        [_, others @ ..] => has_flag_in(others, flag),
+        [] => false,
+    }
+}
+
+/// Checks whether an option without a value is among the words after the program's name.
+fn has_flag_in(words: &[&str], flag: &str) -> bool
+    ensures { result ≡ has_flag_in false (texts words.now) flag.now }
+{
     let mut rest = words;
+    let mut is_value = false;
     while let [word, others @ ..] = rest {
-        if *word == END {
+        if is_end(word, is_value) {
             return false;
         }
-        if *word == flag {
+        if is_flag(word, is_value, flag) {
             return true;
         }
+        is_value = is_value_next(word, is_value);
         rest = others;
     }
     false
+}
+
+/// Checks whether a word is this flag, and not the value of an option.
+fn is_flag(word: &str, is_value: bool, flag: &str) -> bool
+    ensures { result ≡ is_flag is_value word.now flag.now }
+{
+    !is_value && word == flag
+}
+
+/// Checks whether no option follows a word.
+pub(crate) fn is_end(word: &str, is_value: bool) -> bool
+    ensures { result ≡ is_end is_value word.now }
+{
+    !is_value && word == END
+}
+
+/// Checks whether the word after this one is the value of an option.
+pub(crate) fn is_value_next(word: &str, is_value: bool) -> bool
+    ensures { result ≡ is_value_next is_value word.now }
+{
+    !is_value && takes_value(word)
+}
+
+/// Checks whether a word is an option whose value is the next word.
+fn takes_value(word: &str) -> bool
+    ensures { result ≡ takes_value word.now }
+{
+    word == "--kdc"
+        || word == REALM
+        || word == NAME
+        || word == "--service"
+        || word == "--life"
+        || word == "--start"
+        || word == "--least-count"
+        || takes_file(word)
+}
+
+/// Checks whether a word is an option whose value is the path of a file.
+fn takes_file(word: &str) -> bool
+    ensures { result ≡ takes_file word.now }
+{
+    word == CACHE || word == "--keytab" || word == "--password-file" || word == "--seed"
 }
 
 /// Checks whether the subcommand is `help`.

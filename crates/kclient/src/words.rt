@@ -1,8 +1,16 @@
 //! Reading the words of a command line.
+ghost use Rattle.std.specs.Prelude.{◌≡◌, IfOk, None};
+ghost use Rattle.krb_fields.specs.NameText.{IsComponentText, IsNameText};
+ghost use Rattle.kclient.specs.Given.{AreClientWords};
+ghost use Rattle.command_line.specs.Values.{texts};
+ghost use Rattle.kclient.specs.Words.{listed, name_in, realm_in, text_of};
+
+use crate::commands::Command;
 use crate::context::NO_WORD;
 use crate::options::asks_for_first;
+use crate::values::NAME;
 use clap::ArgMatches;
-use client_files::{Cause, Fault, NameOf, path_in};
+use client_files::{ClientError, NameOf, StepError, file_path};
 use client_login::TicketRequest;
 use file_store::STANDARD_INPUT;
 use krb_elements::KerberosString;
@@ -13,12 +21,10 @@ use text_fields::{lifetime, number_u32};
 /// The words for a first ticket.
 #[derive(Clone, Copy)]
 pub(crate) struct FirstWords<'a> {
-    /// The client; absent: that of the cache.
-    pub client: Option<ClientWords<'a>>,
     pub secret: SecretWords<'a>,
-    /// The name of the service; absent: the ticket-granting service.
+    /// The name of the service. Without one it is the ticket-granting service.
     pub service: Option<&'a str>,
-    /// The fewest iterations of string-to-key; absent: each type's default.
+    /// The fewest iterations of string-to-key. Without a number each encryption type has its default.
     pub least_count: Option<u32>,
     pub request: TicketRequest,
 }
@@ -31,9 +37,9 @@ pub(crate) struct ClientWords<'a> {
     /// The client's name as it was given, perhaps with its realm.
     pub given: &'a str,
     pub name: &'a str,
-    /// The realm's name; absent: the default realm.
+    /// The realm's name. Without one it is the default realm.
     pub realm: Option<&'a str>,
-    /// Whether the realm has an option of its own.
+    /// Whether the realm is the value of `--realm`.
     pub has_realm_option: bool,
 }
 
@@ -57,10 +63,10 @@ impl<'a> SecretWords<'a> {
         }
     }
 
-    /// Returns why a login with this secret got no ticket. A keytab's key may be an old one.
-    pub(crate) fn explained(self, fault: Fault) -> Fault {
+    /// Returns the error of a login with this secret. A keytab's key may be an old one.
+    pub(crate) fn explained(self, fault: ClientError) -> ClientError {
         match self {
-            SecretWords::Keytab(_) => Fault {
+            SecretWords::Keytab(_) => ClientError {
                 subject: fault.subject,
                 cause: fault.cause.by_keytab(),
             },
@@ -97,78 +103,120 @@ const NO_FIRST: &str = "\
 --renew and --validate take the ticket of the cache: no option of a first ticket goes with them";
 
 /// Returns the path of a keytab, if one is named.
-pub(crate) fn keytab_path<'a>(options: &ArgMatches<'a>) -> Result<Option<&'a str>, Fault> {
+pub(crate) fn keytab_path<'a>(options: &ArgMatches<'a>) -> Result<Option<&'a str>, ClientError> {
     match options.get_str("keytab") {
-        Some(name) => Ok(Some(path_in(name, NameOf::Keytab)?)),
+        Some(name) => Ok(Some(file_path(name, NameOf::Keytab)?)),
         None => Ok(None),
     }
 }
 
 /// Checks that no option of a first ticket stands beside `--renew` or `--validate`.
-pub(crate) fn check_renewal(options: &ArgMatches<'_>) -> Result<(), Fault> {
+pub(crate) fn check_renewal(options: &ArgMatches<'_>) -> Result<(), ClientError> {
     if asks_for_first(options) {
-        return Err(Fault::usage(NO_FIRST));
+        return Err(ClientError::usage(NO_FIRST));
     }
     Ok(())
 }
 
 /// Returns the words for a first ticket.
-pub(crate) fn first_words<'a>(options: &ArgMatches<'a>) -> Result<FirstWords<'a>, Fault> {
+pub(crate) fn first_words<'a>(options: &ArgMatches<'a>) -> Result<FirstWords<'a>, ClientError> {
     Ok(FirstWords {
-        client: client_words(options)?,
         secret: secret_words(options)?,
         service: options.get_str("service"),
-        least_count: number_in(options, "least-count").ok_or(Fault::usage(NO_COUNT))?,
+        least_count: number_in(options, "least-count").ok_or(ClientError::usage(NO_COUNT))?,
         request: ticket_request(options)?,
     })
 }
 
-/// Returns the words for the client, if one is named.
-fn client_words<'a>(options: &ArgMatches<'a>) -> Result<Option<ClientWords<'a>>, Fault> {
-    let realm = options.get_str("realm");
-    let (option, given) = match (options.get_str("client"), options.get_str("name")) {
-        (Some(_), Some(_)) => return Err(Fault::usage(TWO_NAMES)),
-        (Some(given), None) => ("", given),
-        (None, Some(given)) => ("--name", given),
-        (None, None) if realm.is_some() => return Err(Fault::usage(NO_NAME)),
-        (None, None) => return Ok(None),
+/// Returns the words for the client of `kinit`, if they name one.
+#[tactic(auto, using(crate::proofs::Giving::no_words, crate::proofs::Giving::some_words))]
+pub(crate) fn client_words<'a>(
+    command: &Command<'a>,
+    options: &ArgMatches<'_>,
+) -> Result<Option<ClientWords<'a>>, ClientError>
+    ensures { IfOk result (λ client.
+        AreClientWords (texts command.now.names.items) (text_of command.now.realm) client) }
+{
+    let Some(given) = one_name(&command.names)? else {
+        return no_client(command.realm);
     };
-    let has_realm_option = realm.is_some();
-    let (name, realm) = name_and_realm(given, realm)?;
-    Ok(Some(ClientWords {
-        option,
-        given,
-        name,
-        realm,
-        has_realm_option,
-    }))
+    let option = option_of_name(options);
+    Ok(Some(named_client(option, given, command.realm)?))
 }
 
-/// Returns a client's name and its realm, which follows an `@` or `--realm`.
-fn name_and_realm<'a>(
-    name: &'a str,
-    realm: Option<&'a str>,
-) -> Result<(&'a str, Option<&'a str>), Fault> {
-    match (name.split_once('@'), realm) {
-        (Some(_), Some(_)) => Err(Fault::usage(TWO_REALMS)),
-        (Some((name, realm)), None) => Ok((name, Some(realm))),
-        (None, realm) => Ok((name, realm)),
+/// Returns no words for a client. Fails if there is a realm without a name.
+fn no_client<'a>(realm: Option<&str>) -> Result<Option<ClientWords<'a>>, ClientError>
+    ensures { IfOk result (λ client. client ≡ None) }
+{
+    if realm.is_some() {
+        return Err(ClientError::usage(NO_NAME));
+    }
+    Ok(None)
+}
+
+/// Returns the option of the client's name; it is empty if the name is a plain word.
+fn option_of_name(options: &ArgMatches<'_>) -> &'static str {
+    if options.get_str("name").is_some() {
+        NAME
+    } else {
+        ""
     }
 }
 
-fn secret_words<'a>(options: &ArgMatches<'a>) -> Result<SecretWords<'a>, Fault> {
+/// Returns the only name, if there is one.
+#[tactic(auto, using(crate::proofs::Giving::only_listed))]
+fn one_name<'a>(names: &[&'a str]) -> Result<Option<&'a str>, ClientError>
+    ensures { IfOk result (λ name. listed (text_of name) ≡ texts names.now) }
+{
+    if names.len() > 1 {
+        return Err(ClientError::usage(TWO_NAMES));
+    }
+    Ok(names.first().copied())
+}
+
+/// Returns the words for a client with this name. Its realm follows an `@`, or `--realm`.
+fn named_client<'a>(
+    option: &'static str,
+    given: &'a str,
+    realm: Option<&'a str>,
+) -> Result<ClientWords<'a>, ClientError>
+    ensures given { IfOk result (λ client. client.given.now ≡ given.now) }
+    ensures name { IfOk result (λ client. client.name.now ≡ name_in given.now) }
+    ensures realm { IfOk result (λ client. text_of client.realm ≡ realm_in given.now (text_of realm.entry)) }
+{
+    let has_realm_option = realm.is_some();
+    match given.split_once('@') {
+        Some(_) if has_realm_option => Err(ClientError::usage(TWO_REALMS)),
+        Some((name, realm)) => Ok(ClientWords {
+            option,
+            given,
+            name,
+            realm: Some(realm),
+            has_realm_option,
+        }),
+        None => Ok(ClientWords {
+            option,
+            given,
+            name: given,
+            realm,
+            has_realm_option,
+        }),
+    }
+}
+
+fn secret_words<'a>(options: &ArgMatches<'a>) -> Result<SecretWords<'a>, ClientError> {
     match (options.get_str("password-file"), keytab_path(options)?) {
-        (Some(_), Some(_)) => Err(Fault::usage(TWO_SECRETS)),
+        (Some(_), Some(_)) => Err(ClientError::usage(TWO_SECRETS)),
         (Some(path), None) => Ok(SecretWords::PasswordFile(path)),
         (None, Some(path)) => Ok(SecretWords::Keytab(path)),
         (None, None) => Ok(SecretWords::Asked),
     }
 }
 
-fn ticket_request(options: &ArgMatches<'_>) -> Result<TicketRequest, Fault> {
+fn ticket_request(options: &ArgMatches<'_>) -> Result<TicketRequest, ClientError> {
     Ok(TicketRequest {
-        lifetime: seconds_in(options, "life").ok_or(Fault::usage(NO_LIFE))?,
-        start: seconds_in(options, "start").ok_or(Fault::usage(NO_START))?,
+        lifetime: seconds_in(options, "life").ok_or(ClientError::usage(NO_LIFE))?,
+        start: seconds_in(options, "start").ok_or(ClientError::usage(NO_START))?,
         renewable: options.get_flag("renewable"),
         renew_lifetime: None,
         forwardable: options.get_flag("forwardable"),
@@ -208,16 +256,18 @@ fn seconds_in(options: &ArgMatches<'_>, name: &str) -> Option<Option<u32>> {
     }
 }
 
-/// Reads the name after an option. A fault has the option and the whole word.
+/// Reads the name in the word after an option. The subject of an error is the option and the whole word.
 pub(crate) fn read_name(
     alloc: Global,
     option: &str,
     word: &str,
     text: &str,
-) -> Result<Name, Fault> {
+) -> Result<Name, ClientError>
+    ensures { IfOk result (λ name. IsNameText name.components text.now) }
+{
     match Name::from_text(alloc, text) {
         Ok(name) => Ok(name),
-        Err(fault) => Err(word_fault(alloc, option, word, Cause::from(fault))),
+        Err(fault) => Err(word_fault(alloc, option, word, StepError::from(fault))),
     }
 }
 
@@ -227,18 +277,21 @@ pub(crate) fn read_realm(
     option: &str,
     word: &str,
     text: &str,
-) -> Result<KerberosString, Fault> {
+) -> Result<KerberosString, ClientError>
+    ensures { IfOk result (λ realm. IsComponentText realm text.now) }
+{
     match component_from_text(alloc, text) {
         Ok(realm) => Ok(realm),
-        Err(fault) => Err(word_fault(alloc, option, word, Cause::from(fault))),
+        Err(fault) => Err(word_fault(alloc, option, word, StepError::from(fault))),
     }
 }
 
-/// Returns the fault for a word. If it is empty, the option is named alone. A plain word has no option.
-pub(crate) fn word_fault(alloc: Global, option: &str, word: &str, cause: Cause) -> Fault {
+/// Returns the error for a word. Its subject is the option and the word, or the option alone if the word is empty. A
+/// plain word has no option.
+pub(crate) fn word_fault(alloc: Global, option: &str, word: &str, cause: StepError) -> ClientError {
     match word_text(alloc, option, word) {
-        Ok(subject) => Fault::of(subject, cause),
-        Err(error) => Fault::from(error),
+        Ok(subject) => ClientError::of(subject, cause),
+        Err(error) => ClientError::from(error),
     }
 }
 

@@ -19,7 +19,7 @@ use Rattle.tgs_exchange.specs.Answer.{tgs_answer}
 use Rattle.tgs_opening.specs.Opening.{presented}
 use Rattle.tgs_opening.specs.ShownLaws.{presented_shown}
 use Rattle.tgs_opening.specs.declared.presented.Presented.{Presented}
-use Rattle.tgs_opening.specs.declared.rejection.Rejection.{Rejection}
+use Rattle.tgs_opening.specs.declared.rejection.OpeningRefusal.{OpeningRefusal}
 use Rattle.kdc_state.specs.State.{cache_of}
 use Rattle.kdc_state.specs.declared.state.State.{State}
 use Rattle.kdc_core.proofs.Frame.{other_kept}
@@ -77,7 +77,7 @@ module _ (state : State) (incoming : Incoming) where
 
   module _ (n : Components) (unshown : ShowsTicket state incoming.octets n → ⊥) where
     tgs_alike : (message : Received) → request_of incoming.octets ≡ Some (record { exchange = Tgs; message = message })
-        → (r : Result Presented Rejection) → presented (ticket_view state message) message ≡ r
+        → (r : Result Presented OpeningRefusal) → presented (ticket_view state message) message ≡ r
         → IsSeenAlike (cache_of state n) (cache_of (keep state (message_client state Tgs message)
         (contents_answer (named_view state (request_names state (record { exchange = Tgs; message = message }))) incoming (tgs_contents message r)).kept) n)
     tgs_alike message is (Ok p) accepted =
@@ -115,7 +115,7 @@ module _ (state : State) (incoming : Incoming) where
   recorded_shown message is p accepted None = tt
 
   tgs_shown : (message : Received) → request_of incoming.octets ≡ Some (record { exchange = Tgs; message = message })
-      → (v : View) (r : Result Presented Rejection) → presented (ticket_view state message) message ≡ r
+      → (v : View) (r : Result Presented OpeningRefusal) → presented (ticket_view state message) message ≡ r
       → IfSome (contents_seen v incoming (tgs_contents message r)) (λ seen. ShowsTicket state incoming.octets seen.client.components)
   tgs_shown message is v (Ok p) accepted =
       recorded_shown message is p accepted (tgs_answer (tgs_view v) incoming message.body.value p).kept

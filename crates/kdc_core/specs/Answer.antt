@@ -26,7 +26,7 @@ use Rattle.kdc_core.specs.View.{View, as_view, named, tgs_view, view}
 use Rattle.kdc_core.specs.Held.{Contents}
 use Rattle.kdc_core.specs.Held.Contents.{NoRequest, AsReq, RefusedTgsReq, TgsReq}
 
--- the bytes of the error with this code, if no service was requested
+-- the bytes of the error with this code, for a request that names no service
 abbrev pub error_octets : State → Moment → Code → List ℕ
 error_octets state at code = written krb_error (error_reply state.database.realm at code None None)
 
@@ -111,8 +111,8 @@ IsReply v at random request reply = IsContentsReply v at random reply (contents 
 abbrev pub ReplyOpens : View → Moment → List ℕ → Option Request → Type 0
 ReplyOpens v at random request = ContentsOpen v at random (contents v request)
 
--- If a ticket is issued, its reply is sent, and the reply key decrypts that to the session key, flags and times that
--- the service's key finds in the ticket; or an error is sent in its place.
+-- If a ticket is issued, its reply is sent, or an error in its place. The reply key decrypts the reply to the session
+-- key, flags and times that the service's key finds in the ticket.
 abbrev pub OneTicketTwoKeys : View → Moment → List ℕ → Option Request → Option (List ℕ) → Type 0
 OneTicketTwoKeys v at random request reply = IsSentTo v at random reply (contents v request)
 

@@ -29,7 +29,7 @@ pub record IsAnswered (before : State) (q : Incoming) (wants_audit : Bool) (give
       → (request_of q.octets ≡ Some r) ↔ (SpellsRequest r q.octets × (length q.octets ≤ 2147483647))
   -- the reply is the one that the rules prescribe
   pub reply : sent_bytes given ≡ (incoming_answer (view before q.octets) q).reply
-  -- a TGS-REQ gets what the first rule of their one list says, or a ticket if none holds
+  -- a TGS-REQ gets what the first rule that holds in the one list says, or a ticket if none holds
   pub ruled : IsRuled (view before q.octets) q (incoming_answer (view before q.octets) q)
       (incoming_audit (view before q.octets) q) (issued (view before q.octets) q.at q.random (request_of q.octets))
       (request_of q.octets)
@@ -54,7 +54,7 @@ pub record IsAnswered (before : State) (q : Incoming) (wants_audit : Bool) (give
       (incoming_audit (view before q.octets) q) (sent_bytes given)
   -- the authenticator that is reported as recorded is the one that the same rules record
   pub newly_seen : reported_seen given ≡ incoming_seen (view before q.octets) q
-  -- it is of a client whose ticket the request shows
+  -- its client is one whose ticket the request shows
   pub shown : IfSome (reported_seen given) (λ seen. ShowsTicket before q.octets seen.client.components)
   -- the state afterwards is the one that the rules prescribe
   pub state : after ≡ after_incoming before q

@@ -15,7 +15,7 @@ use Rattle.tgs_opening.specs.OpeningLaws.{client_of as opened_client, rejected_c
 use Rattle.tgs_opening.specs.declared.opened.OpenedTicket.{OpenedTicket}
 use Rattle.tgs_opening.specs.declared.presented.Presented.{Presented}
 use Rattle.tgs_opening.specs.declared.refusal.TgsRefusal.{TgsRefusal}
-use Rattle.tgs_opening.specs.declared.rejection.Rejection.{Rejection}
+use Rattle.tgs_opening.specs.declared.rejection.OpeningRefusal.{OpeningRefusal}
 use Rattle.kdc_state.specs.declared.state.State.{State}
 use Rattle.kdc_core.specs.Audit.{AuditRecord, AuditHolds, AuditSpelled, AuditSays, contents_audit, incoming_audit}
 use Rattle.kdc_core.specs.Audit.{kept_for}
@@ -55,7 +55,7 @@ module _ {A E : Type 0} (state : State) (incoming : Incoming) (r : Result A E) w
   unnamed_by (Some octets) names other h = h
   unnamed_by None names other h = h
 
-  rejected_by : (o : Option (List ℕ)) (names other : Named) (message : Received) (rejected : Rejection)
+  rejected_by : (o : Option (List ℕ)) (names other : Named) (message : Received) (rejected : OpeningRefusal)
       → AuditSpelled (named_view state names) incoming o (RefusedTgsReq message rejected)
       → AuditSpelled (named_view state other) incoming o (RefusedTgsReq message rejected)
   rejected_by (Some octets) names other message rejected h = h
@@ -123,7 +123,7 @@ module _ (v : View) (incoming : Incoming) (long : 32 ≤ length incoming.random)
   exchange_of None = refl
   exchange_of (Some request) = by_exchange request.exchange request.message
     where
-      request_presented : (message : Received) (r : Result Presented Rejection)
+      request_presented : (message : Received) (r : Result Presented OpeningRefusal)
           → audit_exchange (contents_audit v incoming (tgs_contents message r)) ≡ Some OfTgs
       request_presented message (Ok p) = refl
       request_presented message (Err rejected) = refl
@@ -156,7 +156,7 @@ client_named (Ok o) = refl
 client_named (Err rule) = refl
 
 module _ (state : State) (incoming : Incoming) where
-  tgs_named : (message : Received) (r : Result Presented Rejection) → presented (ticket_view state message) message ≡ r
+  tgs_named : (message : Received) (r : Result Presented OpeningRefusal) → presented (ticket_view state message) message ≡ r
       → AreNamesOf (request_names state (record { exchange = OfTgs; message = message })) (tgs_contents message r)
       → (v : View) → audit_names (contents_audit v incoming (tgs_contents message r))
       ≡ request_names state (record { exchange = OfTgs; message = message })

@@ -10,13 +10,13 @@ use Rattle.krb_types.specs.declared.kdc_req.Exchange.{Exchange}
 use Rattle.krb_types.specs.declared.kdc_req.Exchange.TheVariants.{As, Tgs}
 use Rattle.tgs_opening.specs.Opening.{presented}
 use Rattle.tgs_opening.specs.declared.presented.Presented.{Presented}
-use Rattle.tgs_opening.specs.declared.rejection.Rejection.{Rejection}
+use Rattle.tgs_opening.specs.declared.rejection.OpeningRefusal.{OpeningRefusal}
 use Rattle.kdc_core.specs.Request.{Request}
 use Rattle.kdc_core.specs.View.{Named, View, components_of, names_presented, opening_view}
 use Rattle.kdc_core.specs.Held.{Contents}
 use Rattle.kdc_core.specs.Held.Contents.{NoRequest, AsReq, RefusedTgsReq, TgsReq}
 
-abbrev pub tgs_contents : Received → Result Presented Rejection → Contents
+abbrev pub tgs_contents : Received → Result Presented OpeningRefusal → Contents
 tgs_contents message (Ok p) = TgsReq message p
 tgs_contents message (Err rejected) = RefusedTgsReq message rejected
 

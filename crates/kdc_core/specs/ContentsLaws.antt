@@ -11,7 +11,7 @@ use Rattle.tgs_opening.specs.Opening.{opened_ticket, presented}
 use Rattle.tgs_opening.specs.OpeningLaws.{ticket_opened}
 use Rattle.tgs_opening.specs.View.{TicketView}
 use Rattle.tgs_opening.specs.declared.presented.Presented.{Presented}
-use Rattle.tgs_opening.specs.declared.rejection.Rejection.{Rejection}
+use Rattle.tgs_opening.specs.declared.rejection.OpeningRefusal.{OpeningRefusal}
 use Rattle.kdc_state.specs.declared.state.State.{State}
 use Rattle.kdc_core.specs.After.{after_reply}
 use Rattle.kdc_core.specs.Answer.{contents_answer, incoming_answer, keep, after_incoming}
@@ -42,7 +42,7 @@ AreNamesOf names (RefusedTgsReq message rejected) = ⊤
 AreNamesOf names (TgsReq message p) = names ≡ names_answered (TgsReq message p)
 
 module _ (state : State) where
-  tgs_names : (message : Received) (r : Result Presented Rejection) → presented (ticket_view state message) message ≡ r
+  tgs_names : (message : Received) (r : Result Presented OpeningRefusal) → presented (ticket_view state message) message ≡ r
       → AreNamesOf (request_names state (record { exchange = Tgs; message = message })) (tgs_contents message r)
   tgs_names message (Ok p) is = λ i. record {
     client = presented_client (ticket_view state message) message p is i;
@@ -102,7 +102,7 @@ module _ {A E : Type 0} (state : State) (incoming : Incoming) (r : Result A E) w
       IfOk r (λ a. IsContentsReply (named_view state names) incoming.at incoming.random (octets a) held)
 
   -- the bytes of the answer to a refused TGS-REQ depend on the realm alone
-  refused_so : (o : Option (List ℕ)) (names other : Named) (message : Received) (rejected : Rejection)
+  refused_so : (o : Option (List ℕ)) (names other : Named) (message : Received) (rejected : OpeningRefusal)
       → IsContentsReply (named_view state names) incoming.at incoming.random o (RefusedTgsReq message rejected)
       → IsContentsReply (named_view state other) incoming.at incoming.random o (RefusedTgsReq message rejected)
   refused_so (Some octets) names other message rejected h = h

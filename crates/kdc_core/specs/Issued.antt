@@ -1,4 +1,4 @@
--- The ticket that a request is issued, if any, and which replies bear a given ticket.
+-- The ticket that is issued for a request, if any, and which replies bear a given ticket.
 use Rattle.std.specs.Prelude.{ℕ, List, Option, Some, None}
 use Rattle.as_exchange.specs.Issued as as_exchange
 use Rattle.tgs_exchange.specs.Issued as tgs_exchange
@@ -16,7 +16,8 @@ contents_issue v at random (AsReq message) = as_exchange.issued (as_view v) at r
 contents_issue v at random (RefusedTgsReq message rejected) = None
 contents_issue v at random (TgsReq message p) = tgs_exchange.issued (tgs_view v) at random message.body.value p
 
--- what a request is issued at this moment, with these random bytes; a reply that is sent again issues nothing new
+-- the ticket that is issued for a request at this moment, with these random bytes; a reply that is sent again issues
+-- nothing new
 abbrev pub issued : View → Moment → List ℕ → Option Request → Option Issue
 issued v at random request = contents_issue v at random (contents v request)
 

@@ -1,4 +1,4 @@
--- The reply to a request that is issued a ticket bears that ticket.
+-- The reply to a request for which a ticket is issued bears that ticket.
 use Rattle.std.proofs.Common.{◌≡◌, ◌≤◌, ℕ, List, length, Option, Some, None, Result, Ok, Err, IfOk, IfSome, refl, sym}
 use Rattle.std.proofs.Common.{subst}
 use Rattle.as_exchange.specs.IssuedLaws as as_exchange
@@ -34,8 +34,8 @@ module _ (v : View) (at : Moment) (random octets : List ℕ) where
     issued_so (TgsReq message p) sent e =
         tgs_exchange.reply_is_issued (tgs_view v) at random octets message.body.value p long issue sent e
 
-    -- The reply to a request that is issued a ticket bears that ticket, or is an error because there was no room for
-    -- it.
+    -- The reply to a request for which a ticket is issued bears that ticket, or is an error because there was no room
+    -- for it.
     pub reply_is_issued : (request : Option Request) → OneTicketTwoKeys v at random request (Some octets)
         → issued v at random request ≡ Some issue → IsIssuedOrError issue octets
     reply_is_issued request sent e = issued_so (contents v request) sent e
@@ -65,7 +65,7 @@ module _ (v : View) (at : Moment) (random : List ℕ) where
     replied held None nothing =
         subst (λ (h : Contents). IfSome (contents_issue v at random h) (λ issue. ⊥)) (sym nothing) tt
 
-    -- What a call sends to a request that is issued a ticket bears that ticket, or is an error in its place.
+    -- If a ticket is issued for a request, what a call sends bears that ticket, or is an error in its place.
     pub replies_issued : {A E : Type 0} (octets_of : A → Option (List ℕ)) (request : Option Request) (r : Result A E)
         → IfOk r (λ a. OneTicketTwoKeys v at random request (octets_of a))
         → IfOk r (λ a. IfSome (issued v at random request) (λ issue. IsTicketReply issue (octets_of a)))

@@ -15,7 +15,7 @@ use Rattle.kdc_core.specs.Run.{run}
 use Rattle.kdc_core.specs.Tickets.{bears_ticket}
 use Rattle.kdc_core.specs.declared.run.Event.{Event}
 
--- its mark is correct
+-- it says correctly whether its reply bears a ticket
 abbrev pub IsMarked : Kept → Type 0
 IsMarked kept = is_ticket kept.bears ≡ bears_ticket kept.reply
 

@@ -74,8 +74,8 @@ run_sees state (event ∷ events) =
 
 -- ---- what a start has to resume with
 
--- The resumption covers the state: an authenticator of a client that is recorded in the state, or is too old for it, is
--- recorded or too old afterwards too.
+-- The resumption covers the state. If an authenticator of a client is recorded in the state, or is too old for it, it
+-- is also recorded or too old after the resumption.
 abbrev pub Covers : State → Resumption → Type 0
 Covers state r = (c : Components) → Holds (cache_of state c) (resumed_cache r c)
 
@@ -93,17 +93,17 @@ abbrev pub AreUpTo : ℤ → List Event → Type 0
 AreUpTo now [] = ⊤
 AreUpTo now (event ∷ events) = IsUpTo now event × AreUpTo now events
 
--- with what a run recorded, at a second
+-- the resumption with what a run recorded added to it, at a second
 abbrev pub resumption_at : ℤ → Resumption → List Seen → Resumption
 resumption_at now r seen = record { floor = int_max r.floor (now -ℤ pos skew); seen = r.seen ++ seen }
 
 -- If a resumption covers a state, then it covers the state at the end of a run, once what the run recorded is added.
--- Its second may be any that no event of the run is later than.
+-- The second may be any that is not before an event of the run.
 abbrev pub CoversOn : Type 0
 CoversOn = (state : State) (events : List Event) (r : Resumption) (now : ℤ) → Covers state r → AreUpTo now events
     → Covers (run state events) (resumption_at now r (run_sees state events))
 
--- how a process begins
+-- what a process begins with after an opening
 abbrev pub opening_resumption : Opening → Resumption
 opening_resumption opening = record { floor = opening_floor opening; seen = [] }
 
@@ -114,14 +114,14 @@ CoversOpened = (database : Principals) (limits : Limits) (opening : Opening)
 abbrev pub CoversResumed : Type 0
 CoversResumed = (database : Principals) (limits : Limits) (r : Resumption) → Covers (resumed_state database limits r) r
 
--- nothing else is reported as recorded: the state has the authenticator afterwards
+-- an authenticator is reported as recorded only if the state has it afterwards
 abbrev pub HoldsNewlySeen : Type 0
 HoldsNewlySeen = (state : State) (event : Event)
     → IfSome (event_sees state event) (λ seen.
     IsTrue (is_some (map.get (cache_of (after_event state event) seen.client.components).pairs (stamp_seen seen))))
 
--- A process that began with an opening, or with what another resumed with, can be resumed: what it began with and what
--- it has recorded since cover its state.
+-- A process can be resumed, whether it began with an opening or by resuming itself. What it began with and what it has
+-- recorded since cover its state.
 pub record CanBeResumed : Type 0 where
   pub newly_seen : HoldsNewlySeen
   pub on : CoversOn

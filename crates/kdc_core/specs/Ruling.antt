@@ -46,12 +46,12 @@ abbrev pub if_tgs : Exchange → Type 0 → Type 0
 if_tgs OfAs P = ⊤
 if_tgs OfTgs P = P
 
--- of a TGS-REQ
+-- P holds of the request if it is a TGS-REQ
 abbrev pub IfTgsReq : Option Request → (Received → Type 0) → Type 0
 IfTgsReq (Some request) P = if_tgs request.exchange (P request.message)
 IfTgsReq None P = ⊤
 
--- of the answer to a request, the audit record of it and what it is issued
+-- the answer to a TGS-REQ, its audit record and the ticket that is issued for it follow the rules
 abbrev pub IsRuled : View → Incoming → Answer → AuditRecord → Option Issue → Option Request → Type 0
 IsRuled v q a audit issue request =
     IfTgsReq request (λ message. Follows v q message (tgs_ruling v q.at.sec message) a audit issue)

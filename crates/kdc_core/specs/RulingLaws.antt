@@ -20,7 +20,7 @@ use Rattle.ap_req.specs.declared.refusal.ApRefusal.TheVariants.{Repeated}
 use Rattle.tgs_opening.specs.Opening.{presented}
 use Rattle.tgs_opening.specs.declared.presented.Presented.{Presented}
 use Rattle.tgs_opening.specs.declared.refusal.TgsRefusal.TheVariants.{Ap}
-use Rattle.tgs_opening.specs.declared.rejection.Rejection.{Rejection}
+use Rattle.tgs_opening.specs.declared.rejection.OpeningRefusal.{OpeningRefusal}
 use Rattle.kdc_core.specs.Audit.{contents_audit, incoming_audit}
 use Rattle.kdc_core.specs.Answer.{contents_answer, incoming_answer, of_tgs, stamped}
 use Rattle.kdc_core.specs.Contents.{contents, message_contents, tgs_contents}
@@ -42,7 +42,7 @@ repeat_keeps v q body kept =
     (record { reply = kept.reply; kept = None }) refl refl) refl
 
 module _ (v : View) (q : Incoming) (message : Received) where
-  -- a decision that its reply, its audit record and its ticket are made of
+  -- the reply, the audit record and the ticket that are made from a decision follow it
   decided_follows : (p : Presented) (d : Decision Kept)
       → Follows v q message (refusing d) (of_tgs v q.at.sec p (answer_by (tgs_view v) q message.body.value p d))
       (Tgs (Some p.ticket.cname) message.body.value.sname (outcome_by (tgs_view v) q message.body.value p d))
@@ -53,7 +53,7 @@ module _ (v : View) (q : Incoming) (message : Received) where
       (refl, ap (λ k. stamped v.cache q.at.sec p k) (repeat_keeps (tgs_view v) q message.body.value kept))
   decided_follows p (Issues admission) = refl
 
-  presented_follows : (r : Result Presented Rejection)
+  presented_follows : (r : Result Presented OpeningRefusal)
       → Follows v q message (by_presented (tgs_view v) q.at.sec message r)
       (contents_answer v q (tgs_contents message r))
       (contents_audit v q (tgs_contents message r)) (contents_issue v q.at q.random (tgs_contents message r))

@@ -1,4 +1,4 @@
--- The ticket that a request shows. Only who shows one changes the replay cache of its client.
+-- The ticket that a request shows. Only a request that shows a client's ticket changes that client's replay cache.
 use Rattle.std.specs.Prelude.{◌≡◌, ℕ, List, Some, Ok}
 use Rattle.krb_fields.specs.Name.{Components}
 use Rattle.krb_types.specs.KdcReq.{Received}
@@ -12,8 +12,8 @@ use Rattle.kdc_state.specs.declared.state.State.{State}
 use Rattle.kdc_core.specs.Request.{request_of}
 use Rattle.kdc_core.specs.View.{ticket_view}
 
--- The bytes are a TGS-REQ with a ticket of this client. A key of a service decrypts the ticket, the session key in it
--- the authenticator, and the checksum in that is the one of the request's body.
+-- The bytes are a TGS-REQ with a ticket of this client. A key of a service decrypts the ticket, the ticket's session
+-- key decrypts the authenticator, and the authenticator has the checksum of the request's body.
 pub record ShowsTicket (state : State) (bytes : List ℕ) (client : Components) : Type 0 where
   pub message : Received
   pub request : request_of bytes ≡ Some (record { exchange = Tgs; message = message })

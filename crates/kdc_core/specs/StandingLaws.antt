@@ -31,7 +31,7 @@ module _ (state : State) (at : Moment) (random : List ℕ) where
       (tgs_exchange.issued_standing (tgs_view (named_view state (names_answered (TgsReq message p)))) message.body.value
       p at random)
 
-  -- of what a request is issued
+  -- the client and the service of the ticket that is issued for a request are in good standing
   pub issued_standing : (bytes : List ℕ)
       → IfSome (issued (view state bytes) at random (request_of bytes))
       (λ _. AreInGoodStanding state.database.realm (named state bytes).service (view state bytes).client (view state bytes).service at.sec)

@@ -28,9 +28,9 @@ RestartsFrom now (Restart at ∷ events) = (now ≤ℤ at.sec) × RestartsFrom n
 RestartsFrom now (Reopen database limits at ∷ events) = (now ≤ℤ at.sec) × RestartsFrom now events
 RestartsFrom now (Resume database limits resumption ∷ events) = RestartsFrom now events
 
--- No restart is before the second of an earlier request. That is all the law needs, and it is weaker than ordered
--- moments: the moments of requests may go back while the KDC runs, those of restarts may go back among themselves, and
--- tidyings may have any moment.
+-- No restart is before the second of an earlier request. That is all the law needs. It is weaker than ordered moments:
+-- the moments of requests may go back while the KDC runs, those of restarts may go back among themselves, and tidyings
+-- may have any moment.
 abbrev pub RestartsFollow : List Event → Type 0
 RestartsFollow [] = ⊤
 RestartsFollow (Request at random room request ∷ events) = RestartsFrom at.sec events × RestartsFollow events
@@ -51,7 +51,7 @@ ResumesWithAll state (Restart at) = ⊤
 ResumesWithAll state (Reopen database limits at) = ⊤
 ResumesWithAll state (Resume database limits resumption) = Covers state resumption
 
--- this holds at each place of a run where it resumes; the moment there may be any
+-- the same at each place of a run where it resumes, at whatever moment
 abbrev pub ResumesFollow : State → List Event → Type 0
 ResumesFollow state [] = ⊤
 ResumesFollow state (event ∷ events) = ResumesWithAll state event × ResumesFollow (after_event state event) events
@@ -86,7 +86,7 @@ ticket_for c state (Resume database limits resumption) reply = None
 abbrev pub ticket_to : Components → State → Event → Option (Stamp × List ℕ)
 ticket_to c state event = ticket_for c state event (event_reply state event)
 
--- those of a whole run, in order
+-- the tickets of a whole run, in order
 abbrev pub tickets_to : Components → State → List Event → List (Stamp × List ℕ)
 tickets_to c = collected after_event (ticket_to c)
 

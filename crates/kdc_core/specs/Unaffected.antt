@@ -32,7 +32,7 @@ IsAlike c S (Resume database limits resumption) other =
     (new : Principals) × (others : Resumption) × (other ≡ Resume new limits others) × HasSameRows c S database new
     × (resumed_cache others c ≡ resumed_cache resumption c)
 
--- one by one
+-- the events of two runs are alike, one by one
 abbrev pub AreAlike : Components → Names → List Event → List Event → Type 0
 AreAlike c S [] [] = ⊤
 AreAlike c S [] (other ∷ others) = ⊥

@@ -36,7 +36,7 @@ abbrev pub row_of : State → Option Components → Option Row
 row_of state (Some name) = map.get state.database.rows name
 row_of state None = None
 
--- the rows that the ticket in a request is decrypted with
+-- the rows whose keys may decrypt the ticket in a request
 abbrev pub ticket_view : State → Received → tgs_opening.TicketView
 ticket_view state message = record {
   realm = state.database.realm;
@@ -92,7 +92,7 @@ named_view state names = record {
   cache = cache_named state names.client;
 }
 
--- of a request that was read
+-- the view of a request that was read
 abbrev pub message_view : State → Exchange → Received → View
 message_view state exchange message =
     named_view state (request_names state (record { exchange = exchange; message = message }))

@@ -13,7 +13,7 @@ ghost use Rattle.tgs_exchange.specs.declared.outcome.TgsOutcome.TheVariants.{Ref
 
 use crate::as_replies::as_reply;
 use crate::audit::{AuditRecord, lent_name};
-use crate::contents::open_presented;
+use crate::contents::{named_row, open_presented};
 use crate::mark::Mark;
 use crate::tgs_replies::tgs_reply;
 use kdc_replies::Incoming;
@@ -22,7 +22,7 @@ use krb_fields::NameRef;
 use krb_types::{Exchange, KdcReqRef};
 use std::alloc::{AllocError, Global};
 use tgs_exchange::{TgsOutcome, tgs_error};
-use tgs_opening::Rejection;
+use tgs_opening::OpeningRefusal;
 
 /// The answer to a request, before the KDC's state changes.
 #[derive(Drop)]
@@ -54,8 +54,10 @@ pub fn reply_to<'q>(
     match exchange {
         Exchange::As => as_reply(state, alloc, incoming, message),
         Exchange::Tgs => {
-            match open_presented(state, alloc, incoming.ready, message)? {
-                Ok(presented) => tgs_reply(state, alloc, incoming, message, presented),
+            // the ticket may be for this service, and the new one is
+            let service = named_row(state, message.body.value.sname.as_ref());
+            match open_presented(state, alloc, incoming.ready, message, service)? {
+                Ok(presented) => tgs_reply(state, alloc, incoming, message, service, presented),
                 Err(rejection) => refused(state, alloc, incoming, message, rejection),
             }
         }
@@ -68,7 +70,7 @@ fn refused<'q>(
     alloc: Global,
     incoming: &Incoming<'_>,
     message: &KdcReqRef<'q>,
-    rejection: Rejection,
+    rejection: OpeningRefusal,
 ) -> Result<Answered<'q>, AllocError>
     requires { IsShortName message.now }
     ensures written { IfOk result (λ reply.
@@ -83,7 +85,7 @@ fn refused<'q>(
 {
     let realm = state.database.realm();
     let body = &message.body.value;
-    let Rejection { rule, client } = rejection;
+    let OpeningRefusal { rule, client } = rejection;
     Ok(Answered {
         octets: tgs_error(alloc, realm, incoming.at, body, rule)?,
         mark: None,

@@ -12,7 +12,7 @@ ghost use Rattle.kdc_state.specs.declared.state.State as states;
 
 use crate::answering::Answered;
 use crate::audit::{AuditRecord, lent_name};
-use crate::contents::row_of;
+use crate::contents::named_row;
 use crate::mark::Mark;
 use as_exchange::{AsAnswer, AsView, as_answer};
 use kdc_replies::Incoming;
@@ -79,14 +79,14 @@ fn as_view<'s>(state: &'s State, message: &KdcReqRef<'_>) -> AsView<'s>
     AsView {
         realm: state.database.realm(),
         limits: &state.limits,
-        client: row_of(state, body.cname.as_ref()),
-        service: row_of(state, body.sname.as_ref()),
-        failures: failures_of(state, body.cname.as_ref()),
+        client: named_row(state, body.cname.as_ref()),
+        service: named_row(state, body.sname.as_ref()),
+        failures: client_failures(state, body.cname.as_ref()),
     }
 }
 
 /// Returns the failures of the client that a request names.
-fn failures_of(state: &State, name: Option<&NameRef<'_>>) -> Failures
+fn client_failures(state: &State, name: Option<&NameRef<'_>>) -> Failures
     ensures { result ≡ (cache_named state.now (components_of (option_copied name.entry))).failures }
 {
     match name {

@@ -7,7 +7,7 @@ use krb_fields::{Name, NameRef};
 use std::alloc::{AllocError, Global};
 use tgs_exchange::TgsOutcome;
 
-/// How a request was handled, with the names that it gives. Logs are built from it. No reply depends on it.
+/// A record of how a request was handled, with the names that it gives. Logs are built from it. No reply depends on it.
 ///
 /// `N` is the type of the names that the request gives: borrowed from its bytes ([`NameRef`]), or owned.
 #[derive(Drop)]

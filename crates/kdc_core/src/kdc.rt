@@ -46,7 +46,7 @@ use std::error::Error;
 use std::fmt;
 use std::marker::Model;
 
-/// A database of another realm can't replace this one.
+/// The database is of another realm, so it can't replace this one.
 #[derive(Clone, Copy, Debug, PartialEq, Eq)]
 pub struct OtherRealm;
 
@@ -58,7 +58,7 @@ impl fmt::Display for OtherRealm {
 
 impl Error for OtherRealm {}
 
-/// A key distribution centre: the state behind requests and changes.
+/// A key distribution centre: its state after the requests and changes so far.
 #[derive(Drop)]
 pub struct Kdc {
     state: State,
@@ -86,7 +86,7 @@ impl Kdc {
         opening: Opening,
     ) -> Result<Kdc, AllocError>
         // Promise (opened, reopened): a KDC starts with its database, its limits, the floor of that start, and no
-        // stored replay cache: after a restart as a `Reopen` event would leave it, whatever came before.
+        // stored replay cache; after a restart it equals the state after a `Reopen` event, whatever came before.
         ensures opened { IfOk result (λ kdc. kdc ≡ opened_state database limits opening) }
         // After a restart it equals the state after a `Reopen` event, whatever came before.
         ensures reopened { (state : states.State) (at : moments.Moment) → opening ≡ Restart at
@@ -100,7 +100,7 @@ impl Kdc {
     }
 
     /// Starts with a database and with the authenticators that were seen before. Each client's authenticators in the
-    /// resumption are refused if they come again, and so is every time below the floor. Nothing else is known of the
+    /// resumption are refused if they come again, and so is every time below the floor. Nothing else is known about the
     /// time before.
     pub fn resume(
         alloc: Global,
@@ -109,7 +109,7 @@ impl Kdc {
         resumption: &Resumption,
     ) -> Result<Kdc, AllocError>
         // Promise (resumed, goes_on, caches): a KDC that resumes has each client's authenticators that were seen, and
-        // no others, and refuses times below the floor; one that was seen gets 34 if it comes again.
+        // no others; it refuses these with error 34 if they come again, and times below the floor.
         ensures resumed { IfOk result (λ kdc. kdc ≡ resumed_state database limits resumption.now) }
         // It equals the state after a `Resume` event, whatever came before.
         ensures goes_on { (state : states.State)
@@ -154,13 +154,13 @@ impl Kdc {
         ensures reply { IfOk result (λ reply.
             option_map (λ octets. octets.items) reply
             ≡ (answer (view self.old request.now) at random.now room request.now).reply) }
-        // A TGS-REQ gets what the first rule of their one list says, or a ticket if none holds.
-        // Promise: **one list of rules**: a TGS-REQ gets what the first rule of `refusals` says that holds: its error,
-        // stored with the authenticator or not, by where the rule stands.
-        // Promise: if that rule is the one of a repeated authenticator, a TGS-REQ gets what was stored for it; if none
-        // holds, a ticket. The audit record names the rule.
-        // Promise: the list is in the order of [PROTOCOL](PROTOCOL.md)'s table, each condition over what is known of
-        // the request; the stages in which the code decides find the same (`ruled` of `RefusalsLaws`).
+        // A TGS-REQ gets what the first rule that holds in the one list says, or a ticket if none holds.
+        // Promise: **one list of rules**: a TGS-REQ gets what the first rule that holds in `refusals` says: its error,
+        // which is stored with the authenticator or not, depending on where the rule stands.
+        // Promise: if that rule is the one for a repeated authenticator, a TGS-REQ gets what was stored for it; if no
+        // rule holds, it gets a ticket. The audit record names the rule.
+        // Promise: the list is in the order of [PROTOCOL](PROTOCOL.md)'s table, with conditions on what is known of the
+        // request; the stages in which the code decides give the same decision (`ruled` of `RefusalsLaws`).
         ensures ruled { IsRuled (view self.old request.now) (asked at random.now room request.now)
             (answer (view self.old request.now) at random.now room request.now)
             (audit (view self.old request.now) at random.now room request.now)
@@ -178,14 +178,14 @@ impl Kdc {
         // reply key decrypts that to the session key, flags and times that the service's key finds in the ticket.
         // Promise: the bytes may spell an error in the ticket's place; the service's key is the one of its row that the
         // ticket names by type and version.
-        // Promise: the reply key is, in the AS exchange, the one of the client's row that the reply names so, and in
-        // the TGS exchange the subkey, or else the presented ticket's session key.
+        // Promise: in the AS exchange the reply key is the one of the client's row that the reply names by type and
+        // version; in the TGS exchange it is the subkey, or else the presented ticket's session key.
         ensures keys { IfOk result (λ reply.
             OneTicketTwoKeys (view self.old request.now) at random.now (request_of request.now)
             (option_map (λ octets. octets.items) reply)) }
         // The same for the issued ticket: what the client and the service decrypt is what was granted.
-        // Promise: the same of what was granted: the bytes that are sent are the reply; the reply key decrypts its part
-        // and the service's key the ticket, both to what was granted, with a session key of its type's length.
+        // Promise: if a ticket is issued, the bytes that are sent are its reply: the reply key decrypts the reply's
+        // part, and the service's key the ticket, to what was granted, with a session key of the right length.
         // Promise: the bytes may be an error in place of what was granted; `reply` says which (an error if the room is
         // too small).
         ensures issued { IfOk result (λ reply.
@@ -194,7 +194,8 @@ impl Kdc {
         // A ticket is issued only if its client and its service are in good standing: both have rows, neither is
         // disabled or expired, and tickets may be issued for the service.
         // Promise: a ticket is issued only if its client and its service are in good standing at that second
-        // (`AreInGoodStanding`): both have rows, neither is disabled or expired, and tickets may be for the service.
+        // (`AreInGoodStanding`): both have rows, neither is disabled or expired, and tickets may be issued for the
+        // service.
         ensures standing { IfSome (issued (view self.old request.now) at random.now (request_of request.now)) (λ issue.
             AreInGoodStanding self.old.database.realm (named self.old request.now).service
             (view self.old request.now).client (view self.old request.now).service at.sec) }
@@ -223,15 +224,15 @@ impl Kdc {
             → cache_of self.new name ≡ cache_of self.old name }
         // Without a ticket of a client nothing changes what that client's replay cache has seen. A ticket counts only
         // if a key of a service decrypts it.
-        // Promise: **only a ticket's holder**: what a client's replay cache has seen stays, unless the request shows a
-        // ticket of that client; so it is of what is reported as recorded.
-        // Promise: a request shows a client's ticket if a key in the row of a service decrypts the ticket, its session
-        // key the authenticator, and that has the checksum of the request's body.
-        // Promise: the service is `krbtgt/REALM`, or the one asked for, if its row says that it is a service.
+        // Promise: **only a ticket's holder**: a request that shows no ticket of a client changes nothing that this
+        // client's replay cache has seen, and reports no authenticator of this client as recorded.
+        // Promise: a request shows a client's ticket if a key in the row of a service decrypts the ticket, the ticket's
+        // session key decrypts the authenticator, and that has the checksum of the request's body.
+        // Promise: the service is `krbtgt/REALM`, or the requested one if its row says that it is a service.
         ensures holder { (name : Components) → (ShowsTicket self.old request.now name → ⊥)
             → IsSeenAlike (cache_of self.old name) (cache_of self.new name) }
-        // Promise: when memory runs out, nothing changes. In a run fewer events are then done than there are, and the
-        // replies and the state are those of the events that are done.
+        // Promise: if memory runs out, nothing changes. A run then ends early, with the replies and the state after the
+        // events that were completed.
         ensures err { OnErr result (self.new ≡ self.old) }
     {
         let timed = TimedRequest {
@@ -265,11 +266,11 @@ impl Kdc {
         // Promise (answered.shown), as Kdc::handle: **only a ticket's holder**: ..
         // Promise: **the answer that a hub sends is the same**: all of the above holds of its reply, its audit record,
         // and the authenticator that it records. `Kdc::handle` is this call, with the reply alone.
-        // Promise (answered.newly_seen): an answer names an authenticator as remembered only if it is, and exactly if
-        // the rules store it, also for a refused request.
+        // Promise (answered.newly_seen): an answer reports an authenticator as recorded exactly if the rules store it,
+        // also for a refused request.
         ensures answered { IfOk result (λ given. IsAnswered self.old
             (asked request.now.at random.now room request.now.octets.now) wants_audit given self.new) }
-        // Promise, as Kdc::handle: when memory runs out, ..
+        // Promise, as Kdc::handle: if memory runs out, ..
         ensures err { OnErr result (self.new ≡ self.old) }
     {
         let TimedRequest { at, octets } = *request;
@@ -294,8 +295,8 @@ impl Kdc {
 
     /// Changes the database. A refused change leaves everything unchanged.
     pub fn apply(&mut self, alloc: Global, change: &Change) -> Result<(), ChangeFault>
-        // Promise (changed, refused, otherwise, err): a change is the database's, and one that is refused changes
-        // nothing.
+        // Promise (changed, refused, otherwise, err): a change changes the database as `Database::apply` does; one that
+        // is refused changes nothing.
         ensures changed { OnOk result (self.new ≡ record self.old { database = changed self.old.database change.now }) }
         ensures refused { IfSome (refusal self.old.database change.now) (λ fault. result ≡ Err fault) }
         ensures otherwise { IfNone (refusal self.old.database change.now) (IsOkUnless result ChangeFault.Memory) }
@@ -324,9 +325,8 @@ impl Kdc {
     /// Drops each client's authenticators that are too old to be accepted again, and every replay cache that
     /// then equals that of a client never seen. It allocates nothing.
     pub fn tidy(&mut self, at: Moment)
-        // Promise (state, caches, database, limits): a tidying leaves each name the replay cache without what can't
-        // come again, and none stored that says no more than an unstored one; nothing else changes, and it allocates
-        // nothing.
+        // Promise (state, caches, database, limits): a tidying drops what can't come again from each replay cache, and
+        // each cache that then equals that of a client never seen; nothing else changes, and it allocates nothing.
         ensures state { self.new ≡ tidied_state self.old at }
         // Each client's cache is tidied; rows, realm and limits are unchanged.
         ensures caches { (name : Components) → cache_of self.new name ≡ tidied (cache_of self.old name) at.sec }
@@ -364,7 +364,7 @@ impl Kdc {
     /// Drops all replay caches, as when a process ends and starts again: no authenticator that was accepted at a
     /// moment no later than `at` is accepted again. It allocates nothing.
     pub fn restart(&mut self, at: Moment)
-        // Promise (state, caches, database, limits): a restart leaves each name the replay cache of a restart at that
+        // Promise (state, caches, database, limits): a restart gives each name the replay cache of a restart at that
         // moment; nothing else changes, and it allocates nothing.
         ensures state { self.new ≡ restarted self.old at }
         // Each client has the cache of a restart; rows, realm and limits are unchanged.
@@ -377,7 +377,7 @@ impl Kdc {
 
     /// Returns the row of a principal. Names are compared by their components alone.
     pub fn get(&self, name: &Name) -> Option<&Row>
-        // Promise: a row is looked up by the name's components; the realm.
+        // Promise: a row is looked up by the name's components, and the realm is the database's.
         ensures { option_copied result ≡ map.get self.now.database.rows name.now.components }
     {
         self.state.database.get(name)
@@ -386,7 +386,7 @@ impl Kdc {
     /// Returns the bytes of a KRB-ERROR for a request that was not read, such as one for a length that is too large
     /// (RFC 4120, section 7.2.2).
     pub fn error(&self, alloc: Global, at: Moment, code: Code) -> Result<Vec<u8>, AllocError>
-        // Promise: the bytes of an error that answers no request, such as one for a faulty length.
+        // Promise: an error that answers no request, such as one for a bad length, is written as the definition says.
         ensures { IfOk result (λ octets. octets.items ≡ error_octets self.now at code) }
     {
         error_reply(alloc, self.state.database.realm(), at, code, None, None)

@@ -16,8 +16,8 @@ pub fn any_run()
     // Promise: **isolation**: for a client, a set of names (next row), and a second state of the same realm and limits
     // that agrees on the client's row and replay cache and the set's rows: the client's requests get, in order, the
     // replies of the struck run from it.
-    // Promise: the set of names holds `krbtgt/REALM`, that of each realm with which a process starts again, and each
-    // service that the client's requests name.
+    // Promise: the set of names holds `krbtgt/REALM`, the same for each realm with which a process starts again, and
+    // each service that the client's requests name.
     // Promise: the two runs agree for client and set at the end; moments may go in any direction; the struck run keeps
     // every replacement, tidying and restart.
     ensures isolation { (state : State) (events : List Event) → Isolation state events }
@@ -41,9 +41,9 @@ pub fn any_run()
     // reply has a ticket.
     ensures marked { KeepsMarked }
     // What a process began with, and what it has recorded since, is enough to resume with.
-    // Promise: **a process can be resumed**: take what it started with, and the authenticators that its answers name as
-    // remembered. At any second that none of its requests and tidyings is later than, these cover its state.
-    // Promise: a state that resumes with what covers it refuses each authenticator that is in a client's replay cache
+    // Promise: **a process can be resumed**: what it started with, and the authenticators that its answers report as
+    // recorded, cover its state, at any second that is not before one of its requests or tidyings.
+    // Promise: a state that resumes with what covers it refuses each authenticator that was in a client's replay cache
     // or too old for it.
     ensures resumable { CanBeResumed }
     // If no request is before an earlier tidying, requests get the replies that they get without any tidying.

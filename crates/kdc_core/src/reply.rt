@@ -1,4 +1,4 @@
-//! The reply to a request, and what a server writes down with it.
+//! The reply to a request, and what a server records with it.
 ghost use Rattle.std.specs.Prelude.{◌≡◌, IfOk, option_map};
 ghost use Rattle.kdc_core.specs.ReplyIn.{IsReplyIn};
 

@@ -89,14 +89,14 @@ impl Kdc {
     /// A run ends early only if memory runs out. It can continue with the first event that was not completed.
     pub fn run(&mut self, alloc: Global, events: &[Event]) -> Result<Vec<Option<Vec<u8>>>, RunFault>
         // The replies are those that the rules prescribe, each from the state that the events before it left.
-        // Promise (replies, state): each event of a run, a request, a change, a replacement, a tidying or a restart, is
-        // answered, in order, from the state that the events before it left; the state in the end.
+        // Promise (replies, state): each event of a run (a request, a change, a replacement, a tidying or a restart) is
+        // handled, in order, from the state that the events before it left; the final state is the one that they leave.
         ensures replies { IfOk result (λ r.
             map (option_map (λ octets. octets.items)) r.items ≡ replies self.old events.now) }
         // The state afterwards is the one that the rules prescribe.
         ensures state { OnOk result (self.new ≡ run self.old events.now) }
         // If memory runs out, both are as after the completed events.
-        // Promise (done, done_replies, done_state), as Kdc::handle: when memory runs out, ..
+        // Promise (done, done_replies, done_state), as Kdc::handle: if memory runs out, ..
         ensures done { IfErr result (λ fault. fault.done < length events.now) }
         ensures done_replies { IfErr result (λ fault.
             map (option_map (λ octets. octets.items)) fault.replies.items
@@ -190,7 +190,7 @@ impl Kdc {
                 limits,
                 resumption,
             } => {
-                self.resume_with(alloc, database, *limits, resumption)?;
+                self.resume_copy(alloc, database, *limits, resumption)?;
                 Ok(None)
             }
         }
@@ -213,7 +213,7 @@ impl Kdc {
     }
 
     /// Resumes with a copy of this database.
-    fn resume_with(
+    fn resume_copy(
         &mut self,
         alloc: Global,
         database: &Database,

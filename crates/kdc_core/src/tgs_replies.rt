@@ -1,5 +1,5 @@
 //! The TGS exchange of a KDC.
-ghost use Rattle.std.specs.Prelude.{◌≡◌, Some, IfOk, IfSome};
+ghost use Rattle.std.specs.Prelude.{◌≡◌, Some, IfOk, IfSome, option_copied};
 ghost use Rattle.tgs_exchange.specs.Known.{IsKnown};
 ghost use Rattle.replay.specs.Tidied.{empty_cache};
 ghost use Rattle.kdc_state.specs.State.{cache_of};
@@ -8,31 +8,34 @@ ghost use Rattle.kdc_core.specs.After.{after, marked_seen, authenticator_mark, M
 ghost use Rattle.kdc_core.specs.Answer.{contents_answer, keep, ContentsOpen, ContentsSpelled};
 ghost use Rattle.kdc_core.specs.Contents.{IsShortData, IsShortName};
 ghost use Rattle.kdc_core.specs.NewlySeen.{contents_seen, seen_if_kept};
-ghost use Rattle.kdc_core.specs.View.{presented_view, tgs_view};
+ghost use Rattle.kdc_core.specs.View.{components_of, presented_view, row_of, tgs_view};
 ghost use Rattle.kdc_core.specs.Held.Contents.{TgsReq};
 
 use crate::answering::Answered;
 use crate::audit::{AuditRecord, lent_name};
-use crate::contents::row_of;
 use crate::mark::Mark;
 use kdc_replies::Incoming;
 use kdc_state::State;
 use krb_fields::{Moment, Name};
 use krb_types::KdcReqRef;
+use principal_rows::Row;
 use replay::{Kept, ReplayCache};
 use std::alloc::{AllocError, Global};
 use tgs_exchange::{TgsAnswer, TgsView, tgs_answer};
 use tgs_opening::Presented;
 
-/// Returns the reply to a TGS-REQ that presents this decrypted ticket and authenticator.
+/// Returns the reply to a TGS-REQ that presents this decrypted ticket and authenticator, and names the service with
+/// this row.
 pub fn tgs_reply<'q>(
     state: &State,
     alloc: Global,
     incoming: &Incoming<'_>,
     message: &KdcReqRef<'q>,
+    service: Option<&Row>,
     presented: Presented,
 ) -> Result<Answered<'q>, AllocError>
     requires sname { IsShortName message.now }
+    requires service { option_copied service ≡ row_of state.now (components_of message.now.body.value.sname) }
     requires authorization { IsShortData presented }
     ensures reply { IfOk result (λ reply.
         Some reply.octets.items ≡ (contents_answer (presented_view state.now message.now presented) incoming.now
@@ -60,7 +63,7 @@ pub fn tgs_reply<'q>(
     ensures stays { IfOk result (λ reply. IfSome reply.mark (MayStay state.now)) }
 {
     let unstored = ReplayCache::empty(alloc, state.floor);
-    let view = tgs_view(state, message, &presented, &unstored);
+    let view = tgs_view(state, message, service, &presented, &unstored);
     let TgsAnswer {
         reply,
         outcome,
@@ -90,11 +93,13 @@ fn client_of(presented: Presented) -> Name
 fn tgs_view<'s>(
     state: &'s State,
     message: &KdcReqRef<'_>,
+    service: Option<&'s Row>,
     presented: &Presented,
     unstored: &'s ReplayCache<Kept>,
 ) -> TgsView<'s>
     requires unstored { unstored.now ≡ empty_cache state.now.floor }
     requires sname { IsShortName message.now }
+    requires service { option_copied service ≡ row_of state.now (components_of message.now.body.value.sname) }
     requires authorization { IsShortData presented.now }
     ensures view { result ≡ tgs_view (presented_view state.now message.now presented.now) }
     ensures known { IsKnown (tgs_view (presented_view state.now message.now presented.now)) message.now.body.value
@@ -104,13 +109,13 @@ fn tgs_view<'s>(
         realm: state.database.realm(),
         limits: &state.limits,
         client: state.database.get(&presented.ticket.cname),
-        service: row_of(state, message.body.value.sname.as_ref()),
-        cache: cache_of(state, &presented.ticket.cname, unstored),
+        service,
+        cache: client_cache(state, &presented.ticket.cname, unstored),
     }
 }
 
 /// Returns the replay cache of a client.
-fn cache_of<'s>(
+fn client_cache<'s>(
     state: &'s State,
     client: &Name,
     unstored: &'s ReplayCache<Kept>,

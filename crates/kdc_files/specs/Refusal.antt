@@ -2,19 +2,15 @@
 use Rattle.std.specs.Prelude.{ℕ, List, Option, Some, None, codes}
 use Rattle.file_store.specs.Refusal.{cause_refusal}
 use Rattle.principals_text.specs.RefusalWord.{read_refusal}
-use Rattle.kdc_files.specs.declared.files.ServerFileCause.{ServerFileCause}
-use Rattle.kdc_files.specs.declared.files.ServerFileCause.TheVariants.{File, NotJournal, Journal, NotFirst, BesideDatabase, Database}
-use Rattle.kdc_files.specs.declared.files.LeftoverFault.{LeftoverFault}
-use Rattle.kdc_files.specs.declared.files.LeftoverFault.TheVariants as leftovers
+use Rattle.kdc_files.specs.declared.files.ServerFileError.{ServerFileError}
+use Rattle.kdc_files.specs.declared.files.ServerFileError.TheVariants.{File, NotJournal, Journal, NotFirst}
+use Rattle.kdc_files.specs.declared.files.ServerFileError.TheVariants.{NotJournalBeside, NotRemoved, Database}
 
-abbrev pub leftover_refusal : LeftoverFault → Option (List ℕ)
-leftover_refusal (leftovers.NotJournal part) = Some (codes "NotJournal")
-leftover_refusal (leftovers.Failed error) = None
-
-abbrev pub refusal : ServerFileCause → Option (List ℕ)
+abbrev pub refusal : ServerFileError → Option (List ℕ)
 refusal (File cause) = cause_refusal cause
 refusal (NotJournal part) = Some (codes "NotJournal")
 refusal Journal = Some (codes "Journal")
 refusal NotFirst = Some (codes "NotFirst")
-refusal (BesideDatabase fault) = leftover_refusal fault
+refusal (NotJournalBeside part) = Some (codes "NotJournal")
+refusal (NotRemoved error) = None
 refusal (Database fault) = read_refusal fault.cause

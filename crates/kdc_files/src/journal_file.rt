@@ -8,11 +8,11 @@ ghost use Rattle.journal.specs.Life.Call.{Keep, Mend};
 ghost use Rattle.kdc_files.specs.Keeping.{BeginsOver, FailsOver};
 ghost use Rattle.kdc_files.specs.Unrecorded.{none_handed};
 
-use crate::files::ServerFileCause;
+use crate::files::ServerFileError;
 use crate::journal_store::SystemJournal;
 use crate::journals::JournalBeginning;
 use crate::keeping::JournalWriter;
-use journal::{FilesFault, JournalFile, JournalFiles, NotKept};
+use journal::{JournalFile, JournalFiles, NotKept};
 use kdc_core::Seen;
 use krb_fields::Moment;
 use std::alloc::Global;
@@ -30,11 +30,11 @@ pub fn begin_journal<'a, F: Files<File = File>, W: Write + Drop>(
     files: SystemJournal<'a, F, W>,
     beginning: JournalBeginning,
     most: u64,
-) -> Result<FileJournal<'a, F, W>, ServerFileCause> {
+) -> Result<FileJournal<'a, F, W>, ServerFileError> {
     let len = files.len();
     match begun(alloc, files, beginning, len, most) {
         Ok(journal) => Ok(journal),
-        Err(unbegun) => Err(ServerFileCause::from(unbegun.fault)),
+        Err(unbegun) => Err(ServerFileError::from(unbegun.fault)),
     }
 }
 
@@ -44,7 +44,7 @@ pub struct Unbegun<F: JournalFiles> {
     /// Its files.
     pub files: F,
     /// Why it did not begin.
-    pub fault: FilesFault<F::Fault>,
+    pub fault: F::Fault,
 }
 
 /// Begins the journal of a server, or goes on with what was read of its files. The newer one has `len` octets, and
@@ -92,7 +92,8 @@ impl<F: JournalFiles> JournalWriter for JournalFile<F> {
     ghost state = { state_of F.world };
 
     fn keep(&mut self, alloc: Global, at: Moment, seen: &Seen) -> Result<(), NotKept>
-        ensures handed { Records (none_handed self.old) (record { at = at; seen = seen.now } ∷ []) (none_handed self.new) }
+        ensures handed { Records (none_handed self.old) (record { at = at; seen = seen.now } ∷ [])
+            (none_handed self.new) }
         ensures whole { is_whole self.new ≡ is_ok result }
         ensures call { IsCall (Keep seen.now result) (state_of F.world self.old) (state_of F.world self.new) }
     {

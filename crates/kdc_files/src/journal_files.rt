@@ -1,10 +1,10 @@
 //! The files of a journal: which process holds them, and what is found in them.
 ghost use Rattle.std.specs.Prelude.{◌≡◌, IfOk, None};
 
-use crate::files::{ServerFileCause, read_up_to, read_whole};
+use crate::files::{ServerFileError, read_up_to, read_whole};
 use crate::journal_store::{JournalPlace, SystemJournal};
 use crate::journals::Journals;
-use file_store::{FileCause, hold_lock, is_own, open_plain, open_plain_with};
+use file_store::{FileError, hold_lock, is_own, open_by_options, open_plain};
 use journal::{FileText, JournalFiles, read_files};
 use krb_elements::Octets;
 use std::alloc::Global;
@@ -32,7 +32,7 @@ pub struct OpenedJournals<F> {
 pub fn open_journals<'a, F: Files<File = File>, W: Write + Drop>(
     alloc: Global,
     place: JournalPlace<'a, '_, F, W>,
-) -> Result<OpenedJournals<SystemJournal<'a, F, W>>, ServerFileCause>
+) -> Result<OpenedJournals<SystemJournal<'a, F, W>>, ServerFileError>
     // It removes none.
     ensures { IfOk result (λ opened. opened.journals.removed ≡ None) }
 {
@@ -69,12 +69,12 @@ pub(crate) fn open_locked<F: Files<File = File>>(
 }
 
 /// Reads the seal at a path. Without one there are no octets.
-pub(crate) fn seal_at<F: Files<File = File>>(
+pub(crate) fn read_seal_file<F: Files<File = File>>(
     alloc: Global,
     files: &F,
     path: &str,
 ) -> io::Result<Vec<u8>> {
-    match text_at(alloc, files, path)? {
+    match read_path(alloc, files, path)? {
         FileText::Octets(octets) => Ok(octets),
         FileText::Nothing | FileText::Unusable => Ok(Vec::new(alloc)),
     }
@@ -84,7 +84,7 @@ pub(crate) fn seal_at<F: Files<File = File>>(
 pub(crate) fn open_newer<F: Files<File = File>>(files: &F, path: &str) -> io::Result<Option<File>> {
     let mut how = OpenOptions::new();
     how.read(true).append(true);
-    if_there(open_plain_with(files, &how, path))
+    if_there(open_by_options(files, &how, path))
 }
 
 /// Returns what was opened, or `None` if nothing is there.
@@ -97,13 +97,13 @@ fn if_there(opened: io::Result<File>) -> io::Result<Option<File>> {
 }
 
 /// Reads the system's name for its current boot.
-fn boot_id<F: Files<File = File>>(alloc: Global, files: &F) -> Result<Octets, ServerFileCause> {
+fn boot_id<F: Files<File = File>>(alloc: Global, files: &F) -> Result<Octets, ServerFileError> {
     let octets = read_up_to(alloc, File::open(files, BOOT_ID)?, LONGEST_BOOT_ID)?;
     Ok(Octets::from_slice(alloc, octets.trim_ascii())?)
 }
 
 /// Reads the file at a path.
-pub(crate) fn text_at<F: Files<File = File>>(
+pub(crate) fn read_path<F: Files<File = File>>(
     alloc: Global,
     files: &F,
     path: &str,
@@ -127,7 +127,7 @@ pub(crate) fn text_in<F: Files<File = File>>(
     }
     match read_whole(alloc, file) {
         Ok(text) => Ok(FileText::Octets(text)),
-        Err(ServerFileCause::File(FileCause::Failed(error))) => Err(error),
+        Err(ServerFileError::File(FileError::Failed(error))) => Err(error),
         Err(_) => Ok(FileText::Unusable),
     }
 }

@@ -1,6 +1,6 @@
-//! The files beside one another that make up a journal, and whether what has their names is a journal's.
-use crate::files::ServerFileCause;
-use file_store::{FileCause, LOCK_END, open_plain};
+//! The files that make up a journal, and whether each of their names belongs to a journal.
+use crate::files::ServerFileError;
+use file_store::{FileError, LOCK_END, open_plain};
 use journal::{HEAD, may_be_journal};
 use std::alloc::{AllocError, Global};
 use std::fs::Metadata;
@@ -16,7 +16,7 @@ pub(crate) const SEAL_LEN: u64 = 16;
 pub enum JournalPart {
     /// The file that is appended to.
     Newer,
-    /// The file that went before it.
+    /// The file that came before it.
     Older,
     /// A new file, until it is renamed into place.
     Beside,
@@ -64,7 +64,7 @@ impl JournalPaths {
 
     /// Returns how many bytes the two files with entries have together. One that can't be looked at counts as 0.
     pub fn len_of_entries<F: Files>(&self, files: &F) -> u64 {
-        len_at(files, self.newer.as_str()).saturating_add(len_at(files, self.older.as_str()))
+        file_len(files, self.newer.as_str()).saturating_add(file_len(files, self.older.as_str()))
     }
 
     /// Checks whether one of the three files of a journal is there.
@@ -76,8 +76,8 @@ impl JournalPaths {
         )
     }
 
-    /// Refuses names that something else than a journal has. Nothing is changed by that.
-    pub(crate) fn check<F: Files>(&self, alloc: Global, files: &F) -> Result<(), ServerFileCause> {
+    /// Refuses the journal if something else has one of its names. It changes nothing.
+    pub(crate) fn check<F: Files>(&self, alloc: Global, files: &F) -> Result<(), ServerFileError> {
         check_part(alloc, files, self.newer.as_str(), JournalPart::Newer)?;
         check_part(alloc, files, self.older.as_str(), JournalPart::Older)?;
         check_part(alloc, files, self.beside.as_str(), JournalPart::Beside)?;
@@ -87,7 +87,7 @@ impl JournalPaths {
     }
 }
 
-fn len_at<F: Files>(files: &F, path: &str) -> u64 {
+fn file_len<F: Files>(files: &F, path: &str) -> u64 {
     match fs::metadata(files, path) {
         Ok(file) => file.len(),
         Err(_) => 0,
@@ -107,11 +107,11 @@ fn check_part<F: Files>(
     files: &F,
     path: &str,
     part: JournalPart,
-) -> Result<(), ServerFileCause> {
+) -> Result<(), ServerFileError> {
     if may_be_replaced(alloc, files, path)? {
         return Ok(());
     }
-    Err(ServerFileCause::NotJournal(part))
+    Err(ServerFileError::NotJournal(part))
 }
 
 /// Refuses a path that has something else than a plain file of at most this many bytes.
@@ -120,13 +120,13 @@ fn check_short<F: Files>(
     path: &str,
     most: u64,
     part: JournalPart,
-) -> Result<(), ServerFileCause> {
+) -> Result<(), ServerFileError> {
     judge_short(fs::metadata(files, path), most, part)
 }
 
-/// Refuses a path that has something else than the file of a seal. A link is something else too, since
-/// the file is replaced.
-fn check_seal<F: Files>(files: &F, path: &str) -> Result<(), ServerFileCause> {
+/// Refuses a path that has something else than the file of a seal. A link is something else too, since the file is
+/// replaced.
+fn check_seal<F: Files>(files: &F, path: &str) -> Result<(), ServerFileError> {
     judge_short(
         fs::symlink_metadata(files, path),
         SEAL_LEN,
@@ -138,12 +138,12 @@ fn judge_short(
     found: io::Result<Metadata>,
     most: u64,
     part: JournalPart,
-) -> Result<(), ServerFileCause> {
+) -> Result<(), ServerFileError> {
     match found {
         Ok(file) if file.is_file() && file.len() <= most => Ok(()),
-        Ok(_) => Err(ServerFileCause::NotJournal(part)),
+        Ok(_) => Err(ServerFileError::NotJournal(part)),
         Err(error) if error.kind() == ErrorKind::NotFound => Ok(()),
-        Err(error) => Err(ServerFileCause::from(error)),
+        Err(error) => Err(ServerFileError::from(error)),
     }
 }
 
@@ -159,7 +159,7 @@ pub(crate) fn require_replaceable<F: Files>(
             ErrorKind::AlreadyExists,
             "a file that is no journal has the name of one of its files",
         )),
-        Err(ServerFileCause::File(FileCause::Failed(error))) => Err(error),
+        Err(ServerFileError::File(FileError::Failed(error))) => Err(error),
         Err(_) => Err(Error::from(ErrorKind::InvalidData)),
     }
 }
@@ -169,12 +169,12 @@ fn may_be_replaced<F: Files>(
     alloc: Global,
     files: &F,
     path: &str,
-) -> Result<bool, ServerFileCause> {
+) -> Result<bool, ServerFileError> {
     match fs::metadata(files, path) {
         Ok(file) if file.is_file() => begins_as_journal(alloc, files, path),
         Ok(_) => Ok(false),
         Err(error) if error.kind() == ErrorKind::NotFound => Ok(true),
-        Err(error) => Err(ServerFileCause::from(error)),
+        Err(error) => Err(ServerFileError::from(error)),
     }
 }
 
@@ -182,7 +182,7 @@ fn begins_as_journal<F: Files>(
     alloc: Global,
     files: &F,
     path: &str,
-) -> Result<bool, ServerFileCause> {
+) -> Result<bool, ServerFileError> {
     let mut head = Vec::new(alloc);
     open_plain(files, path)?
         .take(HEAD as u64)

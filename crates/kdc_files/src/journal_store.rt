@@ -2,11 +2,11 @@
 ghost use Rattle.std.specs.Prelude.{◌≡◌};
 ghost use Rattle.kdc_files.specs.Unrecorded.{no_world};
 
-use crate::files::ServerFileCause;
-use crate::journal_files::{open_locked, open_newer, seal_at, text_at, text_in};
+use crate::files::ServerFileError;
+use crate::journal_files::{open_locked, open_newer, read_path, read_seal_file, text_in};
 use crate::journal_parts::{JournalPaths, require_replaceable};
 use file_store::{OWNER_ONLY, sync_folder};
-use journal::{BeginFault, Begun, FileText, JournalFiles, Left, News, Part};
+use journal::{BeginError, Begun, FileText, JournalFiles, Left, News, Part};
 use std::alloc::Global;
 use std::fs::{File, OpenFile, OpenOptions};
 use std::io::{Error, ErrorKind, Write};
@@ -14,7 +14,7 @@ use std::os::unix::fs::OpenOptionsExt;
 use std::rt::Files;
 use std::{fs, io};
 
-/// Where a journal is, and where it is said what becomes of its files.
+/// Where a journal is, and what takes the log lines about its files.
 #[derive(Drop)]
 pub struct JournalPlace<'a, 'p, F, W> {
     /// The files of the system.
@@ -25,8 +25,8 @@ pub struct JournalPlace<'a, 'p, F, W> {
     pub lines: W,
 }
 
-/// The files of a journal, which this process holds. It keeps no record of what they hold, and says what becomes of
-/// them.
+/// The files of a journal, which this process holds. It logs what becomes of them, and keeps no record of what they
+/// hold.
 #[derive(Drop)]
 pub struct SystemJournal<'a, F, W> {
     files: &'a F,
@@ -35,17 +35,17 @@ pub struct SystemJournal<'a, F, W> {
     lock: File,
     /// The file that is appended to, if it is there.
     newer: Option<File>,
-    /// Where faults are logged.
+    /// Takes the log lines.
     lines: W,
 }
 
 impl<'a, F: Files<File = File>, W: Write + Drop> SystemJournal<'a, F, W> {
-    /// Locks the journal at its place, and opens it. If something else than a journal has one of its names, it is
-    /// refused, and nothing is changed.
+    /// Locks the journal at its place, and opens it. If something else has one of the journal's names, it fails and
+    /// changes nothing.
     pub fn open(
         alloc: Global,
         place: JournalPlace<'a, '_, F, W>,
-    ) -> Result<SystemJournal<'a, F, W>, ServerFileCause> {
+    ) -> Result<SystemJournal<'a, F, W>, ServerFileError> {
         let JournalPlace { files, path, lines } = place;
         let paths = JournalPaths::new(alloc, path)?;
         paths.check(alloc, files)?;
@@ -86,7 +86,7 @@ impl<'a, F: Files<File = File>, W: Write + Drop> SystemJournal<'a, F, W> {
         remove_if_there(self.files, self.paths.seal.as_str())
     }
 
-    /// Puts what was written to the older file on the disk, if it is there.
+    /// Syncs the older file to the disk, if it is there.
     fn sync_older(&self) -> io::Result<()> {
         match File::open(self.files, self.paths.older.as_str()) {
             Ok(older) => older.sync_all(),
@@ -95,7 +95,7 @@ impl<'a, F: Files<File = File>, W: Write + Drop> SystemJournal<'a, F, W> {
         }
     }
 
-    /// Begins a file beside the newer one, and puts it on the disk.
+    /// Begins a file beside the newer one, and syncs it to the disk.
     fn write_beside(&self, alloc: Global, text: &[u8]) -> io::Result<File> {
         let beside = self.paths.beside.as_str();
         require_replaceable(alloc, self.files, beside)?;
@@ -103,7 +103,7 @@ impl<'a, F: Files<File = File>, W: Write + Drop> SystemJournal<'a, F, W> {
         let mut how = OpenOptions::new();
         how.append(true).create_new(true).mode(OWNER_ONLY);
         let mut file = how.open(self.files, beside)?;
-        append_to(&mut file, text)?;
+        write_record(&mut file, text)?;
         file.sync_all()?;
         Ok(file)
     }
@@ -130,13 +130,13 @@ impl<'a, F: Files<File = File>, W: Write + Drop> SystemJournal<'a, F, W> {
         fs::rename(self.files, self.paths.beside.as_str(), newer)
     }
 
-    /// Puts on the disk which files there are.
+    /// Syncs the names of the files to the disk.
     fn sync_names(&self) -> io::Result<()> {
         sync_folder(self.files, self.paths.newer.as_str())
     }
 
     /// Begins a file that goes on behind the newer one.
-    fn begin_linked(&self, alloc: Global, text: &[u8]) -> Result<File, BeginFault<Error>> {
+    fn begin_linked(&self, alloc: Global, text: &[u8]) -> Result<File, BeginError<Error>> {
         let file = or_left(self.write_beside(alloc, text), Left::Before)?;
         or_left(self.make_older(alloc), Left::Before)?;
         or_left(self.make_newer(alloc), Left::Between)?;
@@ -145,7 +145,7 @@ impl<'a, F: Files<File = File>, W: Write + Drop> SystemJournal<'a, F, W> {
     }
 
     /// Begins a file in place of both. What these hold is on the disk until the new one is.
-    fn begin_anew(&self, alloc: Global, text: &[u8]) -> Result<File, BeginFault<Error>> {
+    fn begin_anew(&self, alloc: Global, text: &[u8]) -> Result<File, BeginError<Error>> {
         let file = or_left(self.write_beside(alloc, text), Left::Before)?;
         or_left(self.make_newer(alloc), Left::Before)?;
         or_left(self.sync_names(), Left::InPlace)?;
@@ -156,7 +156,7 @@ impl<'a, F: Files<File = File>, W: Write + Drop> SystemJournal<'a, F, W> {
 
     /// Begins a file in place of both. The older one goes first, since it may be why there is no room: the floor of the
     /// newer one is above all that it holds. If a turn was cut, the older one is the only one, and stays.
-    fn begin_roomy(&self, alloc: Global, text: &[u8]) -> Result<File, BeginFault<Error>> {
+    fn begin_roomy(&self, alloc: Global, text: &[u8]) -> Result<File, BeginError<Error>> {
         if or_left(
             fs::exists(self.files, self.paths.newer.as_str()),
             Left::Before,
@@ -171,14 +171,14 @@ impl<'a, F: Files<File = File>, W: Write + Drop> SystemJournal<'a, F, W> {
         Ok(file)
     }
 
-    /// Writes a seal beside the one that is there, and puts it on the disk.
+    /// Writes a seal beside the one that is there, and syncs it to the disk.
     fn write_seal(&self, check: &[u8; 16]) -> io::Result<()> {
         let beside = self.paths.seal_beside.as_str();
         remove_if_there(self.files, beside)?;
         let mut how = OpenOptions::new();
         how.append(true).create_new(true).mode(OWNER_ONLY);
         let mut seal = how.open(self.files, beside)?;
-        append_to(&mut seal, check)?;
+        write_record(&mut seal, check)?;
         seal.sync_all()
     }
 }
@@ -190,12 +190,12 @@ impl<F: Files<File = File>, W: Write + Drop> JournalFiles for SystemJournal<'_, 
 
     fn append(&mut self, text: &[u8]) -> io::Result<()> {
         match &mut self.newer {
-            Some(file) => append_to(file, text),
+            Some(file) => write_record(file, text),
             None => Err(Error::from(ErrorKind::NotFound)),
         }
     }
 
-    fn begin(&mut self, alloc: Global, text: &[u8], how: Begun) -> Result<(), BeginFault<Error>> {
+    fn begin(&mut self, alloc: Global, text: &[u8], how: Begun) -> Result<(), BeginError<Error>> {
         let begun = match how {
             Begun::Linked => self.begin_linked(alloc, text),
             Begun::Anew => self.begin_anew(alloc, text),
@@ -219,14 +219,14 @@ impl<F: Files<File = File>, W: Write + Drop> JournalFiles for SystemJournal<'_, 
 
     fn read(&mut self, alloc: Global, part: Part) -> io::Result<FileText> {
         match part {
-            Part::Older => text_at(alloc, self.files, self.paths.older.as_str()),
+            Part::Older => read_path(alloc, self.files, self.paths.older.as_str()),
             Part::Newer => text_in(alloc, self.files, self.newer.as_ref()),
-            Part::Beside => text_at(alloc, self.files, self.paths.beside.as_str()),
+            Part::Beside => read_path(alloc, self.files, self.paths.beside.as_str()),
         }
     }
 
     fn read_seal(&mut self, alloc: Global) -> io::Result<Vec<u8>> {
-        seal_at(alloc, self.files, self.paths.seal.as_str())
+        read_seal_file(alloc, self.files, self.paths.seal.as_str())
     }
 
     fn seal(&mut self, check: &[u8; 16]) -> io::Result<()> {
@@ -275,7 +275,7 @@ impl<F: Files<File = File>, W: Write + Drop> JournalFiles for SystemJournal<'_, 
 }
 
 /// Appends a text by one write.
-fn append_to(file: &mut File, text: &[u8]) -> io::Result<()> {
+fn write_record(file: &mut File, text: &[u8]) -> io::Result<()> {
     if file.write(text)? == text.len() {
         return Ok(());
     }
@@ -286,7 +286,7 @@ fn remove_if_there<F: Files>(files: &F, path: &str) -> io::Result<()> {
     if_there(fs::remove_file(files, path))
 }
 
-/// Counts as done what fails because nothing is there.
+/// Turns a failure because nothing is there into a success.
 fn if_there(done: io::Result<()>) -> io::Result<()> {
     match done {
         Err(error) if error.kind() == ErrorKind::NotFound => Ok(()),
@@ -294,10 +294,10 @@ fn if_there(done: io::Result<()>) -> io::Result<()> {
     }
 }
 
-/// Says of a failure what it left.
-fn or_left<T>(done: io::Result<T>, left: Left) -> Result<T, BeginFault<Error>> {
+/// Adds to a failure what it left.
+fn or_left<T>(done: io::Result<T>, left: Left) -> Result<T, BeginError<Error>> {
     match done {
         Ok(value) => Ok(value),
-        Err(fault) => Err(BeginFault { fault, left }),
+        Err(fault) => Err(BeginError { fault, left }),
     }
 }

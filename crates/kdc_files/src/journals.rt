@@ -12,7 +12,7 @@ pub struct Journals {
     pub found: FoundFiles,
     /// The seal beside them. Without one there are no octets.
     pub seal: Octets,
-    /// The floor that the files asked for that a start without a journal removed, if they showed anything.
+    /// The floor that the removed files asked for, if a start without a journal removed files that showed anything.
     pub removed: Option<i64>,
 }
 

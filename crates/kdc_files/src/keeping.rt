@@ -86,7 +86,7 @@ impl<J: JournalWriter> JournalWriter for Option<J> {
 
 /// Has a journal keep what an action's reply makes the KDC remember. Returns whether it has kept all, if the action has
 /// a reply.
-pub fn keep_for<J: JournalWriter>(
+pub fn keep_action<J: JournalWriter>(
     alloc: Global,
     journal: &mut J,
     at: Moment,
@@ -107,7 +107,8 @@ pub fn keep_for<J: JournalWriter>(
 }
 
 fn keep_reply<J: JournalWriter>(alloc: Global, journal: &mut J, at: Moment, reply: &Reply) -> bool
-    ensures handed { Records (J.handed journal.old) (handed_at at (with_any reply.now.newly_seen [])) (J.handed journal.new) }
+    ensures handed { Records (J.handed journal.old) (handed_at at (with_any reply.now.newly_seen []))
+        (J.handed journal.new) }
     ensures whole { result ≡ J.is_whole journal.new }
     ensures asked { IsAskedFor reply.now.newly_seen result (J.state journal.old) (J.state journal.new) }
 {

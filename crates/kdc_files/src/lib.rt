@@ -6,7 +6,7 @@
 //! let place = JournalPlace { files: rt, path: "database.journal", lines: rt.stderr() };
 //! let OpenedJournals { journals, files } = open_journals(alloc, place)?;
 //! let mut journal = begin_journal(alloc, files, beginning, most)?;
-//! let is_kept = keep_for(alloc, &mut journal, at, &action);
+//! let is_kept = keep_action(alloc, &mut journal, at, &action);
 //! ```
 //!
 //! A [`RowsFile`] is also the source from which a running server takes changed rows. [`open_journals`] keeps other
@@ -29,13 +29,13 @@ mod memory_journal;
 mod rows_file;
 mod sealing;
 
-pub use crate::files::{LeftoverFault, ServerFileCause, read_up_to, read_whole, seed_in};
+pub use crate::files::{ServerFileError, read_up_to, read_whole, seed_in};
 pub use crate::journal_file::{FileJournal, Unbegun, begin_journal, begun};
 pub use crate::journal_files::{OpenedJournals, open_journals};
 pub use crate::journal_parts::{JournalPart, JournalPaths};
 pub use crate::journal_store::{JournalPlace, SystemJournal};
 pub use crate::journals::{JournalBeginning, Journals};
-pub use crate::keeping::{JournalWriter, keep_for};
+pub use crate::keeping::{JournalWriter, keep_action};
 pub use crate::key_files::{KeyFile, say_rights};
 pub use crate::memory_journal::{HandedOver, MemoryJournal};
 pub use crate::rows_file::RowsFile;

@@ -36,7 +36,8 @@ pub struct MemoryJournal {
 }
 
 impl MemoryJournal {
-    /// Returns a journal that was handed nothing. After `calls_before_fault` calls one fails, if any is to.
+    /// Returns a journal that was handed nothing. One of its calls fails after `calls_before_fault` others, if that is
+    /// given.
     pub fn new(alloc: Global, calls_before_fault: Option<u64>) -> MemoryJournal
         // Promise (new, there), as MemoryHost::new of kdc_server: host, sockets, tally, journal ..
         ensures new { IsNew (⟦<MemoryJournal as JournalWriter>⟧.handed result) }
@@ -79,7 +80,7 @@ impl MemoryJournal {
         self.handed.keep(handed);
     }
 
-    /// Takes note that all was kept, or fails.
+    /// Marks all as kept, or fails if this call is to fail.
     fn finish(&mut self) -> Result<(), NotKept>
         ensures handed { self.new.handed ≡ self.old.handed }
         ensures whole { self.new.is_whole ≡ is_ok result }

@@ -1,7 +1,7 @@
 //! The rows of a realm from a file, which may be replaced while they are served.
 ghost use Rattle.std.specs.Prelude.{None, false};
 
-use crate::files::{ServerFileCause, read_whole};
+use crate::files::{ServerFileError, read_whole};
 use crate::key_files::{KeyFile, say_rights};
 use file_store::{FileStamp, now, open_plain};
 use kdc_hub::{Look, OtherRealm, RowSource, RowsState};
@@ -23,7 +23,7 @@ enum News {
     /// Its rows are served: this many.
     Taken(usize),
     /// It can't be read, or is refused.
-    Faulty(ServerFileCause),
+    Faulty(ServerFileError),
     OtherRealm,
 }
 
@@ -32,7 +32,7 @@ enum News {
 pub struct RowsFile<'a, F, W> {
     files: &'a F,
     path: &'a str,
-    /// Where it is logged.
+    /// Takes the log lines.
     lines: W,
     /// The file at the last look, if there was one.
     seen: Option<FileStamp>,
@@ -40,13 +40,13 @@ pub struct RowsFile<'a, F, W> {
     failed_at: Option<Instant>,
     /// The number of rows that the last look found.
     row_count: usize,
-    /// What is still to be logged.
+    /// What could not be logged yet.
     unsaid: Option<News>,
     state: RowsState,
 }
 
 impl<'a, F: Files + Clock, W: Write + Drop> RowsFile<'a, F, W> {
-    /// Looks at the file at a path. It is read only later, so that no change is missed.
+    /// Looks at the file at a path, before it is read: so no change is missed.
     pub fn new(files: &'a F, path: &'a str, lines: W) -> RowsFile<'a, F, W> {
         let seen = match fs::metadata(files, path) {
             Ok(metadata) => Some(FileStamp::of(&metadata)),
@@ -65,7 +65,7 @@ impl<'a, F: Files + Clock, W: Write + Drop> RowsFile<'a, F, W> {
     }
 
     /// Reads the rows of the file. Logs if others have rights on it.
-    pub fn read(&mut self, alloc: Global) -> Result<Database, ServerFileCause> {
+    pub fn read(&mut self, alloc: Global) -> Result<Database, ServerFileError> {
         let file = open_plain(self.files, self.path)?;
         let there = file.metadata()?;
         let octets = read_whole(alloc, file)?;
@@ -79,25 +79,25 @@ impl<'a, F: Files + Clock, W: Write + Drop> RowsFile<'a, F, W> {
                 say_rights(self.files, &mut self.lines, file);
                 Ok(database)
             }
-            Err(fault) => Err(ServerFileCause::Database(fault)),
+            Err(fault) => Err(ServerFileError::Database(fault)),
         }
     }
 
     /// Logs where the file is wrong, if that was found.
-    pub fn say_place(&mut self, fault: &ServerFileCause) {
+    pub fn say_place(&mut self, fault: &ServerFileError) {
         if let Some(place) = fault.place() {
             let _ = writeln!(self.lines, "kdcd: {}: {place}", self.path);
         }
     }
 
     /// Reads the rows if the file changed since the last look, or could not be read then.
-    fn changed_rows(&mut self, alloc: Global) -> Result<Option<Database>, ServerFileCause> {
+    fn changed_rows(&mut self, alloc: Global) -> Result<Option<Database>, ServerFileError> {
         let seen = self.seen.take();
         let metadata = match fs::metadata(self.files, self.path) {
             Ok(metadata) => metadata,
-            // That there is no file is said once.
+            // That there is no file is logged once.
             Err(_) if seen.is_none() => return Ok(None),
-            Err(error) => return Err(ServerFileCause::from(error)),
+            Err(error) => return Err(ServerFileError::from(error)),
         };
         let stamp = FileStamp::of(&metadata);
         self.seen = Some(stamp);
@@ -108,8 +108,8 @@ impl<'a, F: Files + Clock, W: Write + Drop> RowsFile<'a, F, W> {
         Ok(Some(self.read_or_note(alloc)?))
     }
 
-    /// Reads the rows again, some seconds after the system failed to. Another such failure is not said.
-    fn retried_rows(&mut self, alloc: Global) -> Result<Option<Database>, ServerFileCause> {
+    /// Reads the rows again, some seconds after the system failed to. Another such failure is not logged.
+    fn retried_rows(&mut self, alloc: Global) -> Result<Option<Database>, ServerFileError> {
         if !self.is_retry_due() {
             return Ok(None);
         }
@@ -131,7 +131,7 @@ impl<'a, F: Files + Clock, W: Write + Drop> RowsFile<'a, F, W> {
     }
 
     /// Reads the rows, and notes when the system fails to.
-    fn read_or_note(&mut self, alloc: Global) -> Result<Database, ServerFileCause> {
+    fn read_or_note(&mut self, alloc: Global) -> Result<Database, ServerFileError> {
         let read = self.read(alloc);
         self.failed_at = match &read {
             Err(fault) if is_of_system(fault) => Instant::now(self.files).ok(),
@@ -213,7 +213,7 @@ fn second_at(clock: &impl Clock) -> Option<i64> {
 }
 
 /// Checks whether the system failed, and the file itself may be good.
-fn is_of_system(fault: &ServerFileCause) -> bool {
+fn is_of_system(fault: &ServerFileError) -> bool {
     fault.refusal().is_none()
 }
 

@@ -1,10 +1,11 @@
 //! Sealing a journal, and removing one.
-use crate::files::ServerFileCause;
+use crate::files::ServerFileError;
 use crate::journal_files::{OpenedJournals, open_journals};
 use crate::journal_parts::JournalPaths;
 use crate::journal_store::{JournalPlace, SystemJournal};
 use journal::{
-    Doubt, Found, FoundFiles, Part, Place, SealOutcome, found_floor, read_part, seal_journal,
+    Found, FoundFiles, Part, Place, ResumeRefusal, SealOutcome, found_floor, read_part,
+    seal_journal,
 };
 use krb_fields::Moment;
 use std::alloc::Global;
@@ -13,13 +14,13 @@ use std::io::Write;
 use std::rt::Files;
 
 /// Returns the word for why a start would not resume with a journal.
-pub fn doubt_word(doubt: Doubt) -> &'static str {
+pub fn doubt_word(doubt: ResumeRefusal) -> &'static str {
     match doubt {
-        Doubt::Absent => "Absent",
-        Doubt::Damaged => "Damaged",
-        Doubt::OtherRealm => "OtherRealm",
-        Doubt::OtherBoot => "OtherBoot",
-        Doubt::Unlinked => "Unlinked",
+        ResumeRefusal::Absent => "Absent",
+        ResumeRefusal::Damaged => "Damaged",
+        ResumeRefusal::OtherRealm => "OtherRealm",
+        ResumeRefusal::OtherBoot => "OtherBoot",
+        ResumeRefusal::Unlinked => "Unlinked",
     }
 }
 
@@ -28,7 +29,7 @@ pub fn seal_at_path<F: Files<File = File>, W: Write + Drop>(
     alloc: Global,
     journal: JournalPlace<'_, '_, F, W>,
     at: Moment,
-) -> Result<SealOutcome, ServerFileCause> {
+) -> Result<SealOutcome, ServerFileError> {
     let OpenedJournals {
         journals,
         mut files,
@@ -72,13 +73,13 @@ pub fn refuse_journal<F: Files<File = File>, W: Write + Drop>(
     alloc: Global,
     place: JournalPlace<'_, '_, F, W>,
     leftover: Leftover,
-) -> Result<Option<i64>, ServerFileCause> {
+) -> Result<Option<i64>, ServerFileError> {
     if !JournalPaths::new(alloc, place.path)?.are_there(place.files)? {
         return Ok(None);
     }
     match leftover {
-        Leftover::Refused => Err(ServerFileCause::Journal),
-        Leftover::NotFirst => Err(ServerFileCause::NotFirst),
+        Leftover::Refused => Err(ServerFileError::Journal),
+        Leftover::NotFirst => Err(ServerFileError::NotFirst),
         Leftover::Removed => match remove_journal(alloc, place) {
             Ok(floor) => Ok(floor),
             Err(fault) => Err(fault.of_journal_beside()),
@@ -90,7 +91,7 @@ pub fn refuse_journal<F: Files<File = File>, W: Write + Drop>(
 fn remove_journal<F: Files<File = File>, W: Write + Drop>(
     alloc: Global,
     place: JournalPlace<'_, '_, F, W>,
-) -> Result<Option<i64>, ServerFileCause> {
+) -> Result<Option<i64>, ServerFileError> {
     let mut journal = SystemJournal::open(alloc, place)?;
     let found = FoundFiles {
         older: read_part(alloc, &mut journal, Part::Older)?,

@@ -1,6 +1,7 @@
 -- The audit records in replies are those of the rules, and they are true.
-use Rattle.std.proofs.Common.{◌≡◌, ℕ, Bool, true, false, List, [], ◌∷◌, ◌++◌, length, Option, Some, None, option_map, Result, Ok, Err}
+use Rattle.std.proofs.Common.{◌≡◌, ℕ, Bool, true, false, List, [], ◌∷◌, ◌++◌, length, Option, Some, None, option_map, Result, Ok, Err, Vec}
 use Rattle.std.proofs.Common.{IfOk, IfSome, OnOk, sym, ap, subst, ◌∙◌}
+use Rattle.std.specs.Global.{Global}
 use Rattle.rand_core.specs.Stream.{fill_bytes}
 use Rattle.framing.specs.Splitting.{Splitting, fed, handed_out}
 use Rattle.krb_fields.specs.declared.moment.Moment.{Moment}
@@ -14,8 +15,13 @@ use Rattle.kdc_core.specs.View.{View, view}
 use Rattle.kdc_core.specs.declared.audit.AuditRecord.TheVariants.{NoRequest, As, Tgs}
 use Rattle.kdc_state.specs.declared.state.State.{State}
 use Rattle.replay.specs.declared.seen.Seen.{Seen}
-use Rattle.kdc_hub.specs.Audits.{FirstHold, ReplyHolds, if_answered}
-use Rattle.kdc_hub.specs.Hub.{messages_in}
+use Rattle.kdc_hub.specs.Audits.{AuditsHold, FirstHold, ReplyHolds, if_answered}
+use Rattle.kdc_hub.specs.Hub.{HubState, datagram_room, messages_in}
+use Rattle.kdc_hub.specs.declared.event.Action.{Action}
+use Rattle.kdc_hub.specs.declared.event.Event.{Event}
+use Rattle.kdc_hub.specs.declared.event.Event.TheVariants.{Datagram}
+use Rattle.kdc_hub.specs.declared.event.HubFault.{HubFault}
+use Rattle.kdc_hub.specs.declared.event.Peer.{Peer}
 use Rattle.kdc_hub.specs.Issuing.{Issuing, after, reply_by, reply_of}
 use Rattle.kdc_core.specs.declared.reply.Reply.{Reply}
 
@@ -95,6 +101,21 @@ one_holds i at room request n e one =
 pub none_hold : (i : Issuing) (at : Moment) (room : ℕ) (requests : List (List ℕ)) (n : ℕ) → n ≡ 0 → FirstHold n i at room requests
 unfolding FirstHold
 none_hold i at room requests n e = subst (λ m. FirstHold m i at room requests) (sym e) tt
+
+-- a datagram
+module _ (hub : HubState) (at : Moment) (peer : Peer) (request : List ℕ) (event : Event) (datagram : event ≡ Datagram peer request) where
+  -- nothing was answered
+  pub datagram_unanswered : (fault : HubFault) → fault.done.items ≡ [] → AuditsHold hub at event (Err fault)
+  datagram_unanswered fault none =
+      subst (λ e. AuditsHold hub at e (Err fault)) (sym datagram) (none_hold hub.issuing at datagram_room (request ∷ []) (length fault.done.items) (ap (λ l. length l) none))
+
+  -- it was answered
+  pub datagram_holds : (octets : List ℕ) (reply : Option Reply) (actions : Vec Action Global) → octets ≡ request → length actions.items ≡ 1 → reply ≡ reply_of hub.issuing at datagram_room octets
+      → ReplyHolds (view hub.issuing.kdc octets) at (fill_bytes 64 hub.issuing.random).0 octets reply → AuditsHold hub at event (Ok actions)
+  datagram_holds octets reply actions same one made holds =
+      subst (λ e. AuditsHold hub at e (Ok actions)) (sym datagram)
+      (subst (λ o. FirstHold (length actions.items) hub.issuing at datagram_room (o ∷ [])) same
+      (one_holds hub.issuing at datagram_room octets (length actions.items) one (subst (λ r. ReplyHolds (view hub.issuing.kdc octets) at (fill_bytes 64 hub.issuing.random).0 octets r) made holds)))
 
 -- the requests that a piece completes
 pub fed_hold : (i : Issuing) (at : Moment) (room : ℕ) (piece : List ℕ) (o : Option Splitting) (s f : Splitting) (n : ℕ) → o ≡ Some s → f ≡ fed s piece

@@ -20,7 +20,8 @@ use Rattle.kdc_hub.proofs.Rounds.{records_nothing, records_on, saturated_both}
 use Rattle.kdc_hub.specs.declared.rows.Look.{Look}
 use Rattle.kdc_hub.specs.declared.rows.Look.TheVariants.{Unchanged, Changed, Failed}
 use Rattle.kdc_hub.specs.declared.totals.Totals.{Totals}
-use Rattle.kdc_hub.specs.Life.{ArePeriods, IsLife, IsLived, IsPeriod, MayFind, Period, due, replacement, rounds_in, tidied_by, tidying, turns_of}
+use Rattle.kdc_hub.specs.Timer.{due_at}
+use Rattle.kdc_hub.specs.Life.{ArePeriods, IsLife, IsLived, IsPeriod, MayFind, Period, minute, replacement, rounds_in, tidied_by, tidying, turns_of}
 
 flat_map-one : {X A : Type 0} (f : X → List A) (xs : List X) (x : X) → flat_map f (xs ++ x ∷ []) ≡ flat_map f xs ++ f x
 flat_map-one f xs x = flat_map-append f xs (x ∷ []) ∙ ap (λ l. flat_map f xs ++ l) (flat_map-cons f x [] ∙ append-nil (f x))
@@ -65,7 +66,7 @@ found_on is_fixed (q ∷ ps) p all one = (all.0, found_on is_fixed ps p all.1 on
 module _ (goes_on : (start : HubState) (turns later : List Turn) → after_turns start (turns ++ later) ≡ after_turns (after_turns start turns) later)
     (log : (start : HubState) (entries : List Entry) → after_turns start (map Stepped entries) ≡ (logged start entries).hub) where
   periods_on : (tidied : Option Moment) (hub : HubState) (ps : List Period) (p : Period) → ArePeriods tidied hub ps → AreRounds (after_turns (after_turns hub (flat_map turns_of ps)) (replacement p.look)) p.rounds
-      → p.tidied ≡ due (tidied_by tidied ps) (last_moment p.rounds) → ArePeriods tidied hub (ps ++ p ∷ [])
+      → p.tidied ≡ due_at minute (tidied_by tidied ps) (last_moment p.rounds) → ArePeriods tidied hub (ps ++ p ∷ [])
   unfolding ArePeriods
   periods_on tidied hub [] p t r d = (r, d, tt)
   periods_on tidied hub (q ∷ ps) p t r d = (
@@ -82,10 +83,10 @@ module _ (goes_on : (start : HubState) (turns later : List Turn) → after_turns
     a = so_far.lived
 
     abbrev last : Period
-    last = record { look = b.look; rounds = b.run.rounds; tidied = due tidied served.last }
+    last = record { look = b.look; rounds = b.run.rounds; tidied = due_at minute tidied served.last }
 
-    is_due : due tidied served.last ≡ due (tidied_by None a.periods) (last_moment b.run.rounds)
-    is_due = λ i. due (so_far.last i) (b.run.last i)
+    is_due : due_at minute tidied served.last ≡ due_at minute (tidied_by None a.periods) (last_moment b.run.rounds)
+    is_due = λ i. due_at minute (so_far.last i) (b.run.last i)
 
     more_rounds : rounds_in (a.periods ++ last ∷ []) ≡ rounds_in a.periods ++ b.run.rounds
     more_rounds = flat_map-one (λ period. period.rounds) a.periods last
@@ -110,9 +111,9 @@ module _ (goes_on : (start : HubState) (turns later : List Turn) → after_turns
         let looked = after_turns hub (replacement b.look) in
         let steps = map Stepped (flat_map entries_of b.run.rounds) in
         b.tidies.hub
-        ∙ ap (λ (h : HubState). after_turns h (tidying (due tidied served.last))) (b.run.hub ∙ sym (log looked (flat_map entries_of b.run.rounds)))
-        ∙ sym (goes_on looked steps (tidying (due tidied served.last)))
-        ∙ sym (goes_on hub (replacement b.look) (steps ++ tidying (due tidied served.last)))
+        ∙ ap (λ (h : HubState). after_turns h (tidying (due_at minute tidied served.last))) (b.run.hub ∙ sym (log looked (flat_map entries_of b.run.rounds)))
+        ∙ sym (goes_on looked steps (tidying (due_at minute tidied served.last)))
+        ∙ sym (goes_on hub (replacement b.look) (steps ++ tidying (due_at minute tidied served.last)))
         ∙ ap (λ (h : HubState). after_turns h (turns_of last)) a.hub
         ∙ sym (goes_on start (flat_map turns_of a.periods) (turns_of last))
         ∙ ap (after_turns start) (sym (flat_map-one turns_of a.periods last))
@@ -135,7 +136,7 @@ module _ (goes_on : (start : HubState) (turns later : List Turn) → after_turns
             ∙ ap (λ (k : ℕ). min k (2 ^ 64 - 1)) (sym more_faults);
         refused = refused ∙ (let e = a.refused in let f = b.run.refused in omega (arith, e, f, more_refused));
       };
-      last = b.tidies.after ∙ ap (option_or (due tidied served.last)) so_far.last ∙ sym (tidied_on None a.periods last);
+      last = b.tidies.after ∙ ap (option_or (due_at minute tidied served.last)) so_far.last ∙ sym (tidied_on None a.periods last);
     }
 
 -- the rows of a source that is fixed stay fixed

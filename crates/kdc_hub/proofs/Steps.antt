@@ -1,5 +1,5 @@
 -- The hub after a call is the hub after the step.
-use Rattle.std.proofs.Common.{◌≡◌, ℕ, ◌≤◌, arith, Bool, true, false, List, [], ◌∷◌, length, take, Option, Some, Result, Ok, Err, refl, sym, ap, ◌∙◌, Vec}
+use Rattle.std.proofs.Common.{◌≡◌, ℕ, ◌≤◌, arith, Bool, true, false, List, [], ◌∷◌, ◌++◌, length, take, Option, Some, None, Result, Ok, Err, refl, sym, ap, subst, ◌∙◌, Vec}
 use Rattle.std.specs.Global.{Global}
 use Rattle.std.specs.Prelude.{IfOk, IfErr, nat_lt}
 use Rattle.std.proofs.lemmas.Bool.{le-ltb}
@@ -11,12 +11,15 @@ use Rattle.krb_fields.specs.declared.moment.Moment.{Moment}
 use Rattle.kdc_hub.specs.declared.event.Action.{Action}
 use Rattle.kdc_hub.specs.declared.event.Action.TheVariants.{Close}
 use Rattle.kdc_hub.specs.declared.event.CloseReason.TheVariants.{Full}
-use Rattle.kdc_hub.specs.declared.event.Event.TheVariants.{Opened}
+use Rattle.kdc_hub.specs.declared.event.Event.{Event}
+use Rattle.kdc_hub.specs.declared.event.Event.TheVariants.{Datagram, Opened}
 use Rattle.kdc_hub.specs.declared.event.HubFault.{HubFault}
+use Rattle.kdc_hub.specs.declared.event.Peer.{Peer}
+use Rattle.kdc_core.specs.declared.reply.Reply.{Reply}
 use Rattle.kdc_state.specs.declared.state.State.{State}
-use Rattle.kdc_hub.specs.Issuing.{Issuing}
+use Rattle.kdc_hub.specs.Issuing.{Issuing, after, reply_of}
 use Rattle.kdc_hub.specs.StreamStep.{StreamStep, after_some, drawn, stream_step}
-use Rattle.kdc_hub.specs.Hub.{HubState, Step, Steps, brings, with_stream, opened, messages_in, stopped_issuing, most_connections}
+use Rattle.kdc_hub.specs.Hub.{HubState, Step, Steps, brings, datagram_room, sent, with_stream, opened, messages_in, stopped_issuing, most_connections}
 use Rattle.kdc_hub.proofs.Tables.{set_anew, taken_out}
 
 abbrev pub Table : Type 0
@@ -36,6 +39,33 @@ stopped_drawn n draws i i' at requests e d kdc random audits = rw (e, d) (same_i
 
 pub same_hub_state : (i j : Issuing) (c d : Table) → i ≡ j → c ≡ d → (let s : HubState = record { issuing = i; connections = c } in s) ≡ record { issuing = j; connections = d }
 same_hub_state i j c d e h = rw (e, h) refl
+
+-- ---- a datagram: it was answered with one action, or memory ran out before that, or for the answer
+
+module _ (hub : HubState) (at : Moment) (peer : Peer) (request : List ℕ) (event : Event) (datagram : event ≡ Datagram peer request) where
+  pub datagram_answered : (octets : List ℕ) (reply : Option Reply) (action : Action) (before : List Action) (actions : Vec Action Global) (i : Issuing)
+      → octets ≡ request → before ≡ [] → actions.items ≡ before ++ action ∷ [] → action ∷ [] ≡ sent peer reply
+      → reply ≡ reply_of hub.issuing at datagram_room octets → i ≡ after hub.issuing at datagram_room octets
+      → Steps hub at event (Ok actions) (record { issuing = i; connections = hub.connections })
+  datagram_answered octets reply action before actions i same none pushed is made issues =
+      subst (λ e. Steps hub at e (Ok actions) (record { issuing = i; connections = hub.connections })) (sym datagram) (
+        pushed ∙ ap (λ l. l ++ action ∷ []) none ∙ is ∙ ap (sent peer) (made ∙ ap (reply_of hub.issuing at datagram_room) same),
+        same_hub_state i _ hub.connections hub.connections (issues ∙ ap (after hub.issuing at datagram_room) same) refl,
+      )
+
+  pub datagram_stopped : (fault : HubFault) → fault.done.items ≡ [] → fault.draws ≡ 0 → fault.conn ≡ None → Steps hub at event (Err fault) hub
+  datagram_stopped fault none draws conn =
+      subst (λ e. Steps hub at e (Err fault) hub) (sym datagram)
+      (none, same_hub_state hub.issuing _ hub.connections hub.connections (stopped_before _ _ hub.issuing at [] (ap length none) draws) refl, conn)
+
+  pub datagram_drawn : (fault : HubFault) (i : Issuing) → fault.done.items ≡ [] → fault.draws ≡ 1 → fault.conn ≡ None
+      → i.kdc ≡ hub.issuing.kdc → i.random ≡ (fill_bytes 64 hub.issuing.random).1 → i.audits ≡ hub.issuing.audits
+      → Steps hub at event (Err fault) (record { issuing = i; connections = hub.connections })
+  datagram_drawn fault i none draws conn kdc random audits =
+      subst (λ e. Steps hub at e (Err fault) (record { issuing = i; connections = hub.connections })) (sym datagram)
+      (none, same_hub_state i _ hub.connections hub.connections (stopped_drawn _ _ hub.issuing i at [] (ap length none) draws kdc random audits) refl, conn)
+
+-- ---- a piece of a connection's stream
 
 module _ (hub : HubState) (at : Moment) (conn : ℕ) (piece : List ℕ) (o : Option Splitting) (s f : Splitting) (is : o ≡ Some s) (feed : f ≡ fed s piece) where
   full : Splitting → StreamStep

@@ -11,7 +11,8 @@ use Rattle.kdc_hub.specs.Wire.{Records, is_fault}
 use Rattle.kdc_hub.specs.Rounds.{IsRound, Took, Tries, ending, entries_of, is_refused, lost_in}
 
 -- the result of the acts for a list of actions
-pub record AreActs (before : Option (List WireCall)) (start : HubState) (at : Moment) (actions : List Action) (failed : ℕ)
+pub record AreActs (before : Option (List WireCall)) (start : HubState) (at : Moment) (actions : List Action)
+    (failed : ℕ)
     (after : Option (List WireCall)) (new : HubState) : Type 0 where
   pub did : List WireCall
   pub tries : Tries actions did

@@ -14,3 +14,4 @@ pub mod OwnBytes
 pub mod Moved
 pub mod Life
 pub mod Recorded
+pub mod Timer

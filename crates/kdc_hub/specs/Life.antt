@@ -1,6 +1,6 @@
 -- The life of a server: looks at a source of rows, rounds between them, and a tidying at most once a minute.
 use Rattle.std.specs.Prelude.{◌≡◌, ◌/◌, ◌%◌, ℕ, ⊤, List, [], ◌∷◌, ◌++◌, length, map}
-use Rattle.std.specs.Prelude.{pos, ◌+ℤ◌, int_lt, Bool, true, not, ◌&&◌, if◌then◌else◌, replicate, count_by, Option, Some, None}
+use Rattle.std.specs.Prelude.{ℤ, pos, Bool, true, replicate, count_by, Option, Some, None}
 use Rattle.std.specs.List.{AllByRecursion, flat_map}
 use Rattle.std.specs.Option.{option_or}
 use Rattle.krb_fields.specs.Name.{Components}
@@ -13,6 +13,7 @@ use Rattle.kdc_hub.specs.History.{CanBeResumedFrom, IsOneRun, Replaced, ServesAl
 use Rattle.kdc_hub.specs.History.{TidiesUnseenFrom}
 use Rattle.kdc_hub.specs.History.{UnaffectedFrom, after_turns, tickets_sent}
 use Rattle.kdc_hub.specs.Moved.{MovesNothingElseFrom}
+use Rattle.kdc_hub.specs.Timer.{due_at}
 use Rattle.kdc_hub.specs.Rounds.{AreRounds, IsRun, Round, did_in, entries_of, fault_total, is_refused, last_moment}
 use Rattle.kdc_hub.specs.Wire.{Records, is_event}
 use Rattle.kdc_hub.specs.declared.rows.Look.{Look}
@@ -25,13 +26,9 @@ replacement Unchanged = []
 replacement (Changed database) = Replaced database ∷ []
 replacement Failed = []
 
--- When to tidy, given the moments of the last tidying and of the last successful poll: at the poll's moment, unless it
--- is within the minute that began with the last tidying. So a clock that went back doesn't stop tidyings.
-abbrev pub due : Option Moment → Option Moment → Option Moment
-due tidied None = None
-due None (Some at) = Some at
-due (Some before) (Some at) =
-    if not (int_lt at.sec before.sec) && int_lt at.sec (before.sec +ℤ pos 60) then None else Some at
+-- the seconds between two tidyings, if the clock doesn't go back
+abbrev pub minute : ℤ
+minute = pos 60
 
 abbrev pub tidying : Option Moment → List Turn
 tidying None = []
@@ -61,7 +58,7 @@ unfoldable pub ArePeriods : Option Moment → HubState → List Period → Type 
 ArePeriods tidied hub [] = ⊤
 ArePeriods tidied hub (period ∷ periods) =
     AreRounds (after_turns hub (replacement period.look)) period.rounds
-    × (period.tidied ≡ due tidied (last_moment period.rounds))
+    × (period.tidied ≡ due_at minute tidied (last_moment period.rounds))
     × ArePeriods (option_or period.tidied tidied) (after_turns hub (turns_of period)) periods
 
 -- the number of rounds in each period: 16, and the rest in the last one
@@ -115,8 +112,8 @@ pub record HasLooked (is_fixed : Bool) (source : Option (List Look)) (start : Hu
 -- the result of a tidying, if there was one, and the moment of the last one
 pub record HasTidied (start : HubState) (tidied last : Option Moment) (new : HubState)
     (tidied_after : Option Moment) : Type 0 where
-  pub hub : new ≡ after_turns start (tidying (due tidied last))
-  pub after : tidied_after ≡ option_or (due tidied last) tidied
+  pub hub : new ≡ after_turns start (tidying (due_at minute tidied last))
+  pub after : tidied_after ≡ option_or (due_at minute tidied last) tidied
 
 -- the result of a look, of this many rounds after it, and perhaps of a tidying
 pub record IsPeriod (wire : Option (List WireCall)) (is_fixed : Bool) (source : Option (List Look)) (start : HubState)

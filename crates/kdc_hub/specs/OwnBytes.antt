@@ -62,5 +62,6 @@ pub record AreItsMessages (conn : ℕ) (hub : HubState) (entries : List Entry) :
 -- From its opening on, a connection's requests are the messages of its own bytes, whatever arrives elsewhere.
 abbrev pub AsksItsOwn : Type 0
 AsksItsOwn = (hub : HubState) (entries : List Entry) (conn : ℕ)
-    → map.get hub.connections conn ≡ Some (started greatest_request) → AllByRecursion (λ entry. IsNoOpening conn entry.event) entries
+    → map.get hub.connections conn ≡ Some (started greatest_request)
+    → AllByRecursion (λ entry. IsNoOpening conn entry.event) entries
     → AreItsMessages conn hub entries

@@ -109,7 +109,8 @@ abbrev pub fault_total : List WireCall → ℕ
 fault_total did = min (count_by is_fault did) (2 ^ 64 - 1)
 
 -- A run of this many rounds: the Wire's record before and afterwards, the hub before and afterwards, and the counts.
-pub record IsRun (before : Option (List WireCall)) (start : HubState) (n : ℕ) (served : Served) (after : Option (List WireCall))
+pub record IsRun (before : Option (List WireCall)) (start : HubState) (n : ℕ) (served : Served)
+    (after : Option (List WireCall))
     (new : HubState) : Type 0 where
   pub rounds : List Round
   pub each : AreRounds start rounds

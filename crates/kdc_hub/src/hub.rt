@@ -11,7 +11,7 @@ ghost use Rattle.principals.specs.Database.{Principals};
 ghost use Rattle.replay.specs.declared.opening.Opening.TheVariants.{Restart};
 ghost use Rattle.replay.specs.Sizes.{limited};
 ghost use Rattle.replay.specs.declared.seen.Resumption.{Resumption};
-ghost use Rattle.kdc_hub.specs.Hub.{AreDraws, HubState, Steps, hub_state};
+ghost use Rattle.kdc_hub.specs.Hub.{AreDraws, HubState, Steps, hub_state, sent};
 ghost use Rattle.kdc_hub.specs.Logged.{Entry, LogsNext, logged};
 ghost use Rattle.kdc_hub.specs.Audits.{AuditsHold};
 ghost use Rattle.kdc_hub.specs.declared.event.Action.TheVariants.{Close};
@@ -21,9 +21,9 @@ ghost use Rattle.kdc_hub.specs.declared.event.Event.TheVariants.{Datagram, Opene
 use crate::connections::Connections;
 use crate::event::{Action, CloseReason, Event, HubFault, Peer};
 use crate::seeded_kdc::SeededKdc;
-use crate::stream::{TimedConnection, answer_stream};
+use crate::stream::answer_stream;
 use framing::Splitter;
-use kdc_core::{CacheSizes, Kdc, OtherRealm, TimedRequest};
+use kdc_core::{CacheSizes, Kdc, OtherRealm, Reply};
 use krb_fields::Moment;
 use principals::Database;
 use rand_core::Rng;
@@ -152,45 +152,24 @@ impl<R: Rng> Hub<R> {
     {
         match event {
             Event::Datagram { peer, request } => {
+                let Ok(mut actions) = Vec::with_capacity(alloc, 1) else {
+                    return Err(nothing_done(alloc, None, 0));
+                };
                 let octets = request.as_slice();
-                self.answer_datagram(alloc, peer, &TimedRequest { at, octets })
+                match self.seeded_kdc.answer(alloc, at, DATAGRAM_ROOM, octets) {
+                    Ok(reply) => {
+                        actions.push_reserved(datagram_action(peer, reply));
+                        Ok(actions)
+                    }
+                    Err(_) => Err(nothing_done(alloc, None, 1)),
+                }
             }
             Event::Opened { conn } => self.open(alloc, at, conn),
-            Event::Bytes { conn, piece } => {
-                self.take_piece(alloc, TimedConnection { conn, at }, piece.as_slice())
-            }
+            Event::Bytes { conn, piece } => self.take_piece(alloc, at, conn, piece.as_slice()),
             Event::Closed { conn } => {
                 self.connections.remove(conn);
                 Ok(Vec::new(alloc))
             }
-        }
-    }
-
-    fn answer_datagram(
-        &mut self,
-        alloc: Global,
-        peer: Peer,
-        request: &TimedRequest<'_>,
-    ) -> Result<Vec<Action>, HubFault>
-        ensures step { Steps (hub_state R.stream self.old) request.now.at (Datagram peer request.now.octets.now) result
-            (hub_state R.stream self.new) }
-        ensures draws { IfErr result AreDraws }
-        ensures audits { AuditsHold (hub_state R.stream self.old) request.now.at
-            (Datagram peer request.now.octets.now) result }
-    {
-        let Ok(mut actions) = Vec::with_capacity(alloc, 1) else {
-            return Err(nothing_done(alloc, None, 0));
-        };
-        match self.seeded_kdc.answer(alloc, DATAGRAM_ROOM, request) {
-            Ok(Some(reply)) => {
-                actions.push_reserved(Action::SendTo { peer, reply });
-                Ok(actions)
-            }
-            Ok(None) => {
-                actions.push_reserved(Action::Pass { peer });
-                Ok(actions)
-            }
-            Err(_) => Err(nothing_done(alloc, None, 1)),
         }
     }
 
@@ -216,15 +195,15 @@ impl<R: Rng> Hub<R> {
     fn take_piece(
         &mut self,
         alloc: Global,
-        timed: TimedConnection,
+        at: Moment,
+        conn: u64,
         piece: &[u8],
     ) -> Result<Vec<Action>, HubFault>
-        ensures step { Steps (hub_state R.stream self.old) timed.at (Bytes timed.conn piece.now) result
+        ensures step { Steps (hub_state R.stream self.old) at (Bytes conn piece.now) result
             (hub_state R.stream self.new) }
         ensures draws { IfErr result AreDraws }
-        ensures audits { AuditsHold (hub_state R.stream self.old) timed.at (Bytes timed.conn piece.now) result }
+        ensures audits { AuditsHold (hub_state R.stream self.old) at (Bytes conn piece.now) result }
     {
-        let conn = timed.conn;
         let place = Splitter::new(alloc, GREATEST_STREAM_REQUEST);
         let Some(mut stream) = self.connections.replace(conn, place) else {
             return Ok(Vec::new(alloc));
@@ -233,7 +212,7 @@ impl<R: Rng> Hub<R> {
             self.connections.remove(conn);
             return Err(nothing_done(alloc, Some(conn), 0));
         };
-        match answer_stream(alloc, &mut self.seeded_kdc, timed, &mut stream) {
+        match answer_stream(alloc, &mut self.seeded_kdc, at, conn, &mut stream) {
             Ok(served) => {
                 if served.stays {
                     let _ = self.connections.replace(conn, stream);
@@ -247,6 +226,16 @@ impl<R: Rng> Hub<R> {
                 Err(fault)
             }
         }
+    }
+}
+
+/// Returns the action for a datagram that was answered so.
+fn datagram_action(peer: Peer, reply: Option<Reply>) -> Action
+    ensures { result ∷ [] ≡ sent peer reply }
+{
+    match reply {
+        Some(reply) => Action::SendTo { peer, reply },
+        None => Action::Pass { peer },
     }
 }
 

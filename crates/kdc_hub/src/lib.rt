@@ -29,6 +29,7 @@ mod rows;
 mod seeded_kdc;
 mod server;
 mod stream;
+mod timer;
 mod totals;
 mod wires;
 
@@ -44,5 +45,6 @@ pub use peers::Peers;
 pub use record::Record;
 pub use rows::{Look, RowSource, RowsState};
 pub use server::{Served, serve};
+pub use timer::due_at;
 pub use totals::Totals;
 pub use wires::{Wire, WireCall, WireFault};

@@ -2,20 +2,21 @@
 ghost use Rattle.std.specs.Prelude.{◌≡◌, ◌≤◌};
 ghost use Rattle.kdc_hub.specs.Hub.{hub_state};
 ghost use Rattle.kdc_hub.specs.Wire.{IsCounted};
-ghost use Rattle.kdc_hub.specs.Life.{HasLooked, HasTidied, IsLife, IsPeriod, due, periods_of};
+ghost use Rattle.kdc_hub.specs.Life.{HasLooked, HasTidied, IsLife, IsPeriod, periods_of};
 
 use crate::hub::Hub;
 use crate::laws::one_run;
 use crate::observer::{Observer, ServerView};
 use crate::rows::{Look, RowSource};
 use crate::server::{Served, serve};
+use crate::timer::due_at;
 use crate::totals::Totals;
 use crate::wires::Wire;
 use krb_fields::Moment;
 use rand_core::Rng;
 use std::alloc::Global;
 
-/// In seconds.
+/// How many seconds pass between two tidyings.
 const MINUTE: i64 = 60;
 
 /// For how many clients a period frees the memory of dropped authenticators.
@@ -71,7 +72,8 @@ pub fn serve_life<W: Wire, S: RowSource, R: Rng, O: Observer<W, R>>(
     // Promise (life, counted): what is counted are the events, the calls that failed (up to the greatest `u64`) and the
     // refusals of that record.
     // Promise, as take_rows of kdc_server: **changes are served**: unless ..
-    ensures life { IsLife (W.recorded wire.old) (S.is_fixed source.old) (S.recorded source.old) (hub_state R.stream hub.old)
+    ensures life { IsLife (W.recorded wire.old) (S.is_fixed source.old) (S.recorded source.old)
+        (hub_state R.stream hub.old)
         (periods_of rounds) result (W.recorded wire.new) (S.recorded source.new) (hub_state R.stream hub.new) }
     // A source whose rows may change is not exchanged for one whose rows never do.
     // Promise, as take_rows of kdc_server: **changes are served**: unless ..
@@ -123,7 +125,8 @@ fn serve_period<W: Wire, S: RowSource, R: Rng>(
     tidied: &mut Tidyings,
     rounds: u32,
 ) -> Served
-    ensures period { IsPeriod (W.recorded wire.old) (S.is_fixed source.old) (S.recorded source.old) (hub_state R.stream hub.old)
+    ensures period { IsPeriod (W.recorded wire.old) (S.is_fixed source.old) (S.recorded source.old)
+        (hub_state R.stream hub.old)
         tidied.old.last rounds result (W.recorded wire.new) (S.recorded source.new) (hub_state R.stream hub.new)
         tidied.new.last }
     ensures stays { S.is_fixed source.new ≡ S.is_fixed source.old }
@@ -140,9 +143,10 @@ fn serve_period<W: Wire, S: RowSource, R: Rng>(
 /// Drops authenticators that can't come again, if the last poll returned at least a minute after the last tidying, or
 /// before it. If not, it frees the memory of some that were dropped.
 fn tidy_if_due<R: Rng>(hub: &mut Hub<R>, tidied: &mut Tidyings, last: &Option<Moment>)
-    ensures { HasTidied (hub_state R.stream hub.old) tidied.old.last last.now (hub_state R.stream hub.new) tidied.new.last }
+    ensures { HasTidied (hub_state R.stream hub.old) tidied.old.last last.now
+        (hub_state R.stream hub.new) tidied.new.last }
 {
-    match due(&tidied.last, last) {
+    match due_at(MINUTE, &tidied.last, last) {
         Some(at) => {
             hub.tidy(at);
             tidied.last = Some(at);
@@ -164,23 +168,6 @@ fn free_some<R: Rng>(hub: &mut Hub<R>, freeing: &mut Freeing)
         None => {
             freeing.place = 0;
             freeing.passes -= 1;
-        }
-    }
-}
-
-/// Returns when to tidy, if that is due.
-fn due(tidied: &Option<Moment>, last: &Option<Moment>) -> Option<Moment>
-    ensures { result ≡ due tidied.now last.now }
-{
-    match (tidied, last) {
-        (_, None) => None,
-        (None, Some(at)) => Some(*at),
-        (Some(before), Some(at)) => {
-            if before.sec <= at.sec && at.sec < before.sec + MINUTE {
-                None
-            } else {
-                Some(*at)
-            }
         }
     }
 }

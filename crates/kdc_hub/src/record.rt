@@ -45,7 +45,7 @@ impl<T: Drop> Record<T> {
         }
     }
 
-    /// Appends an entry. If there was no memory to make it, or is none to store it, an entry is missing from then on.
+    /// Appends an entry. If memory ran out when it was made, or runs out now, an entry is missing from then on.
     pub fn keep(&mut self, entry: Result<T, AllocError>)
         ensures kept { IfOk entry (λ entry. Records self.old (entry ∷ []) self.new) }
         ensures lost { OnErr entry (self.new ≡ None) }

@@ -1,6 +1,6 @@
 //! Serving the events of a Wire.
-ghost use Rattle.std.specs.Prelude.{◌≡◌, ◌≤◌, ◌<◌, ◌^◌, length, None};
-ghost use Rattle.kdc_hub.specs.Acts.{AreActs, IsTaken};
+ghost use Rattle.std.specs.Prelude.{◌≡◌, ◌≤◌, length};
+ghost use Rattle.kdc_hub.specs.Acts.{AreActs};
 ghost use Rattle.kdc_hub.specs.Hub.{hub_state};
 ghost use Rattle.kdc_hub.specs.Logged.{logged};
 ghost use Rattle.kdc_hub.specs.Rounds.{IsRun, close_of, ending};
@@ -24,20 +24,6 @@ pub struct Served {
     pub refused: u32,
     /// When the last successful poll returned.
     pub last: Option<Moment>,
-}
-
-/// An event, and when it arrived.
-#[derive(Drop)]
-struct TimedEvent {
-    at: Moment,
-    event: Event,
-}
-
-/// The actions of an event, in order, and when it arrived.
-#[derive(Drop)]
-struct Actions<'a> {
-    at: Moment,
-    all: &'a [Action],
 }
 
 /// Returns the counts when no event came.
@@ -86,6 +72,8 @@ pub fn serve<W: Wire, R: Rng>(alloc: Global, wire: &mut W, hub: &mut Hub<R>, rou
     served
 }
 
+/// Polls once, and does the actions of an event that came. If memory ran out for some of them, it closes the event's
+/// connection.
 fn serve_round<W: Wire, R: Rng>(alloc: Global, wire: &mut W, hub: &mut Hub<R>) -> Served
     ensures run { IsRun (W.recorded wire.old) (hub_state R.stream hub.old) 1 result (W.recorded wire.new)
         (hub_state R.stream hub.new) }
@@ -94,46 +82,29 @@ fn serve_round<W: Wire, R: Rng>(alloc: Global, wire: &mut W, hub: &mut Hub<R>) -
     ensures one_refused { result.refused ≤ 1 }
 {
     match wire.poll(alloc) {
-        Ok((at, Some(event))) => take_event(alloc, wire, hub, TimedEvent { at, event }),
+        Ok((at, Some(event))) => match hub.step(alloc, at, event) {
+            Ok(actions) => {
+                let faults = act_all(alloc, wire, hub, at, &actions);
+                Served {
+                    events: 1,
+                    faults,
+                    refused: 0,
+                    last: Some(at),
+                }
+            }
+            Err(fault) => {
+                let faults = act_all(alloc, wire, hub, at, &fault.done);
+                let more = close(alloc, wire, hub, at, fault.conn);
+                Served {
+                    events: 1,
+                    faults: faults + more,
+                    refused: 1,
+                    last: Some(at),
+                }
+            }
+        },
         Ok((at, None)) => nothing_served(0, Some(at)),
         Err(_) => nothing_served(1, None),
-    }
-}
-
-/// Does the actions of an event. If memory runs out, closes its connection.
-fn take_event<W: Wire, R: Rng>(
-    alloc: Global,
-    wire: &mut W,
-    hub: &mut Hub<R>,
-    timed: TimedEvent,
-) -> Served
-    ensures taken { IsTaken (W.recorded wire.old) (hub_state R.stream hub.old) timed.at timed.event result
-        (W.recorded wire.new) (hub_state R.stream hub.new) }
-    ensures counted { IsCounted (W.fault_count wire.old) result.faults (W.fault_count wire.new) }
-    ensures counts { result.faults < 2 ^ 64 }
-{
-    let TimedEvent { at, event } = timed;
-    match hub.step(alloc, at, event) {
-        Ok(actions) => {
-            let faults = act_all(alloc, wire, hub, &Actions { at, all: &actions });
-            Served {
-                events: 1,
-                faults,
-                refused: 0,
-                last: Some(at),
-            }
-        }
-        Err(fault) => {
-            let all = &fault.done;
-            let faults = act_all(alloc, wire, hub, &Actions { at, all });
-            let more = close(alloc, wire, hub, at, fault.conn);
-            Served {
-                events: 1,
-                faults: faults + more,
-                refused: 1,
-                last: Some(at),
-            }
-        }
     }
 }
 
@@ -142,17 +113,17 @@ fn act_all<W: Wire, R: Rng>(
     alloc: Global,
     wire: &mut W,
     hub: &mut Hub<R>,
-    actions: &Actions<'_>,
+    at: Moment,
+    actions: &[Action],
 ) -> u64
-    ensures acts { AreActs (W.recorded wire.old) (hub_state R.stream hub.old) actions.now.at actions.now.all.now result
+    ensures acts { AreActs (W.recorded wire.old) (hub_state R.stream hub.old) at actions.now result
         (W.recorded wire.new) (hub_state R.stream hub.new) }
     ensures counted { IsCounted (W.fault_count wire.old) result (W.fault_count wire.new) }
-    ensures few { result ≤ length actions.now.all.now }
+    ensures few { result ≤ length actions.now }
 {
-    let Actions { at, all } = *actions;
     let mut faults = 0;
     let mut lost = None;
-    for action in all {
+    for action in actions {
         match wire.act(alloc, action) {
             Ok(()) => {}
             Err(WireFault) => {
@@ -173,7 +144,8 @@ fn close<W: Wire, R: Rng>(
     at: Moment,
     conn: Option<u64>,
 ) -> u64
-    ensures acts { AreActs (W.recorded wire.old) (hub_state R.stream hub.old) at (close_of conn) result (W.recorded wire.new)
+    ensures acts { AreActs (W.recorded wire.old) (hub_state R.stream hub.old) at (close_of conn) result
+        (W.recorded wire.new)
         (hub_state R.stream hub.new) }
     ensures counted { IsCounted (W.fault_count wire.old) result (W.fault_count wire.new) }
     ensures few { result ≤ 1 }
@@ -181,8 +153,8 @@ fn close<W: Wire, R: Rng>(
     match conn {
         Some(conn) => {
             let reason = CloseReason::OutOfMemory;
-            let all = &[Action::Close { conn, reason }];
-            act_all(alloc, wire, hub, &Actions { at, all })
+            let closing = &[Action::Close { conn, reason }];
+            act_all(alloc, wire, hub, at, closing)
         }
         None => 0,
     }

@@ -14,22 +14,12 @@ ghost use Rattle.kdc_hub.specs.declared.event.CloseReason.TheVariants.{BadLength
 use crate::event::{Action, CloseReason, HubFault};
 use crate::seeded_kdc::SeededKdc;
 use framing::{FrameFault, Splitter};
-use kdc_core::TimedRequest;
 use krb_fields::Moment;
 use rand_core::Rng;
 use std::alloc::{AllocError, Global};
 
 /// The greatest size of a reply with a ticket on a connection, in bytes.
 const ROOM: u32 = 131_072;
-
-/// A connection whose bytes came, and when.
-#[derive(Clone, Copy)]
-pub struct TimedConnection {
-    /// The number of the connection.
-    pub conn: u64,
-    /// When the bytes came.
-    pub at: Moment,
-}
 
 /// The answers to the messages of a connection.
 #[derive(Drop)]
@@ -47,46 +37,47 @@ struct RanOut {
     drawn: bool,
 }
 
-/// Answers the complete messages of a stream.
+/// Answers the complete messages of a connection's stream, whose last piece came at this moment.
 pub fn answer_stream<R: Rng>(
     alloc: Global,
     seeded_kdc: &mut SeededKdc<R>,
-    timed: TimedConnection,
+    at: Moment,
+    conn: u64,
     stream: &mut Splitter,
 ) -> Result<StreamStep, HubFault>
     ensures actions { IfOk result
         (λ s. s.actions.items
-        ≡ (stream_step (issuing R.stream seeded_kdc.old) timed.at timed.conn stream.old).actions) }
+        ≡ (stream_step (issuing R.stream seeded_kdc.old) at conn stream.old).actions) }
     ensures issuing { OnOk result
         (issuing R.stream seeded_kdc.new
-        ≡ (stream_step (issuing R.stream seeded_kdc.old) timed.at timed.conn stream.old).issuing) }
+        ≡ (stream_step (issuing R.stream seeded_kdc.old) at conn stream.old).issuing) }
     ensures stays { IfOk result
-        (λ s. s.stays ≡ (stream_step (issuing R.stream seeded_kdc.old) timed.at timed.conn stream.old).stays) }
+        (λ s. s.stays ≡ (stream_step (issuing R.stream seeded_kdc.old) at conn stream.old).stays) }
     ensures left { IfOk result (λ s. s.stays ≡ true → stream.new ≡ left stream.old) }
-    ensures conn { IfErr result (λ fault. fault.conn ≡ Some timed.conn) }
+    ensures conn { IfErr result (λ fault. fault.conn ≡ Some conn) }
     ensures done { IfErr result
         (λ fault. fault.done.items
         ≡ take (length fault.done.items)
-        (stream_step (issuing R.stream seeded_kdc.old) timed.at timed.conn stream.old).actions) }
+        (stream_step (issuing R.stream seeded_kdc.old) at conn stream.old).actions) }
     ensures kdc { IfErr result
-        (λ fault. seeded_kdc.new.kdc ≡ (after_some (length fault.done.items) (issuing R.stream seeded_kdc.old) timed.at
+        (λ fault. seeded_kdc.new.kdc ≡ (after_some (length fault.done.items) (issuing R.stream seeded_kdc.old) at
         (handed_out stream.old).messages).kdc) }
     ensures drawn { IfErr result (λ fault. R.stream seeded_kdc.new.rng
         ≡ drawn fault.draws (R.stream seeded_kdc.old.rng)) }
     ensures draws { IfErr result AreDraws }
     ensures keeps { seeded_kdc.new.keeps_audits ≡ seeded_kdc.old.keeps_audits }
     ensures audits { IfOk result (λ s.
-        FirstHold (length s.actions.items) (issuing R.stream seeded_kdc.old) timed.at stream_room
+        FirstHold (length s.actions.items) (issuing R.stream seeded_kdc.old) at stream_room
         (handed_out stream.old).messages) }
     ensures audits_done { IfErr result (λ fault.
-        FirstHold (length fault.done.items) (issuing R.stream seeded_kdc.old) timed.at stream_room
+        FirstHold (length fault.done.items) (issuing R.stream seeded_kdc.old) at stream_room
         (handed_out stream.old).messages) }
 {
     let mut actions = Vec::new(alloc);
     loop {
         match stream.next(alloc) {
             Ok(Some(request)) => {
-                match answer_request(alloc, seeded_kdc, timed, &request, &mut actions) {
+                match answer_request(alloc, seeded_kdc, at, conn, &request, &mut actions) {
                     Ok(true) => {}
                     Ok(false) => {
                         return Ok(StreamStep {
@@ -94,7 +85,7 @@ pub fn answer_stream<R: Rng>(
                             stays: false,
                         });
                     }
-                    Err(fault) => return Err(out_of_memory(actions, timed.conn, fault.drawn)),
+                    Err(fault) => return Err(out_of_memory(actions, conn, fault.drawn)),
                 }
             }
             Ok(None) => {
@@ -105,8 +96,8 @@ pub fn answer_stream<R: Rng>(
             }
             Err(fault) => {
                 return match fault {
-                    FrameFault::Memory => Err(out_of_memory(actions, timed.conn, false)),
-                    _ => refuse_length(alloc, seeded_kdc, timed, actions),
+                    FrameFault::Memory => Err(out_of_memory(actions, conn, false)),
+                    _ => refuse_length(alloc, seeded_kdc, at, conn, actions),
                 };
             }
         }
@@ -132,21 +123,22 @@ fn out_of_memory(done: Vec<Action>, conn: u64, drawn: bool) -> HubFault
 fn answer_request<R: Rng>(
     alloc: Global,
     seeded_kdc: &mut SeededKdc<R>,
-    timed: TimedConnection,
+    at: Moment,
+    conn: u64,
     request: &[u8],
     actions: &mut Vec<Action>,
 ) -> Result<bool, RanOut>
     ensures action { OnOk result
         (actions.new.items ≡ actions.old.items
-        ++ action_for timed.conn (reply_of (issuing R.stream seeded_kdc.old) timed.at stream_room request.now) ∷ []) }
+        ++ action_for conn (reply_of (issuing R.stream seeded_kdc.old) at stream_room request.now) ∷ []) }
     ensures after { OnOk result
-        (issuing R.stream seeded_kdc.new ≡ after (issuing R.stream seeded_kdc.old) timed.at stream_room request.now) }
+        (issuing R.stream seeded_kdc.new ≡ after (issuing R.stream seeded_kdc.old) at stream_room request.now) }
     ensures stays { IfOk result
-        (λ stays. stays ≡ is_some (reply_of (issuing R.stream seeded_kdc.old) timed.at stream_room request.now)) }
+        (λ stays. stays ≡ is_some (reply_of (issuing R.stream seeded_kdc.old) at stream_room request.now)) }
     ensures holds { OnOk result
-        (ReplyHolds (view seeded_kdc.old.kdc request.now) timed.at
+        (ReplyHolds (view seeded_kdc.old.kdc request.now) at
         (fill_bytes 64 (R.stream seeded_kdc.old.rng)).0 request.now
-        (reply_of (issuing R.stream seeded_kdc.old) timed.at stream_room request.now)) }
+        (reply_of (issuing R.stream seeded_kdc.old) at stream_room request.now)) }
     ensures err { OnErr result ((actions.new.items ≡ actions.old.items) × (seeded_kdc.new.kdc ≡ seeded_kdc.old.kdc)) }
     ensures audits { seeded_kdc.new.keeps_audits ≡ seeded_kdc.old.keeps_audits }
     ensures drawn { IfErr result
@@ -155,12 +147,7 @@ fn answer_request<R: Rng>(
     if actions.reserve(1).is_err() {
         return Err(RanOut { drawn: false });
     }
-    let TimedConnection { conn, at } = timed;
-    let request = TimedRequest {
-        at,
-        octets: request,
-    };
-    match seeded_kdc.answer(alloc, ROOM, &request) {
+    match seeded_kdc.answer(alloc, at, ROOM, request) {
         Ok(Some(reply)) => {
             actions.push_reserved(Action::Write { conn, reply });
             Ok(true)
@@ -180,38 +167,39 @@ fn answer_request<R: Rng>(
 fn refuse_length<R: Rng>(
     alloc: Global,
     seeded_kdc: &SeededKdc<R>,
-    timed: TimedConnection,
+    at: Moment,
+    conn: u64,
     mut actions: Vec<Action>,
 ) -> Result<StreamStep, HubFault>
     ensures actions { IfOk result
         (λ s. s.actions.items ≡ actions.items
-        ++ Write timed.conn (too_long seeded_kdc.now.kdc timed.at) ∷ Close timed.conn BadLength ∷ []) }
+        ++ Write conn (too_long seeded_kdc.now.kdc at) ∷ Close conn BadLength ∷ []) }
     ensures stays { IfOk result (λ s. s.stays ≡ false) }
-    ensures conn { IfErr result (λ fault. fault.conn ≡ Some timed.conn) }
+    ensures conn { IfErr result (λ fault. fault.conn ≡ Some conn) }
     ensures done { IfErr result (λ fault. fault.done.items ≡ actions.items) }
     ensures draws { IfErr result (λ fault. fault.draws ≡ length actions.items + 0) }
 {
-    match push_refusal(alloc, seeded_kdc, timed, &mut actions) {
+    match push_refusal(alloc, seeded_kdc, at, conn, &mut actions) {
         Ok(()) => Ok(StreamStep {
             actions,
             stays: false,
         }),
-        Err(_) => Err(out_of_memory(actions, timed.conn, false)),
+        Err(_) => Err(out_of_memory(actions, conn, false)),
     }
 }
 
 fn push_refusal<R: Rng>(
     alloc: Global,
     seeded_kdc: &SeededKdc<R>,
-    timed: TimedConnection,
+    at: Moment,
+    conn: u64,
     actions: &mut Vec<Action>,
 ) -> Result<(), AllocError>
     ensures ok { OnOk result
         (actions.new.items ≡ actions.old.items
-        ++ Write timed.conn (too_long seeded_kdc.now.kdc timed.at) ∷ Close timed.conn BadLength ∷ []) }
+        ++ Write conn (too_long seeded_kdc.now.kdc at) ∷ Close conn BadLength ∷ []) }
     ensures err { OnErr result (actions.new.items ≡ actions.old.items) }
 {
-    let TimedConnection { conn, at } = timed;
     actions.reserve(2)?;
     let reply = seeded_kdc.too_long(alloc, at)?;
     actions.push_reserved(Action::Write { conn, reply });

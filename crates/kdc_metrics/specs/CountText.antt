@@ -105,7 +105,8 @@ replies_head = head replies_name Counter (codes "Replies, by transport, and whet
 abbrev pub replies_text : Counts → List ℕ
 replies_text counts =
     replies_head
-    ++ (reply_sample counts Udp true ++ reply_sample counts Udp false ++ reply_sample counts Tcp true ++ reply_sample counts Tcp false)
+    ++ (reply_sample counts Udp true ++ reply_sample counts Udp false ++ reply_sample counts Tcp true
+    ++ reply_sample counts Tcp false)
 
 -- ---- all
 

@@ -1,7 +1,9 @@
 -- The kinds of requests that are counted apart.
 use Rattle.std.specs.Prelude.{Bool, true, false, Option, Some, None}
 use Rattle.as_exchange.specs.declared.outcome.AsOutcome.{AsOutcome}
-use Rattle.as_exchange.specs.declared.outcome.AsOutcome.TheVariants.{Refused as AsOutcomeRefused, Issued as AsOutcomeIssued, TooBig as AsOutcomeTooBig}
+use Rattle.as_exchange.specs.declared.outcome.AsOutcome.TheVariants.{Refused as AsOutcomeRefused}
+use Rattle.as_exchange.specs.declared.outcome.AsOutcome.TheVariants.{Issued as AsOutcomeIssued}
+use Rattle.as_exchange.specs.declared.outcome.AsOutcome.TheVariants.{TooBig as AsOutcomeTooBig}
 use Rattle.tgs_exchange.specs.declared.outcome.TgsOutcome.{TgsOutcome}
 use Rattle.tgs_exchange.specs.declared.outcome.TgsOutcome.TheVariants.{Refused, Issued, Resent, TooBig}
 use Rattle.kdc_core.specs.Audit.{AuditRecord}

@@ -8,7 +8,7 @@ use request_log::{Entry, LogWriter, MemoryLog, RequestLines};
 use std::alloc::Global;
 use std::io::Write;
 
-/// What is known of the entries of a log.
+/// The numbers of a log.
 pub trait LogNumbers {
     /// Returns the counts of the entries, if they are counted.
     fn counts(&self) -> Option<&Counts>;

@@ -1,4 +1,4 @@
-//! What stands for the numbers of a server in tests.
+//! The numbers of a server in tests.
 
 pub mod metrics;
 pub mod tally;

@@ -2,7 +2,7 @@
 
 /// Takes the text of a server's numbers.
 pub trait MetricsWriter {
-    /// Puts a text in place of the one before. If that fails, it says so, once until it succeeds again.
+    /// Replaces the last text by this one. A failure is logged once, until a text is written again.
     fn write_metrics(&mut self, text: &[u8]);
 
     /// Returns how many bytes the journal's files have.

@@ -51,7 +51,7 @@ pub struct MetricsFile<'a, F, W> {
 }
 
 impl<'a, F: Files<File = File>, W: Write + Drop> MetricsFile<'a, F, W> {
-    /// The file at its path. It is written only later.
+    /// Returns the file at its path. It is written only later.
     pub fn new(
         alloc: Global,
         files: &'a F,

@@ -40,9 +40,9 @@ pub struct Numbers {
     pub rows_behind: u64,
     /// How much the replay caches of all clients hold.
     pub caches: CacheSizes,
-    /// How many replies were withheld since the journal could not keep what they make the KDC remember.
+    /// How many replies were withheld because the journal could not keep what they make the KDC remember.
     pub withheld_by_journal: u64,
-    /// How many replies were withheld since the start is quiet.
+    /// How many replies were withheld because the start is quiet.
     pub withheld_by_quiet_start: u64,
     /// The bytes of the journal's files.
     pub journal_bytes: u64,

@@ -5,7 +5,7 @@ ghost use Rattle.kdc_metrics.specs.Prometheus.{head, sample, single, type_line, 
 use itoa::Buffer;
 use std::alloc::AllocError;
 
-/// What becomes of a number in the course of time.
+/// How a number changes with time.
 #[derive(Clone, Copy, PartialEq, Eq)]
 pub enum NumberType {
     /// It rises until the process ends.
@@ -14,7 +14,7 @@ pub enum NumberType {
     Gauge,
 }
 
-/// Appends what stands in front of the samples of this name. `help` is one line without a backslash.
+/// Appends the lines in front of the samples of this name. `help` is one line without a backslash.
 pub fn push_head(
     text: &mut Vec<u8>,
     name: &str,

@@ -6,7 +6,8 @@ use Rattle.principal_rows.specs.declared.row.Row.{Row}
 
 -- Both have rows, neither is disabled or expired at that second, and tickets may be issued for the service, by its name
 -- and its row.
-pub record AreInGoodStanding (realm : List ℕ) (name : Option Components) (client service : Option Row) (now : ℤ) : Type 0 where
+pub record AreInGoodStanding (realm : List ℕ) (name : Option Components) (client service : Option Row)
+    (now : ℤ) : Type 0 where
   pub client_known : is_some client ≡ true
   pub client_enabled : is_disabled client ≡ false
   pub client_current : is_expired client now ≡ false

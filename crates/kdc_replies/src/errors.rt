@@ -28,17 +28,17 @@ pub fn error_reply(
     requires realm { length realm.now ≤ 255 }
     requires sname { IfSome (option_copied sname) (λ n. length (name.text n) < 2147483648) }
     requires e_data { IfSome e_data (λ d. length d ≤ 65535) }
-    // Promise (written, spelled): the bytes of an error, and what they spell.
+    // Promise (written, spelled): an error is written as the definition says, in bytes that spell it.
     ensures written { IfOk result (λ octets.
         octets.items ≡ written krb_error (error_reply realm.now at code (option_copied sname.entry) e_data)) }
     ensures spelled { IfOk result (λ octets.
         krb_error.Spells (error_reply realm.now at code (option_copied sname.entry) e_data) octets.items) }
 {
     match sname {
-        Some(name) => write(alloc, &error_of(realm, at, code, sent_name(name), e_data)),
+        Some(name) => write(alloc, &lent_error(realm, at, code, sent_name(name), e_data)),
         None => {
             let tgs = tgs_name(alloc, realm)?;
-            write(alloc, &error_of(realm, at, code, tgs, e_data))
+            write(alloc, &lent_error(realm, at, code, tgs, e_data))
         }
     }
 }
@@ -52,7 +52,7 @@ pub fn too_big(
 ) -> Result<Vec<u8>, AllocError>
     requires realm { length realm.now ≤ 255 }
     requires sname { IfSome body.now.sname (λ n. length (name.text n) < 2147483648) }
-    // Promise (written, spelled), as error_reply: the bytes of an ..
+    // Promise (written, spelled), as error_reply: an error is written ..
     ensures written { IfOk result (λ octets. octets.items ≡ written krb_error (too_big realm.now at body.now)) }
     ensures spelled { IfOk result (λ octets. krb_error.Spells (too_big realm.now at body.now) octets.items) }
 {
@@ -67,7 +67,7 @@ pub fn too_big(
 }
 
 /// Returns the error, which borrows its realm and name.
-fn error_of<'r, N: Coded>(
+fn lent_error<'r, N: Coded>(
     realm: &'r [u8],
     at: Moment,
     code: Code,

@@ -2,14 +2,14 @@
 ghost use Rattle.std.specs.Prelude.{◌≡◌, ◌≤◌, length, IfOk};
 ghost use Rattle.krb_types.specs.EncKdcRepPart.{enc_kdc_rep_part};
 ghost use Rattle.krb_types.specs.EncTicketPart.{enc_ticket_part};
+ghost use Rattle.encrypted_data.specs.Keys.{key_part};
 ghost use Rattle.kdc_replies.specs.Grant.{IsShort, no_realms, ticket_part, reply_part};
 
-use encrypted_data::key_part;
 use enctypes::Key;
 use krb_der::KTime;
-use krb_elements::{KerberosStringRef, Lent, Octets, Seq, UInt32};
+use krb_elements::{KerberosStringRef, Lent, OctetsRef, Seq, UInt32};
 use krb_fields::numbers::{DOMAIN_X500_COMPRESS, LR_NONE};
-use krb_fields::{Flags, Name, Typed};
+use krb_fields::{Flags, Name, Typed, TypedRef};
 use krb_types::{EncKdcRepPart, EncTicketPart, LastReq};
 use std::alloc::{AllocError, Global};
 use ticket_times::Times;
@@ -46,7 +46,7 @@ pub type LentData<'g, 'a> = Lent<'g, Lent<'a, Seq<Typed>>>;
 
 /// The encrypted part of a ticket, which borrows from the grant.
 pub type LentTicketPart<'g, 'a> = EncTicketPart<
-    Typed,
+    TypedRef<'g>,
     LentRealm<'g, 'a>,
     LentName<'g, 'a>,
     LentData<'g, 'a>,
@@ -54,7 +54,7 @@ pub type LentTicketPart<'g, 'a> = EncTicketPart<
 
 /// The encrypted part of a reply, which borrows from the grant.
 pub type LentReplyPart<'g, 'a> = EncKdcRepPart<
-    Typed,
+    TypedRef<'g>,
     Seq<LastReq>,
     LentRealm<'g, 'a>,
     LentName<'g, 'a>,
@@ -63,27 +63,24 @@ pub type LentReplyPart<'g, 'a> = EncKdcRepPart<
 impl<'a> Grant<'a> {
     /// Returns the part of the ticket that the service's key encrypts.
     #[tactic(auto, using(crate::specs::LengthLaws::ticket_part_short))]
-    pub(crate) fn ticket_part<'g>(
-        &'g self,
-        alloc: Global,
-    ) -> Result<LentTicketPart<'g, 'a>, AllocError>
+    pub(crate) fn ticket_part<'g>(&'g self) -> LentTicketPart<'g, 'a>
         requires { IsShort self.now }
-        ensures value { IfOk result (λ part. part ≡ ticket_part self.now) }
-        ensures short { IfOk result (λ part. length (enc_ticket_part.text part) ≤ 2147490000) }
+        ensures value { result ≡ ticket_part self.now }
+        ensures short { length (enc_ticket_part.text result) ≤ 2147490000 }
     {
-        Ok(EncTicketPart {
+        EncTicketPart {
             flags: self.flags,
-            key: key_part(alloc, &self.session_key)?,
+            key: lent_key(&self.session_key),
             crealm: Lent::new(&self.realm),
             cname: Lent::new(&self.client),
-            transited: no_realms(alloc),
+            transited: no_realms(),
             authtime: self.authtime,
             starttime: Some(self.times.start),
             endtime: self.times.end,
             renew_till: self.times.renew_till,
             caddr: None,
             authorization_data: lent_data(&self.authorization_data),
-        })
+        }
     }
 
     /// Returns the part of the reply that the reply key encrypts.
@@ -109,7 +106,7 @@ impl<'a> Grant<'a> {
             lr_value: now,
         })?;
         Ok(EncKdcRepPart {
-            key: key_part(alloc, &self.session_key)?,
+            key: lent_key(&self.session_key),
             last_req,
             nonce,
             key_expiration: None,
@@ -135,12 +132,23 @@ fn lent_data<'g, 'a>(entries: &'g Option<Lent<'a, Seq<Typed>>>) -> Option<LentDa
     }
 }
 
+/// Lends a key to a message, as `key_part` of `encrypted_data` copies it.
+fn lent_key(key: &Key) -> TypedRef<'_>
+    ensures value { result ≡ key_part key.now }
+    ensures short { length key.now.bytes ≤ 32 }
+{
+    TypedRef {
+        number: key.etype().number(),
+        octets: OctetsRef::new(key.bytes()),
+    }
+}
+
 /// Returns the realms between the client's and the service's: none (RFC 4120, section 3.3.3.2).
-fn no_realms(alloc: Global) -> Typed
+fn no_realms<'g>() -> TypedRef<'g>
     ensures { result ≡ no_realms }
 {
-    Typed {
+    TypedRef {
         number: DOMAIN_X500_COMPRESS,
-        octets: Octets::new(Vec::new(alloc)),
+        octets: OctetsRef::new(&[]),
     }
 }

@@ -3,7 +3,7 @@ use encrypted_data::ReadyKeys;
 use krb_fields::Moment;
 use std::marker::Model;
 
-/// An incoming request, and what its answer needs beside the KDC's state.
+/// An incoming request, and what its answer needs besides the KDC's state.
 #[derive(Drop)]
 pub struct Incoming<'a> {
     /// When it came in.

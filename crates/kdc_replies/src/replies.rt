@@ -53,8 +53,8 @@ pub fn ticket_reply<const TYPE: u8, const TAG: u8>(
 ) -> Result<Vec<u8>, AllocError>
     requires grant { IsShort grant.now }
     requires padata { IfSome padata (λ list. length ((list_of pa_data).text list) ≤ 70000) }
-    // Promise (written, spelled, same): the bytes of a reply with a ticket, and what they spell; the client and the
-    // service find the same inside.
+    // Promise (written, spelled, same): a reply with a ticket is written as the definition says, in bytes that spell
+    // it; the client and the service decrypt it to the same contents.
     ensures written { IfOk result (λ octets.
         octets.items ≡ written (kdc_rep TYPE)
         (reply_of TYPE TAG grant.now service.now key.now padata inputs.now.nonce inputs.now.time

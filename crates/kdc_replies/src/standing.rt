@@ -9,7 +9,7 @@ use principals::names_tgs;
 
 /// Checks whether it is disabled.
 pub fn is_disabled(row: Option<&Row>) -> bool
-    // Promise: what a row says of its principal's standing.
+    // Promise: what a row says about its principal's standing is that of the definition.
     ensures { result ≡ is_disabled (option_copied row.entry) }
 {
     match row {

@@ -65,7 +65,7 @@ fn sealed(
         decrypted enc_ticket_part service.now.key (usage_number TicketUsage) sealed ≡ Some (ticket_part grant.now)) }
     ensures most { IfOk result (λ sealed. length sealed.cipher ≤ 2147490100) }
 {
-    let part = grant.ticket_part(alloc)?;
+    let part = grant.ticket_part();
     let key = PartKey {
         key: service.key,
         usage: KeyUsage::Ticket,

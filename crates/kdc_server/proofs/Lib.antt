@@ -7,3 +7,4 @@ mod Journaled
 pub mod Asked
 pub mod OnFiles
 mod Runs
+mod OneRun

@@ -1,6 +1,6 @@
 -- What a start did with the files of its journal, call by call. `A` is that it has a journal.
-use Rattle.std.proofs.Common.{◌≡◌, inl, inr, ℤ, ℕ, Bool, true, false, List, Option, Some, None, refl, sym, ap, subst, ◌∙◌}
-use Rattle.std.specs.Prelude.{IfSome}
+use Rattle.std.proofs.Common.{◌≡◌, inl, inr, ℤ, ℕ, true, false, List, Option, Some, None, Result, Ok, Err, refl, sym, ap, subst, ◌∙◌}
+use Rattle.std.specs.Prelude.{IfErr, IfSome}
 use Rattle.krb_fields.specs.declared.moment.Moment.{Moment}
 use Rattle.kdc_hub.specs.Hub.{HubState}
 use Rattle.journal.specs.Finding.{MayFinish}
@@ -9,7 +9,7 @@ use Rattle.journal.specs.World.{World}
 use Rattle.kdc_files.specs.Keeping.{BeginsOver, FailsOver, before_start}
 use Rattle.kdc_files.specs.declared.journals.JournalBeginning.{JournalBeginning}
 use Rattle.kdc_files.specs.declared.journals.Journals.{Journals}
-use Rattle.kdc_server.specs.OnFiles.{HasBegunOver, HasFailedOver, HasFound, HasOnlyBegun, IsStartedOver}
+use Rattle.kdc_server.specs.OnFiles.{HasFailedOver, HasFound, IsStartedOver}
 use Rattle.kdc_server.specs.Resuming.{IsReady}
 use Rattle.kdc_server.specs.Starting.{HostDid}
 use Rattle.kdc_server.specs.declared.host.StartNews.{StartNews}
@@ -28,6 +28,11 @@ same_finish (Some w) (Some n) same = inl (ap (λ o. world_or w o) same)
 some_is : (o : Option World) → IfSome o (λ w. o ≡ Some w)
 some_is None = tt
 some_is (Some w) = refl
+
+-- what holds at any error
+pub if_failed : {T E P : Type 0} (r : Result T E) → P → IfErr r (λ x. P)
+if_failed (Ok done) p = tt
+if_failed (Err fault) p = p
 
 module _ {A : Type 0} where
   pub untouched_once : (a b : Option World) → b ≡ a → A → MayFinish a b
@@ -60,6 +65,9 @@ module _ {A : Type 0} where
 
   pub failed_then : (options : ServeOptions) (old next new : Option World) → (A → MayFinish old next) → new ≡ next → A → HasFailedOver options old new
   failed_then options old next new finished after has = inl (subst (MayFinish old) (sym after) (finished has))
+
+  pub failed_later : (options : ServeOptions) (old next mid new : Option World) → (A → MayFinish old next) → mid ≡ next → new ≡ mid → A → HasFailedOver options old new
+  failed_later options old next mid new finished one two has = inl (subst (MayFinish old) (sym (two ∙ one)) (finished has))
 
   pub failed_to_begin : (options : ServeOptions) (before after : Option (List HostDid)) (hub : HubState) (beginning : JournalBeginning) (row_count : ℕ)
       (old next mid new : Option World) → IsReady options before after hub beginning row_count → (A → HasFound beginning.journals old next)

@@ -1,5 +1,5 @@
 -- What the runs of a server did with the files of their journal is what the law of restarts asks of these files.
-use Rattle.std.proofs.Common.{◌≡◌, inl, inr, ℕ, ℤ, pos, ◌-ℤ◌, Bool, true, false, List, [], ◌∷◌, ◌++◌, map, Option, Some, None, Result, Ok, Err, refl, sym, ap, subst, ◌∙◌, append_assoc, if◌then◌else◌}
+use Rattle.std.proofs.Common.{◌≡◌, inl, inr, ℕ, ℤ, Bool, true, false, List, [], ◌∷◌, ◌++◌, Option, Some, None, Result, Ok, Err, refl, sym, ap, subst, ◌∙◌, if◌then◌else◌}
 use Rattle.std.proofs.Math.Logic.{∥∥₁_elim, ∥∥₁_map, ∥∥₁_prop}
 use Rattle.std.specs.Prelude.{◌⊎◌, ⊤, IfSome, is_some}
 use Rattle.std.specs.Coded.{coded_ℕ, coded_list}
@@ -8,19 +8,16 @@ use Rattle.std.specs.FinMap as finmap
 use Rattle.std.specs.List.{AllByRecursion, flat_map}
 use Rattle.std.specs.Option.{option_copied}
 use Rattle.std.specs.Result.{is_ok}
-use Rattle.std.proofs.lemmas.List.{append-nil, map-append}
+use Rattle.std.proofs.lemmas.List.{append-nil}
 use Rattle.std.specs.Ordering.{nat_cmp}
 use Rattle.framing.specs.Splitting.{Splitting}
 use Rattle.krb_fields.specs.Name.{Components}
-use Rattle.krb_fields.specs.Skew.{skew}
 use Rattle.krb_fields.specs.declared.moment.Moment.{Moment}
 use Rattle.principal_rows.specs.declared.limits.Limits.{Limits}
 use Rattle.principals.specs.Database.{Principals}
 use Rattle.replay.specs.Run.{OneForEach, with_any}
 use Rattle.replay.specs.Stamp.{Stamp}
-use Rattle.replay.specs.Opening.{opening_floor}
 use Rattle.replay.specs.declared.opening.Opening.{Opening}
-use Rattle.replay.specs.declared.opening.Opening.TheVariants.{First, Restart}
 use Rattle.replay.specs.declared.seen.Resumption.{Resumption}
 use Rattle.replay.specs.declared.seen.Seen.{Seen}
 use Rattle.kdc_state.specs.declared.state.State.{State}
@@ -29,7 +26,7 @@ use Rattle.kdc_core.specs.NewlySeen.{Covers}
 use Rattle.kdc_core.specs.Tickets.{RestartsFollow}
 use Rattle.kdc_hub.specs.History.{after_turn, after_turns, events_in, tickets_sent}
 use Rattle.kdc_hub.specs.Hub.{HubState}
-use Rattle.kdc_hub.specs.Life.{ArePeriods, Period, rounds_in, turns_of}
+use Rattle.kdc_hub.specs.Life.{Period, rounds_in, turns_of}
 use Rattle.kdc_hub.specs.Rounds.{did_in}
 use Rattle.kdc_hub.specs.Wire.{Records}
 use Rattle.kdc_hub.specs.declared.event.Action.{Action}
@@ -38,32 +35,30 @@ use Rattle.kdc_hub.specs.declared.wires.WireCall.{WireCall}
 use Rattle.kdc_hub.specs.declared.wires.WireCall.TheVariants.{Polled, Waited, Missed, Acted, Failed}
 use Rattle.request_log.specs.Log.{moment_after}
 use Rattle.journal.specs.Counting.{FollowsOver, FollowsThrough, ReadIsLater, lost_by}
-use Rattle.journal.specs.Decision.{Place, start_of}
+use Rattle.journal.specs.Decision.{start_of}
 use Rattle.journal.specs.Finding.{AreFound, MayFinish}
 use Rattle.journal.specs.Holding.{IsStart, known_by}
 use Rattle.journal.specs.Life as journal
 use Rattle.journal.specs.Appending.{kept_by}
-use Rattle.journal.specs.Life.{all_after, AreCalls, Call, FindsCut, IsCall, IsProcess, IsStage, JournalState, LivesHold, Past, Stage, kept_by_process, kept_in, past_after, past_after_all, past_of, result_of, seen_in}
+use Rattle.journal.specs.Life.{all_after, AreCalls, Call, IsCall, IsProcess, IsStage, JournalState, LivesHold, Past, Stage, kept_in, past_after, past_after_all, result_of, seen_in}
 use Rattle.journal.specs.Life.Call.{Keep, Mend}
-use Rattle.journal.specs.Life.Stage.{Ran, Finished, Sealed, Lost}
-use Rattle.journal.specs.World.{Leaves, SameSeal, World, with_seal}
-use Rattle.journal.specs.declared.decision.Found.{Found}
-use Rattle.journal.specs.declared.decision.FoundFiles.{FoundFiles}
+use Rattle.journal.specs.Life.Stage.{Ran, Finished, Sealed}
+use Rattle.journal.specs.World.{Leaves, SameSeal, World}
 use Rattle.journal.specs.declared.decision.Start.{Start}
 use Rattle.journal.specs.declared.decision.Start.TheVariants.{Resumes, Refuses}
 use Rattle.journal.specs.declared.journal_file.NotKept.{NotKept}
 use Rattle.kdc_files.specs.Journal.{Handed, handed_at, handed_by}
-use Rattle.kdc_files.specs.Keeping.{AsksFor, BeginsOver, IsAskedFor, before_start, call_for}
+use Rattle.kdc_files.specs.Keeping.{AsksFor, BeginsOver, IsAskedFor, before_start}
 use Rattle.kdc_files.specs.Recorded.{IsNew}
 use Rattle.kdc_files.specs.declared.journals.JournalBeginning.{JournalBeginning}
 use Rattle.kdc_files.specs.declared.journals.Journals.{Journals}
 use Rattle.kdc_server.specs.Asking.{AskAll, Asks, HasAsked}
 use Rattle.kdc_server.specs.Handing.{all_seen}
-use Rattle.kdc_server.specs.Journaled.{AreJournaled, Journaled, KeepsAll, MayResume, OnJournal, ResumesWith, processes_in}
-use Rattle.kdc_server.specs.OnFiles.{HasBegunOver, HasFailedOver, HasFound, HasOnlyBegun}
+use Rattle.kdc_server.specs.Journaled.{AreJournaled, Journaled, KeepsAll, MayResume, OnJournal, processes_in}
+use Rattle.kdc_server.specs.OnFiles.{HasFailedOver}
 use Rattle.kdc_server.specs.Processes.{AreProcesses, IsLate, OpensFrom, Process, beginning, beginning_by, history, known_after, known_at}
 use Rattle.kdc_server.specs.Resuming.{AreAt, IsDecided, known_before, raised_floor, started_state, with_removed}
-use Rattle.kdc_server.specs.Runs.{AreRuns, FailsInTime, FailsOnly, IsFailed, IsInTime, IsSealedOnly, IsServerRun, OneTicketOverRuns, RanIsRun, Run, ServerRun, Since, began_only, beginning_of, known_of, past_at, process_of, servers_in, since_failed, since_run}
+use Rattle.kdc_server.specs.Runs.{AreRuns, FailsInTime, IsFailed, IsInTime, IsSealedOnly, IsServerRun, OneTicketOverRuns, RanIsRun, Run, ServerRun, Since, began_only, beginning_of, known_of, past_at, process_of, servers_in, since_failed, since_run}
 use Rattle.kdc_server.specs.Runs.Run.{Serves, Fails}
 use Rattle.kdc_server.specs.Served.{handed_in, handed_of}
 use Rattle.kdc_server.specs.Starting.{opened_by}

@@ -1,7 +1,8 @@
 -- The record of a host in memory.
 use Rattle.std.specs.Prelude.{ℕ, List, [], None}
 use Rattle.journal.specs.declared.decision.Found.TheVariants.{Nothing}
-use Rattle.kdc_server.specs.Starting.{BeganJournal, Drew, HasNoJournal, Held, HostDid, ReadJournals, ReadRows, ReadSeed, Showed, TookRows}
+use Rattle.kdc_server.specs.Starting.{BeganJournal, Drew, HasNoJournal, Held, HostDid, ReadJournals, ReadRows, ReadSeed}
+use Rattle.kdc_server.specs.Starting.{Showed, TookRows}
 use Rattle.kdc_files.specs.declared.journals.Journals.{Journals}
 use Rattle.kdc_server.specs.declared.memory_host.HostCall.{HostCall}
 use Rattle.kdc_server.specs.declared.memory_host.HostCall.TheVariants as calls

@@ -30,7 +30,8 @@ OnJournal = journal.Process
 
 -- A process that started at this moment, knew this and lived so: its calls on the journal kept what it knew and all
 -- that it handed over. They left these files.
-pub record KeepsAll (at : Moment) (r : Resumption) (periods : List Period) (did : OnJournal) (old new : World) : Type 0 where
+pub record KeepsAll (at : Moment) (r : Resumption) (periods : List Period) (did : OnJournal)
+    (old new : World) : Type 0 where
   pub has_begun : did.has_begun ≡ true
   pub moment : did.at ≡ at
   pub calls : IsProcess did old new
@@ -44,7 +45,8 @@ pub record Journaled : Type 0 where
 
 -- A start that resumes does so with these files, which aren't lost. Its floor is at most the skew before the moment of
 -- the start before it.
-pub record ResumesWith (past : Past) (w : World) (at : Moment) (found : Resumption) (check : Option (List ℕ)) : Type 0 where
+pub record ResumesWith (past : Past) (w : World) (at : Moment) (found : Resumption)
+    (check : Option (List ℕ)) : Type 0 where
   pub there : past.are_lost ≡ false
   pub late : past.low ≤ℤ found.floor
   pub newer : Found
@@ -65,7 +67,8 @@ AreJournaled at hub r periods did w (n ∷ ns) =
     × MayResume (past_after_all (past_of did) n.before) found n.process.at n.process.start
     × IsLate n.process.start (events_in hub (flat_map turns_of periods))
     × OpensFrom n.process.at n.process.from n.process.start
-    × AreJournaled n.process.at (after_turn (after_turns hub (flat_map turns_of periods)) (beginning n.process)) (known_at n.process)
+    × AreJournaled n.process.at (after_turn (after_turns hub (flat_map turns_of periods)) (beginning n.process))
+    (known_at n.process)
     n.process.periods n.did found ns
 
 abbrev pub processes_in : List Journaled → List Process

@@ -29,7 +29,8 @@ pub record HasFound (journals : Journals) (old read : Option World) : Type 0 whe
   pub shown : IfSome read (AreReadOut journals.found)
 
 -- The journal began over what was found, or failed to.
-pub record HasBegunOver (beginning : JournalBeginning) (ok : Bool) (old : Option World) (new : JournalState) : Type 0 where
+pub record HasBegunOver (beginning : JournalBeginning) (ok : Bool) (old : Option World)
+    (new : JournalState) : Type 0 where
   pub read : Option World
   pub reads : HasFound beginning.journals old read
   pub begins : BeginsOver beginning ok read new

@@ -104,7 +104,8 @@ AreProcesses at hub r periods (p ∷ ps) =
     × IsLate p.start (events_in hub (flat_map turns_of periods))
     × MayStart (known_after at r periods) p.at p.start
     × OpensFrom p.at p.from p.start
-    × AreProcesses p.at (after_turn (after_turns hub (flat_map turns_of periods)) (beginning p)) (known_at p) p.periods ps
+    × AreProcesses p.at (after_turn (after_turns hub (flat_map turns_of periods)) (beginning p))
+    (known_at p) p.periods ps
 
 -- the history of all of them
 abbrev pub history : List Period → List Process → List Turn

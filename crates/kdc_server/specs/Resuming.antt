@@ -1,5 +1,6 @@
 -- How a server starts, and what its journal begins with.
-use Rattle.std.specs.Prelude.{◌≡◌, ◌||◌, ◌+◌, ◌+ℤ◌, ◌-ℤ◌, not, int_lt, if◌then◌else◌, ℕ, ℤ, pos, Bool, true, false, List, [], ◌∷◌, ◌++◌, Option, Some, None, is_some}
+use Rattle.std.specs.Prelude.{◌≡◌, ◌||◌, ◌+◌, ◌+ℤ◌, ◌-ℤ◌, not, int_lt, if◌then◌else◌, ℕ, ℤ, pos, Bool, true, false}
+use Rattle.std.specs.Prelude.{List, [], ◌∷◌, ◌++◌, Option, Some, None, is_some}
 use Rattle.std.specs.FinMap as map
 use Rattle.std.specs.Option.{option_copied}
 use Rattle.std.specs.Int.{int_max, int_min}
@@ -19,7 +20,8 @@ use Rattle.journal.specs.declared.decision.Found.{Found}
 use Rattle.journal.specs.declared.decision.Found.TheVariants.{Nothing, Broken, Whole}
 use Rattle.journal.specs.declared.decision.Start.{Start}
 use Rattle.journal.specs.declared.decision.Start.TheVariants.{Resumes, Refuses}
-use Rattle.kdc_server.specs.Starting.{BeganJournal, HasNoJournal, HostDid, Held, ReadJournals, ReadRows, Showed, opened_by, seed_by}
+use Rattle.kdc_server.specs.Starting.{BeganJournal, HasNoJournal, HostDid, Held, ReadJournals, ReadRows, Showed}
+use Rattle.kdc_server.specs.Starting.{opened_by, seed_by}
 use Rattle.kdc_server.specs.Starting.{seeded, seeding}
 use Rattle.kdc_server.specs.declared.options.ServeOptions.{ServeOptions}
 use Rattle.kdc_files.specs.declared.journals.JournalBeginning.{JournalBeginning}
@@ -82,7 +84,8 @@ pub record IsDecided (rows : Principals) (journals : Journals) (at : Moment) (st
   pub boot : place.boot.now ≡ journals.boot
   pub seal : place.seal.now ≡ journals.seal
   pub moment : place.at ≡ at
-  pub is : start ≡ with_removed journals.removed (start_of place journals.found.older journals.found.newer journals.found.beside)
+  pub is : start ≡ with_removed journals.removed
+      (start_of place journals.found.older journals.found.newer journals.found.beside)
 
 -- ---- what is asked of the host for a journal at a path
 
@@ -116,7 +119,8 @@ pub record IsReady (options : ServeOptions) (before after : Option (List HostDid
   pub found : AreAt (option_copied options.journal) beginning.journals
   pub first : may_be_first options.is_first beginning.journals ≡ true
   pub decided : IsDecided rows beginning.journals beginning.at beginning.start
-  pub kdc : hub.issuing.kdc ≡ started_state rows options.limits (opened_by options.is_first beginning.at) beginning.start
+  pub kdc : hub.issuing.kdc
+      ≡ started_state rows options.limits (opened_by options.is_first beginning.at) beginning.start
   pub realm : beginning.realm ≡ rows.realm
   pub floor : beginning.floor ≡ (known_before (opened_by options.is_first beginning.at) beginning.start).floor
   pub random : hub.issuing.random ≡ seeded (seed_by (option_copied options.seed) octets)

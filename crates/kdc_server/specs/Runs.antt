@@ -1,6 +1,7 @@
 -- The runs of a server with a journal, one after the other over the files of that journal, and the tickets that they
 -- send.
-use Rattle.std.specs.Prelude.{◌≡◌, ◌⊎◌, ℤ, pos, ◌-ℤ◌, ◌≤ℤ◌, if◌then◌else◌, ⊤, Bool, true, false, List, [], ◌∷◌, Option, Some, None, ℕ}
+use Rattle.std.specs.Prelude.{◌≡◌, ◌⊎◌, ℤ, pos, ◌-ℤ◌, ◌≤ℤ◌, if◌then◌else◌, ⊤, true, false, List, [], ◌∷◌, Option}
+use Rattle.std.specs.Prelude.{Some, None, ℕ}
 use Rattle.std.specs.Prelude.{is_ok, is_some}
 use Rattle.std.proofs.Common.{inl, inr}
 use Rattle.std.specs.List.{AllByRecursion, flat_map}
@@ -54,7 +55,8 @@ pub record ServerRun : Type 0 where
 
 -- these calls on a journal failed, and no other was made
 abbrev pub FailsOnly : JournalState → JournalState → Type 0
-FailsOnly old new = (calls : List Call) × AreCalls calls old new × AllByRecursion (λ call. is_ok (result_of call) ≡ false) calls
+FailsOnly old new = (calls : List Call) × AreCalls calls old new
+    × AllByRecursion (λ call. is_ok (result_of call) ≡ false) calls
 
 -- Over files that held this the server started, and left that. Up to some act it lived as a server lives. Of the last
 -- event some actions may not have been tried: that is a round in which memory ran out behind those that were. Its
@@ -148,7 +150,8 @@ module _ (r : ServerRun) (old new : World) (is : IsServerRun r old new) where
   }
 
 -- what a start that failed did with its journal: no call, but that it may have begun
-abbrev pub began_only : {options : ServeOptions} {old new : Option World} → HasOnlyBegun options old new → journal.Process
+abbrev pub began_only : {options : ServeOptions} {old new : Option World} → HasOnlyBegun options old new
+    → journal.Process
 began_only begun = record {
   at = begun.beginning.at;
   newer = begun.beginning.journals.found.newer;
@@ -158,14 +161,15 @@ began_only begun = record {
   calls = [];
 }
 
-abbrev pub since_failed : {options : ServeOptions} {old new : Option World} → Since → HasFailedOver options old new → Since
+abbrev pub since_failed : {options : ServeOptions} {old new : Option World} → Since → HasFailedOver options old new
+    → Since
 since_failed s (inl finished) = s
 since_failed s (inr begun) = record s { past = if begun.ok then past_at begun.beginning.at else s.past }
 
 -- ---- clocks
 
--- A start that resumes has a floor at most the skew before the start before it, and before each event of the server that
--- served last: as where clocks don't go back. Of one that refuses its floor makes sure.
+-- A start that resumes has a floor at most the skew before the start before it, and before each event of the server
+-- that served last, as where clocks don't go back. The floor of a start that refuses makes sure of it.
 abbrev pub IsInTime : Since → Start → Type 0
 IsInTime s (Refuses doubt floor) = ⊤
 IsInTime s (Resumes found check) =
@@ -173,7 +177,8 @@ IsInTime s (Resumes found check) =
 
 -- The same of a start that failed after its journal began. One that refuses read the files, and its floor is not below
 -- that with which the server began that served last; or its floor is above all that this one kept.
-abbrev pub FailsInTime : {options : ServeOptions} {old new : Option World} → Since → HasFailedOver options old new → Type 0
+abbrev pub FailsInTime : {options : ServeOptions} {old new : Option World} → Since → HasFailedOver options old new
+    → Type 0
 FailsInTime s (inl finished) = ⊤
 FailsInTime s (inr begun) = (read : World) → begun.begins.read ≡ Some read
     → FollowsOver (known_after s.at s.known s.periods) s.past false (Ran (began_only begun)) read
@@ -202,7 +207,8 @@ abbrev pub servers_in : (s : Since) (w : World) (runs : List Run) → AreRuns s 
 servers_in s w [] are = []
 servers_in s w (Serves r ∷ runs) (left, found, is, first, from, opens, time, sealed, are) =
     process_of r w left is from ∷ servers_in (since_run r w left is) found runs are
-servers_in s w (Fails options ∷ runs) (left, found, is, time, sealed, are) = servers_in (since_failed s is.failed) found runs are
+servers_in s w (Fails options ∷ runs) (left, found, is, time, sealed, are) =
+    servers_in (since_failed s is.failed) found runs are
 
 -- No authenticator gets two different tickets, whichever run sends them. No start is before the second of an earlier
 -- request.

@@ -66,5 +66,6 @@ pub record HasServed (tried : List WireCall) (sockets : Option (List WireCall)) 
   pub entries : IfSome log (λ entries. map said entries ≡ in_order said_of start tried)
 
 -- if its tally keeps a record
-abbrev pub Serves : Option (List WireCall) → Option (List WireCall) → Option (List Handed) → Option (List LogEntry) → Moment → Type 0
+abbrev pub Serves : Option (List WireCall) → Option (List WireCall) → Option (List Handed) → Option (List LogEntry)
+    → Moment → Type 0
 Serves tally sockets journal log at = IfSome tally (λ tried. HasServed tried sockets journal log at)

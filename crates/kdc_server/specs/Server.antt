@@ -42,7 +42,8 @@ taking false = TookRows ∷ []
 -- A start, the source of the rows, and then a life over the hub of that start. Nothing was polled, tried or looked at
 -- before. Each change that the source gives replaces the rows; if they are fixed, no look finds any.
 pub record HasRun (options : ServeOptions) (before after : Option (List HostDid)) (news : StartNews)
-    (tally_after : Option (List WireCall)) (rows_after : Option (List Look)) (totals : Totals) (new : HubState) : Type 0 where
+    (tally_after : Option (List WireCall)) (rows_after : Option (List Look)) (totals : Totals)
+    (new : HubState) : Type 0 where
   pub hub : HubState
   pub at : Moment
   pub floor : ℤ
@@ -53,4 +54,5 @@ pub record HasRun (options : ServeOptions) (before after : Option (List HostDid)
   pub took : Records middle (taking options.is_fixed) after
   pub tried : IsNew tally
   pub looks : IsNew rows
-  pub life : IsLife tally options.is_fixed rows hub (periods_of (rounds_of options.rounds)) totals tally_after rows_after new
+  pub life : IsLife tally options.is_fixed rows hub
+      (periods_of (rounds_of options.rounds)) totals tally_after rows_after new

@@ -10,7 +10,7 @@ ghost use Rattle.kdc_server.specs.Starting.{Held, HasNoJournal, ReadJournals, Sh
 ghost use Rattle.kdc_server.specs.Starting.{BeganJournal, TookRows};
 
 use crate::sockets::ServerSockets;
-use kdc_files::{JournalBeginning, JournalWriter, OpenedJournals, ServerFileCause};
+use kdc_files::{JournalBeginning, JournalWriter, OpenedJournals, ServerFileError};
 use kdc_hub::RowSource;
 use kdc_metrics::{LogNumbers, MetricsWriter, Tally};
 use krb_fields::Moment;
@@ -33,8 +33,8 @@ pub struct StartNews {
     pub refused: Option<Refused>,
 }
 
-/// What surrounds a server: its database, random octets, sockets, journal, clock, log and standard error. A host may
-/// keep a record, for contracts alone.
+/// What surrounds a server: its database, random octets, sockets, journal, clock, log, standard error and tally. A host
+/// may keep a record, for contracts alone.
 pub trait Host {
     /// Sockets that are held.
     type Sockets: ServerSockets + Drop;
@@ -51,16 +51,16 @@ pub trait Host {
     /// The source of the rows after the start.
     type Rows: RowSource + Drop;
 
-    /// What takes the text of a server's numbers.
+    /// Takes the text of a server's numbers.
     type Metrics: MetricsWriter + Drop;
 
     /// The log of the requests.
     type Log: LogWriter + LogNumbers + Drop;
 
-    /// Where it is said that the clock went back, and that memory ran out.
+    /// Takes the lines that say that the clock went back, or that memory ran out.
     type Errors: Write + Drop;
 
-    /// What counts the polls and acts that failed.
+    /// Counts the polls and acts that failed.
     type Tally: Tally + Drop;
 
     // The calls so far that succeeded, with their outcomes, in order, if the host keeps a record.
@@ -70,12 +70,12 @@ pub trait Host {
     ghost world: { Self → Option World };
 
     /// Reads the rows of the database.
-    fn read_rows(&mut self, alloc: Global) -> Result<Database, ServerFileCause>
+    fn read_rows(&mut self, alloc: Global) -> Result<Database, ServerFileError>
         ensures records { IfOk result (λ rows. Records (recorded self.old) (ReadRows rows ∷ []) (recorded self.new)) }
         ensures world { world self.new ≡ world self.old };
 
     /// Reads the file of a seed.
-    fn read_seed(&mut self, alloc: Global, path: &str) -> Result<Vec<u8>, ServerFileCause>
+    fn read_seed(&mut self, alloc: Global, path: &str) -> Result<Vec<u8>, ServerFileError>
         ensures records { IfOk result (λ octets.
             Records (recorded self.old) (ReadSeed path.now octets.items ∷ []) (recorded self.new)) }
         ensures world { world self.new ≡ world self.old };
@@ -102,7 +102,7 @@ pub trait Host {
         &mut self,
         alloc: Global,
         path: &str,
-    ) -> Result<OpenedJournals<Self::JournalFiles>, ServerFileCause>
+    ) -> Result<OpenedJournals<Self::JournalFiles>, ServerFileError>
         ensures records { IfOk result (λ opened.
             Records (recorded self.old) (ReadJournals path.now opened.journals ∷ []) (recorded self.new)) }
         // It removes none.
@@ -120,7 +120,7 @@ pub trait Host {
         &mut self,
         alloc: Global,
         is_first: bool,
-    ) -> Result<Option<i64>, ServerFileCause>
+    ) -> Result<Option<i64>, ServerFileError>
         ensures records { IfOk result (λ removed.
             Records (recorded self.old) (HasNoJournal removed ∷ []) (recorded self.new)) };
 
@@ -130,7 +130,7 @@ pub trait Host {
         alloc: Global,
         files: Self::JournalFiles,
         beginning: JournalBeginning,
-    ) -> Result<Self::Journal, ServerFileCause>
+    ) -> Result<Self::Journal, ServerFileError>
         ensures began { IfOk result (λ _.
             Records (recorded self.old) (BeganJournal beginning ∷ []) (recorded self.new)) }
         ensures new { IfOk result (λ journal. IsNew (Self.Journal.handed journal)) }
@@ -158,7 +158,7 @@ pub trait Host {
         ensures new { IfOk result (λ log. IsNew (Self.Log.logged log)) }
         ensures world { world self.new ≡ world self.old };
 
-    /// Opens that to which it is said that the clock went back, and that memory ran out.
+    /// Opens what takes the lines that say that the clock went back, or that memory ran out.
     fn open_errors(&mut self, alloc: Global) -> Result<Self::Errors, AllocError>
         ensures records { recorded self.new ≡ recorded self.old }
         ensures world { world self.new ≡ world self.old };
@@ -175,7 +175,7 @@ pub trait Host {
         ensures world { world self.new ≡ world self.old };
 
     /// Hands over the source of the rows, which knows the rows that were read. No change of theirs is missed.
-    fn take_rows(&mut self) -> Result<Self::Rows, ServerFileCause>
+    fn take_rows(&mut self) -> Result<Self::Rows, ServerFileError>
         ensures records { IfOk result (λ rows. Records (recorded self.old) (TookRows ∷ []) (recorded self.new)) }
         ensures new { IfOk result (λ rows. IsNew (Self.Rows.recorded rows)) }
         // They may change.

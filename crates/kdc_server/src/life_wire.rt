@@ -40,7 +40,7 @@ pub struct LifeWire<H: Host, B: Begun> {
 }
 
 impl<H: Host, B: Begun> LifeWire<H, B> {
-    /// The wire of a server that begins to live.
+    /// Returns the wire of a server whose life begins.
     fn new(wire: ServerWire<H>) -> LifeWire<H, B>
         requires tally { IsNew (H.Tally.recorded wire.tally) }
         requires begun { H.Journal.state wire.journal ≡ B.journal }
@@ -52,14 +52,14 @@ impl<H: Host, B: Begun> LifeWire<H, B> {
         }
     }
 
-    /// Returns the wire that it is.
+    /// Returns the server's wire.
     pub fn server_wire(&self) -> &ServerWire<H>
         ensures { result.now ≡ self.now.wire }
     {
         &self.wire
     }
 
-    /// Returns the wire that it was.
+    /// Returns the server's wire after its life.
     fn into_wire(self) -> ServerWire<H>
         ensures wire { result ≡ self.wire }
         ensures asked { ∥ HasAsked B.journal (H.Tally.recorded result.tally) (H.Journal.state result.journal) ∥₁ }

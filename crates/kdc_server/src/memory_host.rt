@@ -10,7 +10,7 @@ use crate::host::{Host, StartNews};
 use crate::memory_sockets::MemorySockets;
 use journal::{Found, FoundFiles};
 use kdc_files::{
-    JournalBeginning, Journals, MemoryJournal, OpenedJournals, Record, ServerFileCause,
+    JournalBeginning, Journals, MemoryJournal, OpenedJournals, Record, ServerFileError,
 };
 use kdc_hub::{Event, Look, MemoryRows};
 use kdc_metrics::{CountedLog, MemoryMetrics, MemoryTally};
@@ -73,7 +73,7 @@ pub struct Given {
     pub coming: VecDeque<(Moment, Event)>,
     /// The looks at its rows after the start.
     pub looks: VecDeque<Look>,
-    /// After how many calls a call of its journal fails, if one is to fail.
+    /// How many calls of its journal succeed before one fails, if one is to fail.
     pub keeps_before_fault: Option<u64>,
     /// The floor that a journal beside its database asks for, if there is one.
     pub leftover: Option<i64>,
@@ -91,7 +91,7 @@ pub struct MemoryHost {
     keeps_before_fault: Option<u64>,
     leftover: Option<i64>,
     calls: Record<HostCall>,
-    /// What it announced last.
+    /// The start that it announced last.
     announced: Option<StartNews>,
 }
 
@@ -127,7 +127,7 @@ impl MemoryHost {
         self.calls.entries()
     }
 
-    /// Returns what it announced last.
+    /// Returns the start that it announced last.
     pub fn announced(&self) -> Option<StartNews> {
         self.announced
     }
@@ -164,15 +164,15 @@ impl Host for MemoryHost {
 
     ghost world = { λ _. None };
 
-    fn read_rows(&mut self, alloc: Global) -> Result<Database, ServerFileCause> {
+    fn read_rows(&mut self, alloc: Global) -> Result<Database, ServerFileError> {
         let Some(rows) = self.rows.take() else {
-            return Err(ServerFileCause::from(Error::from(ErrorKind::NotFound)));
+            return Err(ServerFileError::from(Error::from(ErrorKind::NotFound)));
         };
         self.note(rows_read(alloc, &rows));
         Ok(rows)
     }
 
-    fn read_seed(&mut self, alloc: Global, path: &str) -> Result<Vec<u8>, ServerFileCause> {
+    fn read_seed(&mut self, alloc: Global, path: &str) -> Result<Vec<u8>, ServerFileError> {
         let octets = Vec::from_slice(alloc, self.seed.as_slice())?;
         self.note(seed_read(alloc, path, &octets));
         Ok(octets)
@@ -201,7 +201,7 @@ impl Host for MemoryHost {
         &mut self,
         alloc: Global,
         path: &str,
-    ) -> Result<OpenedJournals<()>, ServerFileCause> {
+    ) -> Result<OpenedJournals<()>, ServerFileError> {
         let journals = no_journals(alloc)?;
         self.note(journals_read(alloc, path));
         Ok(OpenedJournals {
@@ -214,9 +214,9 @@ impl Host for MemoryHost {
         &mut self,
         _alloc: Global,
         is_first: bool,
-    ) -> Result<Option<i64>, ServerFileCause> {
+    ) -> Result<Option<i64>, ServerFileError> {
         if is_first && self.leftover.is_some() {
-            return Err(ServerFileCause::NotFirst);
+            return Err(ServerFileError::NotFirst);
         }
         let removed = self.leftover;
         self.note(Ok(HostCall::HasNoJournal(removed)));
@@ -229,7 +229,7 @@ impl Host for MemoryHost {
         alloc: Global,
         _files: (),
         beginning: JournalBeginning,
-    ) -> Result<MemoryJournal, ServerFileCause> {
+    ) -> Result<MemoryJournal, ServerFileError> {
         let keeps_before_fault = self.keeps_before_fault;
         self.note(Ok(HostCall::BeganJournal(beginning)));
         Ok(MemoryJournal::new(alloc, keeps_before_fault))
@@ -243,9 +243,9 @@ impl Host for MemoryHost {
         self.announced = Some(news);
     }
 
-    fn take_rows(&mut self) -> Result<MemoryRows, ServerFileCause> {
+    fn take_rows(&mut self) -> Result<MemoryRows, ServerFileError> {
         let Some(looks) = self.looks.take() else {
-            return Err(ServerFileCause::from(Error::from(ErrorKind::NotFound)));
+            return Err(ServerFileError::from(Error::from(ErrorKind::NotFound)));
         };
         self.note(Ok(HostCall::TookRows));
         Ok(MemoryRows::new(self.alloc, looks))

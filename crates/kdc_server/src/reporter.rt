@@ -1,26 +1,26 @@
 //! Reporting the numbers of a server every ten seconds.
 ghost use Rattle.std.specs.Prelude.{◌≡◌, IfOk};
 ghost use Rattle.kdc_metrics.specs.Numbers.{numbers_text};
-ghost use Rattle.kdc_server.specs.Reporter.{due, refused_until, second_of};
+ghost use Rattle.kdc_server.specs.Reporter.{refused_until, second_of};
 
 use crate::host::Host;
 use crate::life_wire::{Begun, LifeWire};
 use crate::server_wire::ServerWire;
 use file_store::VERSION;
-use kdc_hub::{Hub, Observer, RowsState, Served, ServerView};
+use kdc_hub::{Hub, Observer, RowsState, Served, ServerView, due_at};
 use kdc_metrics::{Counts, LogNumbers, MetricsWriter, Numbers, Tally, push_numbers};
 use krb_fields::Moment;
 use rand_chacha::ChaCha20Rng;
 use server_notices::Refused;
 use std::alloc::{AllocError, Global};
 
-/// In seconds.
+/// How many seconds pass between two reports.
 const BETWEEN_REPORTS: i64 = 10;
 
 /// The room that a text gets at first. A longer one gets more.
 const USUAL_TEXT: usize = 16_384;
 
-/// Reports the numbers of a server, if they are to be written. It counts what the server served.
+/// Reports the numbers of a server, if they are to be written, and counts what the server served.
 #[derive(Drop)]
 pub struct Reporter<H: Host> {
     writer: Option<H::Metrics>,
@@ -61,28 +61,33 @@ impl<H: Host> Reporter<H> {
         self.writer
     }
 
-    /// Writes a text. Without memory for it there is none this time.
+    /// Writes the numbers and counts. If memory runs out, it writes nothing this time.
     fn write(&mut self, alloc: Global, numbers: &Numbers, counts: &Counts) {
         let Some(writer) = &mut self.writer else {
             return;
         };
-        if let Ok(text) = text_of(alloc, VERSION, numbers, counts) {
+        if let Ok(text) = metrics_text(alloc, VERSION, numbers, counts) {
             writer.write_metrics(&text);
         }
     }
 
     /// Returns the numbers of a server whose rows are in this state.
-    fn numbers_of(&self, wire: &ServerWire<H>, rows: RowsState, hub: &Hub<ChaCha20Rng>) -> Numbers {
+    fn gather_numbers(
+        &self,
+        wire: &ServerWire<H>,
+        rows: RowsState,
+        hub: &Hub<ChaCha20Rng>,
+    ) -> Numbers {
         let withheld = wire.withheld();
         Numbers {
-            started: second_of(self.started.sec),
+            started: unsigned_second(self.started.sec),
             refused_until: refused_until(self.refused),
             events: self.events,
             faults: wire.tally().faults(),
             memory_faults: self.memory_faults,
             lost_lines: wire.log().lost_lines(),
             rows: hub.row_count() as u64,
-            rows_taken: second_of(rows.taken_at.unwrap_or(self.started.sec)),
+            rows_taken: unsigned_second(rows.taken_at.unwrap_or(self.started.sec)),
             rows_behind: u64::from(rows.is_behind),
             caches: hub.cache_sizes(),
             withheld_by_journal: withheld.by_journal,
@@ -105,7 +110,7 @@ impl<H: Host, B: Begun> Observer<LifeWire<H, B>, ChaCha20Rng> for Reporter<H> {
             return;
         }
         self.add(&server.served);
-        let Some(at) = due(&self.reported, &server.served.last) else {
+        let Some(at) = due_at(BETWEEN_REPORTS, &self.reported, &server.served.last) else {
             return;
         };
         self.reported = Some(at);
@@ -113,13 +118,13 @@ impl<H: Host, B: Begun> Observer<LifeWire<H, B>, ChaCha20Rng> for Reporter<H> {
         let Some(counts) = wire.log().counts() else {
             return;
         };
-        let numbers = self.numbers_of(wire, server.rows, server.hub);
+        let numbers = self.gather_numbers(wire, server.rows, server.hub);
         self.write(alloc, &numbers, counts);
     }
 }
 
 /// Returns the text of a server of this version.
-fn text_of(
+fn metrics_text(
     alloc: Global,
     version: &str,
     numbers: &Numbers,
@@ -137,33 +142,15 @@ fn refused_until(refused: Option<Refused>) -> u64
     ensures { result ≡ refused_until refused }
 {
     match refused {
-        Some(Refused::All(until)) => second_of(until),
+        Some(Refused::All(until)) => unsigned_second(until),
         Some(Refused::ServedLater(_)) => 0,
         None => 0,
     }
 }
 
 /// Returns a second since 1970, or 0 for one before.
-fn second_of(second: i64) -> u64
+fn unsigned_second(second: i64) -> u64
     ensures { result ≡ second_of second }
 {
     if second < 0 { 0 } else { second.unsigned_abs() }
-}
-
-/// Returns when to report, if that is due: ten seconds after the last report by the moment of the last poll, or if that
-/// is before the report.
-fn due(reported: &Option<Moment>, last: &Option<Moment>) -> Option<Moment>
-    ensures { result ≡ due reported.now last.now }
-{
-    match (reported, last) {
-        (_, None) => None,
-        (None, Some(at)) => Some(*at),
-        (Some(before), Some(at)) => {
-            if before.sec <= at.sec && at.sec < before.sec + BETWEEN_REPORTS {
-                None
-            } else {
-                Some(*at)
-            }
-        }
-    }
 }

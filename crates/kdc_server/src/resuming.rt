@@ -12,8 +12,8 @@ ghost use Rattle.journal.specs.declared.decision.Found.TheVariants.{Nothing};
 
 use crate::host::Host;
 use crate::options::ServeOptions;
-use crate::starting::StartFault;
-use journal::{Found, FoundFiles, Place, Start, greater, start_of};
+use crate::starting::StartError;
+use journal::{Found, FoundFiles, Place, Start, decide_start, greater};
 use kdc_core::{Kdc, Opening};
 use kdc_files::{Journals, OpenedJournals};
 use krb_elements::Octets;
@@ -34,7 +34,7 @@ pub(crate) fn read_journals<'a, H: Host>(
     alloc: Global,
     host: &mut H,
     options: &ServeOptions<'a>,
-) -> Result<ServerJournals<H>, StartFault<'a, H::SocketFault>>
+) -> Result<ServerJournals<H>, StartError<'a, H::SocketFault>>
     ensures reading { IfOk result (λ opened.
         Records (H.recorded host.old) (reading (option_copied options.now.journal) opened.journals)
         (H.recorded host.new)) }
@@ -51,7 +51,7 @@ pub(crate) fn read_journals<'a, H: Host>(
         None => without_journal(alloc, host, options)?,
     };
     if !may_be_first(options.is_first, &opened.journals) {
-        return Err(StartFault::NotFirst(options.journal_place()));
+        return Err(StartError::NotFirst(options.journal_place()));
     }
     Ok(opened)
 }
@@ -61,7 +61,7 @@ fn journals_at<'a, H: Host>(
     alloc: Global,
     host: &mut H,
     path: &'a str,
-) -> Result<ServerJournals<H>, StartFault<'a, H::SocketFault>>
+) -> Result<ServerJournals<H>, StartError<'a, H::SocketFault>>
     ensures record { IfOk result (λ opened.
         Records (H.recorded host.old) (ReadJournals path.now opened.journals ∷ []) (H.recorded host.new)) }
     ensures files { IfOk result (λ opened. is_some opened.files ≡ true) }
@@ -74,7 +74,7 @@ fn journals_at<'a, H: Host>(
             journals: opened.journals,
             files: Some(opened.files),
         }),
-        Err(fault) => Err(StartFault::File(path, fault)),
+        Err(fault) => Err(StartError::File(path, fault)),
     }
 }
 
@@ -83,7 +83,7 @@ fn without_journal<'a, H: Host>(
     alloc: Global,
     host: &mut H,
     options: &ServeOptions<'a>,
-) -> Result<ServerJournals<H>, StartFault<'a, H::SocketFault>>
+) -> Result<ServerJournals<H>, StartError<'a, H::SocketFault>>
     ensures record { IfOk result (λ opened.
         Records (H.recorded host.old) (HasNoJournal opened.journals.removed ∷ []) (H.recorded host.new)) }
     ensures files { IfOk result (λ opened. opened.files ≡ None) }
@@ -96,7 +96,7 @@ fn without_journal<'a, H: Host>(
             journals: no_journals(alloc, removed),
             files: None,
         }),
-        Err(fault) => Err(StartFault::File(options.db, fault)),
+        Err(fault) => Err(StartError::File(options.db, fault)),
     }
 }
 
@@ -161,13 +161,13 @@ pub(crate) fn decide(
         seal: journals.seal.as_slice(),
         at,
     };
-    match start_of(alloc, &place, &journals.found) {
+    match decide_start(alloc, &place, &journals.found) {
         Ok(start) => Ok(with_removed(journals.removed, start)),
         Err(error) => Err(error),
     }
 }
 
-/// Returns the start with what files asked for that were removed.
+/// Returns the start with the floor that removed files asked for.
 fn with_removed(removed: Option<i64>, start: Start) -> Start
     ensures { result ≡ with_removed removed start }
 {
@@ -211,12 +211,12 @@ fn raised(opening: Opening, floor: Option<i64>) -> Opening
     ensures { opening_floor result ≡ raised_floor opening floor }
 {
     match floor {
-        Some(floor) => raised_to(opening, floor),
+        Some(floor) => raise_floor(opening, floor),
         None => opening,
     }
 }
 
-fn raised_to(opening: Opening, floor: i64) -> Opening
+fn raise_floor(opening: Opening, floor: i64) -> Opening
     ensures { opening_floor result ≡ raised_floor opening (Some floor) }
 {
     if opening.floor() < floor {

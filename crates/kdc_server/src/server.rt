@@ -1,5 +1,6 @@
 //! A server: it starts as its options say, and serves.
-ghost use Rattle.std.specs.Prelude.{◌≡◌, ◌++◌, Bool, true, false, not, Some, None, IfOk, IfErr, IfSome, is_some, option_copied};
+ghost use Rattle.std.specs.Prelude.{◌≡◌, true, false, not, Some, None, IfOk, IfErr, IfSome, is_some};
+ghost use Rattle.std.specs.Prelude.{option_copied};
 ghost use Rattle.kdc_hub.specs.Hub.{hub_state};
 ghost use Rattle.kdc_hub.specs.Wire.{Records};
 ghost use Rattle.kdc_hub.specs.Recorded.{is_fixed_if, recorded_by_any};
@@ -15,13 +16,12 @@ ghost use Rattle.kdc_server.specs.Server.{HasRun, IsStarted, rounds_of, taking};
 use crate::host::{Host, StartNews};
 use crate::life_wire::{Lived, live};
 use crate::options::ServeOptions;
-use crate::outlets::Outlets;
 use crate::quiet::quiet_until;
 use crate::reporter::Reporter;
 use crate::server_wire::{ServerWire, StartTimes};
-use crate::starting::{ReadyServer, StartFault, ready};
+use crate::starting::{ReadyServer, StartError, ready};
 use journal::Start;
-use kdc_files::{JournalBeginning, ServerFileCause};
+use kdc_files::{JournalBeginning, ServerFileError};
 use kdc_hub::{Hub, Totals};
 use krb_fields::Moment;
 use rand_chacha::ChaCha20Rng;
@@ -62,7 +62,7 @@ pub fn run_server<'a, H: Host>(
     alloc: Global,
     host: &mut H,
     options: &ServeOptions<'a>,
-) -> Result<Ran<H>, StartFault<'a, H::SocketFault>>
+) -> Result<Ran<H>, StartError<'a, H::SocketFault>>
     // It starts as the host's record says, and then lives over the hub and the wire of that start. Unless its rows are
     // fixed, they come from the source that the host handed over.
     // Promise: **what `kdcd serve` runs is a start and a life over it**: the hub and the wire that `serve_life` begins
@@ -106,7 +106,7 @@ pub fn run_server<'a, H: Host>(
     } = server;
     let mut rows = take_rows(host, options)?;
     host.announce(news);
-    let rounds = rounds_of(options.rounds);
+    let rounds = round_limit(options.rounds);
     let mut reporter = Reporter::new(host.take_metrics(), wire.came_at(), news.refused);
     let Lived { wire, totals } = live::<Brand, H>(
         alloc,
@@ -130,7 +130,7 @@ pub fn start<'a, H: Host>(
     alloc: Global,
     host: &mut H,
     options: &ServeOptions<'a>,
-) -> Result<Server<H>, StartFault<'a, H::SocketFault>>
+) -> Result<Server<H>, StartError<'a, H::SocketFault>>
     // Promise: **a server starts as its options say**: it reads its rows, its seed and the journals, and binds its
     // sockets to the given addresses; then it reads the clock.
     // Promise: a server's seed is the first 32 bytes of the file that `--seed` names, or what the system draws; its
@@ -172,13 +172,12 @@ pub fn start<'a, H: Host>(
     } = ready(alloc, host, options)?;
     let (at, floor) = (beginning.at, beginning.floor);
     let found = found_at(options.journal, &beginning.start, at);
-    let outlets = match Outlets::open(alloc, host) {
-        Ok(outlets) => outlets,
-        Err(_) => return Err(StartFault::Memory),
-    };
+    let log = host.open_log(alloc)?;
+    let errors = host.open_errors(alloc)?;
+    let tally = host.open_tally(alloc);
     let journal = match begin_journal(alloc, host, files, beginning) {
         Ok(journal) => journal,
-        Err(fault) => return Err(StartFault::File(options.journal_place(), fault)),
+        Err(fault) => return Err(StartError::File(options.journal_place(), fault)),
     };
     let refused = refused_at_start(floor, at);
     let times = StartTimes {
@@ -188,7 +187,7 @@ pub fn start<'a, H: Host>(
     };
     Ok(Server {
         hub,
-        wire: ServerWire::new(sockets, journal, outlets, times),
+        wire: ServerWire::new(sockets, journal, log, errors, tally, times),
         news: StartNews {
             row_count,
             journal: found,
@@ -203,7 +202,7 @@ fn begin_journal<H: Host>(
     host: &mut H,
     files: Option<H::JournalFiles>,
     beginning: JournalBeginning,
-) -> Result<H::Journal, ServerFileCause>
+) -> Result<H::Journal, ServerFileError>
     ensures began { IfOk result (λ _.
         Records (H.recorded host.old) (began (is_some files) beginning) (H.recorded host.new)) }
     ensures new { IfOk result (λ journal. IsNew (H.Journal.handed journal)) }
@@ -234,7 +233,7 @@ fn found_at(path: Option<&str>, start: &Start, at: Moment) -> Option<JournalFoun
 fn take_rows<'a, H: Host>(
     host: &mut H,
     options: &ServeOptions<'a>,
-) -> Result<Option<H::Rows>, StartFault<'a, H::SocketFault>>
+) -> Result<Option<H::Rows>, StartError<'a, H::SocketFault>>
     // Promise (took, there): **changes are served**: unless the rows are fixed, a server looks at the source that its
     // host handed over, once, and each database that a look finds replaces the rows.
     // Promise (took, there): with `--fixed` the host is not asked, no look finds anything, and no row changes.
@@ -251,12 +250,12 @@ fn take_rows<'a, H: Host>(
     }
     match host.take_rows() {
         Ok(rows) => Ok(Some(rows)),
-        Err(fault) => Err(StartFault::File(options.db, fault)),
+        Err(fault) => Err(StartError::File(options.db, fault)),
     }
 }
 
 /// Returns how many rounds are served.
-fn rounds_of(rounds: Option<u32>) -> u64
+fn round_limit(rounds: Option<u32>) -> u64
     ensures { result ≡ rounds_of rounds }
 {
     match rounds {

@@ -14,11 +14,10 @@ ghost use Rattle.kdc_server.specs.Quiet.{quiet_withholds};
 ghost use Rattle.kdc_server.specs.Withheld.{EndsOnly, may_send, withheld_after};
 
 use crate::host::Host;
-use crate::outlets::Outlets;
 use crate::quiet::quiet_withholds;
 use crate::sockets::ServerSockets;
 use crate::withheld::Withheld;
-use kdc_files::keep_for;
+use kdc_files::keep_action;
 use kdc_hub::{Action, Event, Wire, WireFault};
 use kdc_metrics::Tally;
 use krb_fields::Moment;
@@ -48,12 +47,12 @@ pub struct ServerWire<H: Host> {
     tally: H::Tally,
     journal: H::Journal,
     log: H::Log,
-    /// The second before which it is quiet, if the start is.
+    /// The second before which it is quiet, if the start is quiet.
     quiet_until: Option<i64>,
     clock: ClockWatch,
     memory: MemoryWatch,
     withheld: Withheld,
-    /// Where it is said that the clock went back, and that memory ran out.
+    /// Takes the lines that say that the clock went back, or that memory ran out.
     errors: H::Errors,
     /// The last event, or the start.
     came: Arrival,
@@ -63,21 +62,23 @@ pub struct ServerWire<H: Host> {
 }
 
 impl<H: Host> ServerWire<H> {
-    /// The wire of a server with these times.
+    /// Returns the wire of a server with these times.
     pub fn new(
         sockets: H::Sockets,
         journal: H::Journal,
-        outlets: Outlets<H>,
+        log: H::Log,
+        errors: H::Errors,
+        tally: H::Tally,
         times: StartTimes,
     ) -> ServerWire<H>
         requires sockets { IsNew (H.Sockets.recorded sockets) }
         requires journal { IsNew (H.Journal.handed journal) }
-        requires log { IsNew (H.Log.logged outlets.log) }
-        requires tally { IsNew (H.Tally.recorded outlets.tally) }
+        requires log { IsNew (H.Log.logged log) }
+        requires tally { IsNew (H.Tally.recorded tally) }
         ensures sockets { result.sockets ≡ sockets }
         ensures journal { result.journal ≡ journal }
-        ensures log { result.log ≡ outlets.log }
-        ensures tally { result.tally ≡ outlets.tally }
+        ensures log { result.log ≡ log }
+        ensures tally { result.tally ≡ tally }
         ensures quiet { result.quiet_until ≡ times.quiet_until }
         ensures clock { result.clock ≡ record { floor = times.floor; latest = None; said = None } }
         ensures memory { result.memory ≡ record { awaits = false; count = 0; reported = 0; said = None } }
@@ -86,14 +87,14 @@ impl<H: Host> ServerWire<H> {
     {
         ServerWire {
             sockets,
-            tally: outlets.tally,
+            tally,
             journal,
-            log: outlets.log,
+            log,
             quiet_until: times.quiet_until,
             clock: ClockWatch::new(times.floor),
             memory: MemoryWatch::new(),
             withheld: Withheld::new(),
-            errors: outlets.errors,
+            errors,
             came: Arrival {
                 at: times.at,
                 source: None,
@@ -209,7 +210,8 @@ impl<H: Host> Wire for ServerWire<H> {
         // Promise: an action with a reply is passed to the sockets only if the journal has kept all that it was handed.
         // Promise (sent, withheld): **a quiet start withholds nothing else**: what isn't sent is a refusal with 37,
         // before the second up to which all are refused; its connection ends.
-        ensures sent { may_send H.Journal.is_whole self.new.journal self.old.quiet_until self.old.came.at action.now ≡ true
+        ensures sent { may_send H.Journal.is_whole self.new.journal self.old.quiet_until self.old.came.at action.now
+            ≡ true
             → Records (H.Sockets.recorded self.old.sockets) (acted action.now result ∷ [])
             (H.Sockets.recorded self.new.sockets) }
         // Otherwise nothing is sent, and a connection ends: so an authenticator is kept before the reply to its request
@@ -224,7 +226,8 @@ impl<H: Host> Wire for ServerWire<H> {
         // which the request came, who sent it, and whether the action was done; no other entry is written.
         // Promise: the address of a datagram in the log is that of its action; that of a connection is the peer that
         // the sockets had for the connection of the event.
-        ensures logged { LogsAll H.Log.Logs self.old.log (entries_of self.old.came action.now (is_ok result)) self.new.log }
+        ensures logged { LogsAll H.Log.Logs self.old.log
+            (entries_of self.old.came action.now (is_ok result)) self.new.log }
         ensures came { self.new.came ≡ self.old.came }
         ensures clock { self.new.clock ≡ self.old.clock }
         // Promise, as ServerWire::poll: **unanswered requests are counted**: ..
@@ -235,7 +238,7 @@ impl<H: Host> Wire for ServerWire<H> {
             (quiet_withholds self.old.quiet_until self.old.came.at action.now) }
         ensures quiet { self.new.quiet_until ≡ self.old.quiet_until }
     {
-        let is_kept = keep_for(alloc, &mut self.journal, self.came.at, action);
+        let is_kept = keep_action(alloc, &mut self.journal, self.came.at, action);
         let is_withheld = quiet_withholds(&self.quiet_until, self.came.at, action);
         let outcome = send(alloc, &mut self.sockets, is_kept && !is_withheld, action);
         self.withheld.note(is_kept, is_withheld);
@@ -250,7 +253,7 @@ impl<H: Host> Wire for ServerWire<H> {
         outcome
     }
 
-    /// How often a poll failed, or an act failed or was withheld.
+    /// Returns how often a poll failed, or an act failed or was withheld.
     fn faults(&self) -> u64 {
         self.tally.faults()
     }

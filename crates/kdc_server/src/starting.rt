@@ -17,7 +17,7 @@ use crate::options::ServeOptions;
 use crate::resuming::{decide, floor_by, open, read_journals};
 use file_store::{CLOCK, RANDOM_OCTETS};
 use kdc_core::Opening;
-use kdc_files::{JournalBeginning, OpenedJournals, ServerFileCause, seed_in};
+use kdc_files::{JournalBeginning, OpenedJournals, ServerFileError, seed_in};
 use kdc_hub::Hub;
 use krb_elements::Octets;
 use krb_fields::Moment;
@@ -29,9 +29,9 @@ use std::{fmt, io};
 
 /// Why a server did not start.
 #[derive(Debug, Drop)]
-pub enum StartFault<'a, S> {
+pub enum StartError<'a, S> {
     /// The file at this path.
-    File(&'a str, ServerFileCause),
+    File(&'a str, ServerFileError),
     /// A call of the system failed.
     System(SystemPart, io::Error),
     /// A socket was not opened.
@@ -42,7 +42,7 @@ pub enum StartFault<'a, S> {
     Memory,
 }
 
-/// What of the system a start needs, besides files and sockets.
+/// A part of the system that a start needs, besides files and sockets.
 #[derive(Clone, Copy, Debug, PartialEq, Eq)]
 pub enum SystemPart {
     /// The clock.
@@ -63,35 +63,35 @@ impl fmt::Display for SystemPart {
     }
 }
 
-impl<S: fmt::Display> fmt::Display for StartFault<'_, S> {
+impl<S: fmt::Display> fmt::Display for StartError<'_, S> {
     fn fmt<W: fmt::Write>(&self, f: &mut fmt::Formatter<W>) -> fmt::Result {
         match self {
-            StartFault::File(path, fault) => write!(f, "{path}: {fault}"),
-            StartFault::System(part, error) => write!(f, "{part}: {error}"),
-            StartFault::Sockets(fault) => write!(f, "{fault}"),
-            StartFault::NotFirst(path) => {
+            StartError::File(path, fault) => write!(f, "{path}: {fault}"),
+            StartError::System(part, error) => write!(f, "{part}: {error}"),
+            StartError::Sockets(fault) => write!(f, "{fault}"),
+            StartError::NotFirst(path) => {
                 write!(
                     f,
                     "--first is for the first start alone, and there is a journal {path}; start without --first"
                 )
             }
-            StartFault::Memory => f.write_str("out of memory"),
+            StartError::Memory => f.write_str("out of memory"),
         }
     }
 }
 
-impl<S> From<AllocError> for StartFault<'_, S> {
+impl<S> From<AllocError> for StartError<'_, S> {
     fn from(_: AllocError) -> Self {
-        StartFault::Memory
+        StartError::Memory
     }
 }
 
-impl<S> StartFault<'_, S> {
+impl<S> StartError<'_, S> {
     /// Returns the word for the refusal, if a file was read and is refused.
     pub fn refusal(&self) -> Option<&'static str> {
         match self {
-            StartFault::File(_, fault) => fault.refusal(),
-            StartFault::NotFirst(_) => Some("NotFirst"),
+            StartError::File(_, fault) => fault.refusal(),
+            StartError::NotFirst(_) => Some("NotFirst"),
             _ => None,
         }
     }
@@ -120,7 +120,7 @@ pub fn ready<'a, H: Host>(
     alloc: Global,
     host: &mut H,
     options: &ServeOptions<'a>,
-) -> Result<ReadyServer<H>, StartFault<'a, H::SocketFault>>
+) -> Result<ReadyServer<H>, StartError<'a, H::SocketFault>>
     ensures start { IfOk result (λ ready. IsReady options.now (H.recorded host.old) (H.recorded host.new)
         (hub_state chacha20 ready.hub) ready.beginning ready.row_count) }
     ensures sockets { IfOk result (λ ready. IsNew (H.Sockets.recorded ready.sockets)) }
@@ -133,16 +133,16 @@ pub fn ready<'a, H: Host>(
 {
     let rows = match host.read_rows(alloc) {
         Ok(rows) => rows,
-        Err(fault) => return Err(StartFault::File(options.db, fault)),
+        Err(fault) => return Err(StartError::File(options.db, fault)),
     };
     let row_count = rows.len();
     let seed = take_seed(alloc, host, options.seed)?;
     let sockets = match host.hold(alloc, &options.udp, &options.tcp) {
         Ok(sockets) => sockets,
-        Err(fault) => return Err(StartFault::Sockets(fault)),
+        Err(fault) => return Err(StartError::Sockets(fault)),
     };
     let Beginning { files, journal } = begin(alloc, host, options, &rows)?;
-    let hub = hub_of(alloc, options, rows, seed, &journal)?;
+    let hub = build_hub(alloc, options, rows, seed, &journal)?;
     Ok(ReadyServer {
         hub,
         sockets,
@@ -166,7 +166,7 @@ fn begin<'a, H: Host>(
     host: &mut H,
     options: &ServeOptions<'a>,
     rows: &Database,
-) -> Result<Beginning<H::JournalFiles>, StartFault<'a, H::SocketFault>>
+) -> Result<Beginning<H::JournalFiles>, StartError<'a, H::SocketFault>>
     ensures did { IfOk result (λ begins. Records (H.recorded host.old)
         (reading (option_copied options.now.journal) begins.journal.journals ++ Showed begins.journal.at ∷ [])
         (H.recorded host.new)) }
@@ -186,7 +186,7 @@ fn begin<'a, H: Host>(
     let OpenedJournals { journals, files } = read_journals(alloc, host, options)?;
     let at = match host.now() {
         Ok(at) => at,
-        Err(error) => return Err(StartFault::System(SystemPart::Clock, error)),
+        Err(error) => return Err(StartError::System(SystemPart::Clock, error)),
     };
     let start = decide(alloc, rows, &journals, at)?;
     let realm = Octets::from_slice(alloc, rows.realm())?;
@@ -204,7 +204,7 @@ fn begin<'a, H: Host>(
 }
 
 /// Returns the hub of a server whose journal begins so: its KDC is opened or resumes as that says.
-fn hub_of(
+fn build_hub(
     alloc: Global,
     options: &ServeOptions<'_>,
     rows: Database,
@@ -236,23 +236,24 @@ fn take_seed<'a, H: Host>(
     alloc: Global,
     host: &mut H,
     path: Option<&'a str>,
-) -> Result<[u8; 32], StartFault<'a, H::SocketFault>>
-    ensures seed { IfOk result (λ seed. IsSeed (option_copied path.entry) (H.recorded host.old) (H.recorded host.new) seed) }
+) -> Result<[u8; 32], StartError<'a, H::SocketFault>>
+    ensures seed { IfOk result (λ seed. IsSeed (option_copied path.entry) (H.recorded host.old)
+        (H.recorded host.new) seed) }
     ensures world { H.world host.new ≡ H.world host.old }
 {
     let Some(path) = path else {
         return match host.draw() {
             Ok(seed) => Ok(seed),
-            Err(error) => Err(StartFault::System(SystemPart::RandomOctets, error)),
+            Err(error) => Err(StartError::System(SystemPart::RandomOctets, error)),
         };
     };
     match read_seed(alloc, host, path) {
         Ok(seed) => Ok(seed),
-        Err(fault) => Err(StartFault::File(path, fault)),
+        Err(fault) => Err(StartError::File(path, fault)),
     }
 }
 
-fn read_seed<H: Host>(alloc: Global, host: &mut H, path: &str) -> Result<[u8; 32], ServerFileCause>
+fn read_seed<H: Host>(alloc: Global, host: &mut H, path: &str) -> Result<[u8; 32], ServerFileError>
     ensures seed { IfOk result (λ seed. IsSeed (Some path.now) (H.recorded host.old) (H.recorded host.new) seed) }
     ensures world { H.world host.new ≡ H.world host.old }
 {

@@ -5,9 +5,9 @@ ghost use Rattle.kdc_server.specs.Withheld.{withheld_after};
 /// How many replies were withheld. A count stops at the greatest `u64`.
 #[derive(Clone, Copy, Debug, PartialEq, Eq)]
 pub struct Withheld {
-    /// Since the journal could not keep what they make the KDC remember.
+    /// Because the journal could not keep what they make the KDC remember.
     pub by_journal: u64,
-    /// Since the start is quiet.
+    /// Because the start is quiet.
     pub by_quiet_start: u64,
 }
 

@@ -6,7 +6,7 @@ use std::{fmt, io};
 
 /// Why sockets could not be opened.
 #[derive(Debug, Drop)]
-pub struct BindFault {
+pub struct BindError {
     /// The socket that failed. `None` if the poll for all sockets failed, or memory ran out.
     pub socket: Option<Endpoint>,
     /// The system's error, or that memory ran out.
@@ -31,7 +31,7 @@ impl fmt::Display for Endpoint {
     }
 }
 
-impl fmt::Display for BindFault {
+impl fmt::Display for BindError {
     fn fmt<W: fmt::Write>(&self, f: &mut fmt::Formatter<W>) -> fmt::Result {
         if let Some(socket) = &self.socket {
             write!(f, "{socket}: ")?;
@@ -40,25 +40,25 @@ impl fmt::Display for BindFault {
     }
 }
 
-impl Error for BindFault {}
+impl Error for BindError {}
 
-impl From<io::Error> for BindFault {
-    fn from(error: io::Error) -> BindFault {
-        BindFault {
+impl From<io::Error> for BindError {
+    fn from(error: io::Error) -> BindError {
+        BindError {
             socket: None,
             error,
         }
     }
 }
 
-impl From<AllocError> for BindFault {
-    fn from(error: AllocError) -> BindFault {
-        BindFault::from(io::Error::from(error))
+impl From<AllocError> for BindError {
+    fn from(error: AllocError) -> BindError {
+        BindError::from(io::Error::from(error))
     }
 }
 
-impl<T: Drop> From<AllocFailed<T>> for BindFault {
-    fn from(error: AllocFailed<T>) -> BindFault {
-        BindFault::from(AllocError::from(error))
+impl<T: Drop> From<AllocFailed<T>> for BindError {
+    fn from(error: AllocFailed<T>) -> BindError {
+        BindError::from(AllocError::from(error))
     }
 }

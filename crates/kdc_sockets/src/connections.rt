@@ -33,7 +33,7 @@ pub struct Connections {
     held: BTreeMap<u64, Connection>,
     /// The number of the next connection.
     next: u64,
-    /// Whether one may be spent: a write has made one so, and no search since then found none.
+    /// Whether a connection may be spent: a write made one so, and no search since then has found that none is.
     has_spent: bool,
     // No connection has a number from there on.
     ghost unused: { AreUnused held.entries next },
@@ -143,7 +143,7 @@ impl Connections {
         let Some(oldest) = oldest else {
             return Ok(None);
         };
-        close_in(&mut self.held, oldest, at);
+        close_held(&mut self.held, oldest, at);
         Ok(Some(Event::Closed { conn: oldest }))
     }
 
@@ -376,7 +376,7 @@ impl Connections {
         ensures ended { HasEnded self.old.held.entries conn self.new.held.entries }
         ensures calm { self.new.has_spent ≡ self.old.has_spent }
     {
-        close_in(&mut self.held, conn, at);
+        close_held(&mut self.held, conn, at);
     }
 
     /// Writes what is left of a connection's replies. Drops a closing connection if that fails or if both sides are
@@ -400,7 +400,7 @@ impl Connections {
 }
 
 /// Closes a connection of the table.
-fn close_in(held: &mut BTreeMap<u64, Connection>, conn: u64, at: Instant)
+fn close_held(held: &mut BTreeMap<u64, Connection>, conn: u64, at: Instant)
     ensures ended { HasEnded held.old.entries conn held.new.entries }
     ensures none_new { AddsNone held.old.entries held.new.entries }
     ensures no_more { length held.new.entries ≤ length held.old.entries }

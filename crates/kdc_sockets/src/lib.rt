@@ -16,9 +16,9 @@
 //! - A search for idle connections ends those that have been idle for 30 seconds, one a call, and no other.
 //! - An action changes its own connection and no other. A reply is kept behind the connection's unsent bytes until the
 //!   socket takes it, in order and with no byte left out.
-//! - Once a connection was given 256 replies or 262,144 bytes of them, the next poll ends such a one before anything is
-//!   accepted or read. One that is read was given less, and its socket has taken all of that.
-//! - No socket stands twice among those that wait to be read.
+//! - A poll ends a connection that was given 256 replies or 262,144 bytes of them before anything is accepted or read.
+//!   A connection that is read was given less, and its socket has taken all of that.
+//! - No socket is twice in the queue of those that wait to be read.
 //!
 //! The rest is tested, on the loopback interface.
 //!
@@ -42,7 +42,7 @@ mod shared_writer;
 mod socket_turns;
 mod sockets;
 
-pub use bind_fault::{BindFault, Endpoint};
+pub use bind_fault::{BindError, Endpoint};
 pub use ready_writer::ReadyWriter;
 pub use shared_writer::SharedWriter;
 pub use sockets::Sockets;

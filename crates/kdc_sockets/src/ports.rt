@@ -1,5 +1,5 @@
 //! The sockets that stay open, and the poll that reports which are ready.
-use crate::bind_fault::{BindFault, Endpoint};
+use crate::bind_fault::{BindError, Endpoint};
 use mio::event::Source;
 use mio::net::{TcpListener, UdpSocket};
 use mio::{Events, Interest, Poll, Token};
@@ -31,7 +31,7 @@ impl Ports {
         net: &impl Net,
         udp: &[SocketAddr],
         tcp: &[SocketAddr],
-    ) -> Result<Ports, BindFault> {
+    ) -> Result<Ports, BindError> {
         let events = Events::with_capacity(alloc, MOST_EVENTS)?;
         let poll = Poll::new(net)?;
         let datagrams = bind_datagrams(alloc, net, &poll, udp)?;
@@ -80,7 +80,7 @@ fn bind_datagrams(
     net: &impl Net,
     poll: &Poll,
     addresses: &[SocketAddr],
-) -> Result<Vec<UdpSocket>, BindFault> {
+) -> Result<Vec<UdpSocket>, BindError> {
     let mut sockets = Vec::new(alloc);
     for (token, address) in addresses.iter().enumerate() {
         let endpoint = Endpoint::Udp(*address);
@@ -97,7 +97,7 @@ fn bind_newcomers(
     poll: &Poll,
     first: usize,
     addresses: &[SocketAddr],
-) -> Result<Vec<TcpListener>, BindFault> {
+) -> Result<Vec<TcpListener>, BindError> {
     let mut sockets = Vec::new(alloc);
     for (token, address) in (first..).zip(addresses) {
         let endpoint = Endpoint::Tcp(*address);
@@ -113,14 +113,14 @@ fn registered<S: Source + Drop>(
     poll: &Poll,
     token: usize,
     endpoint: Endpoint,
-) -> Result<S, BindFault> {
+) -> Result<S, BindError> {
     match opened {
         Ok(mut socket) => {
             let registry = poll.registry();
             registry.register(&mut socket, Token(token), Interest::READABLE)?;
             Ok(socket)
         }
-        Err(error) => Err(BindFault {
+        Err(error) => Err(BindError {
             socket: Some(endpoint),
             error,
         }),

@@ -27,7 +27,8 @@ pub struct Readiness {
 }
 
 impl Readiness {
-    /// Returns `None` if the system can't poll the stream. A file is an example: writes to it end or fail at once.
+    /// Returns the readiness of a stream, or `None` if the system can't poll it. A file is an example: writes to it end
+    /// or fail at once.
     pub fn of(alloc: Global, net: &impl Net, stream: &impl AsFd) -> io::Result<Option<Readiness>> {
         let descriptor = stream.as_fd().as_raw_fd();
         let is_terminal = stream.as_fd().is_terminal();

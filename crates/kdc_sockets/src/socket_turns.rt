@@ -6,7 +6,7 @@ ghost use Rattle.kdc_sockets.specs.Table.{EndsSpentFirst, HasEnded, IsDone, IsLo
 ghost use Rattle.kdc_sockets.specs.Table.{OpensAlike};
 ghost use Rattle.kdc_sockets.specs.Table.{ReportsSpentFirst, SpentAlike, held_at};
 
-use crate::bind_fault::BindFault;
+use crate::bind_fault::BindError;
 use crate::connections::Connections;
 use crate::ports::Ports;
 use crate::ready::Ready;
@@ -55,7 +55,7 @@ pub struct SocketTurns<C> {
     connections: Connections,
     /// When the clock was last read.
     at: Instant,
-    /// When there was last no connection that had been idle for too long.
+    /// When a search last found no connection that had been idle for too long.
     none_idle_at: Instant,
     /// An accepted connection that the caller doesn't know yet, because another one had to be closed for it first.
     newcomer: Option<u64>,
@@ -96,7 +96,7 @@ impl<C: Clock + Drop> SocketTurns<C> {
         udp: &[SocketAddr],
         tcp: &[SocketAddr],
         wait: Duration,
-    ) -> Result<SocketTurns<C>, BindFault> {
+    ) -> Result<SocketTurns<C>, BindError> {
         let ready = Ready::new(alloc, udp.len(), tcp.len())?;
         let buffers = Buffers::new(alloc)?;
         let ports = Ports::bind(alloc, net, udp, tcp)?;

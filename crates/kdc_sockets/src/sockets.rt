@@ -3,7 +3,7 @@ ghost use Rattle.std.specs.Prelude.{◌≡◌, option_map};
 ghost use Rattle.kdc_sockets.specs.Lost.{lost_by};
 ghost use Rattle.kdc_sockets.specs.Table.{held_at};
 
-use crate::bind_fault::BindFault;
+use crate::bind_fault::BindError;
 use crate::socket_turns::SocketTurns;
 use kdc_hub::{Action, Event, Peers, Wire, WireFault};
 use krb_fields::Moment;
@@ -29,7 +29,7 @@ impl<C: Clock + Drop> Sockets<C> {
         udp: &[SocketAddr],
         tcp: &[SocketAddr],
         wait: Duration,
-    ) -> Result<Sockets<C>, BindFault> {
+    ) -> Result<Sockets<C>, BindError> {
         Ok(Sockets {
             sockets: SocketTurns::bind(alloc, clock, net, udp, tcp, wait)?,
             faults: 0,
@@ -61,7 +61,8 @@ impl<C: Clock + Drop> Sockets<C> {
 }
 
 impl<C: Clock + Drop> Peers for Sockets<C> {
-    ghost peer_of = { λ w conn. option_map (λ connection. connection.peer) (held_at w.sockets.connections.held.entries conn) };
+    ghost peer_of = { λ w conn. option_map (λ connection. connection.peer)
+        (held_at w.sockets.connections.held.entries conn) };
 
     fn peer(&self, conn: u64) -> Option<SocketAddr> {
         self.sockets.peer(conn)

@@ -18,7 +18,7 @@ after_seen state seen =
       pairs = map.insert (cache_of state seen.client.components).pairs (stamp_seen seen) nothing_kept;
     })
 
--- all of these are
+-- all of these authenticators are recorded so
 abbrev pub after_all_seen : State → List Seen → State
 after_all_seen state [] = state
 after_all_seen state (seen ∷ others) = after_all_seen (after_seen state seen) others

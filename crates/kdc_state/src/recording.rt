@@ -26,7 +26,7 @@ impl State {
             ≡ false }
         requires new { map.get (cache_of self.old seen.now.client.components).pairs (seen.now.ctime, seen.now.cusec)
             ≡ None }
-        // Promise (ok, err): storing an authenticator, or setting failures, changes only that client's memory.
+        // Promise (ok, err): storing an authenticator, or setting failures, changes only that client's replay cache.
         ensures ok { OnOk result
             (self.new
             ≡ with_cache self.old seen.now.client.components
@@ -81,7 +81,7 @@ impl State {
 
     /// Drops all replay caches, as when a process ends: each client has the cache of a restart at this moment.
     pub fn restart(&mut self, at: Moment)
-        // Promise (state, caches), as Kdc::restart of kdc_core: a restart leaves each ..
+        // Promise (state, caches), as Kdc::restart of kdc_core: a restart gives each ..
         ensures state { self.new ≡ restarted self.old at }
         ensures caches { (name : Components) → cache_of self.new name ≡ caches.restarted_cache at.sec }
     {

@@ -9,7 +9,7 @@ use crate::state::State;
 use principal_rows::Entry;
 use replay::{Kept, ReplayCache};
 
-/// How much the replay caches of all clients hold. The last two stop at the greatest `u64`.
+/// The sizes of the replay caches of all clients. The last two stop at the greatest `u64`.
 #[derive(Clone, Copy, Debug, PartialEq, Eq)]
 pub struct CacheSizes {
     /// The clients that have a cache of their own.

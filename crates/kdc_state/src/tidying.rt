@@ -7,17 +7,17 @@ ghost use Rattle.kdc_state.specs.State.{cache_of, tidied_state};
 use crate::state::State;
 use krb_fields::Moment;
 use principal_rows::{Upkeep, ValueChange, ValueTest};
-use replay::{Kept, ReplayCache, floor_on};
+use replay::{Kept, ReplayCache, tidied_floor};
 
 impl State {
     /// Drops each client's authenticators that are too old to come again at this moment, and each cache that
     /// then equals that of a client without a stored one. It allocates nothing.
     pub fn tidy(&mut self, at: Moment)
-        // Promise (state, caches), as Kdc::tidy of kdc_core: a tidying leaves each ..
+        // Promise (state, caches), as Kdc::tidy of kdc_core: a tidying drops what ..
         ensures state { self.new ≡ tidied_state self.old at }
         ensures caches { (name : Components) → cache_of self.new name ≡ tidied (cache_of self.old name) at.sec }
     {
-        self.floor = floor_on(self.floor, at);
+        self.floor = tidied_floor(self.floor, at);
         self.caches.change_values(&Tidying { at });
         self.caches.retain(&Used { floor: self.floor });
     }
@@ -32,7 +32,7 @@ impl State {
     }
 }
 
-/// Tidies a cache at this moment.
+/// The change that tidies a cache at this moment.
 #[derive(Drop)]
 struct Tidying {
     at: Moment,
@@ -48,7 +48,7 @@ impl ValueChange<ReplayCache<Kept>> for Tidying {
     }
 }
 
-/// Frees the memory of a client's authenticators that were dropped.
+/// The work that frees the memory of a client's dropped authenticators.
 #[derive(Drop)]
 struct Freeing;
 
@@ -58,7 +58,7 @@ impl Upkeep<ReplayCache<Kept>> for Freeing {
     }
 }
 
-/// Checks whether a cache differs from an empty one with this floor.
+/// The test whether a cache differs from an empty one with this floor.
 #[derive(Drop)]
 struct Used {
     floor: i64,

@@ -11,7 +11,7 @@ use Rattle.enctypes.specs.Etype.{number, key_len}
 use Rattle.principal_rows.specs.KeyList.{has_type_twice}
 use Rattle.std.proofs.lemmas.List.{take_all, take_more}
 use Rattle.enctypes.specs.declared.key.Key.{Key}
-use Rattle.kdcd.specs.declared.line.LineFault.{LineFault}
+use Rattle.kdcd.specs.declared.line.LineError.{LineError}
 use Rattle.kdcd.specs.Field.{IsKeyText, AreKeyTexts, IsKeysText}
 
 -- the parts of a text between its commas
@@ -36,7 +36,7 @@ pub all_keys : (ks : List Key) (text : List ℕ) (i : ℕ) → AreKeyTexts ks (t
 all_keys ks text i so_far end = subst (λ ts. AreKeyTexts ks ts) (take_all i (parts_of text) (omega (arith, end))) so_far
 
 -- the returned list is that of the keys
-pub same_list : (r : Result (List Key) LineFault) (ks : List Key) (text : List ℕ) → IfOk r (λ list. list ≡ ks) → IfOk r (λ _. has_type_twice ks ≡ false) → AreKeyTexts ks (parts_of text) → IfOk r (λ list. IsKeysText list text)
+pub same_list : (r : Result (List Key) LineError) (ks : List Key) (text : List ℕ) → IfOk r (λ list. list ≡ ks) → IfOk r (λ _. has_type_twice ks ≡ false) → AreKeyTexts ks (parts_of text) → IfOk r (λ list. IsKeysText list text)
 same_list (Ok list) ks text e distinct are = subst (λ l. IsKeysText l text) (sym e) (record { parts = are; distinct = distinct })
 same_list (Err fault) ks text e distinct are = tt
 

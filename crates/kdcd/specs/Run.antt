@@ -21,17 +21,17 @@ use Rattle.kdc_core.specs.Answer.{answer, after_request}
 use Rattle.text_fields.specs.Settings.{with_setting}
 use Rattle.kdcd.specs.declared.answer.Answer.{Answer}
 use Rattle.kdcd.specs.declared.answer.Answer.TheVariants.{Done, Refused, Reply, NoReply}
-use Rattle.kdcd.specs.declared.line.LineFault.{LineFault}
-use Rattle.kdcd.specs.declared.line.LineFault.TheVariants.{Form, Memory}
-use Rattle.kdcd.specs.declared.run.Stop.{Stop}
-use Rattle.kdcd.specs.declared.run.Stop.TheVariants.{Fault, Failed}
+use Rattle.kdcd.specs.declared.line.LineError.{LineError}
+use Rattle.kdcd.specs.declared.line.LineError.TheVariants.{Form, Memory}
+use Rattle.kdcd.specs.declared.script.ScriptError.{ScriptError}
+use Rattle.kdcd.specs.declared.script.ScriptError.TheVariants.{Fault, Failed}
 use Rattle.kdcd.specs.declared.line.Line.{Line}
 use Rattle.kdcd.specs.declared.line.Line.TheVariants.{Open, Change, Request, Restart}
 use Rattle.kdcd.specs.declared.line.LineChange.{LineChange}
 use Rattle.kdcd.specs.declared.line.LineChange.TheVariants.{Add, NewKeys, DropKeys, Remove, Set}
 
 -- a line in none of the forms is a fault
-abbrev pub stop_of : LineFault → Stop
+abbrev pub stop_of : LineError → ScriptError
 stop_of Form = Fault
 stop_of Memory = Failed
 

@@ -13,12 +13,12 @@ ghost use Rattle.principal_rows.specs.KeyList.{has_type_twice};
 ghost use Rattle.principal_rows.specs.declared.limits.Limits as ranges;
 ghost use Rattle.kdcd.specs.Field.{IsMomentText, AreLimitsTexts, IsOctetsText, IsKeyText, IsKeysText};
 
-use crate::line::LineFault;
+use crate::line::LineError;
 use enctypes::{Etype, Key};
 use hex::FromHexError;
 use krb_elements::KerberosString;
 use krb_fields::{Moment, Name, NameFault, component_from_text};
-use principal_rows::{KeyList, KeyListFault, Limits};
+use principal_rows::{KeyList, KeyListError, Limits};
 use std::alloc::Global;
 use text_fields::{number, number_u32};
 
@@ -63,75 +63,75 @@ pub(crate) fn random(text: &str) -> Option<[u8; 64]>
 }
 
 /// Reads bytes in hexadecimal; `-` means none.
-pub(crate) fn octets(alloc: Global, text: &str) -> Result<Vec<u8>, LineFault>
+pub(crate) fn octets(alloc: Global, text: &str) -> Result<Vec<u8>, LineError>
     // Promise (ok, form), as number of text_fields: a field of a ..
     ensures ok { IfOk result (λ octets. IsOctetsText octets.items text.now) }
-    ensures form { result ≡ Err LineFault.Form → (octets : List ℕ) → ¬ IsOctetsText octets text.now }
+    ensures form { result ≡ Err LineError.Form → (octets : List ℕ) → ¬ IsOctetsText octets text.now }
 {
     if text == "-" {
         return Ok(Vec::new(alloc));
     }
     if text.is_empty() {
-        return Err(LineFault::Form);
+        return Err(LineError::Form);
     }
     hex::decode(alloc, text).map_err(|error| match error {
-        FromHexError::OutOfMemory => LineFault::Memory,
-        _ => LineFault::Form,
+        FromHexError::OutOfMemory => LineError::Memory,
+        _ => LineError::Form,
     })
 }
 
 /// Reads a realm, in the syntax of a name with one component.
-pub(crate) fn realm(alloc: Global, text: &str) -> Result<KerberosString, LineFault>
+pub(crate) fn realm(alloc: Global, text: &str) -> Result<KerberosString, LineError>
     // Promise (ok, form), as number of text_fields: a field of a ..
     ensures ok { IfOk result (λ octets. IsComponentText octets text.now) }
-    ensures form { result ≡ Err LineFault.Form → (octets : List ℕ) → ¬ IsComponentText octets text.now }
+    ensures form { result ≡ Err LineError.Form → (octets : List ℕ) → ¬ IsComponentText octets text.now }
 {
     component_from_text(alloc, text).map_err(|fault| match fault {
-        NameFault::BadName => LineFault::Form,
-        NameFault::Memory => LineFault::Memory,
+        NameFault::BadName => LineError::Form,
+        NameFault::Memory => LineError::Memory,
     })
 }
 
 /// Reads the name of a principal. Returns `None` if the text is not a name.
-pub(crate) fn name(alloc: Global, text: &str) -> Result<Option<Name>, LineFault>
+pub(crate) fn name(alloc: Global, text: &str) -> Result<Option<Name>, LineError>
     // Promise (name, none, memory), as number of text_fields: a field of a ..
     ensures name { IfOk result (λ name. IfSome name (λ n.
         IsNameText n.components text.now × (n.name_type ≡ NT_PRINCIPAL))) }
     ensures none { IfOk result (λ name. IfNone name ((n : Components) → ¬ IsNameText n text.now)) }
-    ensures memory { IfErr result (λ fault. fault ≡ LineFault.Memory) }
+    ensures memory { IfErr result (λ fault. fault ≡ LineError.Memory) }
 {
     match Name::from_text(alloc, text) {
         Ok(name) => Ok(Some(name)),
         Err(NameFault::BadName) => Ok(None),
-        Err(NameFault::Memory) => Err(LineFault::Memory),
+        Err(NameFault::Memory) => Err(LineError::Memory),
     }
 }
 
 /// Reads keys in order of preference, separated by commas.
-pub(crate) fn keys(alloc: Global, text: &str) -> Result<KeyList, LineFault>
+pub(crate) fn keys(alloc: Global, text: &str) -> Result<KeyList, LineError>
     // Promise (ok, form), as number of text_fields: a field of a ..
     ensures ok { IfOk result (λ keys. IsKeysText keys text.now) }
-    ensures form { result ≡ Err LineFault.Form → (list : List typed.Key) → ¬ IsKeysText list text.now }
+    ensures form { result ≡ Err LineError.Form → (list : List typed.Key) → ¬ IsKeysText list text.now }
 {
     let mut keys = Vec::new(alloc);
     for part in text.split(',') {
         let Some(key) = key(part) else {
-            return Err(LineFault::Form);
+            return Err(LineError::Form);
         };
         keys.push(key)?;
     }
     key_list(alloc, &keys)
 }
 
-fn key_list(alloc: Global, keys: &[Key]) -> Result<KeyList, LineFault>
+fn key_list(alloc: Global, keys: &[Key]) -> Result<KeyList, LineError>
     ensures list { IfOk result (λ list. list ≡ keys.now) }
     ensures distinct { IfOk result (λ _. has_type_twice keys.now ≡ false) }
-    ensures form { result ≡ Err LineFault.Form → (keys.now ≡ []) ⊎ (has_type_twice keys.now ≡ true) }
+    ensures form { result ≡ Err LineError.Form → (keys.now ≡ []) ⊎ (has_type_twice keys.now ≡ true) }
 {
     match KeyList::new(alloc, keys) {
         Ok(list) => Ok(list),
-        Err(KeyListFault::Empty | KeyListFault::Doubled) => Err(LineFault::Form),
-        Err(KeyListFault::Memory) => Err(LineFault::Memory),
+        Err(KeyListError::Empty | KeyListError::Doubled) => Err(LineError::Form),
+        Err(KeyListError::Memory) => Err(LineError::Memory),
     }
 }
 

@@ -1,16 +1,16 @@
 //! The system as the host of a server.
 ghost use Rattle.std.specs.Prelude.{None};
 
-use crate::args::journal_beside;
+use crate::options::journal_beside;
 use file_store::{LONGEST_FILE, now, open_plain, random_octets};
 use kdc_files::{
     FileJournal, JournalBeginning, JournalPlace, KeyFile, Leftover, OpenedJournals, RowsFile,
-    ServerFileCause, SystemJournal, begin_journal, open_journals, read_up_to, refuse_journal,
+    ServerFileError, SystemJournal, begin_journal, open_journals, read_up_to, refuse_journal,
     say_rights,
 };
 use kdc_metrics::{CountedLog, FaultCount, MetricsFile, MetricsPaths};
 use kdc_server::{Host, ServeOptions, StartNews};
-use kdc_sockets::{BindFault, SharedWriter, Sockets};
+use kdc_sockets::{BindError, SharedWriter, Sockets};
 use krb_fields::Moment;
 use principal_rows::Limits;
 use principals::Database;
@@ -22,7 +22,7 @@ use std::io::{Error, ErrorKind, Stderr, Write};
 use std::net::SocketAddr;
 use std::time::Duration;
 
-/// Standard error, whose reader may stop reading while the server goes on. All that write to it hold the same one.
+/// Standard error. Its reader may stop reading while the server goes on. All that write to it share one writer.
 pub type Errors = SharedWriter<Stderr>;
 
 /// The files of the server's journal.
@@ -54,7 +54,7 @@ pub struct SystemHost<'a> {
 }
 
 impl<'a> SystemHost<'a> {
-    /// The host of a server with these options, which writes its lines to `errors`.
+    /// Returns the host of a server with these options, which writes its lines to `errors`.
     pub fn new(
         rt: &'a HostRuntime,
         options: &ServeOptions<'a>,
@@ -63,7 +63,7 @@ impl<'a> SystemHost<'a> {
         Ok(SystemHost {
             rt,
             rows: Some(RowsFile::new(rt, options.db, errors.share()?)),
-            metrics: metrics_of(rt, options, errors)?,
+            metrics: metrics_file(rt, options, errors)?,
             errors: errors.share()?,
             log: options.log,
             udp: Vec::new(rt.alloc()),
@@ -81,7 +81,7 @@ impl<'a> SystemHost<'a> {
 impl<'a> Host for SystemHost<'a> {
     type Sockets = Sockets<HostRuntime>;
 
-    type SocketFault = BindFault;
+    type SocketFault = BindError;
 
     type JournalFiles = SystemFiles<'a>;
 
@@ -101,9 +101,9 @@ impl<'a> Host for SystemHost<'a> {
 
     ghost world = { λ _. None };
 
-    fn read_rows(&mut self, alloc: Global) -> Result<Database, ServerFileCause> {
+    fn read_rows(&mut self, alloc: Global) -> Result<Database, ServerFileError> {
         let Some(rows) = &mut self.rows else {
-            return Err(ServerFileCause::from(Error::from(ErrorKind::NotFound)));
+            return Err(ServerFileError::from(Error::from(ErrorKind::NotFound)));
         };
         let read = rows.read(alloc);
         if let Err(fault) = &read {
@@ -112,7 +112,7 @@ impl<'a> Host for SystemHost<'a> {
         read
     }
 
-    fn read_seed(&mut self, alloc: Global, path: &str) -> Result<Vec<u8>, ServerFileCause> {
+    fn read_seed(&mut self, alloc: Global, path: &str) -> Result<Vec<u8>, ServerFileError> {
         let file = open_plain(self.rt, path)?;
         let seed = KeyFile {
             what: "seed",
@@ -132,7 +132,7 @@ impl<'a> Host for SystemHost<'a> {
         alloc: Global,
         udp: &[SocketAddr],
         tcp: &[SocketAddr],
-    ) -> Result<Sockets<HostRuntime>, BindFault> {
+    ) -> Result<Sockets<HostRuntime>, BindError> {
         let wait = Duration::from_millis(WAIT);
         let sockets = Sockets::bind(alloc, self.rt.clone()?, self.rt, udp, tcp, wait)?;
         self.udp = sockets.udp_addresses(alloc)?;
@@ -144,7 +144,7 @@ impl<'a> Host for SystemHost<'a> {
         &mut self,
         alloc: Global,
         path: &str,
-    ) -> Result<OpenedJournals<SystemFiles<'a>>, ServerFileCause> {
+    ) -> Result<OpenedJournals<SystemFiles<'a>>, ServerFileError> {
         let place = JournalPlace {
             files: self.rt,
             path,
@@ -157,7 +157,7 @@ impl<'a> Host for SystemHost<'a> {
         &mut self,
         alloc: Global,
         is_first: bool,
-    ) -> Result<Option<i64>, ServerFileCause> {
+    ) -> Result<Option<i64>, ServerFileError> {
         let path = journal_beside(alloc, self.db)?;
         let place = JournalPlace {
             files: self.rt,
@@ -173,7 +173,7 @@ impl<'a> Host for SystemHost<'a> {
         alloc: Global,
         files: SystemFiles<'a>,
         beginning: JournalBeginning,
-    ) -> Result<Option<FileJournal<'a, HostRuntime, Errors>>, ServerFileCause> {
+    ) -> Result<Option<FileJournal<'a, HostRuntime, Errors>>, ServerFileError> {
         Ok(Some(begin_journal(alloc, files, beginning, self.journal_size)?))
     }
 
@@ -187,7 +187,7 @@ impl<'a> Host for SystemHost<'a> {
             tcp: &self.tcp,
             db: self.db,
             rows: news.row_count,
-            journal: news_of(self.journal, news),
+            journal: journal_news(self.journal, news),
             refused: news.refused,
             is_quiet: self.is_quiet,
             limits: self.limits,
@@ -215,10 +215,10 @@ impl<'a> Host for SystemHost<'a> {
         FaultCount::new()
     }
 
-    fn take_rows(&mut self) -> Result<RowsFile<'a, HostRuntime, Errors>, ServerFileCause> {
+    fn take_rows(&mut self) -> Result<RowsFile<'a, HostRuntime, Errors>, ServerFileError> {
         match self.rows.take() {
             Some(rows) => Ok(rows),
-            None => Err(ServerFileCause::from(Error::from(ErrorKind::NotFound))),
+            None => Err(ServerFileError::from(Error::from(ErrorKind::NotFound))),
         }
     }
 
@@ -242,8 +242,8 @@ fn leftover(is_first: bool, removes: bool) -> Leftover {
     }
 }
 
-/// The file of the numbers, if the options ask for one.
-fn metrics_of<'a>(
+/// Returns the file of the numbers, if the options ask for one.
+fn metrics_file<'a>(
     rt: &'a HostRuntime,
     options: &ServeOptions<'a>,
     errors: &Errors,
@@ -260,8 +260,8 @@ fn metrics_of<'a>(
     Ok(Some(file))
 }
 
-/// What is said of the journal, if there is one.
-fn news_of<'a>(path: Option<&'a str>, news: StartNews) -> Option<JournalNews<'a>> {
+/// Returns what is announced of the journal, if there is one.
+fn journal_news<'a>(path: Option<&'a str>, news: StartNews) -> Option<JournalNews<'a>> {
     match (path, news.journal) {
         (Some(path), Some(found)) => Some(JournalNews { path, found }),
         (None, _) | (_, None) => None,

@@ -5,10 +5,10 @@ ghost use Rattle.std.specs.Io.BufRead.{take_through, strip_last};
 ghost use Rattle.std.specs.Io.KnownBytes.{IsAtEnd};
 ghost use Rattle.kdcd.specs.Octets.{octets_of};
 ghost use Rattle.kdcd.specs.Input.{TakesLine, IsBeyond};
-ghost use Rattle.kdcd.specs.declared.run.Stop.TheVariants.{Failed, Fault};
+ghost use Rattle.kdcd.specs.declared.script.ScriptError.TheVariants.{Failed, Fault};
 
 use crate::octets::Octets;
-use crate::run::Stop;
+use crate::script::ScriptError;
 use std::alloc::Global;
 use std::io;
 use std::io::Read;
@@ -32,7 +32,7 @@ pub(crate) struct Input<R: Read + Drop> {
 }
 
 impl<R: Read + Drop> Input<R> {
-    pub(crate) fn new(alloc: Global, reader: R) -> Result<Input<R>, Stop>
+    pub(crate) fn new(alloc: Global, reader: R) -> Result<Input<R>, ScriptError>
         ensures octets { IfOk result (λ input. octets_of R.remaining input.octets ≡ R.remaining reader) }
         ensures taken { IfOk result (λ input. input.taken ≡ 0) }
         ensures number { IfOk result (λ input. input.number ≡ 0) }
@@ -56,7 +56,7 @@ impl<R: Read + Drop> Input<R> {
     ///
     /// A line above the maximum length is a fault. So is the line that has the first byte above the maximum length of
     /// an input.
-    pub(crate) fn next_line(&mut self, line: &mut Vec<u8>) -> Result<bool, Stop>
+    pub(crate) fn next_line(&mut self, line: &mut Vec<u8>) -> Result<bool, ScriptError>
         requires { self.old.taken ≤ 16777216 }
         // Promise (line, end, fault): the lines that are read are those of the input, each without its line feed; one
         // that is not read is beyond the limits.
@@ -79,7 +79,7 @@ impl<R: Read + Drop> Input<R> {
         self.number += 1;
         strip_feed(line);
         if self.taken > MAX_INPUT || line.len() > MAX_LINE {
-            return Err(Stop::Fault);
+            return Err(ScriptError::Fault);
         }
         Ok(true)
     }

@@ -14,7 +14,7 @@ ghost use Rattle.std.specs.Prelude.{◌≡◌, ◌==◌, ◌<◌, ◌∷◌, All
 ghost use Rattle.std.specs.List.{slice_split};
 ghost use Rattle.kdcd.specs.Line.{IsLineText, AreLineFields};
 ghost use Rattle.kdcd.specs.declared.line.Line as lines;
-ghost use Rattle.kdcd.specs.declared.line.LineFault.TheVariants.{Form, Memory};
+ghost use Rattle.kdcd.specs.declared.line.LineError.TheVariants.{Form, Memory};
 
 use crate::field::{keys, limits, moment, name, octets, random, realm};
 use krb_elements::KerberosString;
@@ -73,38 +73,38 @@ pub(crate) struct LineRequest {
 
 /// Why bytes are not a line.
 #[derive(Clone, Copy, Debug, PartialEq, Eq)]
-pub(crate) enum LineFault {
+pub(crate) enum LineError {
     /// The line has none of the forms, or a value is out of range.
     Form,
     Memory,
 }
 
-impl From<AllocError> for LineFault {
+impl From<AllocError> for LineError {
     ghost from_gives = { λ _ fault. fault ≡ Memory };
 
-    fn from(_: AllocError) -> LineFault {
-        LineFault::Memory
+    fn from(_: AllocError) -> LineError {
+        LineError::Memory
     }
 }
 
-impl<T: Drop> From<AllocFailed<T>> for LineFault {
+impl<T: Drop> From<AllocFailed<T>> for LineError {
     ghost from_gives = { λ _ fault. fault ≡ Memory };
 
-    fn from(_: AllocFailed<T>) -> LineFault {
-        LineFault::Memory
+    fn from(_: AllocFailed<T>) -> LineError {
+        LineError::Memory
     }
 }
 
 impl Line {
     /// Reads a line without its line feed: fields of ASCII text, separated by single spaces.
-    pub(crate) fn parse(alloc: Global, octets: &[u8]) -> Result<Line, LineFault>
+    pub(crate) fn parse(alloc: Global, octets: &[u8]) -> Result<Line, LineError>
         // Promise (ok, form): a line is read exactly where its text spells it, unless memory runs out: ASCII text, cut
         // at its spaces.
         ensures ok { IfOk result (λ line. IsLineText line octets.now) }
         ensures form { result ≡ Err Form → (line : lines.Line) → ¬ IsLineText line octets.now }
     {
         let Some(text) = ascii_text(octets) else {
-            return Err(LineFault::Form);
+            return Err(LineError::Form);
         };
         parse_fields(alloc, &fields_of(alloc, text)?)
     }
@@ -119,13 +119,13 @@ fn fields_of<'a>(alloc: Global, text: &'a str) -> Result<Vec<&'a str>, AllocErro
 
 /// Reads the fields of a line. The first word says what the line does.
 #[tactic(auto, using(crate::proofs::LineTexts::other_word))]
-fn parse_fields(alloc: Global, fields: &[&str]) -> Result<Line, LineFault>
+fn parse_fields(alloc: Global, fields: &[&str]) -> Result<Line, LineError>
     ensures ok { IfOk result (λ line. AreLineFields line (map (λ field. field.now) fields.now)) }
     ensures form { result ≡ Err Form → (line : lines.Line)
         → ¬ AreLineFields line (map (λ field. field.now) fields.now) }
 {
     let Some((word, fields)) = fields.split_first() else {
-        return Err(LineFault::Form);
+        return Err(LineError::Form);
     };
     match *word {
         "open" => parse_open(alloc, fields),
@@ -136,7 +136,7 @@ fn parse_fields(alloc: Global, fields: &[&str]) -> Result<Line, LineFault>
         "policy" => parse_policy(alloc, fields),
         "request" => parse_request(alloc, fields),
         "restart" => parse_restart(fields),
-        _ => Err(LineFault::Form),
+        _ => Err(LineError::Form),
     }
 }
 
@@ -151,7 +151,7 @@ fn ascii_text(octets: &[u8]) -> Option<&str>
     }
 }
 
-fn parse_open(alloc: Global, fields: &[&str]) -> Result<Line, LineFault>
+fn parse_open(alloc: Global, fields: &[&str]) -> Result<Line, LineError>
     ensures ok { IfOk result (λ line. AreLineFields line (codes "open" ∷ map (λ field. field.now) fields.now)) }
     ensures form { result ≡ Err Form → (line : lines.Line)
         → ¬ AreLineFields line (codes "open" ∷ map (λ field. field.now) fields.now) }
@@ -166,10 +166,10 @@ fn parse_open(alloc: Global, fields: &[&str]) -> Result<Line, LineFault>
         keys_text,
     ] = fields
     else {
-        return Err(LineFault::Form);
+        return Err(LineError::Form);
     };
     let Some(limits) = limits([remembered, lock_after, lock_seconds, life, renewable]) else {
-        return Err(LineFault::Form);
+        return Err(LineError::Form);
     };
     Ok(Line::Open {
         realm: realm(alloc, realm_text)?,
@@ -178,13 +178,13 @@ fn parse_open(alloc: Global, fields: &[&str]) -> Result<Line, LineFault>
     })
 }
 
-fn parse_add(alloc: Global, fields: &[&str]) -> Result<Line, LineFault>
+fn parse_add(alloc: Global, fields: &[&str]) -> Result<Line, LineError>
     ensures ok { IfOk result (λ line. AreLineFields line (codes "add" ∷ map (λ field. field.now) fields.now)) }
     ensures form { result ≡ Err Form → (line : lines.Line)
         → ¬ AreLineFields line (codes "add" ∷ map (λ field. field.now) fields.now) }
 {
     let [name_text, keys_text] = fields else {
-        return Err(LineFault::Form);
+        return Err(LineError::Form);
     };
     Ok(Line::Change {
         name: name(alloc, name_text)?,
@@ -192,13 +192,13 @@ fn parse_add(alloc: Global, fields: &[&str]) -> Result<Line, LineFault>
     })
 }
 
-fn parse_new_keys(alloc: Global, fields: &[&str]) -> Result<Line, LineFault>
+fn parse_new_keys(alloc: Global, fields: &[&str]) -> Result<Line, LineError>
     ensures ok { IfOk result (λ line. AreLineFields line (codes "keys" ∷ map (λ field. field.now) fields.now)) }
     ensures form { result ≡ Err Form → (line : lines.Line)
         → ¬ AreLineFields line (codes "keys" ∷ map (λ field. field.now) fields.now) }
 {
     let [name_text, keys_text] = fields else {
-        return Err(LineFault::Form);
+        return Err(LineError::Form);
     };
     Ok(Line::Change {
         name: name(alloc, name_text)?,
@@ -206,16 +206,16 @@ fn parse_new_keys(alloc: Global, fields: &[&str]) -> Result<Line, LineFault>
     })
 }
 
-fn parse_drop_keys(alloc: Global, fields: &[&str]) -> Result<Line, LineFault>
+fn parse_drop_keys(alloc: Global, fields: &[&str]) -> Result<Line, LineError>
     ensures ok { IfOk result (λ line. AreLineFields line (codes "drop" ∷ map (λ field. field.now) fields.now)) }
     ensures form { result ≡ Err Form → (line : lines.Line)
         → ¬ AreLineFields line (codes "drop" ∷ map (λ field. field.now) fields.now) }
 {
     let [name_text, version_text] = fields else {
-        return Err(LineFault::Form);
+        return Err(LineError::Form);
     };
     let Some(version) = number_u32(version_text) else {
-        return Err(LineFault::Form);
+        return Err(LineError::Form);
     };
     Ok(Line::Change {
         name: name(alloc, name_text)?,
@@ -223,13 +223,13 @@ fn parse_drop_keys(alloc: Global, fields: &[&str]) -> Result<Line, LineFault>
     })
 }
 
-fn parse_remove(alloc: Global, fields: &[&str]) -> Result<Line, LineFault>
+fn parse_remove(alloc: Global, fields: &[&str]) -> Result<Line, LineError>
     ensures ok { IfOk result (λ line. AreLineFields line (codes "remove" ∷ map (λ field. field.now) fields.now)) }
     ensures form { result ≡ Err Form → (line : lines.Line)
         → ¬ AreLineFields line (codes "remove" ∷ map (λ field. field.now) fields.now) }
 {
     let [name_text] = fields else {
-        return Err(LineFault::Form);
+        return Err(LineError::Form);
     };
     Ok(Line::Change {
         name: name(alloc, name_text)?,
@@ -237,16 +237,16 @@ fn parse_remove(alloc: Global, fields: &[&str]) -> Result<Line, LineFault>
     })
 }
 
-fn parse_policy(alloc: Global, fields: &[&str]) -> Result<Line, LineFault>
+fn parse_policy(alloc: Global, fields: &[&str]) -> Result<Line, LineError>
     ensures ok { IfOk result (λ line. AreLineFields line (codes "policy" ∷ map (λ field. field.now) fields.now)) }
     ensures form { result ≡ Err Form → (line : lines.Line)
         → ¬ AreLineFields line (codes "policy" ∷ map (λ field. field.now) fields.now) }
 {
     let [name_text, setting_text] = fields else {
-        return Err(LineFault::Form);
+        return Err(LineError::Form);
     };
     let Some(setting) = Setting::parse(setting_text) else {
-        return Err(LineFault::Form);
+        return Err(LineError::Form);
     };
     Ok(Line::Change {
         name: name(alloc, name_text)?,
@@ -254,22 +254,22 @@ fn parse_policy(alloc: Global, fields: &[&str]) -> Result<Line, LineFault>
     })
 }
 
-fn parse_request(alloc: Global, fields: &[&str]) -> Result<Line, LineFault>
+fn parse_request(alloc: Global, fields: &[&str]) -> Result<Line, LineError>
     ensures ok { IfOk result (λ line. AreLineFields line (codes "request" ∷ map (λ field. field.now) fields.now)) }
     ensures form { result ≡ Err Form → (line : lines.Line)
         → ¬ AreLineFields line (codes "request" ∷ map (λ field. field.now) fields.now) }
 {
     let [sec, usec, random_text, room, octets_text] = fields else {
-        return Err(LineFault::Form);
+        return Err(LineError::Form);
     };
     let Some(at) = moment(sec, usec) else {
-        return Err(LineFault::Form);
+        return Err(LineError::Form);
     };
     let Some(random) = random(random_text) else {
-        return Err(LineFault::Form);
+        return Err(LineError::Form);
     };
     let Some(room) = number_u32(room) else {
-        return Err(LineFault::Form);
+        return Err(LineError::Form);
     };
     Ok(Line::Request(LineRequest {
         at,
@@ -279,16 +279,16 @@ fn parse_request(alloc: Global, fields: &[&str]) -> Result<Line, LineFault>
     }))
 }
 
-fn parse_restart(fields: &[&str]) -> Result<Line, LineFault>
+fn parse_restart(fields: &[&str]) -> Result<Line, LineError>
     ensures ok { IfOk result (λ line. AreLineFields line (codes "restart" ∷ map (λ field. field.now) fields.now)) }
     ensures form { result ≡ Err Form → (line : lines.Line)
         → ¬ AreLineFields line (codes "restart" ∷ map (λ field. field.now) fields.now) }
 {
     let [sec] = fields else {
-        return Err(LineFault::Form);
+        return Err(LineError::Form);
     };
     let Some(at) = moment(sec, "0") else {
-        return Err(LineFault::Form);
+        return Err(LineError::Form);
     };
     Ok(Line::Restart { at })
 }

@@ -2,25 +2,25 @@
 use crate::host::{Errors, SystemHost};
 use command_line::Status;
 use kdc_server::{Ran, ServeOptions, SystemPart, run_server};
-use kdc_sockets::{BindFault, ReadyWriter, SharedWriter};
+use kdc_sockets::{BindError, ReadyWriter, SharedWriter};
 use std::io;
 use std::io::Write;
 
 /// Why a server did not start.
-pub type StartFault<'a> = kdc_server::StartFault<'a, BindFault>;
+pub type StartError<'a> = kdc_server::StartError<'a, BindError>;
 
 /// Serves as the options say, with lines on standard error, and gives the status. The inner error is a failed write.
 pub fn serve_realm<'a>(
     rt: &'a HostRuntime,
     options: &ServeOptions<'a>,
-) -> Result<io::Result<Status>, StartFault<'a>> {
-    let mut errors = errors_of(rt)?;
+) -> Result<io::Result<Status>, StartError<'a>> {
+    let mut errors = error_writer(rt)?;
     let mut host = SystemHost::new(rt, options, &errors)?;
     let ran = run_server(rt.alloc(), &mut host, options)?;
     Ok(say_served(rt, &mut errors, &ran))
 }
 
-/// Says how much was served, and how many lines of the log were lost, if any.
+/// Prints how much was served, and on standard error how many lines of the log were lost, if any.
 fn say_served(
     rt: &HostRuntime,
     errors: &mut Errors,
@@ -45,9 +45,9 @@ fn say_served(
     Ok(Status::Done)
 }
 
-fn errors_of<'a>(rt: &HostRuntime) -> Result<Errors, StartFault<'a>> {
+fn error_writer<'a>(rt: &HostRuntime) -> Result<Errors, StartError<'a>> {
     match ReadyWriter::new(rt.alloc(), rt, rt.stderr()) {
         Ok(errors) => Ok(SharedWriter::new(rt.alloc(), errors)?),
-        Err(error) => Err(StartFault::System(SystemPart::StandardError, error)),
+        Err(error) => Err(StartError::System(SystemPart::StandardError, error)),
     }
 }

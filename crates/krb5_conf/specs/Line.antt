@@ -49,7 +49,8 @@ value_of text = trimmed (after_first (λ o. o == 0x3D) text)
 
 abbrev pub relation_said : List ℕ → Said
 relation_said text = if nat_lt (position_or_len (λ o. o == 0x3D) text) (length text)
-    then (if bytes_eq (value_of text) (codes "{") then Open (tag_of text) else Relation (tag_of text) (unquoted (value_of text)))
+    then (if bytes_eq (value_of text) (codes "{") then Open (tag_of text) else Relation (tag_of text)
+    (unquoted (value_of text)))
     else Nothing
 
 -- the first byte distinguishes lines: `#`, `;`, `[`, `{` or `}`

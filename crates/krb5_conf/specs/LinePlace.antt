@@ -34,7 +34,7 @@ opened p name = record {
   waiting = [];
 }
 
--- inside one group less
+-- one group further out
 abbrev pub closed : LinePlace → LinePlace
 closed p = if nat_lt 1 p.depth then record p { depth = p.depth - 1; waiting = [] } else section_place p.section
 

@@ -12,8 +12,8 @@ use std::alloc::{AllocError, Global};
 
 /// Returns the default realm: the first `default_realm` of `[libdefaults]`, as written.
 pub fn default_realm(alloc: Global, text: &[u8]) -> Result<Option<&[u8]>, AllocError>
-    // Promise: of a `krb5.conf` the first `default_realm` of `[libdefaults]`, and the values of each setting there, in
-    // order.
+    // Promise: `default_realm` returns the first `default_realm` in `[libdefaults]`, and `library_settings` all values
+    // of a setting there, in order.
     ensures { IfOk result (λ found. option_map (λ realm. realm.now) found ≡ slice_get (default_realms text.now) 0) }
 {
     let wanted = LinePlace::of_section(b"libdefaults");
@@ -30,7 +30,7 @@ pub fn library_settings<'a>(
     text: &'a [u8],
     tag: &[u8],
 ) -> Result<Vec<&'a [u8]>, AllocError>
-    // Promise, as default_realm: of a `krb5.conf` the ..
+    // Promise, as default_realm: `default_realm` returns the first ..
     ensures { IfOk result (λ found.
         map (λ value. value.now) found.items ≡ library_values tag.now text.now) }
 {
@@ -42,8 +42,8 @@ pub fn library_settings<'a>(
 /// with a `/`, such as `tcp/192.0.2.1`, are left out. `kdc_address` reads a text that is an address; the others are
 /// host names.
 pub fn kdcs<'a>(alloc: Global, text: &'a [u8], realm: &[u8]) -> Result<Vec<&'a [u8]>, AllocError>
-    // Promise: of a `krb5.conf` each `kdc` of the realm in `[realms]`, in order, without empty values and those that
-    // have a slash.
+    // Promise: `kdcs` returns each `kdc` of the realm in `[realms]`, in order, without empty values and those that have
+    // a slash.
     ensures { IfOk result (λ found.
         map (λ text. text.now) found.items ≡ kdc_texts (kdc_values realm.now text.now)) }
 {

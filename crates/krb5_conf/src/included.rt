@@ -18,7 +18,7 @@ impl<'a> Included<'a> {
     /// Returns what a line includes: `include PATH` or `includedir FOLDER`, from the start of the line. `None` if it is
     /// another line.
     pub fn read(line: &'a [u8]) -> Option<Included<'a>>
-        // Promise: which lines of a `krb5.conf` include a file or a folder.
+        // Promise: a line of a `krb5.conf` includes a file or a folder exactly as the definition says.
         ensures { option_map said_to_include result ≡ included line.now }
     {
         match behind(line, b"includedir") {

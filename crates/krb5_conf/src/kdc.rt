@@ -50,7 +50,7 @@ fn is_other_way(text: &[u8]) -> bool
 /// Returns the address in a text, such as `192.0.2.1`, `192.0.2.1:88` or `[2001:db8::1]:88`. The default port is 88.
 /// `None` if the text is not an address, such as a host name.
 pub fn kdc_address(alloc: Global, text: &[u8]) -> Result<Option<SocketAddr>, AllocError>
-    // Promise (some, none): which of these is an address, 88 if the port is missing.
+    // Promise (some, none): a text is read as an address exactly if it spells one; the port is 88 if it is missing.
     ensures some { IfOk result (λ found. IfSome found (λ address. IsKdcText text.now address)) }
     ensures none { IfOk result (λ found.
         IfNone found ((address : addresses.SocketAddr) → ¬ IsKdcText text.now address)) }

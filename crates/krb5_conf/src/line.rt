@@ -88,12 +88,12 @@ fn cut(text: &[u8], octet: u8) -> Option<(&[u8], &[u8])>
     ensures back { IfSome result (λ parts. parts.1.now ≡ after_first (λ o. o == octet) text.now) }
     ensures none { IfNone result (length text.now ≤ position_or_len (λ o. o == octet) text.now) }
 {
-    let place = place_of(text, octet)?;
+    let place = find_octet(text, octet)?;
     Some((&text[..place], &text[place + 1..]))
 }
 
 /// Returns the index of the first such byte.
-fn place_of(text: &[u8], octet: u8) -> Option<usize>
+fn find_octet(text: &[u8], octet: u8) -> Option<usize>
     ensures { result ≡ position (λ o. o == octet) text.now }
 {
     text.iter().position(|o| *o == octet)

@@ -1,7 +1,8 @@
 //! The place of a line.
 ghost use Rattle.std.specs.Prelude.{◌≡◌, ◌<◌, ◌≤◌, ◌+◌, ◌-◌, ◌^◌};
 ghost use Rattle.krb5_conf.specs.Line.{said};
-ghost use Rattle.krb5_conf.specs.LinePlace.{behind, closed, group_place, is_place, named, opened, place_of, section_place};
+ghost use Rattle.krb5_conf.specs.LinePlace.{behind, closed, group_place, is_place, named, opened, place_of};
+ghost use Rattle.krb5_conf.specs.LinePlace.{section_place};
 
 use crate::line::Line;
 
@@ -94,7 +95,7 @@ impl<'a> LinePlace<'a> {
         }
     }
 
-    /// Returns the place inside one group less.
+    /// Returns the place one group further out.
     fn closed(self) -> LinePlace<'a>
         ensures place { place_of result ≡ closed (place_of self.entry) }
         ensures depth { result.depth ≤ self.entry.depth + 1 }

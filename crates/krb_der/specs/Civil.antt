@@ -29,7 +29,7 @@ civil_second t =
 abbrev pub IsCivilSecond : ℤ → Type 0
 IsCivilSecond z = IsBetween (neg_ℤ (pos 62_167_219_200)) (pos 253_402_300_799) z
 
--- the last of the years or months up to n that has begun by that day, where `first_day` is the day on which each begins
+-- the last year or month, at most n, that has begun by this day; `first_day` says on which day each begins
 unfoldable pub last_begun : (ℕ → ℤ) → ℕ → ℤ → ℕ
 last_begun first_day zero day = zero
 last_begun first_day (suc n) day =

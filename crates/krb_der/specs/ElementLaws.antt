@@ -22,7 +22,7 @@ same_first : (r : Result (List ℕ × List ℕ) DerFault) (f g : List ℕ → Li
 same_first (Ok x) f g h = ap (λ l. x.0 ∷ l) (h x refl)
 same_first (Err e) f g h = refl
 
--- more tries than bytes change nothing
+-- any two maximum numbers of elements give the same, if neither is below the number of bytes
 elements_more : (n m : ℕ) (bytes : List ℕ) → length bytes ≤ n → length bytes ≤ m
     → elements_from n bytes ≡ elements_from m bytes
 unfolding elements_from element_at

@@ -71,7 +71,7 @@ short_stays [] h = refl
 short_stays (a ∷ []) h = refl
 short_stays (a ∷ b ∷ rest) h = absurd (omega arith)
 
--- the bytes kept of eight are the shortest form, and have the same value
+-- the bytes that remain of the eight are the shortest form, and have the same value
 written_from : (l : List ℕ) → length l ≡ 8 → (is_int (shortest l) ≡ true)
     × (int_value (shortest l) ≡ cast_signed w64 (from_be_bytes w64 l))
 unfolding is_int int_value

@@ -20,6 +20,6 @@ unfoldable pub elements_from : ℕ → List ℕ → List (List ℕ)
 elements_from zero bytes = []
 elements_from (suc n) bytes = first_and (element_at bytes) (elements_from n)
 
--- each takes at least a byte
+-- all elements: each takes at least a byte, so there are no more of them than bytes
 abbrev pub elements : List ℕ → List (List ℕ)
 elements bytes = elements_from (length bytes) bytes

@@ -44,7 +44,7 @@ octets_4 n l =
       le-ltb n (2 ^ 24) l,
     ) refl
 
--- four bytes are those of their number
+-- four bytes are the bytes of the number that they form
 four : (a b c d : ℕ) → a < 256 → b < 256 → c < 256 → d < 256
     → to_be_bytes w32 (from_be_bytes w32 (a ∷ b ∷ c ∷ d ∷ [])) ≡ a ∷ b ∷ c ∷ d ∷ []
 four a b c d ha hb hc hd = be_bytes_4 (a ∷ b ∷ c ∷ d ∷ []) _ refl (fits a b c d ha hb hc hd) refl

@@ -14,7 +14,7 @@ abbrev pub ◌>>=◌ : {A B : Type 0} → Result A DerFault → (A → Result B 
 (Ok x) >>= f = f x
 (Err e) >>= f = Err e
 
--- The function returned what reading gives, seen by `view`.
+-- The function returned what reading gives; `view` maps its result to what the definition reads.
 abbrev pub Gives : {X Y : Type 0} → (X → Y) → Result X DerFault → Result Y DerFault → Type 0
 Gives view (Ok x) read = read ≡ Ok (view x)
 Gives view (Err e) read = read ≡ Err e

@@ -39,8 +39,8 @@ impl<'a> Model for Items<'a> {
 impl<'a> Items<'a> {
     /// Returns the elements of a list with these contents.
     pub fn new(contents: &'a [u8]) -> Items<'a>
-        // Promise: the items of bytes are the values that stand in them, one after the other; an iterator returns them
-        // one by one, and ends.
+        // Promise: the items of some bytes are the values in them, in order; an iterator returns them one by one, and
+        // then ends.
         ensures { result ≡ elements contents.now }
     {
         Items { rest: contents }
@@ -48,7 +48,7 @@ impl<'a> Items<'a> {
 
     /// Returns an independent iterator over the same elements.
     pub fn iter(&self) -> Items<'a>
-        // Promise, as Items::new: the items of bytes ..
+        // Promise, as Items::new: the items of some ..
         ensures { result ≡ self.now }
     {
         Items { rest: self.rest }
@@ -58,7 +58,7 @@ impl<'a> Items<'a> {
 impl<'a> Iterator for Items<'a> {
     type Item = &'a [u8];
 
-    // Promise (next_gives, remaining), as Items::new: the items of bytes ..
+    // Promise (next_gives, remaining), as Items::new: the items of some ..
     ghost next_gives = { YieldsFirstRef (λ s. s) };
 
     ghost remaining = { item_count (λ s. s) };

@@ -64,8 +64,8 @@ impl KTime {
     /// time of day up to 23:59:59: no fraction, no leap second and no other time zone.
     #[tactic(auto, unfolding(crate::specs::Time::is_time, crate::specs::Time::time_value))]
     pub fn from_octets(octets: &[u8]) -> Option<KTime>
-        // Promise (value, one_spelling): a time is read exactly where the bytes are a civil date with a time of day;
-        // each time has one encoding.
+        // Promise (value, one_spelling): a time is read exactly if the bytes are a civil date with a time of day; each
+        // time has one encoding.
         ensures value { result ≡ (if is_time octets.now then Some (time_value octets.now) else None) }
         ensures one_spelling { IfSome result (λ t. octets.now ≡ time_octets t) }
     {
@@ -79,7 +79,7 @@ impl KTime {
     /// Returns its fifteen bytes, YYYYMMDDHHMMSSZ.
     #[tactic(auto, using(crate::proofs::TimeLaws::time_again), unfolding(crate::specs::Time::time_octets))]
     pub fn to_octets(self) -> [u8; 15]
-        // Promise (octets, is_time, value): what is written of a time is read again.
+        // Promise (octets, is_time, value): reading the bytes that a time is written in gives that time again.
         ensures octets { result ≡ time_octets self }
         // Reading the result gives this time again.
         ensures is_time { IsTrue (is_time result) }

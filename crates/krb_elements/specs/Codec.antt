@@ -69,9 +69,9 @@ pub record Codec (A : Type 0) : Type 1 where
   pub text : A → List ℕ
   -- the values that have an encoding, if its length fits
   pub Fits : A → Type 0
-  -- whether no value has two
+  -- whether no value has two encodings
   pub has_one : Bool
-  -- how these fit together
+  -- the laws that connect them
   pub laws : Laws Spells at tag text Fits has_one
   -- an upper bound on the length of the contents
   pub most : A → ℕ
@@ -232,7 +232,7 @@ in_tag (Some tag) c = record {
   bounded = round_bounded c.tag c.text c.most c.bounded;
 }
 
--- both read and write the same
+-- the two codecs read and write the same
 pub record AreSame {X : Type 0} (c d : Codec X) : Type 0 where
   pub at : (bytes : List ℕ) → c.at bytes ≡ d.at bytes
   pub text : (x : X) → c.text x ≡ d.text x

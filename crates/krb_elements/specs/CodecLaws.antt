@@ -78,15 +78,15 @@ pub record AreInRange {A : Type 0} (S : A → List ℕ → Type 0) (Fits : A →
 -- a value with its own tag
 pub record Laws {A : Type 0} (S : A → List ℕ → Type 0) (at : List ℕ → Result (A × List ℕ) DerFault) (tag : ℕ)
     (text : A → List ℕ) (Fits : A → Type 0) (has_one : Bool) : Type 0 where
-  -- a value that is read is encoded so, and a value that is encoded so is read
+  -- bytes that are read as a value encode it, and bytes that encode a value are read as it
   pub element : IsElement S at
   -- a value with an encoding is in range
   pub range : AreInRange S Fits
   -- a value in range has the encoding that is written
   pub writable : IsWritable Fits S tag text
-  -- which is at most three times as long as any of its encodings
+  -- the encoding that is written is at most three times as long as any other
   pub short : IsShort S tag text
-  -- and is the only one
+  -- if no value has two encodings, it is the only one
   pub one : IsTrue has_one → HasOneSpelling S tag text
 
 -- fields whose tags are not below low
@@ -282,7 +282,7 @@ ended_one : {A B : Type 0} (x : A) (r : Result (B × List ℕ) DerFault)
 ended_one x (Ok y) = ended_pair (eqb (length y.1) 0) x y.0
 ended_one x (Err e) = refl
 
--- checking for the end after all fields, or after the later ones
+-- checking for the end after all fields is the same as checking for it after the later ones
 ended : {A B : Type 0} (g : List ℕ → Result (B × List ℕ) DerFault) (r : Result (A × List ℕ) DerFault)
     → (r >>= λ x. g x.1 >>= before x.0) >>= if_ended ≡ r >>= (λ x. whole g x.1 >>= beside x.0)
 ended g (Ok x) = ended_one x.0 (g x.1)
@@ -475,7 +475,7 @@ either_shorter : {K A : Type 0} (tag : K → ℕ) (k m : K) (S : A → List ℕ 
 either_shorter tag k m S at is true bytes x rest e = (tagged_ok tag m S at is).shorter bytes x rest e
 either_shorter tag k m S at is false bytes x rest e = (tagged_ok tag k S at is).shorter bytes x rest e
 
--- a property of both holds of each
+-- there are no other values than these two: a property of both holds of each value
 abbrev pub AreAll : {K : Type 0} → K → K → Type 1
 AreAll {K} k m = (P : K → Type 0) → P k → P m → (x : K) → P x
 

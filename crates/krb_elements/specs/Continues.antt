@@ -1,4 +1,4 @@
--- What was written before a call stands after it.
+-- A call keeps what was written before it.
 use Rattle.std.proofs.Common.{◌≡◌, ◌++◌, ◌∙◌, ℕ, List, [], sym, ap, append_assoc}
 use Rattle.std.proofs.lemmas.List.{append-nil}
 use Rattle.std.specs.Prelude.{Result, Ok, Err, OnOk, OnErr}
@@ -28,7 +28,7 @@ pub appended_before : (old text between new : List ℕ) → between ≡ old ++ t
     → Continues old new
 appended_before old text between new is kept before front = kept before (appended old text between is before front)
 
--- by a call that appends, or else leaves what it was given
+-- by a call that appends, or else leaves an output that continues the old one
 pub appended_or : {A E : Type 0} (r : Result A E) (old between text new : List ℕ) → Continues old between
     → OnOk r (new ≡ old ++ text) → OnErr r (new ≡ between) → Continues old new
 appended_or (Ok x) old between text new kept ok err = appended old text new ok

@@ -1,4 +1,4 @@
--- A copy of a list, or of an optional value, that consists of equal copies is equal.
+-- A copy of a list, or of an optional value, is equal if it consists of equal copies.
 use Rattle.std.proofs.Common.{◌≡◌, List, [], ◌∷◌, map, Option, Some, None, refl, ap, ◌∙◌}
 use Rattle.std.specs.Prelude.{option_map}
 

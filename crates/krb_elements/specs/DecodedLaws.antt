@@ -12,7 +12,7 @@ short_if_decoded codec (Ok x) bytes fits h =
     omega (arith, tlv_longer codec.tag (codec.text x), codec.laws.short.is x bytes fits h)
 short_if_decoded codec (Err e) bytes fits h = tt
 
--- it is these bytes, where no value has two encodings
+-- it is these bytes, if no value has two encodings
 pub one_if_decoded : {A E : Type 0} (codec : Codec A) → IsTrue codec.has_one → (r : Result A E) (bytes : List ℕ)
     → IsBytes bytes → IfOk r (λ x. codec.Spells x bytes) → IfOk r (λ x. bytes ≡ written codec x)
 one_if_decoded codec has (Ok x) bytes fits h = (codec.laws.one has).is x bytes fits h

@@ -14,12 +14,12 @@ abbrev pub Fails : {Y : Type 0} → Fault → Result Y DerFault → Type 0
 Fails faults.Memory read = Unit {0}
 Fails (faults.Der f) read = read ≡ Err f
 
--- It is what reading gives, unless memory ran out.
+-- The result is what reading gives, unless memory ran out.
 abbrev pub Decodes : {X : Type 0} → Result X Fault → Result X DerFault → Type 0
 Decodes (Ok x) read = read ≡ Ok x
 Decodes (Err e) read = Fails e read
 
--- It is what reading gives.
+-- The result is what reading gives.
 abbrev pub Sees : {X : Type 0} → Result X DerFault → Result X DerFault → Type 0
 Sees (Ok x) read = read ≡ Ok x
 Sees (Err e) read = read ≡ Err e
@@ -103,7 +103,7 @@ items f n [] = Ok []
 items f zero (b ∷ bytes) = Err Trailing
 items f (suc n) (b ∷ bytes) = f (b ∷ bytes) >>= λ x. items f n x.1 >>= λ xs. Ok (x.0 ∷ xs)
 
--- each takes at least a byte
+-- all values: each takes at least a byte, so there are no more of them than bytes
 abbrev pub items_of : {A : Type 0} → (List ℕ → Result (A × List ℕ) DerFault) → List ℕ → Result (List A) DerFault
 items_of f bytes = items f (length bytes) bytes
 

@@ -1,5 +1,5 @@
--- A value that is read is encoded so, and a value that is encoded so is read. Each way to combine readings preserves
--- this.
+-- Bytes that are read as a value encode it, and bytes that encode a value are read as it. Each way to combine readings
+-- preserves this.
 use Rattle.std.proofs.Common.{◌≡◌, ℕ, zero, suc, ◌^◌, ◌<◌, ◌≤◌, Bool, true, false, cond, eqb, List, [], ◌∷◌, ◌++◌}
 use Rattle.std.proofs.Common.{length, Option, Some, None, Result, Ok, Err, refl, sym, ap, subst, ◌∙◌, arith}
 use Rattle.std.specs.Prelude.{IfOk, IsOk, IsOkAnd}
@@ -36,7 +36,7 @@ pub record IsWhole {A : Type 0} (S : A → List ℕ → Type 0) (f : List ℕ �
   pub takes : (bytes : List ℕ) (x : A) → IsBytes bytes → f bytes ≡ Ok x → S x bytes
   pub again : (x : A) (bytes : List ℕ) → S x bytes → f bytes ≡ Ok x
 
--- the same for fields whose tags are not below low
+-- fields that take up all of the bytes, and whose tags are not below low
 pub record AreFields {A : Type 0} (low : ℕ) (S : A → List ℕ → Type 0) (f : List ℕ → Result A DerFault) : Type 0 where
   pub whole : IsWhole S f
   pub above : (x : A) (bytes : List ℕ) (tag : ℕ) → tag < low → S x bytes → starts tag bytes ≡ false

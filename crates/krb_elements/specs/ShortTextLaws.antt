@@ -48,12 +48,12 @@ unfolding tlv
 tlv_long tag contents =
     omega (arith, length-append (length_octets (length contents)) contents, (length_bounds (length contents)).0)
 
--- a value with only one encoding is written in that
+-- a value with only one encoding is written in it
 pub one_short : {A : Type 0} (S : A → List ℕ → Type 0) (tag : ℕ) (text : A → List ℕ) → HasOneSpelling S tag text
     → IsShort S tag text
 one_short S tag text one = record { is = λ x bytes fits s. omega (arith, ap length (one.is x bytes fits s)) }
 
--- contents that are not empty
+-- the contents of a BIT STRING are not empty
 bits_some : (contents : List ℕ) → is_bits contents ≡ true → 1 ≤ length contents
 unfolding is_bits
 bits_some [] e = absurd cc

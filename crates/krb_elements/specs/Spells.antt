@@ -3,7 +3,7 @@ use Rattle.std.specs.Prelude.{◌≡◌, ℕ, ◌<◌, ◌^◌, List, [], ◌∷
 use Rattle.krb_der.specs.Spelling.{tlv}
 use Rattle.krb_elements.specs.Sent.{WithOctets}
 
--- a value with this tag, whose contents are encoded so
+-- a value with this tag, whose contents encode it by S
 abbrev pub Inside : {A : Type 0} → ℕ → (A → List ℕ → Type 0) → A → List ℕ → Type 0
 Inside tag S x bytes = (contents : List ℕ) × (length contents < 2 ^ 32) × S x contents × (bytes ≡ tlv tag contents)
 

@@ -42,7 +42,7 @@ impl<const TAG: u8> Model for ByteString<TAG> {
 impl<const TAG: u8> ByteString<TAG> {
     /// Returns these bytes as a string, without a copy.
     pub fn new(bytes: Vec<u8>) -> ByteString<TAG>
-        // Promise: a byte string has the bytes that it was made of; a copy has the same.
+        // Promise: a byte string has the bytes that it was made from; a copy has the same.
         ensures { result ≡ bytes.items }
     {
         ByteString { bytes }

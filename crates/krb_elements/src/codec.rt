@@ -10,7 +10,7 @@ use std::alloc::{AllocError, Global};
 /// A type whose values have their own tag.
 pub trait Coded: Sized + Drop {
     /// Which bytes encode a value, what reading returns, and what is written.
-    // Promise: a type's codec, with all laws of codecs.
+    // Promise: each type has a codec, which meets all laws of codecs.
     ghost codec: { Codec Self };
 }
 
@@ -64,12 +64,13 @@ pub fn application_tag(n: u8) -> u8
 pub trait MakeOwned: Sized {
     type Owned: Drop;
 
-    /// The value of the copy, which is the same.
+    /// The same value in the type of the copy.
     ghost same: { Self → Self.Owned };
 
     /// Returns a copy that owns its parts.
     fn copy(&self, alloc: Global) -> Result<Self::Owned, AllocError>
-        // Promise: a copy that owns its parts has the same value; it is also read so, unless memory runs out.
+        // Promise: a copy that owns its parts has the same value; a value that owns its parts is read as the definition
+        // says, unless memory runs out.
         ensures { IfOk result (λ copy. copy ≡ Self.same self.now) };
 }
 

@@ -45,7 +45,7 @@ pub use lists::SeqRef;
 pub use messages::{decode, encode};
 pub use microseconds::Microseconds;
 pub use reading::{
-    Decode, DecodeFields, ReadOwned, Sent, end_of, look_either, read, read_owned, take_field,
+    Decode, DecodeFields, ReadOwned, Sent, expect_end, look_either, read, read_owned, take_field,
     take_fixed, take_optional, take_sent,
 };
 pub use seq::Seq;

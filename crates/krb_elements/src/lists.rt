@@ -36,8 +36,8 @@ impl<'a, T: Coded> Model for SeqRef<'a, T> {
 impl<'a, T: Coded> SeqRef<'a, T> {
     /// Returns an independent iterator over the same values.
     pub fn iter(&self) -> SeqRef<'a, T>
-        // Promise: a list that is still bytes has the elements that they spell; an iterator returns them one by one,
-        // and ends.
+        // Promise: a borrowed list has the elements that its bytes spell; an iterator returns them one by one, and then
+        // ends.
         ensures { result ≡ self.now }
     {
         SeqRef {
@@ -64,7 +64,7 @@ fn next_value<'a, T: Decode<'a>>(items: &mut Items<'a>) -> Option<T>
 impl<'a, T: Decode<'a>> Iterator for SeqRef<'a, T> {
     type Item = T;
 
-    // Promise (next_gives, remaining), as SeqRef::iter: a list that is ..
+    // Promise (next_gives, remaining), as SeqRef::iter: a borrowed list has ..
     ghost next_gives = { YieldsFirst (λ s. s) };
 
     ghost remaining = { item_count (λ s. s) };

@@ -11,18 +11,18 @@ use std::alloc::{AllocError, Global};
 /// Decodes the message that the bytes encode.
 pub fn decode<X: ReadOwned>(alloc: Global, bytes: &[u8]) -> Result<X, Fault>
     // If it succeeds, the bytes encode this message.
-    // Promise (found, only, exact): a message of any type is decoded exactly from the bytes that spell it, unless
-    // memory runs out; which error it is.
+    // Promise (found, only, exact): a message of any type is decoded exactly from bytes that spell it, unless memory
+    // runs out; an error is that of the definition.
     ensures found { IfOk result (λ x. X.codec.Spells x bytes.now) }
     // If the bytes encode a message of the type, it succeeds, unless memory runs out.
     ensures only { (x : X) → X.codec.Spells x bytes.now → IsReadUnlessMemory result x }
     // The result, including the error, is that of the definition.
     ensures exact { Decodes result (whole X.codec.at bytes.now) }
     // If no message of the type has two encodings, `encode` returns these bytes.
-    // Promise (one, short): if no message of its type has two encodings, encoding a decoded message gives these bytes,
-    // and otherwise fewer than three times as many and a few for its tag.
+    // Promise (one, short): encoding a decoded message gives the same bytes, if no message of its type has two
+    // encodings; otherwise the contents of the new encoding have fewer than three times as many bytes.
     ensures one { IsTrue X.codec.has_one → IfOk result (λ x. bytes.now ≡ written X.codec x) }
-    // The encoding that `encode` returns has less than three times as many bytes.
+    // The contents of the encoding that `encode` returns have fewer than three times as many bytes.
     ensures short { IfOk result (λ x. length (X.codec.text x) < 3 * length bytes.now) }
 {
     read_owned(alloc, bytes)

@@ -2,7 +2,7 @@
 ghost use Rattle.krb_elements.specs.Format.{Decodes, items_of};
 
 use crate::fault::Fault;
-use crate::reading::{ReadOwned, end_of};
+use crate::reading::{ReadOwned, expect_end};
 use crate::seq::Seq;
 use crate::taking::TakeOwned;
 use krb_der::Reader;
@@ -25,7 +25,7 @@ impl<T: TakeOwned> ReadOwned for Seq<T> {
     fn read_parts(alloc: Global, bytes: &[u8]) -> Result<Seq<T>, Fault> {
         let mut reader = Reader::new(bytes);
         let items = read_items(alloc, reader.read_tlv(0x30)?)?;
-        end_of(&reader)?;
+        expect_end(&reader)?;
         Ok(items)
     }
 }

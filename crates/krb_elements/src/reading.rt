@@ -19,7 +19,7 @@ pub trait Decode<'a>: Coded {
         ensures { Looks result reader.new (Self.codec.at reader.old) };
 }
 
-/// The same for a type that consists of fields.
+/// A type that consists of fields, and whose values are read in place.
 pub trait DecodeFields<'a>: Fielded {
     /// Reads the fields at the front, in order.
     fn look_fields(fields: &mut Reader<'a>) -> Result<Self, DerFault>
@@ -44,8 +44,8 @@ pub trait ReadOwned: Coded {
 /// Reads the value that the bytes encode.
 pub fn read<'a, T: Decode<'a>>(bytes: &'a [u8]) -> Result<T, DerFault>
     // If it succeeds, the bytes encode this value.
-    // Promise (found, only, exact): a value is read exactly from bytes that spell it, or with the error of its
-    // definition; if it owns its parts, unless memory runs out.
+    // Promise (found, only, exact): a value is read exactly from bytes that spell it, and an error is that of the
+    // definition; memory can run out only if the value owns its parts.
     ensures found { IfOk result (λ x. T.codec.Spells x bytes.now) }
     // If the bytes encode a value, it succeeds.
     ensures only { (x : T) → T.codec.Spells x bytes.now → IsOkAnd result (λ y. y ≡ x) }
@@ -74,12 +74,12 @@ pub(crate) fn look_all<'a, T: Decode<'a>>(bytes: &'a [u8]) -> Result<T, DerFault
 {
     let mut reader = Reader::new(bytes);
     let value = T::look(&mut reader)?;
-    end_of(&reader)?;
+    expect_end(&reader)?;
     Ok(value)
 }
 
 /// Checks that nothing is left.
-pub fn end_of(fields: &Reader<'_>) -> Result<(), DerFault>
+pub fn expect_end(fields: &Reader<'_>) -> Result<(), DerFault>
     // Promise, as take_field: a field, an optional ..
     ensures { Sees result (end fields.now) }
 {
@@ -121,7 +121,7 @@ pub fn take_optional<'a, T: Decode<'a>>(
     }
 }
 
-/// Reads the field with this tag, which must be this number, such as a message's version.
+/// Reads the field with this tag, whose value must be this number, such as a message's version.
 pub fn take_fixed(fields: &mut Reader<'_>, n: u8, number: i32) -> Result<(), DerFault>
     requires { n < 31 }
     // Promise, as take_field: a field, an optional ..
@@ -129,7 +129,7 @@ pub fn take_fixed(fields: &mut Reader<'_>, n: u8, number: i32) -> Result<(), Der
 {
     let mut contents = Reader::new(fields.read_tlv(0xa0 + n)?);
     look_fixed(&mut contents, number)?;
-    end_of(&contents)
+    expect_end(&contents)
 }
 
 #[tactic(auto, unfolding(crate::specs::Simple::fixed_at))]
@@ -178,7 +178,7 @@ pub fn look_either<'a, K: Copy, T: Decode<'a>>(
     first: (u8, K),
     second: (u8, K),
 ) -> Result<(K, T), DerFault>
-    // Promise: a value at the front of a list or of fields is read, or the error returned, as the definition says.
+    // Promise: a value at the front of a list or of fields is read, or an error is returned, as the definition says.
     ensures { Looks result reader.new (either_inside first second T.codec.at reader.old) }
 {
     match reader.peek_tag() {
@@ -216,7 +216,7 @@ fn sequence_in<'a, T: DecodeFields<'a>>(bytes: &'a [u8]) -> Result<T, DerFault>
 {
     let mut reader = Reader::new(bytes);
     let value = look_sequence(&mut reader)?;
-    end_of(&reader)?;
+    expect_end(&reader)?;
     Ok(value)
 }
 
@@ -233,6 +233,6 @@ fn fields_in<'a, T: DecodeFields<'a>>(bytes: &'a [u8]) -> Result<T, DerFault>
 {
     let mut fields = Reader::new(bytes);
     let value = T::look_fields(&mut fields)?;
-    end_of(&fields)?;
+    expect_end(&fields)?;
     Ok(value)
 }

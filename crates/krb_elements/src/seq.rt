@@ -21,7 +21,7 @@ impl<T> Model for Seq<T> {
 impl<T> Seq<T> {
     /// Returns an empty list. It allocates nothing.
     pub fn new(alloc: Global) -> Seq<T>
-        // Promise: a list has the elements that it was made of, in their order.
+        // Promise: a list has the elements that it was made from, in their order.
         ensures { result ≡ [] }
     {
         Seq {
@@ -63,8 +63,8 @@ impl<T> Seq<T> {
 
     /// Appends a value.
     pub fn push(&mut self, item: T) -> Result<(), AllocFailed<T>>
-        // Promise (ok, err, item_returned): an element is put at a list's end; if memory runs out, the list is
-        // unchanged and the element is returned.
+        // Promise (ok, err, item_returned): an element is appended to a list; if memory runs out, the list is unchanged
+        // and the element is returned.
         ensures ok { OnOk result (self.new ≡ self.old ++ item ∷ []) }
         ensures err { OnErr result (self.new ≡ self.old) }
         ensures item_returned { IfErr result (λ failed. failed.value ≡ item) }

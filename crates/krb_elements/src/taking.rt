@@ -7,7 +7,7 @@ ghost use Rattle.krb_elements.specs.Codec.{sequence, fields_at};
 use crate::byte_string::ByteString;
 use crate::codec::{Coded, Fielded};
 use crate::fault::Fault;
-use crate::reading::end_of;
+use crate::reading::expect_end;
 use krb_der::Reader;
 use std::alloc::Global;
 
@@ -19,7 +19,7 @@ pub trait TakeOwned: Coded {
         ensures { Takes result reader.new (Self.codec.at reader.old) };
 }
 
-/// The same for a type that consists of fields.
+/// A type that consists of fields, and whose values own their parts.
 pub trait TakeFields: Fielded {
     /// Reads the fields at the front, in order.
     fn take_fields(alloc: Global, fields: &mut Reader<'_>) -> Result<Self, Fault>
@@ -36,13 +36,13 @@ impl<const TAG: u8> TakeOwned for ByteString<TAG> {
 
 /// Reads a value that takes up all of the bytes.
 pub fn take_whole<T: TakeOwned>(alloc: Global, bytes: &[u8]) -> Result<T, Fault>
-    // Promise: an element of a list, a field, an optional field: each is taken as the definition says, and owns its
-    // parts.
+    // Promise: an element of a list, a field and an optional field are each read as the definition says, into values
+    // that own their parts.
     ensures { Decodes result (whole T.codec.at bytes.now) }
 {
     let mut reader = Reader::new(bytes);
     let value = T::take_parts(alloc, &mut reader)?;
-    end_of(&reader)?;
+    expect_end(&reader)?;
     Ok(value)
 }
 
@@ -85,6 +85,6 @@ fn fields_in<T: TakeFields>(alloc: Global, bytes: &[u8]) -> Result<T, Fault>
 {
     let mut fields = Reader::new(bytes);
     let value = T::take_fields(alloc, &mut fields)?;
-    end_of(&fields)?;
+    expect_end(&fields)?;
     Ok(value)
 }

@@ -30,7 +30,7 @@ impl Model for UInt32 {
 impl UInt32 {
     /// Returns the number, if it is in range.
     pub fn new(value: i64) -> Option<UInt32>
-        // Promise: a UInt32 and microseconds are made exactly of the numbers of their ranges.
+        // Promise: a UInt32 and microseconds are made exactly from the numbers in their ranges.
         ensures { SomeIff result (IsUInt32 value) value }
     {
         if value < -2147483648 || 4294967295 < value {

@@ -18,20 +18,20 @@ pub trait Encode: Coded {
     /// Appends the value. After an `Err` a part of it may follow what was written before.
     fn put(&self, out: &mut Writer) -> Result<(), AllocError>
         requires { length (Self.codec.text self.now) < 2 ^ 32 }
-        // Promise (ok, fits, kept), as write_field: a value, a field, ..
+        // Promise (ok, fits, kept), as write_field: a value, a field ..
         ensures ok { OnOk result (out.new ≡ out.old ++ tlv Self.codec.tag (Self.codec.text self.now)) }
         // Its numbers are in range.
         ensures fits { OnOk result (Self.codec.Fits self.now) }
-        // What was written before stands, also after an `Err`.
+        // What was written before stays, also after an `Err`.
         ensures kept { Continues out.old out.new };
 }
 
-/// The same for a type that consists of fields.
+/// A type that consists of fields, and whose values can be written.
 pub trait EncodeFields: Fielded {
     /// Appends the fields in order. After an `Err` a part of them may follow what was written before.
     fn put_fields(&self, out: &mut Writer) -> Result<(), AllocError>
         requires { length (fields_text Self.form self.now) < 2 ^ 32 }
-        // Promise (ok, fits, kept), as write_field: a value, a field, ..
+        // Promise (ok, fits, kept), as write_field: a value, a field ..
         ensures ok { OnOk result (out.new ≡ fields_onto Self.form out.old self.now) }
         ensures fits { OnOk result (FitFields Self.form self.now) }
         ensures kept { Continues out.old out.new };
@@ -75,8 +75,8 @@ pub fn write_inside<T: Encode>(alloc: Global, tag: u8, value: &T) -> Result<Vec<
 pub fn write_field<T: Encode>(out: &mut Writer, n: u8, value: &T) -> Result<(), AllocError>
     requires tag { n < 31 }
     requires short { length (field_text (160 + n) T.codec.tag (T.codec.text value.now)) < 2 ^ 32 }
-    // Promise (ok, fits, kept): a value, a field, an optional field: each is appended as its codec says, and its
-    // numbers are in their ranges; what was written before stands, also if memory runs out.
+    // Promise (ok, fits, kept): a value, a field and an optional field are each appended as the codec says, with
+    // numbers in their ranges; what was written before stays, also if memory runs out.
     ensures ok { OnOk result (out.new ≡ out.old ++ field_text (160 + n) T.codec.tag (T.codec.text value.now)) }
     ensures fits { OnOk result (T.codec.Fits value.now) }
     ensures kept { Continues out.old out.new }
@@ -96,7 +96,7 @@ pub fn write_optional<T: Encode>(
 ) -> Result<(), AllocError>
     requires tag { n < 31 }
     requires short { length (maybe_text (160 + n) T.codec.tag T.codec.text value.now) < 2 ^ 32 }
-    // Promise (ok, fits, kept), as write_field: a value, a field, ..
+    // Promise (ok, fits, kept), as write_field: a value, a field ..
     ensures ok { OnOk result (out.new ≡ out.old ++ maybe_text (160 + n) T.codec.tag T.codec.text value.now) }
     ensures fits { OnOk result (IfSome value.now T.codec.Fits) }
     ensures kept { Continues out.old out.new }

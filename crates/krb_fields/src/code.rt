@@ -89,8 +89,8 @@ pub enum Code {
 impl Code {
     /// Returns the error's number in a KRB-ERROR.
     pub fn number(self) -> i32
-        // Promise: each code, flag and option has its number (codes have those in `numbers.rt`, which the definition
-        // takes from there: tests compare them with literals).
+        // Promise: each code, flag and option has its number; those of codes are constants of `numbers.rt`, which tests
+        // compare with literals.
         ensures { result ≡ number_of self }
     {
         self as i32

@@ -35,8 +35,8 @@ pub trait NamedBit: Copy {
 impl Flags {
     /// Returns the flags with these bits: bit 0 is the most significant.
     pub fn from_bits(bits: u32) -> Flags
-        // Promise: flags are the 32 bits that they were made of; bits are set and cleared one by one, and all others
-        // stay.
+        // Promise: flags are the 32 bits that they were made from; setting or clearing one bit leaves all others as
+        // they are.
         ensures { result ≡ bits }
     {
         Flags { bits }

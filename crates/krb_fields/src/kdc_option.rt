@@ -12,7 +12,7 @@ pub enum KdcOption {
     Forwarded = 2,
     /// The ticket is to be proxiable.
     Proxiable = 3,
-    /// The ticket is to be a proxy's.
+    /// The ticket is to be a proxy ticket.
     Proxy = 4,
     /// The ticket is to be one with which postdated tickets can be requested.
     AllowPostdate = 5,
@@ -22,7 +22,7 @@ pub enum KdcOption {
     Renewable = 8,
     /// The KDC need not check the realms between client and service.
     DisableTransitedCheck = 26,
-    /// A renewable ticket will do, if a ticket with the requested life can't be given.
+    /// A renewable ticket is acceptable if none with the requested lifetime can be issued.
     RenewableOk = 27,
     /// The ticket is to be encrypted under the session key of an additional ticket.
     EncTktInSkey = 28,

@@ -26,7 +26,7 @@ impl Moment {
 
     /// Returns the moment, if both numbers are in range.
     pub fn new(sec: i64, usec: u32) -> Option<Moment>
-        // Promise (found, value): a moment is made exactly where both numbers are in range, and gives both as a message
+        // Promise (found, value): a moment is made exactly if both numbers are in range, and returns both as a message
         // has them.
         ensures found { IsSome result ↔ (IsSecond sec × IsMicrosecond usec) }
         ensures value { IfSome result (λ at. (at.sec ≡ sec) × (at.usec ≡ usec)) }

@@ -24,7 +24,8 @@ pub type NameRef<'a> = Name<SeqRef<'a, KerberosStringRef<'a>>>;
 impl Name {
     /// Returns the name with these components.
     pub fn new(alloc: Global, name_type: i32, components: &[&[u8]]) -> Result<Name, AllocError>
-        // Promise: a name is made of its name-type and its components; a copy is equal, the name-type too.
+        // Promise: a name has the name-type and the components that it was made from; a copy is equal, also in its
+        // name-type.
         ensures { IfOk result (λ name. name ≡ record {
           name_type = name_type;
           components = map
@@ -43,7 +44,7 @@ impl Name {
 
     /// Compares names by their components, as Rust compares a `Vec<Vec<u8>>`.
     pub fn order(&self, other: &Name) -> Ordering
-        // Promise: names are ordered, and equal, by their components alone, owned or borrowed.
+        // Promise: names are compared by their components alone, owned or borrowed.
         ensures { result ≡ name_cmp self.now.components other.now.components }
     {
         self.components.as_slice().cmp(other.components.as_slice())
@@ -51,7 +52,7 @@ impl Name {
 
     /// Checks whether both are the same principal of a realm.
     pub fn is_same(&self, other: &Name) -> bool
-        // Promise, as Name::order: names are ordered, and ..
+        // Promise, as Name::order: names are compared by ..
         ensures { IsTrue result ↔ (self.now.components ≡ other.now.components) }
     {
         self.order(other).is_eq()
@@ -59,7 +60,7 @@ impl Name {
 
     /// Returns a copy, with the same name-type.
     pub fn copy(&self, alloc: Global) -> Result<Name, AllocError>
-        // Promise, as Name::new: a name is made ..
+        // Promise, as Name::new: a name has the ..
         ensures { IfOk result (λ name. name ≡ self.now) }
     {
         let mut components = Seq::new(alloc);

@@ -1,6 +1,6 @@
 //! The limits on names in a realm's database: 1 to 16 components of 1 to 255 bytes.
 //!
-//! RFC 4120 sets none. A name in a message may exceed them; then it has no row.
+//! RFC 4120 sets no limits. A name in a message may exceed these; then the database has no row for it.
 ghost use Rattle.std.specs.Prelude.{◌≡◌};
 ghost use Rattle.std.specs.List.{list_all};
 ghost use Rattle.krb_fields.specs.NameLimits.{is_component, is_within_limits};
@@ -16,7 +16,7 @@ pub const MAX_OCTETS: usize = 255;
 
 /// Checks whether these are the bytes of a component or a realm: 1 to 255 of them.
 pub fn is_component(octets: &[u8]) -> bool
-    // Promise: the limits of names and components.
+    // Promise: a component has 1 to 255 bytes, and a name has 1 to 16 components.
     ensures { result ≡ is_component octets.now }
 {
     !octets.is_empty() && octets.len() <= MAX_OCTETS
@@ -25,7 +25,7 @@ pub fn is_component(octets: &[u8]) -> bool
 impl Name {
     /// Checks whether the name has 1 to 16 components of 1 to 255 bytes.
     pub fn is_within_limits(&self) -> bool
-        // Promise, as is_component: the limits of names ..
+        // Promise, as is_component: a component has 1 ..
         ensures { result ≡ is_within_limits self.now.components }
     {
         let components = self.components.as_slice();

@@ -10,7 +10,7 @@ use std::cmp::Ordering;
 impl<'a> NameRef<'a> {
     /// Returns a copy that owns its components.
     pub fn to_name(&self, alloc: Global) -> Result<Name, AllocError>
-        // Promise, as Name::new: a name is made ..
+        // Promise, as Name::new: a name has the ..
         ensures { IfOk result (λ name. name ≡ self.now) }
     {
         self.copy(alloc)
@@ -18,7 +18,7 @@ impl<'a> NameRef<'a> {
 
     /// Compares names by their components, like [`Name::order`].
     pub fn order(&self, other: &Name) -> Ordering
-        // Promise, as Name::order: names are ordered, and ..
+        // Promise, as Name::order: names are compared by ..
         ensures { result ≡ name_cmp self.now.components other.now.components }
     {
         let mut theirs = other.components.as_slice();

@@ -22,10 +22,10 @@ use std::alloc::{AllocError, AllocFailed, Global};
 use std::error::Error;
 use std::fmt;
 
-/// The room that a name's text gets at first. A longer one gets more.
+/// The bytes that are reserved for a name's text. A longer text gets more.
 const USUAL_TEXT: usize = 32;
 
-/// Why a text is not a name, a component of one, or a realm.
+/// The reason why a text is not a name, a component of one, or a realm.
 #[derive(Clone, Copy, Debug, PartialEq, Eq)]
 pub enum NameFault {
     /// The text is not a name, a component or a realm, or it exceeds the limits.
@@ -112,7 +112,7 @@ impl Name {
 
 /// Reads a component within the limits, or a realm, whose text is like that of one component.
 pub fn component_from_text(alloc: Global, text: &str) -> Result<KerberosString, NameFault>
-    // Promise (ok, read): a text is read, and written, exactly so for one component, or a realm.
+    // Promise (ok, read): the text of a single component, or of a realm, is read and written in the same way.
     ensures ok { IfOk result (λ octets. IsComponentText octets text.now) }
     ensures read { (c : List ℕ) → IsComponentText c text.now
         → MatchResult result (λ octets. octets ≡ c) (λ fault. fault ≡ Memory) }
@@ -137,7 +137,7 @@ pub fn component_from_text(alloc: Global, text: &str) -> Result<KerberosString, 
 
 /// Returns the text of a component or a realm.
 pub fn component_to_text(alloc: Global, octets: &[u8]) -> Result<String, AllocError>
-    // Promise, as component_from_text: a text is read, ..
+    // Promise, as component_from_text: the text of a ..
     ensures { IfOk result (λ text. string_bytes text ≡ component_text octets.now) }
 {
     let mut text = Vec::new(alloc);
@@ -186,11 +186,11 @@ fn split_digits(text: &[u8]) -> Option<(u8, &[u8])>
     let [high, low, rest @ ..] = text else {
         return None;
     };
-    Some((octet_of(*high, *low)?, rest))
+    Some((spelled_octet(*high, *low)?, rest))
 }
 
 /// Returns the byte that these digits spell, if it must be written in digits.
-fn octet_of(high: u8, low: u8) -> Option<u8>
+fn spelled_octet(high: u8, low: u8) -> Option<u8>
     ensures found { IfSome result (λ octet. (is_plain octet ≡ false) × (digits_of octet ≡ high ∷ low ∷ [])) }
     ensures none { IfNone result ((o : ℕ) → o < 256 → is_plain o ≡ false → digits_of o ≢ high ∷ low ∷ []) }
 {

@@ -60,7 +60,7 @@ pub const PA_ETYPE_INFO2: i32 = 19;
 /// The name of a principal: the name-type that names read from text get.
 pub const NT_PRINCIPAL: i32 = 1;
 
-/// A service and an instance, as the ticket-granting service.
+/// A service and an instance, such as the ticket-granting service.
 pub const NT_SRV_INST: i32 = 2;
 
 // ---- types of the transited path (RFC 4120, section 3.3.3.2)
@@ -70,7 +70,7 @@ pub const DOMAIN_X500_COMPRESS: i32 = 1;
 
 // ---- types of last requests (RFC 4120, section 5.4.2)
 
-/// The time says nothing of an earlier request.
+/// The time says nothing about an earlier request.
 pub const LR_NONE: i32 = 0;
 
 // ---- encryption types (RFC 3962, section 7; RFC 8009, section 5)
@@ -306,7 +306,7 @@ pub const KDC_ERR_KEY_TOO_WEAK: i32 = 65;
 /// The certificate doesn't match.
 pub const KDC_ERR_CERTIFICATE_MISMATCH: i32 = 66;
 
-/// No ticket-granting ticket came for user-to-user.
+/// The ticket-granting ticket for user-to-user authentication is missing.
 pub const KRB_AP_ERR_NO_TGT: i32 = 67;
 
 /// The client belongs to another realm.
@@ -324,10 +324,10 @@ pub const KDC_ERR_INVALID_CERTIFICATE: i32 = 71;
 /// The certificate has been revoked.
 pub const KDC_ERR_REVOKED_CERTIFICATE: i32 = 72;
 
-/// Whether the certificate has been revoked is unknown.
+/// The revocation status of the certificate is unknown.
 pub const KDC_ERR_REVOCATION_STATUS_UNKNOWN: i32 = 73;
 
-/// Whether the certificate has been revoked can't be asked.
+/// The revocation status of the certificate is unavailable.
 pub const KDC_ERR_REVOCATION_STATUS_UNAVAILABLE: i32 = 74;
 
 /// The certificate names another client.

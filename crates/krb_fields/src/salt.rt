@@ -9,7 +9,7 @@ use std::alloc::{AllocError, Global};
 impl Name {
     /// Returns the default salt: the realm followed by the name's components, without separators (RFC 4120 section 4).
     pub fn salt(&self, alloc: Global, realm: &[u8]) -> Result<KerberosString, AllocError>
-        // Promise, as tgs_name: the default salt; a ..
+        // Promise, as tgs_name: a realm's ticket-granting service ..
         ensures { IfOk result (λ salt. salt ≡ default_salt realm.now self.now.components) }
     {
         let mut salt = Vec::from_slice(alloc, realm)?;

@@ -12,7 +12,7 @@ pub enum TicketFlag {
     Forwarded = 2,
     /// A ticket for other addresses may be requested with it, but no ticket-granting ticket.
     Proxiable = 3,
-    /// It is a proxy's.
+    /// It is a proxy ticket.
     Proxy = 4,
     /// A postdated ticket may be requested with it.
     MayPostdate = 5,

@@ -18,17 +18,17 @@ use Rattle.encrypted_data.specs.Parts.{ok_of}
 use Rattle.client_core.specs.Faults.{unless_rejected}
 use Rattle.client_core.specs.Replies.{refusal_in}
 use Rattle.client_core.specs.ServiceReplies.{if_ap_part, if_ap_reply, reads_ap}
-use Rattle.client_core.specs.declared.fault.ClientFault.{ClientFault}
+use Rattle.client_core.specs.declared.fault.ReplyError.{ReplyError}
 use Rattle.client_core.specs.declared.fault.Mismatch.TheVariants.{Times}
-use Rattle.client_core.specs.declared.fault.Rejection.{Rejection}
-use Rattle.client_core.specs.declared.fault.Rejection.TheVariants.{Mismatched, Unopened}
+use Rattle.client_core.specs.declared.fault.ReplyRefusal.{ReplyRefusal}
+use Rattle.client_core.specs.declared.fault.ReplyRefusal.TheVariants.{Mismatched, Unopened}
 use Rattle.ap_accept.specs.Reply.{IsApReply, reply_of, reply_part}
 
 -- the client's result if the part names the key's encryption type and its time passes the tests
-abbrev part_by : Bool → Option EncApRepPart → Result EncApRepPart Rejection
+abbrev part_by : Bool → Option EncApRepPart → Result EncApRepPart ReplyRefusal
 part_by same opened = unless_refused (first_holding ((not same, Unopened) ∷ [])) opened Unopened
 
-abbrev time_by : Bool → Bool → EncApRepPart → Result EncApRepPart ClientFault
+abbrev time_by : Bool → Bool → EncApRepPart → Result EncApRepPart ReplyError
 time_by second microsecond part = unless_rejected (unless_refused (first_holding ((not second || not microsecond, Mismatched Times) ∷ [])) (Some part) Unopened)
 
 pub answer_taken : (key : Key) (confounder : List ℕ) (auth : Authenticator) (octets : List ℕ) (sent : Moment) → auth.ctime ≡ sent.sec → auth.cusec ≡ sent.usec → IsApReply key confounder auth octets

@@ -18,8 +18,8 @@ use Rattle.client_core.specs.Faults.{Fails}
 use Rattle.client_core.specs.ServiceReplies.{reads_ap}
 use Rattle.client_core.specs.ServiceRequests.{ap_authenticator, asks_ap}
 use Rattle.client_core.specs.Sessions.{session, session_key}
-use Rattle.client_core.specs.declared.fault.ClientFault.{ClientFault}
-use Rattle.client_core.specs.declared.fault.ClientFault.TheVariants as client_faults
+use Rattle.client_core.specs.declared.fault.ReplyError.{ReplyError}
+use Rattle.client_core.specs.declared.fault.ReplyError.TheVariants as client_faults
 use Rattle.client_core.specs.declared.service_asked.ServiceAsked.{ServiceAsked}
 use Rattle.client_core.specs.declared.sessions.Session.{Session}
 use Rattle.ap_accept.specs.Accepts.{IsAnswer, accepted, accepts, recorded_by, request_of}
@@ -32,8 +32,8 @@ use Rattle.ap_accept.specs.declared.presented.Presented.{Presented}
 use Rattle.ap_accept.specs.declared.state.State.{State}
 use Rattle.krb_joined.specs.Credential.{IsCredentialOf, issued_credential, issued_session}
 use Rattle.krb_joined.specs.Joined.{IsAccepted, IsHeard, IsJoined, IsUnheard, MayBeAccepted, moment_part}
-use Rattle.krb_joined.specs.declared.fault.JoinedFault.{JoinedFault}
-use Rattle.krb_joined.specs.declared.fault.JoinedFault.TheVariants.{NoReply, NotTaken, NotPresentable, NotAccepted, NotAnswered, Memory}
+use Rattle.krb_joined.specs.declared.fault.JoinedError.{JoinedError}
+use Rattle.krb_joined.specs.declared.fault.JoinedError.TheVariants.{NoReply, NotTaken, NotPresentable, NotAccepted, NotAnswered, Memory}
 use Rattle.krb_joined.proofs.Accepted.{answer_is, auth, p, presented_is, recorded_is}
 use Rattle.krb_joined.proofs.Answered.{answer_taken}
 
@@ -44,7 +44,7 @@ some_same : {A : Type 0} (x y : A) → Some x ≡ Some y → x ≡ y
 some_same x y e = cc
 
 -- an AP-REP that the client can read fails only if memory runs out
-unread : (fault : ClientFault) (part : EncApRepPart) (r : Result EncApRepPart ClientFault) → r ≡ Ok part → Fails fault r → fault ≡ client_faults.Memory
+unread : (fault : ReplyError) (part : EncApRepPart) (r : Result EncApRepPart ReplyError) → r ≡ Ok part → Fails fault r → fault ≡ client_faults.Memory
 unread client_faults.Memory part r e h = refl
 unread client_faults.NotAReply part r e h = absurd (let k = sym h ∙ e in cc)
 unread (client_faults.Refused refusal) part r e h = absurd (let k = sym h ∙ e in cc)
@@ -52,7 +52,7 @@ unread (client_faults.Mismatch what) part r e h = absurd (let k = sym h ∙ e in
 unread client_faults.CannotOpen part r e h = absurd (let k = sym h ∙ e in cc)
 unread client_faults.CountTooLarge part r e h = absurd (let k = sym h ∙ e in cc)
 
-unheard : (key : Key) (own : List ℕ) (a : Authenticator) (sent : Moment) (reply : Option (List ℕ)) (fault : ClientFault) → a.ctime ≡ sent.sec → a.cusec ≡ sent.usec → IfSome reply (λ octets. IsApReply key own a octets)
+unheard : (key : Key) (own : List ℕ) (a : Authenticator) (sent : Moment) (reply : Option (List ℕ)) (fault : ReplyError) → a.ctime ≡ sent.sec → a.cusec ≡ sent.usec → IfSome reply (λ octets. IsApReply key own a octets)
     → IsUnheard key sent reply fault → fault ≡ client_faults.Memory
 unheard key own a sent (Some octets) fault second microsecond is h = unread fault (reply_part a) (reads_ap key sent octets) (answer_taken key own a octets sent second microsecond is) h
 unheard key own a sent None fault second microsecond is h = absurd h
@@ -125,7 +125,7 @@ module _ (issue : Issue) (state : State) (credential : Credential) (sent at : Mo
       }
 
   -- and the client accepts its reply
-  pub accepted_so : (a : Accepted) (heard : Result Accepted JoinedFault) (key : Key) → session_key credential ≡ Some key → IsAnswer (Ok a) (accepts state at own octets).answer
+  pub accepted_so : (a : Accepted) (heard : Result Accepted JoinedError) (key : Key) → session_key credential ≡ Some key → IsAnswer (Ok a) (accepts state at own octets).answer
       → IfSome (recorded_by state at.sec octets) (λ p. IfSome a.ap_rep (λ reply. IsApReply p.session_key own p.authenticator reply)) → IsHeard key sent a heard → IsJoined issue asked sent heard
   accepted_so a (Ok b) key e h reply heard = subst (λ (x : Accepted). IsAccepted issue asked sent x) (sym heard.0) (joined a h (answers a reply))
   accepted_so a (Err (NotAnswered fault)) key e h reply heard =

@@ -16,7 +16,7 @@ use Rattle.kdc_replies.specs.Issue.{Issue, IsIssued, issued_reply, reply_type}
 use Rattle.client_core.specs.Credentials.{in_16_bits}
 use Rattle.client_core.specs.Sessions.{session, session_key, session_by}
 use Rattle.client_core.specs.declared.asked.Asked.{Asked}
-use Rattle.client_core.specs.declared.fault.ClientFault.{ClientFault}
+use Rattle.client_core.specs.declared.fault.ReplyError.{ReplyError}
 use Rattle.krb_joined.specs.Credential.{IsCredentialOf, issued_credential}
 use Rattle.krb_joined.specs.Reading.{IsReader, IsTakenBy}
 use Rattle.krb_joined.specs.declared.reading.Reader.{Reader}
@@ -45,6 +45,6 @@ credential_is issue octets credential fits is same =
     }
 
 -- what a client with the key reads from an issued reply, whenever it was issued
-pub credential_if_issued : (issue : Issue) (octets : List ℕ) → IsBytes octets → IsIssued issue octets → (own : Reader) (asked : Asked) → IsReader own issue → (r : Result Credential ClientFault) → IfOk r (IsTakenBy own asked octets) → IfOk r (IsCredentialOf issue)
+pub credential_if_issued : (issue : Issue) (octets : List ℕ) → IsBytes octets → IsIssued issue octets → (own : Reader) (asked : Asked) → IsReader own issue → (r : Result Credential ReplyError) → IfOk r (IsTakenBy own asked octets) → IfOk r (IsCredentialOf issue)
 credential_if_issued issue octets fits is own asked reader (Ok c) taken = credential_is issue octets c fits is (credential_taken issue octets fits own asked c reader (inl is) taken).1
 credential_if_issued issue octets fits is own asked reader (Err fault) taken = tt

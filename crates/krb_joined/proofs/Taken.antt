@@ -25,7 +25,7 @@ use Rattle.client_core.specs.Replies.{opened_as, opened_in, or_else, reads}
 use Rattle.client_core.specs.Taken.{IsTaken}
 use Rattle.client_core.specs.Faults.{Gives}
 use Rattle.client_core.specs.declared.asked.Asked.{Asked}
-use Rattle.client_core.specs.declared.fault.ClientFault.{ClientFault}
+use Rattle.client_core.specs.declared.fault.ReplyError.{ReplyError}
 use Rattle.client_core.specs.declared.key_role.KeyRole.{KeyRole}
 use Rattle.client_core.specs.declared.key_role.KeyRole.TheVariants.{Client, Subkey, Session}
 use Rattle.krb_joined.specs.Credential.{issued_credential}
@@ -58,7 +58,7 @@ some_is : {A : Type 0} (x y : A) → Some x ≡ Some y → x ≡ y
 some_is x y e = ap (λ o. unwrap_or o x) e
 
 -- what is read in each role
-pub read_so : (own : Reader) (asked : Asked) (octets : List ℕ) (r : Result Credential ClientFault) {role : KeyRole} → own.role ≡ role → Gives r (reads (reply_type (exchange_of role)) role asked own.key own.at.sec octets) → Gives r (reads_reply own asked octets)
+pub read_so : (own : Reader) (asked : Asked) (octets : List ℕ) (r : Result Credential ReplyError) {role : KeyRole} → own.role ≡ role → Gives r (reads (reply_type (exchange_of role)) role asked own.key own.at.sec octets) → Gives r (reads_reply own asked octets)
 read_so own asked octets r is gives = subst (λ (x : KeyRole). Gives r (reads (reply_type (exchange_of x)) x asked own.key own.at.sec octets)) (sym is) gives
 
 -- ---- the issued reply

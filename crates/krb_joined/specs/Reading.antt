@@ -10,7 +10,7 @@ use Rattle.kdc_replies.specs.Issue.{Issue, reply_type}
 use Rattle.client_core.specs.Replies.{reads}
 use Rattle.client_core.specs.Taken.{IsTaken}
 use Rattle.client_core.specs.declared.asked.Asked.{Asked}
-use Rattle.client_core.specs.declared.fault.ClientFault.{ClientFault}
+use Rattle.client_core.specs.declared.fault.ReplyError.{ReplyError}
 use Rattle.client_core.specs.declared.key_role.KeyRole.{KeyRole}
 use Rattle.client_core.specs.declared.key_role.KeyRole.TheVariants.{Client, Subkey, Session}
 use Rattle.krb_joined.specs.declared.reading.Reader.{Reader}
@@ -32,7 +32,7 @@ pub record IsReader (reader : Reader) (issue : Issue) : Type 0 where
   pub usage : usage_of reader.role ≡ usage_number issue.reply_key.usage
 
 -- the result of the client's rules for the bytes of a reply: a credential or the first error
-abbrev pub reads_reply : Reader → Asked → List ℕ → Result Credential ClientFault
+abbrev pub reads_reply : Reader → Asked → List ℕ → Result Credential ReplyError
 reads_reply reader asked octets =
     reads (reply_type (exchange_of reader.role)) reader.role asked reader.key reader.at.sec octets
 

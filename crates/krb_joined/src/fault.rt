@@ -1,32 +1,32 @@
 //! Where a ticket's path can end early.
 use ap_accept::ApFault;
-use client_core::ClientFault;
+use client_core::ReplyError;
 use std::alloc::AllocError;
 
 /// Who stopped a ticket on its path, and why.
 #[derive(Debug, Drop)]
-pub enum JoinedFault {
+pub enum JoinedError {
     /// The KDC gave no reply.
     NoReply,
     /// The client rejected the KDC's reply.
-    NotTaken(ClientFault),
+    NotTaken(ReplyError),
     /// The client's credential can't be presented (see `client_core::is_presentable`).
     NotPresentable,
     /// The service did not accept the client.
     NotAccepted(ApFault),
     /// The client rejected the service's reply.
-    NotAnswered(ClientFault),
+    NotAnswered(ReplyError),
     /// The KDC, or the client that was about to present its ticket, ran out of memory.
     Memory,
 }
 
-impl From<AllocError> for JoinedFault {
+impl From<AllocError> for JoinedError {
     ghost use Rattle.std.specs.Prelude.{◌≡◌};
-    ghost use Rattle.krb_joined.specs.declared.fault.JoinedFault.TheVariants.{Memory};
+    ghost use Rattle.krb_joined.specs.declared.fault.JoinedError.TheVariants.{Memory};
 
     ghost from_gives = { λ _ fault. fault ≡ Memory };
 
-    fn from(_error: AllocError) -> JoinedFault {
-        JoinedFault::Memory
+    fn from(_error: AllocError) -> JoinedError {
+        JoinedError::Memory
     }
 }

@@ -2,13 +2,14 @@
 ghost use Rattle.std.specs.Prelude.{◌≡◌, ℕ, List, Some, IfErr, IfOk, IfSome};
 ghost use Rattle.client_core.specs.Presenting.{IsShortChecksum};
 ghost use Rattle.kdc_replies.specs.Issue.{Issue, IsIssued};
-ghost use Rattle.krb_joined.specs.Joined.{IsEnded, IsJoined, IsNextStateOn, IsPresented, IsRuled, IsServed, MayBeAccepted};
+ghost use Rattle.krb_joined.specs.Joined.{IsEnded, IsJoined, IsNextStateOn, IsPresented, IsRuled, IsServed};
+ghost use Rattle.krb_joined.specs.Joined.{MayBeAccepted};
 ghost use Rattle.krb_joined.specs.Joined.{key_of, ruled, taken_of};
 ghost use Rattle.krb_joined.specs.Obtaining.{issue_for, reply_to, state_after};
 ghost use Rattle.krb_joined.specs.Reading.{IsReader, reads_reply};
 
 use crate::client::Client;
-use crate::fault::JoinedFault;
+use crate::fault::JoinedError;
 use crate::obtaining::{Issuing, obtain};
 use crate::presenting::{Sealing, present};
 use ap_accept::{Accepted, Acceptor};
@@ -38,10 +39,11 @@ pub fn end_to_end(
     answering: &Answering,
     request: &[u8],
     client: &Client,
-) -> Result<Accepted, JoinedFault>
+) -> Result<Accepted, JoinedError>
     requires { IsShortChecksum client.now.wanted.checksum }
-    // Promise (value, repeated): all in one: from any request, through all five calls, what was issued, now or with a
-    // stored reply, and taken is accepted by such a service, if its conditions hold, unless memory runs out.
+    // Promise (value, repeated): from any request through all five calls, a ticket that was issued, now or with a
+    // stored reply, and that the client took is accepted by such a service, if its conditions hold and memory doesn't
+    // run out.
     ensures value { IfSome (issue_for kdc.old answering.now.issuing request.now) (λ issue.
         IsReader client.now.reader issue
         → MayBeAccepted issue acceptor.old answering.now.accepting.at.sec client.now.presenting.at
@@ -54,8 +56,8 @@ pub fn end_to_end(
         → IsJoined issue client.now.wanted client.now.presenting.at result }
     // For every reply that the client accepts, either its ticket can't be presented, or the client also reads the
     // AP-REP before anything counts as accepted.
-    // Promise (presented, ended): if the path ends before that, the KDC gave no reply (then it issued nothing), or the
-    // client's rules refuse the reply, or what it took can't be presented.
+    // Promise (presented, ended): if the path ends before the service is asked, the KDC gave no reply (then it issued
+    // nothing), or the client's rules refuse the reply, or the credential in it can't be presented.
     ensures presented { IfSome (reply_to kdc.old answering.now.issuing request.now) (λ octets.
         IfOk (reads_reply client.now.reader client.now.asked octets) (λ credential.
         IsPresented credential client.now.presenting.at result)) }
@@ -65,8 +67,8 @@ pub fn end_to_end(
         client.now.asked client.now.reader) }
     // Whatever the KDC issued, the service's answer and new state are those that its rules prescribe for the AP-REQ
     // that the client makes from the reply.
-    // Promise (ruled, served): whatever was issued, what is accepted or refused, and the service's state, are what its
-    // rules say of the credential that the client takes.
+    // Promise (ruled, served): whatever was issued, the service's result and its state are what its rules say about the
+    // credential that the client takes.
     ensures ruled { IsRuled
         (key_of (taken_of (reply_to kdc.old answering.now.issuing request.now) client.now.asked client.now.reader))
         client.now.presenting.at
@@ -76,7 +78,7 @@ pub fn end_to_end(
         (ruled acceptor.old client.now.wanted client.now.presenting answering.now.accepting
         (taken_of (reply_to kdc.old answering.now.issuing request.now) client.now.asked client.now.reader)) result }
     // The KDC's state is the one after this request, or the old one if the KDC ran out of memory.
-    // Promise, as obtain: the KDC afterwards is ..
+    // Promise, as obtain: the KDC's state afterwards ..
     ensures kept { IsNextStateOn kdc.old kdc.new (state_after kdc.old answering.now.issuing request.now) result }
 {
     match obtain(alloc, kdc, &answering.issuing, request, client) {

@@ -24,7 +24,7 @@ mod presenting;
 mod reading;
 
 pub use client::Client;
-pub use fault::JoinedFault;
+pub use fault::JoinedError;
 pub use joined::{Answering, end_to_end};
 pub use obtaining::{Issuing, obtain};
 pub use presenting::Sealing;

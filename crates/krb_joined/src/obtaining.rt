@@ -11,7 +11,7 @@ ghost use Rattle.krb_joined.specs.Obtaining.{issue_for, reply_to, state_after};
 ghost use Rattle.krb_joined.specs.Reading.{IsReader};
 
 use crate::client::Client;
-use crate::fault::JoinedFault;
+use crate::fault::JoinedError;
 use crate::reading::read_reply;
 use cred_files::Credential;
 use kdc_core::Kdc;
@@ -36,10 +36,11 @@ pub fn obtain(
     issuing: &Issuing,
     request: &[u8],
     client: &Client,
-) -> Result<Credential, JoinedFault>
+) -> Result<Credential, JoinedError>
     // If the KDC issues a ticket and the client reads the reply with its key, it gets the credential of that ticket.
-    // Promise (obtained, repeated): if the KDC issues a ticket, and the client takes the reply with the reply key, it
-    // takes the credential of that ticket; if a stored reply is sent again, that of the ticket that was issued then.
+    // Promise (obtained, repeated): if the KDC issues a ticket, and the client reads the reply with the reply key, it
+    // gets the credential of that ticket; if a stored reply is sent again, it gets that of the ticket that was issued
+    // then.
     ensures obtained { IfOk result (λ credential.
         IfSome (issue_for kdc.old issuing.now request.now) (λ issue.
         IsReader client.now.reader issue → IsCredentialOf issue credential)) }
@@ -47,7 +48,8 @@ pub fn obtain(
     ensures repeated { (issue : Issue) (octets : List ℕ)
         → reply_to kdc.old issuing.now request.now ≡ Some octets
         → IsIssued issue octets → IsReader client.now.reader issue → IfOk result (IsCredentialOf issue) }
-    // Promise (read, before, ended): what the client doesn't take, its rules refuse; and no service is asked before.
+    // Promise (read, before, ended): a reply that the client doesn't take is refused by its rules, and no service was
+    // asked before.
     ensures read { IfOk result
         (IsRead (reply_to kdc.old issuing.now request.now) client.now.asked client.now.reader) }
     // Otherwise it fails before a service is asked: there is no reply, or the client rejects it.
@@ -55,18 +57,18 @@ pub fn obtain(
     ensures ended { IfErr result
         (IsEnded (reply_to kdc.old issuing.now request.now) client.now.asked client.now.reader) }
     // The KDC's state is the one after this request, or the old one if the KDC ran out of memory.
-    // Promise: the KDC afterwards is the one that this request leaves, by its own rules; if it ran out of memory, it is
-    // as it was (of `end_to_end` that ends with `Memory`: one of the two).
+    // Promise: the KDC's state afterwards is the one that its rules prescribe for this request, or the old one if it
+    // ran out of memory; if `end_to_end` ends with `Memory`, it is one of the two.
     ensures kept { IsNextState kdc.old kdc.new (state_after kdc.old issuing.now request.now) result }
 {
     let reply = replied(alloc, kdc, issuing, request)?;
     let Some(octets) = reply else {
-        return Err(JoinedFault::NoReply);
+        return Err(JoinedError::NoReply);
     };
     look(&issuing.random, &octets);
     match read_reply(alloc, &client.asked, &client.reader, &octets) {
         Ok(credential) => Ok(credential),
-        Err(fault) => Err(JoinedFault::NotTaken(fault)),
+        Err(fault) => Err(JoinedError::NotTaken(fault)),
     }
 }
 
@@ -90,7 +92,8 @@ fn replied(
     kdc.handle(alloc, issuing.at, &issuing.random, issuing.room, request)
 }
 
-/// Looks at the random bytes, which are enough for a session key, and at the bytes of a reply.
+/// Makes known to the proof that the random bytes are enough for a session key, and that a reply consists of bytes. It
+/// does nothing.
 fn look(random: &[u8; 64], octets: &[u8])
     ensures random { 32 ≤ length random.now }
     ensures octets { IsBytes octets.now }

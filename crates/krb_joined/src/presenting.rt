@@ -9,7 +9,7 @@ ghost use Rattle.krb_joined.specs.Joined.{IsHeard, IsJoined, IsLater, IsPresente
 ghost use Rattle.krb_joined.specs.Joined.{ruled};
 
 use crate::client::Client;
-use crate::fault::JoinedFault;
+use crate::fault::JoinedError;
 use ap_accept::{Accepted, Acceptor};
 use client_core::{ap_request, is_presentable, read_ap_reply, session_key};
 use cred_files::Credential;
@@ -33,21 +33,22 @@ pub fn present(
     client: &Client,
     acceptor: &mut Acceptor,
     accepting: &Sealing,
-) -> Result<Accepted, JoinedFault>
+) -> Result<Accepted, JoinedError>
     requires { IsShortChecksum client.now.wanted.checksum }
     // A service accepts the credential of an issued ticket.
-    // Promise: the credential of a ticket that was issued is accepted, if it is valid then, by a service whose keytab
-    // holds, in the entry that the acceptor picks, the key that encrypted the ticket.
+    // Promise: the credential of an issued ticket is accepted, if it is valid then, by a service that has the key that
+    // encrypted the ticket, in the keytab entry that the acceptor picks.
     // Promise: it is valid then if the INVALID flag is clear, the start is at most 300 seconds after that moment and
     // the end at most 300 seconds before it, and the authenticator's time is fresh.
     // Promise: the service learns the client, the session key, the flags and the times that were granted, and the
     // subkey, the sequence number and the checksum that were sent.
-    // Promise: the service answers with an AP-REP exactly if it was asked to, and the client takes that.
+    // Promise: the service answers with an AP-REP exactly if it was asked to, and the client accepts it.
     ensures value { (issue : Issue) → IsCredentialOf issue credential.now
         → MayBeAccepted issue acceptor.old accepting.now.at.sec client.now.presenting.at
         → IsJoined issue client.now.wanted client.now.presenting.at result }
     // Promise (presented, ruled): for any credential from any issuer: what is accepted, or which rule refuses it, is
-    // what the service's rules say of the AP-REQ that the client makes from it, with this moment and this confounder.
+    // what the service's rules say about the AP-REQ that the client makes from it, with this moment and this
+    // confounder.
     ensures presented { IsPresented credential.now client.now.presenting.at result }
     // For any credential, the service's answer and new state are those that its rules prescribe for the client's
     // AP-REQ.
@@ -57,13 +58,13 @@ pub fn present(
         (ruled acceptor.old client.now.wanted client.now.presenting accepting.now (Some credential.now)) result }
     ensures served { IsServed acceptor.old acceptor.new
         (ruled acceptor.old client.now.wanted client.now.presenting accepting.now (Some credential.now)) result }
-    // Promise: the client takes the AP-REP before anything counts as accepted, and if it doesn't, that is an error of
-    // this AP-REP; no error of the KDC is returned.
+    // Promise: the client accepts the AP-REP before anything counts as accepted; if it rejects the AP-REP, that is the
+    // error, and no error of the KDC is returned.
     ensures later { IfErr result IsLater }
 {
     look(client.wanted.subkey);
     if !is_presentable(credential) {
-        return Err(JoinedFault::NotPresentable);
+        return Err(JoinedError::NotPresentable);
     }
     let key = session_key(credential).unwrap();
     let octets = ap_request(
@@ -75,11 +76,11 @@ pub fn present(
     )?;
     match acceptor.accept(alloc, accepting.at, &accepting.confounder, &octets) {
         Ok(accepted) => check_ap_rep(alloc, &key, client.presenting.at, accepted),
-        Err(fault) => Err(JoinedFault::NotAccepted(fault)),
+        Err(fault) => Err(JoinedError::NotAccepted(fault)),
     }
 }
 
-/// Looks at a key, if there is one: its size is right for its encryption type.
+/// Makes known to the proof that the size of a key, if there is one, is right for its encryption type. It does nothing.
 fn look(key: Option<Key>)
     ensures { IfSome key IsKey }
 {
@@ -94,12 +95,12 @@ fn check_ap_rep(
     key: &Key,
     sent: Moment,
     accepted: Accepted,
-) -> Result<Accepted, JoinedFault>
+) -> Result<Accepted, JoinedError>
     ensures { IsHeard key.now sent accepted result }
 {
     if let Some(octets) = &accepted.ap_rep {
         if let Err(fault) = read_ap_reply(alloc, key, sent, octets.as_slice()) {
-            return Err(JoinedFault::NotAnswered(fault));
+            return Err(JoinedError::NotAnswered(fault));
         }
     }
     Ok(accepted)

@@ -5,13 +5,13 @@ ghost use Rattle.kdc_replies.specs.Issue.{Issue, IsIssued};
 ghost use Rattle.krb_joined.specs.Credential.{IsCredentialOf};
 ghost use Rattle.krb_joined.specs.Reading.{IsReader, IsTakenBy, reads_reply};
 
-use client_core::{Asked, ClientFault, KeyRole, read_as_reply, read_tgs_reply};
+use client_core::{Asked, KeyRole, ReplyError, read_as_reply, read_tgs_reply};
 use cred_files::Credential;
 use enctypes::Key;
 use krb_fields::Moment;
 use std::alloc::Global;
 
-/// How a client reads a reply. The client's own key is for an AS-REP, the others for a TGS-REP.
+/// The way in which a client reads a reply. The client's own key is for an AS-REP, the others for a TGS-REP.
 #[derive(Clone, Copy)]
 pub struct Reader {
     /// What the key is: the client's own, the request's subkey, or the session key of the presented ticket.
@@ -28,7 +28,7 @@ pub fn read_reply(
     asked: &Asked,
     reader: &Reader,
     octets: &[u8],
-) -> Result<Credential, ClientFault>
+) -> Result<Credential, ReplyError>
     ensures value { Gives result (reads_reply reader.now asked.now octets.now) }
     ensures taken { IfOk result (IsTakenBy reader.now asked.now octets.now) }
     // From a reply with an issued ticket, a client with the right key gets that ticket's credential, whenever the KDC
@@ -45,7 +45,7 @@ fn read_by_role(
     asked: &Asked,
     reader: &Reader,
     octets: &[u8],
-) -> Result<Credential, ClientFault>
+) -> Result<Credential, ReplyError>
     ensures value { Gives result (reads_reply reader.now asked.now octets.now) }
     ensures taken { IfOk result (IsTakenBy reader.now asked.now octets.now) }
 {

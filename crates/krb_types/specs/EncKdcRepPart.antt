@@ -27,7 +27,19 @@ enc_kdc_rep_part_form t r s n l = record {
       (field 10 (λ x. x.sname) n
       (optional 11 (λ x. x.caddr) l
       end)))))))))));
-  to = λ (key, (last_req, (nonce, (key_expiration, (flags, (authtime, (starttime, (endtime, (renew_till, (srealm, (sname, (caddr, _)))))))))))). record {
+  to = λ (
+    key,
+    (
+      last_req,
+      (
+        nonce,
+        (
+          key_expiration,
+          (flags, (authtime, (starttime, (endtime, (renew_till, (srealm, (sname, (caddr, _)))))))),
+        ),
+      ),
+    ),
+  ). record {
     key = key;
     last_req = last_req;
     nonce = nonce;

@@ -26,7 +26,22 @@ enc_ticket_part_form t s n l = record {
       (optional 9 (λ x. x.caddr) l
       (optional 10 (λ x. x.authorization_data) l
       end))))))))));
-  to = λ (flags, (key, (crealm, (cname, (transited, (authtime, (starttime, (endtime, (renew_till, (caddr, (authorization_data, _))))))))))). record {
+  to = λ (
+    flags,
+    (
+      key,
+      (
+        crealm,
+        (
+          cname,
+          (
+            transited,
+            (authtime, (starttime, (endtime, (renew_till, (caddr, (authorization_data, _)))))),
+          ),
+        ),
+      ),
+    ),
+  ). record {
     flags = flags;
     key = key;
     crealm = crealm;

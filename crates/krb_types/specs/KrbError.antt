@@ -28,7 +28,22 @@ krb_error_form s n o = record {
       (optional 11 (λ x. x.e_text) s
       (optional 12 (λ x. x.e_data) o
       end))))))))))));
-  to = λ (_, (_, (ctime, (cusec, (stime, (susec, (error_code, (crealm, (cname, (realm, (sname, (e_text, (e_data, _))))))))))))). record {
+  to = λ (
+    _,
+    (
+      _,
+      (
+        ctime,
+        (
+          cusec,
+          (
+            stime,
+            (susec, (error_code, (crealm, (cname, (realm, (sname, (e_text, (e_data, _)))))))),
+          ),
+        ),
+      ),
+    ),
+  ). record {
     ctime = ctime;
     cusec = cusec;
     stime = stime;

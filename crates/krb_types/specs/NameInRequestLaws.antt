@@ -1,4 +1,5 @@
--- A property of names with all bytes that encode them, and with longer ones, holds of the service that a request names.
+-- Suppose that a property holds of each name with all bytes that encode it, and with longer ones. Then it holds of the
+-- service that a request names, with the bytes of the request.
 use Rattle.std.proofs.Common.{ℕ, ◌≤◌, List, length, Option, Some, None, subst, ap, arith}
 use Rattle.std.specs.Prelude.{IfSome}
 use Rattle.std.proofs.lemmas.List.{length-append}
@@ -15,7 +16,7 @@ use Rattle.krb_types.specs.ReqBody.{req_body, req_body_form}
 use Rattle.krb_types.specs.KdcReq.{KdcReq, SpellsKdcReq, kdc_req_form, message_tag}
 use Rattle.krb_types.specs.declared.kdc_req.Exchange.{Exchange}
 
--- a property of names with all bytes that encode them, and with longer ones
+-- the property holds of each name with all bytes that encode it, and with longer ones
 pub record HoldsOfNames (Holds : List ℕ → Name → Type 0) : Type 0 where
   pub spelled : (n : Name) (bytes : List ℕ) → IsBytes bytes → name.Spells n bytes → Holds bytes n
   pub longer : (n : Name) (short long : List ℕ) → length short ≤ length long → Holds short n → Holds long n

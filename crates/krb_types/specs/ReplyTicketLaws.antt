@@ -1,4 +1,4 @@
--- The ticket in a reply has an encoding, and a client that keeps it keeps that.
+-- The ticket in a reply has an encoding, and a client keeps the ticket in this encoding.
 use Rattle.std.specs.Prelude.{◌≡◌, ℕ, List, Ok}
 use Rattle.krb_der.specs.Spelling.{IsBytes}
 use Rattle.krb_elements.specs.Codec.{written}
@@ -16,7 +16,7 @@ ticket_spelled type r bytes fits s =
     let range = (kdc_rep type).laws.range.fits r bytes fits s in
     ticket.laws.writable.spells r.ticket range.1.1.1.1.1.0 (ticket_short type r bytes fits s)
 
--- and reading them gives it again
+-- reading these bytes gives the ticket again
 pub ticket_again : (type : ℕ) (r : KdcRep type) (bytes : List ℕ) → IsBytes bytes → (kdc_rep type).Spells r bytes
     → whole ticket.at (written ticket r.ticket) ≡ Ok r.ticket
 ticket_again type r bytes fits s =

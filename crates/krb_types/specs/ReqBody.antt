@@ -28,7 +28,19 @@ req_body_form s n l a e t = record {
       (optional 10 (λ x. x.enc_authorization_data) e
       (optional 11 (λ x. x.additional_tickets) t
       end)))))))))));
-  to = λ (options, (cname, (realm, (sname, (from, (till, (rtime, (nonce, (etype, (addresses, (authorization, (tickets, _)))))))))))). record {
+  to = λ (
+    options,
+    (
+      cname,
+      (
+        realm,
+        (
+          sname,
+          (from, (till, (rtime, (nonce, (etype, (addresses, (authorization, (tickets, _)))))))),
+        ),
+      ),
+    ),
+  ). record {
     kdc_options = options;
     cname = cname;
     realm = realm;

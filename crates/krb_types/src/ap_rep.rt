@@ -101,7 +101,7 @@ pub fn decode_ap_rep(alloc: Global, bytes: &[u8]) -> Result<ApRep, Fault>
 /// Returns the encoding of the AP-REP.
 pub fn encode_ap_rep(alloc: Global, reply: &ApRep) -> Result<Vec<u8>, AllocError>
     requires { length (ap_rep.text reply.now) < 2 ^ 32 }
-    // Promise (written, spelled), as encode_kdc_req: what is written of ..
+    // Promise (written, spelled), as encode_kdc_req: a request, a KRB-ERROR, ..
     ensures written { IfOk result (λ v. v.items ≡ written ap_rep reply.now) }
     ensures spelled { IfOk result (λ v. ap_rep.Spells reply.now v.items) }
 {

@@ -23,7 +23,7 @@ pub struct ApReq<T = Ticket, E = EncryptedData> {
     pub pvno: i32,
     /// The message type: 14.
     pub msg_type: i32,
-    /// The bits are named by `krb_fields::ApOption`.
+    /// The options. `krb_fields::ApOption` names the bits.
     pub ap_options: Flags,
     /// The ticket that authenticates the client to the service.
     pub ticket: T,
@@ -108,8 +108,8 @@ impl ReadOwned for ApReq {
 /// Reads an AP-REQ in place, without allocating.
 pub fn read_ap_req(bytes: &[u8]) -> Result<ApReqRef<'_>, DerFault>
     // If it succeeds, the bytes encode this AP-REQ.
-    // Promise (found, only, exact): an AP-REQ is read exactly from the bytes that spell it; which error it is. Reading
-    // it borrowed allocates nothing.
+    // Promise (found, only, exact): an AP-REQ is read exactly from the bytes that spell it; an error is that of the
+    // definition. Reading it in place allocates nothing.
     ensures found { IfOk result (λ request. ap_req.Spells request bytes.now) }
     // If the bytes encode an AP-REQ, it succeeds.
     ensures only { (request : trees.ApReq) → ap_req.Spells request bytes.now
@@ -117,7 +117,8 @@ pub fn read_ap_req(bytes: &[u8]) -> Result<ApReqRef<'_>, DerFault>
     // The result, including the error, is that of the definition.
     ensures exact { Sees result (whole ap_req.at bytes.now) }
     // The parts are shorter than the bytes.
-    // Promise: an AP-REQ's ticket, its authenticator and both ciphers have shorter contents than it.
+    // Promise: the contents of an AP-REQ's ticket, of its authenticator and of both ciphers are shorter than the
+    // AP-REQ.
     ensures short { IfOk result (λ request. HasShorterParts bytes.now request) }
 {
     read(bytes)
@@ -130,7 +131,8 @@ pub fn decode_ap_req(alloc: Global, bytes: &[u8]) -> Result<ApReq, Fault>
     ensures only { (request : trees.ApReq) → ap_req.Spells request bytes.now → IsReadUnlessMemory result request }
     ensures exact { Decodes result (whole ap_req.at bytes.now) }
     // The AP-REQ is short enough to be written again.
-    // Promise: an AP-REQ written again has contents of less than three times its bytes.
+    // Promise: if an AP-REQ is written again, its contents are less than three times as long as the bytes that were
+    // read.
     ensures short { IfOk result (λ request. length (ap_req.text request) < 3 * length bytes.now) }
 {
     read_owned(alloc, bytes)
@@ -139,7 +141,7 @@ pub fn decode_ap_req(alloc: Global, bytes: &[u8]) -> Result<ApReq, Fault>
 /// Returns the encoding of the AP-REQ.
 pub fn encode_ap_req(alloc: Global, request: &ApReq) -> Result<Vec<u8>, AllocError>
     requires { length (ap_req.text request.now) < 2 ^ 32 }
-    // Promise (written, spelled), as encode_kdc_req: what is written of ..
+    // Promise (written, spelled), as encode_kdc_req: a request, a KRB-ERROR, ..
     ensures written { IfOk result (λ v. v.items ≡ written ap_req request.now) }
     ensures spelled { IfOk result (λ v. ap_req.Spells request.now v.items) }
 {

@@ -136,7 +136,7 @@ impl ReadOwned for Authenticator {
 
 /// Reads the Authenticator that the bytes encode.
 pub fn decode_authenticator(alloc: Global, bytes: &[u8]) -> Result<Authenticator, Fault>
-    // Promise (found, only, exact), as decode_enc_ticket_part: the parts of tickets, ..
+    // Promise (found, only, exact), as decode_enc_ticket_part: EncTicketPart, Authenticator, EncAPRepPart and ..
     ensures found { IfOk result (λ x. authenticator.Spells x bytes.now) }
     ensures only { (x : trees.Authenticator) → authenticator.Spells x bytes.now → IsReadUnlessMemory result x }
     ensures exact { Decodes result (whole authenticator.at bytes.now) }
@@ -147,7 +147,7 @@ pub fn decode_authenticator(alloc: Global, bytes: &[u8]) -> Result<Authenticator
 /// Returns the encoding of the Authenticator.
 pub fn encode_authenticator(alloc: Global, part: &Authenticator) -> Result<Vec<u8>, AllocError>
     requires { length (authenticator.text part.now) < 2 ^ 32 }
-    // Promise (written, spelled), as encode_enc_ticket_part: what is written of ..
+    // Promise (written, spelled), as encode_enc_ticket_part: each of these parts ..
     ensures written { IfOk result (λ v. v.items ≡ written authenticator part.now) }
     ensures spelled { IfOk result (λ v. authenticator.Spells part.now v.items) }
 {

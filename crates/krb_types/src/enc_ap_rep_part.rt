@@ -100,7 +100,7 @@ impl ReadOwned for EncApRepPart {
 
 /// Reads the EncAPRepPart that the bytes encode.
 pub fn decode_enc_ap_rep_part(alloc: Global, bytes: &[u8]) -> Result<EncApRepPart, Fault>
-    // Promise (found, only, exact), as decode_enc_ticket_part: the parts of tickets, ..
+    // Promise (found, only, exact), as decode_enc_ticket_part: EncTicketPart, Authenticator, EncAPRepPart and ..
     ensures found { IfOk result (λ x. enc_ap_rep_part.Spells x bytes.now) }
     ensures only { (x : trees.EncApRepPart) → enc_ap_rep_part.Spells x bytes.now → IsReadUnlessMemory result x }
     ensures exact { Decodes result (whole enc_ap_rep_part.at bytes.now) }
@@ -111,7 +111,7 @@ pub fn decode_enc_ap_rep_part(alloc: Global, bytes: &[u8]) -> Result<EncApRepPar
 /// Returns the encoding of the EncAPRepPart.
 pub fn encode_enc_ap_rep_part(alloc: Global, part: &EncApRepPart) -> Result<Vec<u8>, AllocError>
     requires { length (enc_ap_rep_part.text part.now) < 2 ^ 32 }
-    // Promise (written, spelled), as encode_enc_ticket_part: what is written of ..
+    // Promise (written, spelled), as encode_enc_ticket_part: each of these parts ..
     ensures written { IfOk result (λ v. v.items ≡ written enc_ap_rep_part part.now) }
     ensures spelled { IfOk result (λ v. enc_ap_rep_part.Spells part.now v.items) }
 {

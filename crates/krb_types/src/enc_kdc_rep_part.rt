@@ -32,7 +32,7 @@ pub struct EncKdcRepPart<
     pub nonce: UInt32,
     /// When the client's key expires.
     pub key_expiration: Option<KTime>,
-    /// The flags of the ticket. The bits are named by `krb_fields::TicketFlag`.
+    /// The flags of the ticket. `krb_fields::TicketFlag` names the bits.
     pub flags: Flags,
     /// When the client first authenticated.
     pub authtime: KTime,

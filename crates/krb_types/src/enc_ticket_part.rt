@@ -18,7 +18,7 @@ use std::alloc::{AllocError, Global};
 /// The encrypted part of a ticket.
 #[derive(Debug, Drop)]
 pub struct EncTicketPart<T = Typed, S = KerberosString, N = Name, L = Seq<Typed>> {
-    /// The flags of the ticket. The bits are named by `krb_fields::TicketFlag`.
+    /// The flags of the ticket. `krb_fields::TicketFlag` names the bits.
     pub flags: Flags,
     /// The session key: its encryption type and its bytes.
     pub key: T,
@@ -152,8 +152,8 @@ impl ReadOwned for EncTicketPart {
 
 /// Reads the EncTicketPart that the bytes encode.
 pub fn decode_enc_ticket_part(alloc: Global, bytes: &[u8]) -> Result<EncTicketPart, Fault>
-    // Promise (found, only, exact): the parts of tickets, authenticators, services' answers and timestamps are read
-    // exactly where they are spelled, unless memory runs out; which error it is.
+    // Promise (found, only, exact): EncTicketPart, Authenticator, EncAPRepPart and PA-ENC-TS-ENC are read exactly from
+    // bytes that spell them, unless memory runs out; an error is that of the definition.
     ensures found { IfOk result (λ x. enc_ticket_part.Spells x bytes.now) }
     ensures only { (x : trees.EncTicketPart) → enc_ticket_part.Spells x bytes.now → IsReadUnlessMemory result x }
     ensures exact { Decodes result (whole enc_ticket_part.at bytes.now) }
@@ -164,7 +164,7 @@ pub fn decode_enc_ticket_part(alloc: Global, bytes: &[u8]) -> Result<EncTicketPa
 /// Returns the encoding of the EncTicketPart.
 pub fn encode_enc_ticket_part(alloc: Global, part: &EncTicketPart) -> Result<Vec<u8>, AllocError>
     requires { length (enc_ticket_part.text part.now) < 2 ^ 32 }
-    // Promise (written, spelled): what is written of these parts spells the value.
+    // Promise (written, spelled): each of these parts is written in bytes that spell it.
     ensures written { IfOk result (λ v. v.items ≡ written enc_ticket_part part.now) }
     ensures spelled { IfOk result (λ v. enc_ticket_part.Spells part.now v.items) }
 {

@@ -11,7 +11,7 @@ use krb_elements::{
 };
 use std::alloc::{AllocError, Global};
 
-/// How a client derives its key of an encryption type from its password.
+/// The way in which a client derives its key of an encryption type from its password.
 #[derive(Debug, Drop)]
 pub struct EtypeInfo2Entry<S = KerberosString, O = Octets> {
     /// The number of the encryption type.

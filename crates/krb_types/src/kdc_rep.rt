@@ -119,7 +119,8 @@ fn take_type<const TYPE: u8>(fields: &mut Reader<'_>) -> Result<(), DerFault>
 /// Writes the field with the message type.
 fn write_type<const TYPE: u8>(out: &mut Writer) -> Result<(), AllocError>
     requires { length (field_text 161 (message_type TYPE).tag ((message_type TYPE).text tt)) < 2 ^ 32 }
-    ensures ok { OnOk result (out.new ≡ out.old ++ field_text 161 (message_type TYPE).tag ((message_type TYPE).text tt)) }
+    ensures ok { OnOk result (out.new
+        ≡ out.old ++ field_text 161 (message_type TYPE).tag ((message_type TYPE).text tt)) }
     ensures kept { Continues out.old out.new }
 {
     write_field(out, 1, &i32::from(TYPE & 0x1f))
@@ -170,8 +171,8 @@ impl<const TYPE: u8> ReadOwned for KdcRep<TYPE> {
 /// Reads an AS-REP or a TGS-REP, by its type, in place and without allocating.
 pub fn read_kdc_rep<const TYPE: u8>(bytes: &[u8]) -> Result<KdcRepRef<'_, TYPE>, DerFault>
     // If it succeeds, the bytes encode this reply.
-    // Promise (found, only, exact): an AS-REP or a TGS-REP is read exactly from the bytes that spell it; which error it
-    // is. It allocates nothing.
+    // Promise (found, only, exact): an AS-REP or a TGS-REP is read exactly from the bytes that spell it; an error is
+    // that of the definition. Reading allocates nothing.
     ensures found { IfOk result (λ reply. (kdc_rep TYPE).Spells reply bytes.now) }
     // If the bytes encode a reply, it succeeds.
     ensures only { (reply : trees.KdcRep TYPE) → (kdc_rep TYPE).Spells reply bytes.now

@@ -11,7 +11,7 @@ use crate::req_body::{ReqBody, ReqBodyRef};
 use krb_der::{DerFault, Reader, Writer};
 use krb_elements::{
     Coded, DecodeFields, EncodeFields, Fielded, Sent, Seq, SeqRef, Untagged, application_tag,
-    end_of, look_either, take_field, take_optional, take_sent, write_field, write_inside,
+    expect_end, look_either, take_field, take_optional, take_sent, write_field, write_inside,
     write_optional,
 };
 use krb_fields::numbers::{AS_REQ, TGS_REQ};
@@ -30,7 +30,7 @@ pub enum Exchange {
 impl Exchange {
     /// Returns the message type of its requests.
     pub fn request_type(self) -> u8
-        // Promise: the message type, which is also the tag's number.
+        // Promise: each exchange's requests have its message type, which is also the number of their tag.
         ensures { result ≡ request_type self }
     {
         match self {
@@ -120,7 +120,7 @@ fn look_message(bytes: &[u8]) -> Result<(Exchange, KdcReqRef<'_>), DerFault>
 {
     let mut reader = Reader::new(bytes);
     let found = look_either(&mut reader, Exchange::As.tagged(), Exchange::Tgs.tagged())?;
-    end_of(&reader)?;
+    expect_end(&reader)?;
     Ok(found)
 }
 
@@ -128,7 +128,7 @@ fn look_message(bytes: &[u8]) -> Result<(Exchange, KdcReqRef<'_>), DerFault>
 pub fn read_kdc_req(bytes: &[u8]) -> Result<(Exchange, KdcReqRef<'_>), DerFault>
     // If it succeeds, the bytes encode this request.
     // Promise (found, only, exact): a request is read exactly from the bytes that spell it, with the bytes of its body
-    // as they were sent; which error it is. It allocates nothing.
+    // as they were sent; an error is that of the definition. Reading allocates nothing.
     ensures found { IfOk result (λ x. SpellsReceived x bytes.now) }
     // If the bytes encode a request, it succeeds.
     ensures only { (x : exchanges.Exchange × Received) → SpellsReceived x bytes.now → IsOkAnd result (λ y. y ≡ x) }
@@ -138,7 +138,7 @@ pub fn read_kdc_req(bytes: &[u8]) -> Result<(Exchange, KdcReqRef<'_>), DerFault>
     // Promise: a list of bytes spells at most one request.
     ensures request { IfOk result (λ x. SpellsKdcReq (x.0, without_octets x.1) bytes.now) }
     // The text of the service's name is shorter than the request, so an answer that repeats the name can be encoded.
-    // Promise: the service's name has shorter contents than the request, so that a reply which repeats it has an
+    // Promise: the contents of the service's name are shorter than the request, so a reply that repeats the name has an
     // encoding.
     ensures short { IfOk result (λ x. IsShorter bytes.now x.1.body.value.sname) }
 {
@@ -152,7 +152,8 @@ pub fn encode_kdc_req(
     request: &KdcReq,
 ) -> Result<Vec<u8>, AllocError>
     requires { length ((message exchange).text request.now) < 2 ^ 32 }
-    // Promise (written, spelled): what is written of a request, a KRB-ERROR, an AP-REQ and an AP-REP spells the value.
+    // Promise (written, spelled): a request, a KRB-ERROR, an AP-REQ and an AP-REP are each written in bytes that spell
+    // them.
     ensures written { IfOk result (λ v. v.items ≡ written (message exchange) request.now) }
     ensures spelled { IfOk result (λ v. SpellsKdcReq (exchange, request.now) v.items) }
 {

@@ -149,8 +149,8 @@ impl ReadOwned for KrbError {
 
 /// Reads the KRB-ERROR that the bytes encode.
 pub fn decode_krb_error(alloc: Global, bytes: &[u8]) -> Result<KrbError, Fault>
-    // Promise (found, only, exact): KRB-ERROR, AP-REQ and AP-REP are read exactly where they are spelled, unless memory
-    // runs out; which error it is.
+    // Promise (found, only, exact): KRB-ERROR, AP-REQ and AP-REP are read exactly from bytes that spell them, unless
+    // memory runs out; an error is that of the definition.
     ensures found { IfOk result (λ error. krb_error.Spells error bytes.now) }
     ensures only { (error : trees.KrbError) → krb_error.Spells error bytes.now → IsReadUnlessMemory result error }
     ensures exact { Decodes result (whole krb_error.at bytes.now) }
@@ -164,7 +164,7 @@ pub fn decode_krb_error(alloc: Global, bytes: &[u8]) -> Result<KrbError, Fault>
 /// Returns the encoding of the KRB-ERROR.
 pub fn encode_krb_error(alloc: Global, error: &KrbError) -> Result<Vec<u8>, AllocError>
     requires { length (krb_error.text error.now) < 2 ^ 32 }
-    // Promise (written, spelled), as encode_kdc_req: what is written of ..
+    // Promise (written, spelled), as encode_kdc_req: a request, a KRB-ERROR, ..
     ensures written { IfOk result (λ v. v.items ≡ written krb_error error.now) }
     ensures spelled { IfOk result (λ v. krb_error.Spells error.now v.items) }
 {

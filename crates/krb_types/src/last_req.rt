@@ -17,7 +17,7 @@ use std::alloc::{AllocError, Global};
 pub struct LastReq {
     /// The kind (RFC 4120, section 5.4.2); 0 if the time means nothing.
     pub lr_type: i32,
-    /// The time; of kind 1, that of the last initial request for a TGT.
+    /// The time. Of kind 1 it is the time of the last initial request for a TGT.
     pub lr_value: KTime,
 }
 

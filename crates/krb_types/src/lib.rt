@@ -13,8 +13,8 @@
 //! let octets = encode_krb_error(alloc, &error)?;
 //! ```
 //!
-//! Nothing here encrypts or decrypts: encrypted parts are read and written as they are, and `encrypted_data` opens and
-//! makes them.
+//! Nothing here encrypts or decrypts: encrypted parts are read and written as they are. `encrypted_data` encrypts and
+//! decrypts them.
 #![tactic(auto)]
 
 mod ap_rep;

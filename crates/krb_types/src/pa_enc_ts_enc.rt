@@ -72,7 +72,7 @@ impl ReadOwned for PaEncTsEnc {
 
 /// Reads the PA-ENC-TS-ENC that the bytes encode.
 pub fn decode_pa_enc_ts_enc(alloc: Global, bytes: &[u8]) -> Result<PaEncTsEnc, Fault>
-    // Promise (found, only, exact), as decode_enc_ticket_part: the parts of tickets, ..
+    // Promise (found, only, exact), as decode_enc_ticket_part: EncTicketPart, Authenticator, EncAPRepPart and ..
     ensures found { IfOk result (λ x. pa_enc_ts_enc.Spells x bytes.now) }
     ensures only { (x : trees.PaEncTsEnc) → pa_enc_ts_enc.Spells x bytes.now → IsReadUnlessMemory result x }
     ensures exact { Decodes result (whole pa_enc_ts_enc.at bytes.now) }
@@ -83,7 +83,7 @@ pub fn decode_pa_enc_ts_enc(alloc: Global, bytes: &[u8]) -> Result<PaEncTsEnc, F
 /// Returns the encoding of the PA-ENC-TS-ENC.
 pub fn encode_pa_enc_ts_enc(alloc: Global, part: &PaEncTsEnc) -> Result<Vec<u8>, AllocError>
     requires { length (pa_enc_ts_enc.text part.now) < 2 ^ 32 }
-    // Promise (written, spelled), as encode_enc_ticket_part: what is written of ..
+    // Promise (written, spelled), as encode_enc_ticket_part: each of these parts ..
     ensures written { IfOk result (λ v. v.items ≡ written pa_enc_ts_enc part.now) }
     ensures spelled { IfOk result (λ v. pa_enc_ts_enc.Spells part.now v.items) }
 {

@@ -25,7 +25,7 @@ pub struct ReqBody<
     E = EncryptedData,
     T = Seq<Ticket>,
 > {
-    /// The bits are named by `krb_fields::KdcOption`.
+    /// The options. `krb_fields::KdcOption` names the bits.
     pub kdc_options: Flags,
     /// The client's name, in an AS-REQ only.
     pub cname: Option<N>,

@@ -4,7 +4,7 @@ ghost use Rattle.krb_types.specs.Under.{under};
 
 use crate::enc_kdc_rep_part::EncKdcRepPart;
 use krb_der::{DerFault, Reader, Writer};
-use krb_elements::{Coded, Decode, Encode, Fault, ReadOwned, end_of};
+use krb_elements::{Coded, Decode, Encode, Fault, ReadOwned, expect_end};
 use krb_fields::numbers::{ENC_AS_REP_PART, ENC_TGS_REP_PART};
 use std::alloc::{AllocError, Global};
 use std::marker::Model;
@@ -38,7 +38,7 @@ impl<'a, const N: u8, T: Decode<'a>> Decode<'a> for Under<N, T> {
     fn look(reader: &mut Reader<'a>) -> Result<Under<N, T>, DerFault> {
         let mut contents = Reader::new(reader.read_tlv(0x60 | (N & 0x1f))?);
         let value = T::look(&mut contents)?;
-        end_of(&contents)?;
+        expect_end(&contents)?;
         Ok(Under { value })
     }
 }
@@ -57,7 +57,7 @@ impl<const N: u8, T: ReadOwned> ReadOwned for Under<N, T> {
     fn read_parts(alloc: Global, bytes: &[u8]) -> Result<Under<N, T>, Fault> {
         let mut reader = Reader::new(bytes);
         let value = T::read_parts(alloc, reader.read_tlv(0x60 | (N & 0x1f))?)?;
-        end_of(&reader)?;
+        expect_end(&reader)?;
         Ok(Under { value })
     }
 }

@@ -1,4 +1,4 @@
--- The attributes of a principal in MIT's database, as bits of 32, numbered from the most significant: 31 is 1.
+-- The attributes of a principal in MIT's database: 32 bits, numbered from the most significant, so that bit 31 is 1.
 use Rattle.std.specs.Prelude.{ℕ}
 use Rattle.mit_dump.specs.declared.attribute.Attribute.{Attribute}
 use Rattle.mit_dump.specs.declared.attribute.Attribute.TheVariants.{DisallowPostdated, DisallowForwardable}
@@ -8,7 +8,7 @@ use Rattle.mit_dump.specs.declared.attribute.Attribute.TheVariants.{DisallowAllT
 use Rattle.mit_dump.specs.declared.attribute.Attribute.TheVariants.{RequiresPwchange, DisallowSvr, PwchangeService}
 use Rattle.mit_dump.specs.declared.attribute.Attribute.TheVariants.{OkAsDelegate, OkToAuthAsDelegate}
 
--- beside each the number as `kdb.h` of MIT writes it
+-- above each is the number as MIT's `kdb.h` writes it
 abbrev pub attribute_number : Attribute → ℕ
 -- 0x00000001
 attribute_number DisallowPostdated = 31

@@ -29,7 +29,7 @@ IsLineBy [] found = ⊥
 abbrev pub IsLine : List ℕ → Option DumpedPrincipal → Type 0
 IsLine line found = IsLineBy (fields_of line) found
 
--- what was found, with the principal of a line
+-- the principals that were found, with the one of this line, if it has one
 abbrev pub AddsLine : List ℕ → List DumpedPrincipal → List DumpedPrincipal → Type 0
 AddsLine line old new = (first : Option DumpedPrincipal) × IsLine line first × (new ≡ old ++ option_to_list first)
 
@@ -40,7 +40,7 @@ AreFound (line ∷ lines) found =
     (first : Option DumpedPrincipal) × (others : List DumpedPrincipal) × IsLine line first × AreFound lines others
     × (found ≡ option_to_list first ++ others)
 
--- the lines behind the first one; nothing is behind the last line feed
+-- the lines after the first one; nothing follows the last line feed
 abbrev pub AreLines : List (List ℕ) → List DumpedPrincipal → Type 0
 AreLines lines found = (body : List (List ℕ)) × (lines ≡ body ++ [] ∷ []) × AreFound body found
 

@@ -24,7 +24,7 @@ IsHex field (octet ∷ octets) = decode_of field ≡ Ok (octet ∷ octets)
 abbrev pub IsOctets : ℕ → Field → List ℕ → Type 0
 IsOctets size field octets = (length octets ≡ size) × IsHex field octets
 
--- ---- at the front of fields, with the fields behind it
+-- ---- at the front of fields, with the fields after it
 
 abbrev pub TakesNumber : List Field → ℕ → List Field → Type 0
 TakesNumber fields n rest = (field : Field) × (fields ≡ field ∷ rest) × IsNumber field n

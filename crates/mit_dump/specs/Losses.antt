@@ -1,5 +1,6 @@
--- What of a principal has no place in a row.
-use Rattle.std.specs.Prelude.{◌==◌, ◌&&◌, ◌||◌, ◌++◌, not, ℕ, Bool, true, false, List, [], ◌∷◌, bytes_eq, is_some, is_none}
+-- The parts of a principal that have no place in a row.
+use Rattle.std.specs.Prelude.{◌==◌, ◌&&◌, ◌||◌, ◌++◌, not, ℕ, Bool, true, false, List, [], ◌∷◌, bytes_eq, is_some}
+use Rattle.std.specs.Prelude.{is_none}
 use Rattle.std.specs.Prelude.{Option, Some, None, if◌then◌else◌, bit_and}
 use Rattle.std.specs.List.{list_any}
 use Rattle.std.specs.Option.{option_to_list}

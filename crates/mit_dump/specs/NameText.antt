@@ -3,7 +3,7 @@ use Rattle.std.specs.Prelude.{◌==◌, ◌||◌, ◌++◌, ◌∷◌, [], ℕ, 
 use Rattle.std.specs.List.{flat_map}
 use Rattle.krb_fields.specs.Name.{Components}
 
--- the letter that stands behind a backslash for a byte: / @ and \ for themselves, n t b 0 for 0A 09 08 00
+-- the letter that stands after a backslash for a byte: / @ and \ for themselves, n t b 0 for 0A 09 08 00
 abbrev pub letter_of : ℕ → Option ℕ
 letter_of octet =
     if octet == 0x2F || octet == 0x40 || octet == 0x5C then Some octet

@@ -1,10 +1,10 @@
--- Bytes in a dump, behind the number of what they are and their length.
+-- Bytes in a dump, after the number of what they are and their length.
 use Rattle.std.specs.Prelude.{◌≡◌, ℕ, List, length}
 use Rattle.mit_dump.specs.Chain.{Chain}
 use Rattle.mit_dump.specs.Fields.{Field, TakesNumber, TakesOctets}
 use Rattle.mit_dump.specs.declared.part.Part.{Part}
 
--- a part at the front of fields, with the fields behind it: the number, the length, the bytes
+-- a part at the front of fields, with the fields after it: the number, the length, the bytes
 pub record TakesPart (fields : List Field) (part : Part) (rest : List Field) : Type 0 where
   pub behind_tag : List Field
   pub tag : TakesNumber fields part.tag behind_tag

@@ -14,7 +14,7 @@ is_server component = bytes_eq component (codes "kadmin") || bytes_eq component 
 abbrev pub is_master : List ℕ → List ℕ → Bool
 is_master first second = bytes_eq first (codes "K") && bytes_eq second (codes "M")
 
--- of MIT's own servers: K/M, and kadmin and kiprop with another component
+-- the name is one of MIT's own: K/M, or kadmin or kiprop with another component
 abbrev pub is_own : Components → Bool
 is_own (first ∷ second ∷ []) = is_server first || is_master first second
 is_own (first ∷ second ∷ others) = is_server first
@@ -35,4 +35,5 @@ has_key keys = list_any (λ key. is_some (place_of key)) keys
 
 abbrev pub has_place : List ℕ → DumpedPrincipal → Bool
 has_place realm p =
-    not (is_own p.name.components) && (bytes_eq p.realm realm && (is_within_limits p.name.components && has_key p.keys.items))
+    not (is_own p.name.components)
+    && (bytes_eq p.realm realm && (is_within_limits p.name.components && has_key p.keys.items))

@@ -14,11 +14,11 @@ use Rattle.mit_dump.specs.declared.principal.Numbers.{Numbers}
 abbrev pub has : Numbers → Attribute → Bool
 has n attribute = has_bit n.attributes (attribute_number attribute)
 
--- 0 is never
+-- 0 means never
 abbrev pub moment_of : ℕ → Option ℤ
 moment_of second = if second == 0 then None else Some (pos second)
 
--- a password that must be changed has expired
+-- a password that must be changed counts as expired
 abbrev pub password_expiry : Numbers → Option ℤ
 password_expiry n = if has n RequiresPwchange then Some (pos 0) else moment_of n.pw_expiration
 
@@ -29,7 +29,7 @@ life_of seconds = if seconds == 0 then 4294967295 else seconds
 abbrev pub renewable_life : Numbers → ℕ
 renewable_life n = if has n DisallowRenewable then 0 else n.max_renewable_life
 
--- what a dump does not have is as for a new principal
+-- a field that a dump does not have gets the value of a new principal
 abbrev pub policy_of : Numbers → Policy
 policy_of n = record default_policy {
   disabled = has n DisallowAllTix;

@@ -14,7 +14,7 @@ use Rattle.mit_dump.specs.declared.principal.Numbers.{Numbers}
 abbrev pub TakesAll : List Field → List ℕ → List Field → Type 0
 TakesAll fields numbers rest = Chain TakesNumber fields numbers rest
 
--- 38, and how many there are of the bytes of the name, the tagged data, the keys, and the bytes at the end
+-- 38, and four counts: of the bytes of the name, of tagged data, of keys, and of the bytes at the end
 abbrev pub TakesCounts : List Field → Counts → List Field → Type 0
 TakesCounts fields c rest = TakesAll fields (38 ∷ c.name ∷ c.tagged ∷ c.keys ∷ c.extra ∷ []) rest
 
@@ -36,7 +36,7 @@ abbrev pub IsEnd : List Field → ℕ → Type 0
 IsEnd fields size =
     (field : Field) × (octets : List ℕ) × (fields ≡ (field ++ 0x3B ∷ []) ∷ []) × IsOctets size field octets
 
--- the fields of a principal behind the word `princ`
+-- the fields of a principal after the word `princ`
 pub record IsPrincipal (fields : List Field) (p : DumpedPrincipal) : Type 0 where
   pub counts : Counts
   pub behind_counts : List Field

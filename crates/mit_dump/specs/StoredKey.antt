@@ -6,12 +6,12 @@ use Rattle.mit_dump.specs.Part.{TakesPart}
 use Rattle.mit_dump.specs.declared.part.Part.{Part}
 use Rattle.mit_dump.specs.declared.stored_key.StoredKey.{StoredKey}
 
--- the salt of a key that has this many parts, at the front of fields, with the fields behind it
+-- the salt of a key that has this many parts, at the front of fields, with the fields after it
 abbrev pub TakesSalt : List Field → ℕ → Option Part → List Field → Type 0
 TakesSalt fields parts None rest = (parts ≡ 1) × (fields ≡ rest)
 TakesSalt fields parts (Some salt) rest = (parts ≡ 2) × TakesPart fields salt rest
 
--- a key at the front of fields, with the fields behind it: the number of its parts, its version, the key, the salt
+-- a key at the front of fields, with the fields after it: the number of its parts, its version, the key, the salt
 pub record TakesKey (fields : List Field) (k : StoredKey) (rest : List Field) : Type 0 where
   pub parts : ℕ
   pub behind_parts : List Field

@@ -6,24 +6,24 @@ ghost use Rattle.mit_dump.specs.Fields.{texts};
 use crate::fields::split_lines;
 use crate::line::read_line;
 use crate::principal::DumpedPrincipal;
-use crate::{DumpFault, LineFault};
+use crate::{DumpError, LineError};
 use std::alloc::Global;
 
-/// Reads the principals of a dump, in the order of their lines. Versions 5 to 8 of the format are read; policies are
-/// passed over.
-pub fn read_dump(alloc: Global, text: &[u8]) -> Result<Vec<DumpedPrincipal>, DumpFault>
+/// Reads the principals of a dump, in the order of their lines. Versions 5 to 8 of the format are read, and policies
+/// are skipped.
+pub fn read_dump(alloc: Global, text: &[u8]) -> Result<Vec<DumpedPrincipal>, DumpError>
     // Promise, as import_dump of kadm_changes: `import --dump` makes a ..
     ensures { IfOk result (λ found. IsDump text.now found.items) }
 {
     let lines = match split_lines(alloc, text) {
         Ok(lines) => lines,
-        Err(error) => return Err(fault_of(1, LineFault::from(error))),
+        Err(error) => return Err(at_line(1, LineError::from(error))),
     };
     let [header, rest @ ..] = lines.as_slice() else {
-        return Err(fault_of(1, LineFault::Header));
+        return Err(at_line(1, LineError::Header));
     };
     if !is_header(header) {
-        return Err(fault_of(1, LineFault::Header));
+        return Err(at_line(1, LineError::Header));
     }
     read_lines(alloc, rest)
 }
@@ -38,18 +38,18 @@ fn is_header(line: &[u8]) -> bool
         || line == b"kdb5_util load_dump version 8".as_slice()
 }
 
-/// Reads the lines behind the first one. The last one is empty, since a line feed ends each.
-fn read_lines(alloc: Global, lines: &[&[u8]]) -> Result<Vec<DumpedPrincipal>, DumpFault>
+/// Reads the lines after the first one. The last one is empty, since a line feed ends each.
+fn read_lines(alloc: Global, lines: &[&[u8]]) -> Result<Vec<DumpedPrincipal>, DumpError>
     ensures { IfOk result (λ found. AreLines (texts lines.now) found.items) }
 {
     match lines.split_last() {
         Some((last, body)) if last.is_empty() => read_body(alloc, body),
-        _ => Err(fault_of(lines.len().saturating_add(1), LineFault::Cut)),
+        _ => Err(at_line(lines.len().saturating_add(1), LineError::Cut)),
     }
 }
 
 /// Reads the lines of principals and policies.
-fn read_body(alloc: Global, lines: &[&[u8]]) -> Result<Vec<DumpedPrincipal>, DumpFault>
+fn read_body(alloc: Global, lines: &[&[u8]]) -> Result<Vec<DumpedPrincipal>, DumpError>
     ensures { IfOk result (λ found. AreFound (texts lines.now) found.items) }
 {
     let mut found = Vec::new(alloc);
@@ -67,17 +67,17 @@ fn push_numbered(
     found: &mut Vec<DumpedPrincipal>,
     number: usize,
     line: &[u8],
-) -> Result<(), DumpFault>
+) -> Result<(), DumpError>
     ensures { OnOk result (AddsLine line.now found.old.items found.new.items) }
 {
     match push_line(alloc, found, line) {
         Ok(()) => Ok(()),
-        Err(cause) => Err(fault_of(number, cause)),
+        Err(cause) => Err(at_line(number, cause)),
     }
 }
 
 /// Adds the principal of a line, if it has one.
-fn push_line(alloc: Global, found: &mut Vec<DumpedPrincipal>, line: &[u8]) -> Result<(), LineFault>
+fn push_line(alloc: Global, found: &mut Vec<DumpedPrincipal>, line: &[u8]) -> Result<(), LineError>
     ensures { OnOk result (AddsLine line.now found.old.items found.new.items) }
 {
     if let Some(principal) = read_line(alloc, line)? {
@@ -86,6 +86,6 @@ fn push_line(alloc: Global, found: &mut Vec<DumpedPrincipal>, line: &[u8]) -> Re
     Ok(())
 }
 
-fn fault_of(line: usize, cause: LineFault) -> DumpFault {
-    DumpFault { line, cause }
+fn at_line(line: usize, cause: LineError) -> DumpError {
+    DumpError { line, cause }
 }

@@ -1,53 +1,20 @@
 //! The keys of a principal, decrypted with the realm's master key.
 ghost use Rattle.std.specs.Prelude.{◌≡◌, IfOk, OnOk, pos};
 ghost use Rattle.enctypes.specs.Numbered.{type_numbered};
-ghost use Rattle.mit_dump.specs.Entries.{AreEntries, ArePushed, IsPushed, key_from, key_within, place_of, preference, with_first};
+ghost use Rattle.mit_dump.specs.Entries.{AreEntries, ArePushed, IsPushed, key_from, key_within, place_of, preference};
+ghost use Rattle.mit_dump.specs.Entries.{with_first};
 
+use crate::LineError;
 use crate::master::master_key;
 use crate::principal::DumpedPrincipal;
 use crate::stored_key::StoredKey;
 use cred_files::{Keytab, KeytabEntry};
 use enctypes::{Etype, Key, KeyUsage, open};
-use std::alloc::{AllocError, AllocFailed, Global};
-use std::fmt;
-
-/// Why the keys of a principal can't be decrypted.
-#[derive(Clone, Copy, Debug, PartialEq, Eq)]
-pub enum KeyFault {
-    /// The stash file has no master key of the version.
-    NoMaster,
-    /// A key is not encrypted with the master key, or has not the length of its type.
-    NotOpened,
-    /// Memory ran out.
-    Memory,
-}
-
-impl fmt::Display for KeyFault {
-    fn fmt<W: fmt::Write>(&self, f: &mut fmt::Formatter<W>) -> fmt::Result {
-        f.write_str(match self {
-            KeyFault::NoMaster => {
-                "the stash file lacks the master key that encrypts its keys; `kdb5_util stash` writes all"
-            }
-            KeyFault::NotOpened => "the master key in the stash file does not decrypt its keys",
-            KeyFault::Memory => "out of memory",
-        })
-    }
-}
-
-impl From<AllocError> for KeyFault {
-    fn from(_: AllocError) -> KeyFault {
-        KeyFault::Memory
-    }
-}
-
-impl<T: Drop> From<AllocFailed<T>> for KeyFault {
-    fn from(_: AllocFailed<T>) -> KeyFault {
-        KeyFault::Memory
-    }
-}
+use std::alloc::{AllocError, Global};
 
 impl StoredKey {
-    /// Returns the encryption type of a key that has a place in a row: it has one of the four types, and a version.
+    /// Returns the encryption type of a key that has a place in a row: it has one of the four types, and its version is
+    /// not 0.
     pub fn etype(&self) -> Option<Etype>
         ensures { result ≡ place_of self.now }
     {
@@ -61,14 +28,14 @@ impl StoredKey {
 impl DumpedPrincipal {
     /// Returns the keys that have a place in a row as entries of a keytab, the last key first, decrypted with a master
     /// key of MIT's stash file.
-    pub fn entries(&self, alloc: Global, stash: &Keytab) -> Result<Vec<KeytabEntry>, KeyFault>
+    pub fn entries(&self, alloc: Global, stash: &Keytab) -> Result<Vec<KeytabEntry>, LineError>
         // Promise, as import_dump of kadm_changes: an imported database has ..
         ensures { IfOk result (λ entries. AreEntries stash.now self.now entries.items) }
     {
         let Some(master) = master_key(alloc, self, stash)? else {
-            return Err(KeyFault::NoMaster);
+            return Err(LineError::NoMaster);
         };
-        entries_of(alloc, self, master, &self.keys)
+        open_entries(alloc, self, master, &self.keys)
     }
 
     /// Returns the types of the keys that have a place in a row: each once, in the order of the keys.
@@ -97,12 +64,12 @@ fn short_etype(number: u16) -> Option<Etype>
 }
 
 /// Returns the entries of these keys, the last key first.
-fn entries_of(
+fn open_entries(
     alloc: Global,
     principal: &DumpedPrincipal,
     master: &Key,
     keys: &[StoredKey],
-) -> Result<Vec<KeytabEntry>, KeyFault>
+) -> Result<Vec<KeytabEntry>, LineError>
     ensures { IfOk result (λ entries. ArePushed principal.now master.now keys.now entries.items) }
 {
     let mut entries = Vec::new(alloc);
@@ -130,14 +97,14 @@ fn push_entry(
     principal: &DumpedPrincipal,
     master: &Key,
     stored: &StoredKey,
-) -> Result<(), KeyFault>
+) -> Result<(), LineError>
     ensures { OnOk result (IsPushed principal.now master.now stored.now entries.old.items entries.new.items) }
 {
     let Some(etype) = stored.etype() else {
         return Ok(());
     };
     let Some(key) = decrypted(alloc, master, etype, stored.key.octets.as_slice())? else {
-        return Err(KeyFault::NotOpened);
+        return Err(LineError::NotOpened);
     };
     entries.push(KeytabEntry {
         realm: principal.realm.copy(alloc)?,
@@ -148,7 +115,7 @@ fn push_entry(
     Ok(())
 }
 
-/// Decrypts a key: two bytes with its length, the lower first, and behind them the encrypted key.
+/// Decrypts a key: two bytes with its length, the lower first, and then the encrypted key.
 fn decrypted(
     alloc: Global,
     master: &Key,
@@ -167,14 +134,14 @@ fn decrypted(
     }
 }
 
-/// Returns the key in the first bytes of a text, if they are as many as its type wants.
+/// Returns the key in the first bytes of a text, if there are as many as its type requires.
 fn key_within(etype: Etype, text: &[u8], len: usize) -> Option<Key>
     ensures { result ≡ key_within etype len text.now }
 {
     Key::new(etype, text.get(..len)?)
 }
 
-/// Puts a type in front of the others, in place of where it was.
+/// Moves a type to the front of the others, or puts it there.
 fn put_first(etypes: &mut Vec<Etype>, etype: Option<Etype>) -> Result<(), AllocError>
     ensures { OnOk result (etypes.new.items ≡ with_first etype etypes.old.items) }
 {

@@ -1,4 +1,4 @@
-//! The text of a database that MIT's `kdb5_util dump` writes, and what its principals are here.
+//! The text of a database that MIT's `kdb5_util dump` writes, and what its principals become here.
 //!
 //! ```
 //! let found = read_dump(alloc, text)?;
@@ -12,9 +12,9 @@
 //! }
 //! ```
 //!
-//! [`read_dump`] reads the text, `DumpedPrincipal` is what it says of one principal, and `entries`, `policy` and
-//! `losses` say what of it has a place in a row: its keys, decrypted with a master key, its policy, and what is lost.
-//! [`dump_realm`] says whose database it is.
+//! [`read_dump`] reads the text; a `DumpedPrincipal` is what it says about one principal. For a row, `entries` returns
+//! the principal's keys, decrypted with a master key, and `policy` its policy; `losses` returns what has no place
+//! there. [`dump_realm`] says whose database it is.
 //!
 //! It reads no file and makes no database: `kadm_changes` does. It writes no dump.
 #![tactic(auto)]
@@ -36,8 +36,7 @@ mod stored_key;
 
 pub use attribute::Attribute;
 pub use dump::read_dump;
-pub use entries::KeyFault;
-pub use fault::{DumpFault, LineFault};
+pub use fault::{DumpError, LineError};
 pub use losses::Loss;
 pub use part::Part;
 pub use place::dump_realm;

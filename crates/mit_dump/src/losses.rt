@@ -1,4 +1,4 @@
-//! What of a principal has no place in a row.
+//! The parts of a principal that have no place in a row.
 ghost use Rattle.std.specs.Prelude.{◌≡◌, ◌++◌, IfOk, OnOk};
 ghost use Rattle.mit_dump.specs.Losses.{has_policy, has_twin, is_default, key_loss, key_losses, loss_if, losses};
 ghost use Rattle.mit_dump.specs.Losses.{lost_bits, names_policy};
@@ -13,12 +13,12 @@ use krb_fields::{Flags, Name};
 use std::alloc::{AllocError, Global};
 use std::fmt;
 
-/// What has no place.
+/// A part of a principal that has no place in a row.
 #[derive(Clone, Copy, Debug, PartialEq, Eq)]
 pub enum Loss {
     /// The principal: it is of another realm.
     Realm,
-    /// The principal: its name has more than 16 components, or one of them has not 1 to 255 bytes.
+    /// The principal: its name has more than 16 components, or one of them doesn't have 1 to 255 bytes.
     Name,
     /// The principal: it has no key with a place.
     NoKeys,
@@ -178,7 +178,7 @@ fn push_key_losses(
     Ok(())
 }
 
-/// Returns what is lost of a key, given those behind it.
+/// Returns what is lost of a key, given the keys after it.
 fn key_loss(key: &StoredKey, later: &[StoredKey], salt: &[u8]) -> Option<Loss>
     ensures { result ≡ key_loss salt.now key.now later.now }
 {

@@ -2,9 +2,10 @@
 //! before `/`, `@` and `\`, and with `n`, `t`, `b` or `0` for a line feed, a tab, a backspace or a zero byte.
 ghost use Rattle.std.specs.Prelude.{◌≡◌, ◌++◌, IfOk, OnOk};
 ghost use Rattle.std.specs.List.{flat_map};
-ghost use Rattle.mit_dump.specs.NameText.{component_part, component_text, components_text, full_text, letter_of, octet_text};
+ghost use Rattle.mit_dump.specs.NameText.{component_part, component_text, components_text, full_text, letter_of};
+ghost use Rattle.mit_dump.specs.NameText.{octet_text};
 
-use crate::LineFault;
+use crate::LineError;
 use krb_elements::{KerberosString, Seq};
 use krb_fields::Name;
 use krb_fields::numbers::NT_PRINCIPAL;
@@ -27,7 +28,7 @@ enum Separator {
     End,
 }
 
-/// A component, what follows it, and the text behind that.
+/// A component, what follows it, and the text after that.
 #[derive(Drop)]
 struct SplitComponent<'a> {
     octets: Vec<u8>,
@@ -36,7 +37,7 @@ struct SplitComponent<'a> {
 }
 
 /// Reads a name that is written exactly as MIT writes it.
-pub(crate) fn read_full_name(alloc: Global, text: &[u8]) -> Result<FullName, LineFault>
+pub(crate) fn read_full_name(alloc: Global, text: &[u8]) -> Result<FullName, LineError>
     ensures { IfOk result (λ full. full_text full.name.components full.realm ≡ text.now) }
 {
     let full = split_name(alloc, text)?;
@@ -44,12 +45,12 @@ pub(crate) fn read_full_name(alloc: Global, text: &[u8]) -> Result<FullName, Lin
     if written.as_slice() == text {
         Ok(full)
     } else {
-        Err(LineFault::Name)
+        Err(LineError::Name)
     }
 }
 
 /// Splits a text into components and realm.
-fn split_name(alloc: Global, text: &[u8]) -> Result<FullName, LineFault> {
+fn split_name(alloc: Global, text: &[u8]) -> Result<FullName, LineError> {
     let mut components = Seq::new(alloc);
     let mut rest = text;
     for _ in 0..text.len() {
@@ -62,10 +63,10 @@ fn split_name(alloc: Global, text: &[u8]) -> Result<FullName, LineFault> {
         match separator {
             Separator::Component => rest = behind,
             Separator::Realm => return with_realm(alloc, components, behind),
-            Separator::End => return Err(LineFault::Name),
+            Separator::End => return Err(LineError::Name),
         }
     }
-    Err(LineFault::Name)
+    Err(LineError::Name)
 }
 
 /// Returns the name with the realm in the rest of a text.
@@ -73,14 +74,14 @@ fn with_realm(
     alloc: Global,
     components: Seq<KerberosString>,
     text: &[u8],
-) -> Result<FullName, LineFault> {
+) -> Result<FullName, LineError> {
     let SplitComponent {
         octets,
         separator,
         ..
     } = split_component(alloc, text)?;
     if separator != Separator::End {
-        return Err(LineFault::Name);
+        return Err(LineError::Name);
     }
     Ok(FullName {
         name: Name {
@@ -92,7 +93,7 @@ fn with_realm(
 }
 
 /// Splits the first component off a text.
-fn split_component(alloc: Global, text: &[u8]) -> Result<SplitComponent<'_>, LineFault> {
+fn split_component(alloc: Global, text: &[u8]) -> Result<SplitComponent<'_>, LineError> {
     let mut octets = Vec::new(alloc);
     let mut rest = text;
     while let [first, behind @ ..] = rest {
@@ -110,7 +111,7 @@ fn split_component(alloc: Global, text: &[u8]) -> Result<SplitComponent<'_>, Lin
             continue;
         }
         let [letter, behind @ ..] = rest else {
-            return Err(LineFault::Name);
+            return Err(LineError::Name);
         };
         octets.push(octet_of(*letter))?;
         rest = behind;
@@ -131,7 +132,7 @@ fn separator_of(octet: u8) -> Separator {
     }
 }
 
-/// Returns the byte for which a letter stands behind a backslash.
+/// Returns the byte for which a letter stands after a backslash.
 fn octet_of(letter: u8) -> u8 {
     match letter {
         b'n' => b'\n',
@@ -164,7 +165,7 @@ fn push_components(text: &mut Vec<u8>, components: &[KerberosString]) -> Result<
     push_others(text, others)
 }
 
-/// Appends the text of components, each behind a slash.
+/// Appends the text of components, each after a slash.
 fn push_others(text: &mut Vec<u8>, others: &[KerberosString]) -> Result<(), AllocError>
     ensures { OnOk result (text.new.items ≡ text.old.items ++ flat_map component_part others.now) }
 {
@@ -205,7 +206,7 @@ fn push_octet(text: &mut Vec<u8>, octet: u8) -> Result<(), AllocError>
     Ok(())
 }
 
-/// Returns the letter that stands behind a backslash for a byte, if one does.
+/// Returns the letter that stands after a backslash for a byte, if one does.
 fn letter_of(octet: u8) -> Option<u8>
     ensures { result ≡ letter_of octet }
 {

@@ -13,8 +13,8 @@ pub fn dump_realm(found: &[DumpedPrincipal]) -> Option<&[u8]>
     // Promise (realm, fits), as import_dump of kadm_changes: `import --dump` makes a ..
     ensures realm { IfSome result (λ realm. IsRealmOf found.now realm.now) }
     ensures fits { IfSome result (λ realm. IsComponent realm.now) }
-    // Promise: a dump has no realm only if it has no `krbtgt/REALM@REALM`, or the realm of the first is not of 1 to 255
-    // bytes.
+    // Promise: a dump has no realm only if it has no `krbtgt/REALM@REALM`, or the realm of the first one doesn't have 1
+    // to 255 bytes.
     ensures none { IfNone result ((realm : List ℕ) → IsRealmOf found.now realm → ¬ IsComponent realm) }
 {
     let realm = granter(found)?.realm.as_slice();

@@ -8,8 +8,8 @@ use krb_fields::Second;
 use principal_rows::Policy;
 
 impl DumpedPrincipal {
-    /// Returns the policy that says the same of its tickets. A password that must be changed (`+needchange`) has
-    /// expired. A field without a place in a dump is that of a new principal.
+    /// Returns the policy that says the same about its tickets. A password that must be changed (`+needchange`) counts
+    /// as expired. A field that a dump doesn't have gets the value of a new principal.
     pub fn policy(&self) -> Policy
         // Promise, as import_dump of kadm_changes: an imported database has ..
         ensures { result ≡ policy_of self.now.numbers }

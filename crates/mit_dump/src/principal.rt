@@ -2,7 +2,7 @@
 ghost use Rattle.std.specs.Prelude.{◌≡◌, IfOk, OnOk};
 ghost use Rattle.mit_dump.specs.Principal.{IsEnd, IsPrincipal, TakesCounts, TakesLogins, TakesName, TakesNumbers};
 
-use crate::LineFault;
+use crate::LineError;
 use crate::fields::{Fields, octets};
 use crate::name_text::{FullName, read_full_name};
 use crate::part::{Part, read_parts};
@@ -14,7 +14,7 @@ use std::alloc::Global;
 /// The length of the fixed part of MIT's `krb5_db_entry`, with which each principal begins.
 const BASE_LENGTH: u32 = 38;
 
-/// What a dump says of a principal.
+/// What a dump says about a principal.
 #[derive(Drop)]
 pub struct DumpedPrincipal {
     /// Its name in the realm. A dump has no name-type: it is NT-PRINCIPAL.
@@ -32,7 +32,7 @@ pub struct DumpedPrincipal {
 /// The numbers of a principal that say what it is allowed.
 #[derive(Clone, Copy)]
 pub struct Numbers {
-    /// MIT's attributes of it, whose named bits are those of `Attribute`.
+    /// Its attributes in MIT's database. `Attribute` names the bits.
     pub attributes: Flags,
     /// The maximum lifetime of tickets, in seconds; 0 sets no limit.
     pub max_life: u32,
@@ -44,7 +44,7 @@ pub struct Numbers {
     pub pw_expiration: u32,
 }
 
-/// How many bytes or things there are in the fields that follow.
+/// The numbers of bytes or things in the fields that follow.
 #[derive(Clone, Copy)]
 struct Counts {
     name: u32,
@@ -53,11 +53,11 @@ struct Counts {
     extra: u32,
 }
 
-/// Reads a principal, behind the word `princ`.
+/// Reads a principal, after the word `princ`.
 pub(crate) fn read_principal(
     alloc: Global,
     fields: &mut Fields<'_, '_>,
-) -> Result<DumpedPrincipal, LineFault>
+) -> Result<DumpedPrincipal, LineError>
     ensures { IfOk result (λ principal. IsPrincipal fields.old principal) }
 {
     let counts = read_counts(fields)?;
@@ -77,11 +77,11 @@ pub(crate) fn read_principal(
     })
 }
 
-fn read_counts(fields: &mut Fields<'_, '_>) -> Result<Counts, LineFault>
+fn read_counts(fields: &mut Fields<'_, '_>) -> Result<Counts, LineError>
     ensures { IfOk result (λ counts. TakesCounts fields.old counts fields.new) }
 {
     if fields.number()? != BASE_LENGTH {
-        return Err(LineFault::Number);
+        return Err(LineError::Number);
     }
     Ok(Counts {
         name: fields.number()?,
@@ -92,17 +92,17 @@ fn read_counts(fields: &mut Fields<'_, '_>) -> Result<Counts, LineFault>
 }
 
 /// Reads a name that has this many bytes.
-fn read_name(alloc: Global, fields: &mut Fields<'_, '_>, len: u32) -> Result<FullName, LineFault>
+fn read_name(alloc: Global, fields: &mut Fields<'_, '_>, len: u32) -> Result<FullName, LineError>
     ensures { IfOk result (λ full. TakesName fields.old len full.name.components full.realm fields.new) }
 {
     let text = fields.next()?;
     if text.len() != len as usize {
-        return Err(LineFault::Name);
+        return Err(LineError::Name);
     }
     read_full_name(alloc, text)
 }
 
-fn read_numbers(fields: &mut Fields<'_, '_>) -> Result<Numbers, LineFault>
+fn read_numbers(fields: &mut Fields<'_, '_>) -> Result<Numbers, LineError>
     ensures { IfOk result (λ numbers. TakesNumbers fields.old numbers fields.new) }
 {
     Ok(Numbers {
@@ -114,8 +114,8 @@ fn read_numbers(fields: &mut Fields<'_, '_>) -> Result<Numbers, LineFault>
     })
 }
 
-/// Passes over the last successful login, the last failed one, and the number of those that failed.
-fn skip_logins(fields: &mut Fields<'_, '_>) -> Result<(), LineFault>
+/// Skips the last successful login, the last failed one, and the number of failed ones.
+fn skip_logins(fields: &mut Fields<'_, '_>) -> Result<(), LineError>
     ensures { OnOk result (TakesLogins fields.old fields.new) }
 {
     let _succeeded = fields.number()?;
@@ -124,19 +124,19 @@ fn skip_logins(fields: &mut Fields<'_, '_>) -> Result<(), LineFault>
     Ok(())
 }
 
-/// Checks that the last field has this many bytes, and a semicolon behind them.
-fn check_end(alloc: Global, fields: &mut Fields<'_, '_>, len: u32) -> Result<(), LineFault>
+/// Checks that the last field has this many bytes, and a semicolon after them.
+fn check_end(alloc: Global, fields: &mut Fields<'_, '_>, len: u32) -> Result<(), LineError>
     ensures { OnOk result (IsEnd fields.old len) }
 {
     let last = fields.next()?;
     if !fields.is_empty() {
-        return Err(LineFault::Count);
+        return Err(LineError::Count);
     }
     match last.split_last() {
         Some((b';', field)) => {
             let _extra = octets(alloc, len, field)?;
             Ok(())
         }
-        _ => Err(LineFault::Octets),
+        _ => Err(LineError::Octets),
     }
 }

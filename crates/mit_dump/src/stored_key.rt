@@ -2,7 +2,7 @@
 ghost use Rattle.std.specs.Prelude.{◌≡◌, IfOk};
 ghost use Rattle.mit_dump.specs.StoredKey.{TakesKey, TakesKeys, TakesSalt};
 
-use crate::LineFault;
+use crate::LineError;
 use crate::fields::Fields;
 use crate::part::{Part, read_part};
 use std::alloc::Global;
@@ -24,7 +24,7 @@ pub(crate) fn read_keys(
     alloc: Global,
     fields: &mut Fields<'_, '_>,
     count: u32,
-) -> Result<Vec<StoredKey>, LineFault>
+) -> Result<Vec<StoredKey>, LineError>
     ensures { IfOk result (λ keys. TakesKeys fields.old count keys.items fields.new) }
 {
     let mut keys = Vec::new(alloc);
@@ -35,7 +35,7 @@ pub(crate) fn read_keys(
 }
 
 /// Reads a key.
-fn read_key(alloc: Global, fields: &mut Fields<'_, '_>) -> Result<StoredKey, LineFault>
+fn read_key(alloc: Global, fields: &mut Fields<'_, '_>) -> Result<StoredKey, LineError>
     ensures { IfOk result (λ key. TakesKey fields.old key fields.new) }
 {
     let parts = fields.number()?;
@@ -50,12 +50,12 @@ fn read_salt(
     alloc: Global,
     fields: &mut Fields<'_, '_>,
     parts: u32,
-) -> Result<Option<Part>, LineFault>
+) -> Result<Option<Part>, LineError>
     ensures { IfOk result (λ salt. TakesSalt fields.old parts salt fields.new) }
 {
     match parts {
         1 => Ok(None),
         2 => Ok(Some(read_part(alloc, fields)?)),
-        _ => Err(LineFault::Count),
+        _ => Err(LineError::Count),
     }
 }

@@ -44,7 +44,7 @@ time_of opened = option_map (λ part. part.patimestamp) opened
 abbrev pub is_skewed : ℤ → ℤ → Bool
 is_skewed now time = nat_lt skew (unsigned_abs (time -ℤ now))
 
--- by the decrypted time, if there is one
+-- what the decrypted time shows, if there is one
 abbrev pub judged : ℤ → Option ℤ → Outcome
 judged now None = Bad
 judged now (Some time) = if is_skewed now time then Skewed else Good

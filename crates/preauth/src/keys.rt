@@ -9,8 +9,8 @@ use std::alloc::{AllocError, Global};
 
 /// Returns the key whose encryption type has this number, if there is one.
 pub fn key_numbered(keys: &KeyList, number: i32) -> Option<&Key>
-    // Promise: the key of a type with a number, of the first of some types, and of the version that is named, else the
-    // current one.
+    // Promise: a key is found by the number of its encryption type, for the first of several types that has one, and in
+    // the version that is named, or else in the current one.
     ensures { option_copied result ≡ key_numbered keys.now number }
 {
     keys.keys()
@@ -20,7 +20,7 @@ pub fn key_numbered(keys: &KeyList, number: i32) -> Option<&Key>
 
 /// Returns the key of this encryption type in the version with this number; without a number, in the current version.
 pub fn key_by(versions: &Versions, etype: i32, kvno: Option<UInt32>) -> Option<&Key>
-    // Promise, as key_numbered: the key of a ..
+    // Promise, as key_numbered: a key is found ..
     ensures { option_copied result ≡ key_by versions.now etype kvno }
 {
     match kvno {
@@ -42,7 +42,7 @@ fn numbered(versions: &Versions, kvno: UInt32) -> Option<&KeyVersion>
 
 /// Returns the key of the first of these encryption types for which there is one.
 pub fn first_key<'k>(keys: &'k KeyList, types: &SeqRef<'_, i32>) -> Option<&'k Key>
-    // Promise, as key_numbered: the key of a ..
+    // Promise, as key_numbered: a key is found ..
     ensures { option_copied result ≡ first_key keys.now types.now }
 {
     for number in types.iter() {
@@ -54,13 +54,13 @@ pub fn first_key<'k>(keys: &'k KeyList, types: &SeqRef<'_, i32>) -> Option<&'k K
 }
 
 /// Returns those of these encryption types for which there is a key, in order and without repetition.
-pub fn types_of(
+pub fn usable_types(
     alloc: Global,
     keys: &KeyList,
     types: &SeqRef<'_, i32>,
 ) -> Result<Vec<i32>, AllocError>
-    // Promise (value, few): the types in a reply to a client are those asked for that it has keys of, each once, and at
-    // most four.
+    // Promise (value, few): the encryption types in a reply to a client are the requested ones for which it has keys,
+    // each once, and at most four.
     ensures value { IfOk result (λ found. found.items ≡ types_of keys.now types.now) }
     ensures few { IfOk result (λ found. length found.items ≤ 4) }
 {

@@ -8,7 +8,7 @@
 //!     Outcome::Bad => after_failure(counted, at),
 //!     Outcome::Skewed | Outcome::Absent => failures,
 //! };
-//! let types = types_of(alloc, &client.versions.current().keys, &message.body.value.etype)?;
+//! let types = usable_types(alloc, &client.versions.current().keys, &message.body.value.etype)?;
 //! let methods = method_data(alloc, salt, &types)?; // for KDC_ERR_PREAUTH_REQUIRED
 //! ```
 //!
@@ -21,7 +21,7 @@ mod lock;
 mod methods;
 mod timestamp;
 
-pub use keys::{first_key, key_by, key_numbered, types_of};
+pub use keys::{first_key, key_by, key_numbered, usable_types};
 pub use lock::{after_failure, after_success, counted_for, is_locked};
 pub use methods::{etype_info2, method_data};
-pub use timestamp::{Outcome, check_timestamp, first_of};
+pub use timestamp::{Outcome, check_timestamp, first_padata};

@@ -28,7 +28,7 @@ pub fn counted_for(failures: Failures, version: u32) -> Failures
 
 /// Checks whether a client with these failures is locked at this moment.
 pub fn is_locked(failures: Failures, limits: &Limits, at: Moment) -> bool
-    // Promise: a client is locked exactly if it failed often enough, the last time not `lock_seconds` ago.
+    // Promise: a client is locked exactly if it failed often enough, the last time less than `lock_seconds` ago.
     ensures { result ≡ is_locked failures limits.now at.sec }
 {
     limits.lock_after != 0
@@ -38,8 +38,8 @@ pub fn is_locked(failures: Failures, limits: &Limits, at: Moment) -> bool
 
 /// Returns the failures after one more for the same key version, at this moment.
 pub fn after_failure(failures: Failures, at: Moment) -> Failures
-    // Promise: a failure counts one more for its key version, up to 4294967295; a success leaves none, and when the
-    // last was.
+    // Promise: a failure adds one to the count for its key version, up to 4294967295; a success sets the count to 0,
+    // and keeps the time of the last failure.
     ensures { result ≡ after_failure failures at }
 {
     Failures {
@@ -51,7 +51,7 @@ pub fn after_failure(failures: Failures, at: Moment) -> Failures
 
 /// Returns the failures after the client has shown its key: none is counted, so they are of no key version.
 pub fn after_success(failures: Failures) -> Failures
-    // Promise, as after_failure: a failure counts one ..
+    // Promise, as after_failure: a failure adds one ..
     ensures { result ≡ after_success failures }
 {
     Failures {

@@ -34,11 +34,11 @@ pub fn check_timestamp<'p>(
     at: Moment,
     padata: Option<&SeqRef<'p, PaDataRef<'p>>>,
 ) -> Result<Outcome, AllocError>
-    // Promise: what a request proves about the client's key (`outcome`): the first PA-ENC-TIMESTAMP, under the client's
-    // current keys; the value of the first padata of a type.
+    // Promise: what a request shows about the client's key (`outcome`) is decided by its first PA-ENC-TIMESTAMP and the
+    // client's current keys; `first_padata` returns the value of the first padata of a type.
     ensures { IfOk result (λ o. o ≡ outcome client.now at.sec (option_copied padata.entry)) }
 {
-    let Some(value) = first_of(PA_ENC_TIMESTAMP, padata) else {
+    let Some(value) = first_padata(PA_ENC_TIMESTAMP, padata) else {
         return Ok(Outcome::Absent);
     };
     let keys = &client.versions.current().keys;
@@ -50,11 +50,11 @@ pub fn check_timestamp<'p>(
 }
 
 /// Returns the value of the first padata of this type.
-pub fn first_of<'p>(
+pub fn first_padata<'p>(
     number: i32,
     padata: Option<&SeqRef<'p, PaDataRef<'p>>>,
 ) -> Option<OctetsRef<'p>>
-    // Promise, as check_timestamp: what a request proves ..
+    // Promise, as check_timestamp: what a request shows ..
     ensures { result ≡ first_of number (option_copied padata.entry) }
 {
     for entry in padata?.iter() {

@@ -3,7 +3,7 @@
 //! Usage constants, which all have the same length, are folded to a block by a fast path: their copies are added as
 //! whole numbers. Their length is a constant, so the compiler knows how far each copy is rotated. In all other cases
 //! the copies are never stored: each byte is computed from the input when it is added. Indices into the copies are
-//! `u128`, since there may be more than a `usize` can count.
+//! `u128`, since they may exceed a `usize`.
 
 ghost use Rattle.std.specs.Prelude.{◌≡◌, ◌<◌, ◌≤◌, ◌+◌, ◌*◌, ◌%◌, ◌^◌, length};
 ghost use Rattle.std.specs.Int.{IsGcd};
@@ -35,7 +35,7 @@ pub fn n_fold(input: &[u8], out: &mut [u8])
 }
 
 // Returns the n-fold of a usage constant to a block, as a number. With end-around carry 2^128 counts as 1, so the
-// copies need not be cut into pieces: it rotates the total left by the bits of a copy, and adds the copy.
+// copies need not be cut into pieces. For each copy it rotates the total left by the bits of a copy, and adds the copy.
 fn fold_to_block(input: &[u8]) -> u128
     requires { length input.now ≡ 5 }
     ensures { octets_of 16 result ≡ n_fold input.now 16 }
@@ -164,7 +164,7 @@ fn octet_of_copies(input: &[u8], at: u128) -> u8
     let len = input.len();
     let turn = 13 * (at / len as u128) % (8 * len as u128);
     let place = at % len as u128;
-    // How many bits follow this byte in the input written twice, where no byte of a copy is split.
+    // The byte is taken from the input written twice, where no byte of a copy is split. This many bits follow it there.
     let behind = turn + 8 * (len as u128 - 1 - place);
     let last = 2 * len - 1 - (behind / 8) as usize;
     let pair = u16::from(input[(last - 1) % len]) * 256 + u16::from(input[last % len]);

@@ -38,7 +38,7 @@ pub type HmacSha256 = HmacKey<Sha256>;
 pub type HmacSha384 = HmacKey<Sha384>;
 
 impl<H: Hasher> HmacKey<H> {
-    /// Hashes the key.
+    /// Returns HMAC with this key. It hashes the key, once for all MACs.
     pub fn new(key: &[u8]) -> Self
         // Promise: MACs under one key, which is hashed once for all of them, are those of HMAC.
         ensures { HoldsKeyBlock H.Holds result.inner result.outer (key_block H.hash H.BLOCK_LEN key.now) }
@@ -70,7 +70,7 @@ impl<H: Hasher> HmacKey<H> {
 
 /// Returns the HMAC-SHA-1 of the concatenated parts with the key (RFC 2104): 20 bytes. Empty parts are allowed.
 pub fn hmac_sha1(key: &[u8], parts: &[&[u8]]) -> [u8; 20]
-    // Promise: HMAC, PBKDF2, n-fold and the derivation of RFC 8009 are their equations.
+    // Promise: HMAC, PBKDF2, n-fold and the key derivation of RFC 8009 return what their equations say.
     ensures { result ≡ hmac_sha1 key.now (flat_map (λ part. part.now) parts.now) }
 {
     let mut mac = [0; 20];
@@ -125,18 +125,18 @@ fn key_block<H: Hasher>(key: &[u8]) -> [u8; LONGEST_BLOCK]
     ensures { take H.BLOCK_LEN result ≡ key_block H.hash H.BLOCK_LEN key.now }
 {
     if key.len() <= H::BLOCK_LEN {
-        return block_of(key);
+        return padded_block(key);
     }
     let mut hasher = H::new();
     hasher.update(key);
     let mut digest = [0; LONGEST_BLOCK];
     let digest = &mut digest[..H::SIZE];
     hasher.finish(digest);
-    block_of(digest)
+    padded_block(digest)
 }
 
 /// Returns the bytes, padded with zeros.
-pub fn block_of(octets: &[u8]) -> [u8; LONGEST_BLOCK]
+pub fn padded_block(octets: &[u8]) -> [u8; LONGEST_BLOCK]
     requires { length octets.now ≤ LONGEST_BLOCK }
     ensures { result ≡ block_of LONGEST_BLOCK octets.now }
 {

@@ -47,7 +47,7 @@ pub fn kdf_sha256_both(
 )
     requires out { length out.old ≤ 32 }
     requires other_out { length other_out.old ≤ 32 }
-    // Promise (out, other_out): two keys of one key, which is hashed once for both, are those of two calls.
+    // Promise (out, other_out): two keys that are derived from one key, which is hashed once, are those of two calls.
     ensures out { out.new ≡ kdf_sha256 key.now label.now (length out.old) }
     ensures other_out { other_out.new ≡ kdf_sha256 key.now other_label.now (length other_out.old) }
 {
@@ -67,7 +67,7 @@ pub fn kdf_sha384_both(
 )
     requires out { length out.old ≤ 48 }
     requires other_out { length other_out.old ≤ 48 }
-    // Promise (out, other_out), as kdf_sha256_both: two keys of one ..
+    // Promise (out, other_out), as kdf_sha256_both: two keys that are ..
     ensures out { out.new ≡ kdf_sha384 key.now label.now (length out.old) }
     ensures other_out { other_out.new ≡ kdf_sha384 key.now other_label.now (length other_out.old) }
 {

@@ -6,7 +6,7 @@ ghost use Rattle.prf_kdf.specs.Hmac.{hmac_of_block, hmac};
 ghost use Rattle.prf_kdf.specs.Pbkdf2.{octets_xor, pbkdf2_block, pbkdf2, pbkdf2_sha1, pbkdf2_sha256, pbkdf2_sha384};
 
 use crate::hasher::Hasher;
-use crate::hmac::{HmacKey, LONGEST_BLOCK, block_of};
+use crate::hmac::{HmacKey, LONGEST_BLOCK, padded_block};
 use sha1::Sha1;
 use sha2::{Sha256, Sha384};
 
@@ -69,7 +69,7 @@ fn write_block<H: Hasher>(key: &HmacKey<H>, salt: &[u8], count: u32, index: u32,
     let mut last = [0; LONGEST_BLOCK];
     let last = &mut last[..H::SIZE];
     key.write_mac(&[salt, &index.to_be_bytes()], last);
-    let mut total = block_of(last);
+    let mut total = padded_block(last);
     let total = &mut total[..H::SIZE];
     for _ in 1..count {
         iterate_once(key, last, total);
@@ -85,7 +85,7 @@ fn iterate_once<H: Hasher>(key: &HmacKey<H>, last: &mut [u8], total: &mut [u8])
         → last.new ≡ hmac_of_block H.hash block last.old }
     ensures total { total.new ≡ octets_xor total.old last.new }
 {
-    let before = block_of(last);
+    let before = padded_block(last);
     key.write_mac(&[&before[..H::SIZE]], last);
     xor_into(total, last);
 }

@@ -14,7 +14,8 @@ use Rattle.principal_rows.specs.declared.row.KeyVersion.{KeyVersion}
 
 -- the key with a version and a type: of several the last one in the file
 abbrev pub key_at : List KeytabEntry → Components → ℕ → Etype → Option ProtocolKey
-key_at entries service number etype = option_map (λ e. e.key) (newest (passes service (Some etype) (Some number)) entries)
+key_at entries service number etype = option_map (λ e. e.key)
+    (newest (passes service (Some etype) (Some number)) entries)
 
 -- the keys with a version and these types, in the order of the types
 abbrev pub keys_at : List KeytabEntry → Components → List Etype → ℕ → List ProtocolKey
@@ -66,7 +67,8 @@ AreTaken entries service etypes versions =
     All (λ v. v.keys ≡ keys_at entries service etypes v.number) versions × IsComplete entries service etypes versions
 
 -- each version of a principal with its keys in the keytab, the greatest number first
-pub record AreVersionsOf (entries : List KeytabEntry) (service : Components) (etypes : List Etype) (versions : List KeyVersion) : Type 0 where
+pub record AreVersionsOf (entries : List KeytabEntry) (service : Components) (etypes : List Etype)
+    (versions : List KeyVersion) : Type 0 where
   pub fit : IsVersions versions
   pub taken : AreTaken entries service etypes versions
 
@@ -74,7 +76,8 @@ pub record AreVersionsOf (entries : List KeytabEntry) (service : Components) (et
 
 -- no version of the principal has a key with one of these types
 abbrev pub HasNoKeys : List KeytabEntry → Components → List Etype → Type 0
-HasNoKeys entries service etypes = All (λ e. IsTrue (is_of service e) → keys_at entries service etypes e.version ≡ []) entries
+HasNoKeys entries service etypes =
+    All (λ e. IsTrue (is_of service e) → keys_at entries service etypes e.version ≡ []) entries
 
 -- version 0 has such a key; no row can have that version
 abbrev pub HasKeyOfZero : List KeytabEntry → Components → List Etype → Type 0

@@ -17,8 +17,8 @@ pub fn password_keys(
     pass: &[u8],
     salt: &[u8],
 ) -> Result<KeyList, AllocError>
-    // Promise: a password's keys are string-to-key's, with the types' default counts, for the types asked for, in their
-    // order; else for 18, 17, 20 and 19.
+    // Promise: the keys from a password are those of string-to-key with the default iteration counts, for the requested
+    // encryption types in their order; the default types are 18, 17, 20 and 19.
     ensures { IfOk result (λ keys. keys ≡ map (password_key pass.now salt.now) etypes.now) }
 {
     let mut keys = Vec::new(alloc);
@@ -37,7 +37,7 @@ fn password_key(alloc: Global, etype: Etype, pass: &[u8], salt: &[u8]) -> Result
 /// Makes random keys for these encryption types: at least one, and none twice. ChaCha20 with this seed yields 32 bytes
 /// for each key in turn, and the first of them are the key.
 pub fn random_keys(alloc: Global, etypes: &[Etype], seed: [u8; 32]) -> Result<KeyList, AllocError>
-    // Promise: random keys are each the first of 32 bytes that ChaCha20 gives under the seed, one after the other.
+    // Promise: each random key is the first bytes of the next 32 that ChaCha20 yields with the seed.
     ensures { IfOk result (λ keys. keys ≡ drawn_keys (seeded seed) etypes.now) }
 {
     let mut rng = ChaCha20Rng::from_seed(seed);

@@ -5,18 +5,18 @@ ghost use Rattle.principal_rows.specs.KeyList.{has_type_twice};
 ghost use Rattle.principal_keys.specs.Keytabs.{AreOrdered, AreTaken, AreVersionsOf, HasKeyOfZero, HasNoKeys, IsDoubled};
 ghost use Rattle.principal_keys.specs.Keytabs.{greater, is_below, key_at, keys_at, next_number, with_version};
 
-use cred_files::{CredFault, Keytab, KeytabEntry};
+use cred_files::{CredError, Keytab, KeytabEntry};
 use enctypes::{Etype, Key};
 use krb_fields::Name;
-use principal_rows::{KeyList, KeyListFault, KeyVersion, Versions};
+use principal_rows::{KeyList, KeyListError, KeyVersion, Versions};
 use std::alloc::{AllocError, Global};
 
-/// Returns what is wrong with a keytab, to stand after the name of its file.
-pub fn keytab_text(fault: CredFault) -> &'static str {
+/// Returns what is wrong with a keytab, for a message after the name of its file.
+pub fn keytab_text(fault: CredError) -> &'static str {
     match fault {
-        CredFault::BadMagic => "this is not a keytab of version 2",
-        CredFault::Truncated => "the keytab ends too early",
-        CredFault::BadEntry => "an entry is invalid, or too long for a keytab",
+        CredError::BadMagic => "this is not a keytab of version 2",
+        CredError::Truncated => "the keytab ends too early",
+        CredError::BadEntry => "an entry is invalid, or too long for a keytab",
         // the others concern caches
         fault => fault.text(),
     }
@@ -33,31 +33,31 @@ pub struct KeytabKeys<'a> {
     pub who: &'a Name,
 }
 
-/// Returns the versions of a principal that have keys with these types in the keytab, the greatest number first.
-/// Fails with [`KeyListFault::Empty`] if there is none, or one has the number 0, which no row can have; with
-/// [`KeyListFault::Doubled`] if these types have one twice and a version has a key of it.
+/// Returns the versions of a principal that have keys with these types in the keytab, the greatest number first. Fails
+/// with [`KeyListError::Empty`] if there is none, or one has the number 0, which no row can have. Fails with
+/// [`KeyListError::Doubled`] if `etypes` has a type twice and a version has a key of that type.
 pub fn keytab_versions(
     alloc: Global,
     of: &KeytabKeys<'_>,
     etypes: &[Etype],
-) -> Result<Versions, KeyListFault>
+) -> Result<Versions, KeyListError>
     // Promise, as import of kadm_changes: `import` adds a principal ..
     // Promise, as import of kadm_changes: an imported principal has ..
     ensures versions { IfOk result (λ versions. AreVersionsOf of.now.keytab.now
         (of.now.realm.now ∷ of.now.who.now.components) etypes.now versions) }
     // Promise: a keytab's versions are refused as empty only if no version of the principal has a key of these types,
     // or version 0 has one.
-    ensures empty { result ≡ Err KeyListFault.Empty
+    ensures empty { result ≡ Err KeyListError.Empty
         → HasNoKeys of.now.keytab.now (of.now.realm.now ∷ of.now.who.now.components) etypes.now
         ⊎ HasKeyOfZero of.now.keytab.now (of.now.realm.now ∷ of.now.who.now.components) etypes.now }
     // Promise: a keytab's versions are refused as doubled only if a version has two keys of a type.
-    ensures doubled { result ≡ Err KeyListFault.Doubled
+    ensures doubled { result ≡ Err KeyListError.Doubled
         → IsDoubled of.now.keytab.now (of.now.realm.now ∷ of.now.who.now.components) etypes.now }
 {
     let versions = taken_versions(alloc, of, etypes)?;
     match Versions::new(versions) {
         Some(versions) => Ok(versions),
-        None => Err(KeyListFault::Empty),
+        None => Err(KeyListError::Empty),
     }
 }
 
@@ -66,12 +66,12 @@ fn taken_versions(
     alloc: Global,
     of: &KeytabKeys<'_>,
     etypes: &[Etype],
-) -> Result<Vec<KeyVersion>, KeyListFault>
+) -> Result<Vec<KeyVersion>, KeyListError>
     ensures taken { IfOk result (λ versions. AreTaken of.now.keytab.now
         (of.now.realm.now ∷ of.now.who.now.components) etypes.now versions.items) }
     ensures ordered { IfOk result (λ versions. AreOrdered versions.items) }
-    ensures not_empty { ¬ (result ≡ Err KeyListFault.Empty) }
-    ensures doubled { result ≡ Err KeyListFault.Doubled
+    ensures not_empty { ¬ (result ≡ Err KeyListError.Empty) }
+    ensures doubled { result ≡ Err KeyListError.Doubled
         → IsDoubled of.now.keytab.now (of.now.realm.now ∷ of.now.who.now.components) etypes.now }
 {
     let mut versions = Vec::new(alloc);
@@ -91,10 +91,10 @@ fn push_version(
     versions: &mut Vec<KeyVersion>,
     number: u32,
     keys: &[Key],
-) -> Result<(), KeyListFault>
+) -> Result<(), KeyListError>
     ensures pushed { OnOk result (versions.new.items ≡ with_version number keys.now versions.old.items) }
-    ensures not_empty { ¬ (result ≡ Err KeyListFault.Empty) }
-    ensures doubled { result ≡ Err KeyListFault.Doubled → IsTrue (has_type_twice keys.now) }
+    ensures not_empty { ¬ (result ≡ Err KeyListError.Empty) }
+    ensures doubled { result ≡ Err KeyListError.Doubled → IsTrue (has_type_twice keys.now) }
 {
     if keys.is_empty() {
         return Ok(());
@@ -102,7 +102,7 @@ fn push_version(
     let keys = KeyList::new(alloc, keys)?;
     match versions.push(KeyVersion { number, keys }) {
         Ok(()) => Ok(()),
-        Err(_) => Err(KeyListFault::Memory),
+        Err(_) => Err(KeyListError::Memory),
     }
 }
 

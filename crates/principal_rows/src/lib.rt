@@ -22,7 +22,7 @@ mod name_map;
 mod policy;
 mod row;
 
-pub use key_list::{KeyList, KeyListFault};
+pub use key_list::{KeyList, KeyListError};
 pub use limits::Limits;
 pub use name_map::{Entry, NameKey, NameMap, Upkeep, ValueChange, ValueTest};
 pub use policy::Policy;

@@ -60,7 +60,7 @@ pub trait ValueChange<V> {
         ensures { value.new ≡ changed self.now value.old };
 }
 
-/// Work on a value that contracts don't see, as freeing memory.
+/// Work on a value that contracts don't see, such as freeing memory.
 pub trait Upkeep<V> {
     /// Does the work on the value.
     fn keep_up(&self, value: &mut V)
@@ -100,8 +100,8 @@ impl<V> Model for NameMap<V> {
 impl<V: Drop> NameMap<V> {
     /// Returns an empty map.
     pub fn new(alloc: Global) -> NameMap<V>
-        // Promise: a map from names is a finite map by components, owned or borrowed: looked up and emptied as such;
-        // its places rise in the order of names.
+        // Promise: a map from names is a finite map by their components, owned or borrowed; its entries are in
+        // ascending order of the names.
         ensures { result ≡ map.empty }
     {
         NameMap {
@@ -207,7 +207,7 @@ impl<V: Drop> NameMap<V> {
 
     /// Keeps the names whose values pass the test and drops the others, in one pass.
     pub fn retain<P: ValueTest<V>>(&mut self, test: &P)
-        // Promise, as NameMap::change_values: each value is changed ..
+        // Promise, as NameMap::change_values: `change_values` changes each value ..
         ensures { self.new ≡ retain_values self.old (P.passes test.now) }
     {
         self.entries.retain(|entry| test.passes(&entry.value));
@@ -215,7 +215,8 @@ impl<V: Drop> NameMap<V> {
 
     /// Changes each value in place, in one pass. It doesn't allocate.
     pub fn change_values<C: ValueChange<V>>(&mut self, change: &C)
-        // Promise: each value is changed where it is; a map keeps the names whose values pass a test.
+        // Promise: `change_values` changes each value in place, and `retain` keeps the names whose values pass the
+        // test.
         ensures { self.new ≡ change_values self.old (C.changed change.now) }
     {
         for entry in self.entries.iter_mut() {

@@ -74,8 +74,8 @@ impl Versions {
 
     /// Returns these versions if they are valid: at least one, with positive, descending numbers.
     pub fn new(versions: Vec<KeyVersion>) -> Option<Versions>
-        // Promise (some, versions): versions are made exactly of one or more whose numbers are from 1 to 4294967295 and
-        // fall.
+        // Promise (some, versions): versions are made exactly from one or more with descending numbers from 1 to
+        // 4294967295.
         ensures some { is_some result ≡ are_versions versions.items }
         ensures versions { IfSome result (λ made. made ≡ versions.items) }
         // Promise, as Versions::as_slice: every row has such ..

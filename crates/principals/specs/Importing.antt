@@ -14,6 +14,6 @@ abbrev pub imported : Principals → Components → List KeyVersion → Principa
 imported p who versions =
     record p { rows = insert p.rows who (record { versions = versions; policy = default_policy }) }
 
--- why it is refused, if it is: for the reasons for which adding a principal is
+-- why it is refused, if it is: for the same reasons as adding a principal
 abbrev pub import_refusal : Principals → Components → Option ChangeFault
 import_refusal p who = first_holding (add_rules p who)

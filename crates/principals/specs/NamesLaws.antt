@@ -6,7 +6,7 @@ use Rattle.krb_fields.specs.Name.{Components, name_cmp, name_total, same_name}
 use Rattle.krb_fields.specs.NameLimits.{IsWithinLimits}
 use Rattle.principal_rows.specs.declared.row.Row.{Row}
 
--- every name of the map may be a row's
+-- every name of the map is within the limits
 unfoldable pub AllNamesFit : FinMap name_cmp Row → Type 0
 AllNamesFit rows = (name : Components) → IsTrue (contains_key rows name) → IsWithinLimits name
 

@@ -32,7 +32,7 @@ pub enum RowChange {
     SetPolicy(Policy),
 }
 
-/// Why a change is refused.
+/// The reason why a change is refused.
 #[derive(Debug, Clone, Copy, PartialEq, Eq)]
 pub enum ChangeFault {
     /// The name does not have 1 to 16 components, or one of them does not have 1 to 255 bytes.

@@ -13,7 +13,7 @@ ghost use Rattle.krb_fields.specs.Granting.{tgs_principal};
 ghost use Rattle.principals.specs.Change.{refusal, add_rules, changed, row_changed, row_refusal};
 
 use crate::granting::TgsOf;
-use crate::split_name::row_of;
+use crate::split_name::find_row;
 use crate::{Change, ChangeFault, RowChange};
 use krb_elements::KerberosString;
 use krb_fields::{Name, NameFault, NameRef, is_component, tgs_name};
@@ -46,8 +46,8 @@ impl Database {
     ///
     /// Fails with `BadName` if the realm does not have 1 to 255 bytes.
     pub fn first(alloc: Global, realm: &[u8], krbtgt_keys: KeyList) -> Result<Database, NameFault>
-        // Promise (first, bad_name): a new realm's database has its ticket-granting service `krbtgt/REALM` alone; it is
-        // refused exactly where the realm has not 1 to 255 bytes.
+        // Promise (first, bad_name): a new realm's database has only its ticket-granting service `krbtgt/REALM`; the
+        // realm is refused exactly if it doesn't have 1 to 255 bytes.
         ensures first { IfOk result (λ database. database ≡ first_database realm.now krbtgt_keys) }
         ensures bad_name { (result ≡ Err NameFault.BadName) ↔ (¬ IsComponent realm.now) }
     {
@@ -68,7 +68,7 @@ impl Database {
         requires realm { IsComponent realm }
         requires names { (name : Components) → IsTrue (map.contains_key rows name) → IsWithinLimits name }
         requires rows { AreRows rows }
-        // Promise: rows within the limits are a database exactly where `krbtgt/REALM` is among them.
+        // Promise: rows within the limits are a database exactly if `krbtgt/REALM` is among them.
         ensures { result ≡ (if map.contains_key rows (tgs_principal realm)
             then Some (record { realm = realm; rows = rows }) else None) }
     {
@@ -121,7 +121,7 @@ impl Database {
         // Promise, as Database::realm: every database has a ..
         ensures valid { IfSome result (λ row. IsRow row.now) }
     {
-        row_of(&self.rows, name_ref)
+        find_row(&self.rows, name_ref)
     }
 
     /// Returns the row of the ticket-granting service, without building its name.
@@ -138,13 +138,13 @@ impl Database {
 
     /// Returns how many principals there are.
     pub fn len(&self) -> usize
-        // Promise: each row has one place, in rising order.
+        // Promise: each row has one index, in ascending order of the names.
         ensures { result ≡ map.len self.now.rows }
     {
         self.rows.len()
     }
 
-    /// Returns the name and row at an index, for each index below `len`. Names are in rising order.
+    /// Returns the name and row at an index, for each index below `len`. Names are in ascending order.
     pub fn at(&self, place: usize) -> Option<(&Name, &Row)>
         // Promise, as Database::len: each row has one ..
         ensures { option_map (λ e. (e.0.now.components, e.1.now)) result ≡ slice_get (map.entries self.now.rows) place }
@@ -152,7 +152,7 @@ impl Database {
         self.rows.at(place)
     }
 
-    /// Returns the names with their rows, in rising order.
+    /// Returns the names with their rows, in ascending order.
     pub fn entries(&self) -> &[Entry<Row>]
         // Promise, as Database::len: each row has one ..
         ensures { pairs result.now ≡ map.entries self.now.rows }
@@ -162,8 +162,8 @@ impl Database {
 
     /// Makes the change. A refused change leaves the database unchanged.
     pub fn apply(&mut self, alloc: Global, change: &Change) -> Result<(), ChangeFault>
-        // Promise (changed, refused, otherwise, err): a change is made on the row that it names, or it is refused by
-        // the first error that holds, and the database is as it was.
+        // Promise (changed, refused, otherwise, err): a change changes the row that it names, or it is refused for the
+        // first reason that holds, and the database stays as it was.
         ensures changed { OnOk result (self.new ≡ changed self.old change.now) }
         ensures refused { IfSome (refusal self.old change.now) (λ fault. result ≡ Err fault) }
         ensures otherwise { IfNone (refusal self.old change.now) (IsOkUnless result ChangeFault.Memory) }

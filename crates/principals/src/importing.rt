@@ -20,10 +20,11 @@ impl Database {
         name: &Name,
         versions: Versions,
     ) -> Result<(), ChangeFault>
-        // Promise (imported, refused, otherwise, err): a principal that is not there is added with its versions of keys
-        // and the default policy, or refused by the first error that holds.
+        // Promise (imported, refused, otherwise, err): an imported principal is added with its versions of keys and the
+        // default policy, or refused for the first reason that holds.
         ensures imported { OnOk result (self.new ≡ imported self.old name.now.components versions) }
-        ensures refused { IfSome (first_holding (add_rules self.old name.now.components)) (λ fault. result ≡ Err fault) }
+        ensures refused { IfSome (first_holding (add_rules self.old name.now.components)) (λ fault. result
+            ≡ Err fault) }
         ensures otherwise { IfNone (first_holding (add_rules self.old name.now.components))
             (IsOkUnless result ChangeFault.Memory) }
         ensures err { OnErr result (self.new ≡ self.old) }
@@ -31,17 +32,17 @@ impl Database {
         if let Some(fault) = self.add_refusal(name) {
             return Err(fault);
         }
-        self.rows.put(name.copy(alloc)?, row_of(versions))?;
+        self.rows.put(name.copy(alloc)?, default_row(versions))?;
         Ok(())
     }
 }
 
 /// Returns the row of a principal with these versions, and the default policy.
-fn row_of(versions: Versions) -> Row
+fn default_row(versions: Versions) -> Row
     ensures row { result ≡ record { versions = versions; policy = default_policy } }
     ensures valid { IsRow result }
 {
-    // looking at a list of versions makes the properties of every list known
+    // looking at the list makes the invariant of versions known to the proof
     let _versions = versions.as_slice();
     Row {
         versions,

@@ -9,7 +9,7 @@ use principal_rows::{NameKey, NameMap, Row};
 use std::cmp::Ordering;
 
 /// Returns the row of a borrowed name.
-pub fn row_of<'r>(rows: &'r NameMap<Row>, name: &NameRef<'_>) -> Option<&'r Row>
+pub fn find_row<'r>(rows: &'r NameMap<Row>, name: &NameRef<'_>) -> Option<&'r Row>
     ensures { option_copied result ≡ map.get rows.now name.now.components }
 {
     let mut others = name.components.iter();

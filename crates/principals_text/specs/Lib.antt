@@ -2,7 +2,7 @@ pub mod Ahead
 pub mod Format
 pub mod NameOf
 pub mod ReadBack
-pub mod ReadFault
+pub mod ReadError
 pub mod RefusalWord
 pub mod RefusedBytes
 pub mod RowValue

@@ -26,7 +26,7 @@ member_tokens name d = Token.key name ∷ data_tokens d
 abbrev pub setting_tokens : Setting → List Token
 setting_tokens s = member_tokens (setting_name s) (setting_value s)
 
--- those of several settings, one after another
+-- the tokens of several settings, one after another
 abbrev pub settings_tokens : List Setting → List Token
 settings_tokens = flat_map setting_tokens
 

@@ -7,8 +7,9 @@ use Rattle.serde_json.specs.Read.{read}
 use Rattle.krb_fields.specs.Name.{Components, name_cmp}
 use Rattle.principal_rows.specs.declared.row.Row.{Row}
 use Rattle.principals_text.specs.declared.format.Format.{Format}
-use Rattle.principals_text.specs.declared.read_fault.ReadFault.{ReadFault}
-use Rattle.principals_text.specs.declared.read_fault.ReadFault.TheVariants.{NotJson, BadVersion, BadRow, NoTicketGranter}
+use Rattle.principals_text.specs.declared.read_fault.ReadError.{ReadError}
+use Rattle.principals_text.specs.declared.read_fault.ReadError.TheVariants.{NotJson, BadVersion, BadRow}
+use Rattle.principals_text.specs.declared.read_fault.ReadError.TheVariants.{NoTicketGranter}
 use Rattle.principals.specs.Database.{Principals}
 use Rattle.krb_fields.specs.Granting.{tgs_principal}
 use Rattle.principals_text.specs.Format.{format_of}
@@ -39,25 +40,25 @@ principals_of format d = if not (member_count d == 3) then None else do
   rows ← rows_of format d
   Some (record { realm = realm; rows = rows })
 
-abbrev pub granting : Option Principals → Result Principals ReadFault
+abbrev pub granting : Option Principals → Result Principals ReadError
 granting None = Err BadRow
 granting (Some p) = if contains_key p.rows (tgs_principal p.realm) then Ok p else Err NoTicketGranter
 
 abbrev pub format_value : Data → Option Format
 format_value d = get (codes "version") d >>= unsigned_of >>= format_of
 
-abbrev pub in_format : Data → Option Format → Result Principals ReadFault
+abbrev pub in_format : Data → Option Format → Result Principals ReadError
 in_format d None = Err BadVersion
 in_format d (Some format) = granting (principals_of format d)
 
-abbrev pub database : Data → Result Principals ReadFault
+abbrev pub database : Data → Result Principals ReadError
 database (object ms) = in_format (object ms) (format_value (object ms))
 database _ = Err NotJson
 
-abbrev pub database_or : Option Data → Result Principals ReadFault
+abbrev pub database_or : Option Data → Result Principals ReadError
 database_or None = Err NotJson
 database_or (Some d) = database d
 
 -- the database of a text, from the value that `serde_json` reads
-abbrev pub text_database : List ℕ → Result Principals ReadFault
+abbrev pub text_database : List ℕ → Result Principals ReadError
 text_database text = database_or (read text)

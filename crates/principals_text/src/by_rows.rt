@@ -33,13 +33,13 @@ struct Parts {
     entries: Vec<Entry<Row>>,
 }
 
-/// Returns the database of a text in the newest version, if its members, and those of each row, are in the order in
+/// Returns the database of a text in the newest version. Its members, and those of each row, must be in the order in
 /// which they are written, with numbers and keys in the same digits. `None` says nothing about a text: it may have
 /// another form, or denote no database, or memory may have run out.
 pub(crate) fn read_by_rows(alloc: Global, text: &str) -> Option<Database>
     ensures { IfSome result (λ database. text_database text.now ≡ Ok database) }
 {
-    let Parts { realm, entries } = parts_of(alloc, text)?;
+    let Parts { realm, entries } = split_parts(alloc, text)?;
     let mut entries = entries;
     entries.reverse();
     let Ok(rows) = NameMap::from_entries(entries) else {
@@ -49,7 +49,7 @@ pub(crate) fn read_by_rows(alloc: Global, text: &str) -> Option<Database>
 }
 
 /// Reads the parts of a text.
-fn parts_of(alloc: Global, text: &str) -> Option<Parts>
+fn split_parts(alloc: Global, text: &str) -> Option<Parts>
     ensures parts { IfSome result (λ parts. HoldsParts (tokens text.now) parts.realm parts.entries.items) }
     ensures realm { IfSome result (λ parts. IsComponent parts.realm) }
     ensures rows { IfSome result (λ parts. All (λ entry. IsRow entry.value) parts.entries.items) }

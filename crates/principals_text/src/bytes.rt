@@ -4,54 +4,54 @@ ghost use Rattle.principals_text.specs.RefusedBytes.{RefusesBytes};
 ghost use Rattle.principals_text.specs.Value.{text_database};
 
 use crate::places::fault_place;
-use crate::read_fault::ReadFault;
+use crate::read_fault::ReadError;
 use crate::text::read;
 use principals::Database;
 use std::alloc::{AllocError, Global};
 use std::{fmt, str};
 
-/// Why the bytes of a file can't be read as a database, and where in them.
+/// The reason why the bytes of a file can't be read as a database, and its place in them.
 #[derive(Debug, Drop)]
-pub struct DatabaseFault {
-    /// The line and column where they are no JSON, the member of the database, or the principal and the member of its
-    /// row, if that was found. It never contains a key.
+pub struct DatabaseError {
+    /// Where the bytes are wrong, if that was found: a line and column if they are not JSON, the member of the
+    /// database, or the principal and the member of its row. It never contains a key.
     pub place: Option<String>,
     /// What is wrong.
-    pub cause: ReadFault,
+    pub cause: ReadError,
 }
 
 /// Prints the cause alone.
-impl fmt::Display for DatabaseFault {
+impl fmt::Display for DatabaseError {
     fn fmt<W: fmt::Write>(&self, f: &mut fmt::Formatter<W>) -> fmt::Result {
         f.write_str(self.cause.text())
     }
 }
 
-/// Reads the bytes of a file as a database. Bytes that are not UTF-8 are no JSON.
-pub fn read_bytes(alloc: Global, octets: &[u8]) -> Result<Database, DatabaseFault>
-    // Promise (ok, fault): a database that is taken is the one that the file's bytes spell, and one that is refused is
-    // refused by its first error, or as no UTF-8, unless memory runs out.
+/// Reads the bytes of a file as a database. Bytes that are not UTF-8 fail with `NotJson`.
+pub fn read_bytes(alloc: Global, octets: &[u8]) -> Result<Database, DatabaseError>
+    // Promise (ok, fault): a database that is read is the one that the file's bytes spell; bytes are refused for their
+    // first error, or because they are not UTF-8, unless memory runs out.
     ensures ok { IfOk result (λ database. text_database octets.now ≡ Ok database) }
     ensures fault { IfErr result (λ fault. RefusesBytes octets.now fault.cause) }
 {
     let Ok(text) = str::from_utf8(octets) else {
-        return Err(DatabaseFault {
+        return Err(DatabaseError {
             place: None,
-            cause: ReadFault::NotJson,
+            cause: ReadError::NotJson,
         });
     };
     match read(alloc, text) {
         Ok(database) => Ok(database),
-        Err(cause) => Err(DatabaseFault {
-            place: place_of(alloc, text, cause),
+        Err(cause) => Err(DatabaseError {
+            place: find_place(alloc, text, cause),
             cause,
         }),
     }
 }
 
 /// Returns where a refused text is wrong, if that can be found.
-fn place_of(alloc: Global, text: &str, cause: ReadFault) -> Option<String> {
-    if !matches!(cause, ReadFault::NotJson | ReadFault::BadRow) {
+fn find_place(alloc: Global, text: &str, cause: ReadError) -> Option<String> {
+    if !matches!(cause, ReadError::NotJson | ReadError::BadRow) {
         return None;
     }
     match fault_place(alloc, text) {

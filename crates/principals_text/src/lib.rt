@@ -30,6 +30,6 @@ mod row_tokens;
 mod row_value;
 mod text;
 
-pub use bytes::{DatabaseFault, read_bytes};
-pub use read_fault::ReadFault;
+pub use bytes::{DatabaseError, read_bytes};
+pub use read_fault::ReadError;
 pub use text::{LONGEST_TEXT, read, write};

@@ -1,6 +1,6 @@
 //! Finds where a text is wrong that denotes no database, for an administrator.
 use crate::format::Format;
-use crate::row_fault::RowFault;
+use crate::row_fault::RowError;
 use crate::row_value::{member_count, read_row, read_setting};
 use crate::text::{read_format, read_name, read_realm};
 use principal_rows::Policy;
@@ -38,12 +38,12 @@ fn place_in(alloc: Global, value: &Value) -> Result<String, AllocError> {
     }
 }
 
-/// Checks whether a part could not be read for what it is.
-fn is_wrong<T>(read: &Result<T, RowFault>) -> Result<bool, AllocError> {
+/// Checks whether reading failed because the part is wrong. Fails if memory ran out.
+fn is_wrong<T>(read: &Result<T, RowError>) -> Result<bool, AllocError> {
     match read {
         Ok(_) => Ok(false),
-        Err(RowFault::BadRow) => Ok(true),
-        Err(RowFault::Memory) => Err(AllocError),
+        Err(RowError::BadRow) => Ok(true),
+        Err(RowError::Memory) => Err(AllocError),
     }
 }
 

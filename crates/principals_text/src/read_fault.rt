@@ -2,14 +2,14 @@
 ghost use Rattle.std.specs.Prelude.{◌≡◌, option_map};
 ghost use Rattle.principals_text.specs.RefusalWord.{read_refusal};
 
-use crate::row_fault::RowFault;
+use crate::row_fault::RowError;
 use std::alloc::AllocError;
 use std::error::Error;
 use std::fmt;
 
-/// Why a text can't be read as a database.
+/// The reason why a text can't be read as a database.
 #[derive(Debug, Clone, Copy, PartialEq, Eq)]
-pub enum ReadFault {
+pub enum ReadError {
     /// The text is not a JSON object.
     NotJson,
     /// The object has no version that can be read.
@@ -22,62 +22,62 @@ pub enum ReadFault {
     Memory,
 }
 
-impl ReadFault {
+impl ReadError {
     /// Returns the word that commands print if a text is refused. Out of memory has none: it refuses nothing.
     pub fn refusal(self) -> Option<&'static str>
         // Promise: each error has its word.
         ensures { option_map (λ word. word.now) result ≡ read_refusal self }
     {
         match self {
-            ReadFault::NotJson => Some("NotJson"),
-            ReadFault::BadVersion => Some("BadVersion"),
-            ReadFault::BadRow => Some("BadRow"),
-            ReadFault::NoTicketGranter => Some("NoTicketGranter"),
-            ReadFault::Memory => None,
+            ReadError::NotJson => Some("NotJson"),
+            ReadError::BadVersion => Some("BadVersion"),
+            ReadError::BadRow => Some("BadRow"),
+            ReadError::NoTicketGranter => Some("NoTicketGranter"),
+            ReadError::Memory => None,
         }
     }
 
-    /// Returns what is wrong with the text, to stand after the name of its file.
+    /// Returns what is wrong with the text, for a message after the name of its file.
     pub fn text(self) -> &'static str {
         match self {
-            ReadFault::NotJson => "this is not a database: its text is not a JSON object",
-            ReadFault::BadVersion => "this is not a database of a version that this program reads",
-            ReadFault::BadRow => "its realm or one of its rows is invalid",
-            ReadFault::NoTicketGranter => "it has no row for krbtgt/REALM",
-            ReadFault::Memory => "out of memory",
+            ReadError::NotJson => "this is not a database: its text is not a JSON object",
+            ReadError::BadVersion => "this is not a database of a version that this program reads",
+            ReadError::BadRow => "its realm or one of its rows is invalid",
+            ReadError::NoTicketGranter => "it has no row for krbtgt/REALM",
+            ReadError::Memory => "out of memory",
         }
     }
 }
 
-impl fmt::Display for ReadFault {
+impl fmt::Display for ReadError {
     fn fmt<W: fmt::Write>(&self, f: &mut fmt::Formatter<W>) -> fmt::Result {
         f.write_str(self.text())
     }
 }
 
-impl Error for ReadFault {}
+impl Error for ReadError {}
 
-impl From<AllocError> for ReadFault {
+impl From<AllocError> for ReadError {
     ghost use Rattle.std.specs.Prelude.{◌≡◌};
-    ghost use Rattle.principals_text.specs.declared.read_fault.ReadFault.{ReadFault};
+    ghost use Rattle.principals_text.specs.declared.read_fault.ReadError.{ReadError};
 
-    ghost from_gives = { λ _ fault. fault ≡ ReadFault.Memory };
+    ghost from_gives = { λ _ fault. fault ≡ ReadError.Memory };
 
-    fn from(_: AllocError) -> ReadFault {
-        ReadFault::Memory
+    fn from(_: AllocError) -> ReadError {
+        ReadError::Memory
     }
 }
 
-impl From<RowFault> for ReadFault {
+impl From<RowError> for ReadError {
     ghost use Rattle.std.specs.Prelude.{◌≡◌};
-    ghost use Rattle.principals_text.specs.ReadFault.{read_fault};
+    ghost use Rattle.principals_text.specs.ReadError.{read_fault};
 
     ghost from_gives = { λ row fault. fault ≡ read_fault row };
 
-    fn from(fault: RowFault) -> ReadFault {
+    fn from(fault: RowError) -> ReadError {
         match fault {
-            RowFault::BadRow => ReadFault::BadRow,
-            RowFault::Memory => ReadFault::Memory,
+            RowError::BadRow => ReadError::BadRow,
+            RowError::Memory => ReadError::Memory,
         }
     }
 }

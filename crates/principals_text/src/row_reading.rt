@@ -60,7 +60,7 @@ fn take_flag(reader: &mut Reader<'_>, name: &str) -> Option<bool>
 }
 
 /// Returns the number with these digits.
-fn digits_of(text: &str) -> Option<u64>
+fn parse_digits(text: &str) -> Option<u64>
     ensures { IfSome result (λ value. text.now ≡ decimal value) }
 {
     let value: u64 = text.parse().ok()?;
@@ -73,14 +73,14 @@ fn digits_of(text: &str) -> Option<u64>
 }
 
 /// Returns the second with these digits.
-fn second_of(text: &str) -> Option<Second>
+fn parse_second(text: &str) -> Option<Second>
     ensures { IfSome result (λ second. text.now ≡ number_text (of_integer second)) }
 {
-    Second::new(i64::try_from(digits_of(text)?).ok()?)
+    Second::new(i64::try_from(parse_digits(text)?).ok()?)
 }
 
 /// Returns the key with this type and these hexadecimal digits.
-fn key_of(etype: Etype, text: &str) -> Option<Key>
+fn parse_key(etype: Etype, text: &str) -> Option<Key>
     ensures octets { IfSome result (λ key. text.now ≡ encode_lower key.bytes) }
     ensures etype { IfSome result (λ key. key.etype ≡ etype) }
 {
@@ -113,7 +113,7 @@ fn take_number(reader: &mut Reader<'_>, name: &str) -> Option<u32>
         return None;
     }
     match reader.next() {
-        Some(Token::Number(text)) => u32::try_from(digits_of(text)?).ok(),
+        Some(Token::Number(text)) => u32::try_from(parse_digits(text)?).ok(),
         _ => None,
     }
 }
@@ -127,7 +127,7 @@ fn take_time(reader: &mut Reader<'_>, name: &str) -> Option<Option<Second>>
     }
     match reader.next() {
         Some(Token::Null) => Some(None),
-        Some(Token::Number(text)) => Some(Some(second_of(text)?)),
+        Some(Token::Number(text)) => Some(Some(parse_second(text)?)),
         _ => None,
     }
 }
@@ -154,7 +154,7 @@ fn take_key(reader: &mut Reader<'_>) -> Option<Key>
     let Some(Token::String(text)) = reader.next() else {
         return None;
     };
-    let key = key_of(etype, text)?;
+    let key = parse_key(etype, text)?;
     if !takes_object_end(reader) {
         return None;
     }

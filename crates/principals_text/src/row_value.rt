@@ -4,15 +4,16 @@ ghost use Rattle.serde_json.specs.View.{view, items_view};
 ghost use Rattle.principal_rows.specs.Row.{IsRow};
 ghost use Rattle.principal_rows.specs.Versions.{IsVersions};
 ghost use Rattle.text_fields.specs.declared.settings.Setting.TheVariants.{Flag, Life};
-ghost use Rattle.principals_text.specs.RowValue.{member_count, u32_of, time_of, etype_value, key_of, keys_of, version_of};
+ghost use Rattle.principals_text.specs.RowValue.{member_count, u32_of, time_of, etype_value, key_of, keys_of};
+ghost use Rattle.principals_text.specs.RowValue.{version_of};
 ghost use Rattle.principals_text.specs.RowValue.{versions_of, setting_from, setting_in, policy_of, row_of};
 ghost use Rattle.principals_text.specs.RowValue.{decoded, each, list_of};
 
 use crate::format::Format;
-use crate::row_fault::RowFault;
+use crate::row_fault::RowError;
 use enctypes::{Etype, Key};
 use krb_fields::Second;
-use principal_rows::{KeyList, KeyListFault, KeyVersion, Policy, Row, Versions};
+use principal_rows::{KeyList, KeyListError, KeyVersion, Policy, Row, Versions};
 use serde_json::Value;
 use std::alloc::Global;
 use text_fields::{FlagField, LifeField, Setting};
@@ -65,26 +66,26 @@ pub(crate) fn decoded_key(etype: Etype, text: &str) -> Option<Key>
     Key::new(etype, octets)
 }
 
-fn read_keys(alloc: Global, value: &Value) -> Result<KeyList, RowFault>
+fn read_keys(alloc: Global, value: &Value) -> Result<KeyList, RowError>
     ensures ok { IfOk result (λ keys. keys_of (view value.now) ≡ Some keys) }
-    ensures bad { result ≡ Err RowFault.BadRow → keys_of (view value.now) ≡ None }
+    ensures bad { result ≡ Err RowError.BadRow → keys_of (view value.now) ≡ None }
 {
     let Some(items) = value.as_array() else {
-        return Err(RowFault::BadRow);
+        return Err(RowError::BadRow);
     };
     let keys = read_items(alloc, items)?;
     key_list(alloc, &keys)
 }
 
 /// Reads the key in each item.
-fn read_items(alloc: Global, items: &[Value]) -> Result<Vec<Key>, RowFault>
+fn read_items(alloc: Global, items: &[Value]) -> Result<Vec<Key>, RowError>
     ensures ok { IfOk result (λ keys. each key_of (items_view items.now) ≡ Some keys.items) }
-    ensures bad { result ≡ Err RowFault.BadRow → each key_of (items_view items.now) ≡ None }
+    ensures bad { result ≡ Err RowError.BadRow → each key_of (items_view items.now) ≡ None }
 {
     let mut keys = Vec::new(alloc);
     for item in items {
         let Some(key) = read_key(item) else {
-            return Err(RowFault::BadRow);
+            return Err(RowError::BadRow);
         };
         keys.push(key)?;
     }
@@ -92,29 +93,29 @@ fn read_items(alloc: Global, items: &[Value]) -> Result<Vec<Key>, RowFault>
 }
 
 /// Returns the list of these keys: at least one, and no type twice.
-fn key_list(alloc: Global, keys: &[Key]) -> Result<KeyList, RowFault>
+fn key_list(alloc: Global, keys: &[Key]) -> Result<KeyList, RowError>
     ensures ok { IfOk result (λ list. list_of keys.now ≡ Some list) }
-    ensures bad { result ≡ Err RowFault.BadRow → list_of keys.now ≡ None }
+    ensures bad { result ≡ Err RowError.BadRow → list_of keys.now ≡ None }
 {
     match KeyList::new(alloc, keys) {
         Ok(list) => Ok(list),
-        Err(KeyListFault::Empty | KeyListFault::Doubled) => Err(RowFault::BadRow),
-        Err(KeyListFault::Memory) => Err(RowFault::Memory),
+        Err(KeyListError::Empty | KeyListError::Doubled) => Err(RowError::BadRow),
+        Err(KeyListError::Memory) => Err(RowError::Memory),
     }
 }
 
-fn read_version(alloc: Global, value: &Value) -> Result<KeyVersion, RowFault>
+fn read_version(alloc: Global, value: &Value) -> Result<KeyVersion, RowError>
     ensures ok { IfOk result (λ version. version_of (view value.now) ≡ Some version) }
-    ensures bad { result ≡ Err RowFault.BadRow → version_of (view value.now) ≡ None }
+    ensures bad { result ≡ Err RowError.BadRow → version_of (view value.now) ≡ None }
 {
     if member_count(value) != 2 {
-        return Err(RowFault::BadRow);
+        return Err(RowError::BadRow);
     }
     let Some(number) = value.get("version").and_then(read_u32) else {
-        return Err(RowFault::BadRow);
+        return Err(RowError::BadRow);
     };
     let Some(keys) = value.get("keys") else {
-        return Err(RowFault::BadRow);
+        return Err(RowError::BadRow);
     };
     Ok(KeyVersion {
         number,
@@ -122,19 +123,19 @@ fn read_version(alloc: Global, value: &Value) -> Result<KeyVersion, RowFault>
     })
 }
 
-fn read_versions(alloc: Global, value: &Value) -> Result<Versions, RowFault>
+fn read_versions(alloc: Global, value: &Value) -> Result<Versions, RowError>
     ensures ok { IfOk result (λ versions. versions_of (view value.now) ≡ Some versions) }
     ensures fits { IfOk result IsVersions }
-    ensures bad { result ≡ Err RowFault.BadRow → versions_of (view value.now) ≡ None }
+    ensures bad { result ≡ Err RowError.BadRow → versions_of (view value.now) ≡ None }
 {
     let Some(items) = value.as_array() else {
-        return Err(RowFault::BadRow);
+        return Err(RowError::BadRow);
     };
     let mut versions = Vec::with_capacity(alloc, items.len())?;
     for item in items {
         versions.push(read_version(alloc, item)?)?;
     }
-    Versions::new(versions).ok_or(RowFault::BadRow)
+    Versions::new(versions).ok_or(RowError::BadRow)
 }
 
 fn read_flag(value: &Value, field: FlagField) -> Option<Setting>
@@ -192,19 +193,19 @@ fn read_policy(row: &Value, format: Format) -> Option<Policy>
 }
 
 /// Returns the row that a value denotes.
-pub(crate) fn read_row(alloc: Global, value: &Value, format: Format) -> Result<Row, RowFault>
+pub(crate) fn read_row(alloc: Global, value: &Value, format: Format) -> Result<Row, RowError>
     ensures ok { IfOk result (λ row. row_of format (view value.now) ≡ Some row) }
     ensures fits { IfOk result IsRow }
-    ensures bad { result ≡ Err RowFault.BadRow → row_of format (view value.now) ≡ None }
+    ensures bad { result ≡ Err RowError.BadRow → row_of format (view value.now) ≡ None }
 {
     if member_count(value) != format.row_members() {
-        return Err(RowFault::BadRow);
+        return Err(RowError::BadRow);
     }
     let Some(policy) = read_policy(value, format) else {
-        return Err(RowFault::BadRow);
+        return Err(RowError::BadRow);
     };
     let Some(versions) = value.get("keys") else {
-        return Err(RowFault::BadRow);
+        return Err(RowError::BadRow);
     };
     Ok(Row {
         versions: read_versions(alloc, versions)?,

@@ -10,7 +10,7 @@ use Rattle.replay.specs.declared.verdict.Verdict.TheVariants.{Fresh, Skew, Repea
 use Rattle.replay.specs.Failures.{no_failures}
 use Rattle.replay.specs.Stamp.{Stamp, is_from, is_beyond_clock_skew}
 
--- nothing recorded, and a floor below every time that is within the skew from 1970 on
+-- nothing recorded, and a floor that excludes no time: it is the skew before the start of 1970
 abbrev pub first : {T : Type 0} → ReplayCache T
 first = record { failures = no_failures; floor = pos 0 -ℤ pos skew; pairs = map.empty }
 
@@ -18,7 +18,7 @@ first = record { failures = no_failures; floor = pos 0 -ℤ pos skew; pairs = ma
 abbrev pub restarted_cache : {T : Type 0} → ℤ → ReplayCache T
 restarted_cache at = record { failures = no_failures; floor = at +ℤ pos (skew + 1); pairs = map.empty }
 
--- the floor at a second: at least the skew before it
+-- the floor at a second, which is not below that second minus the skew
 abbrev pub floor_at : ℤ → ℤ → ℤ
 floor_at floor now = int_max floor (now -ℤ pos skew)
 
@@ -30,7 +30,7 @@ abbrev pub if_kept : {T : Type 0} → Option T → Verdict T → Verdict T
 if_kept (Some kept) other = Repeat kept
 if_kept None other = other
 
--- the first that holds: the pair is outside the clock skew, is recorded already, or would be one too many
+-- the first of these that holds: the pair is outside the clock skew, it is recorded already, it would be one too many
 abbrev pub verdict : {T : Type 0} → ReplayCache T → ℤ → Stamp → ℕ → Verdict T
 verdict m now stamp limit =
     if is_beyond_clock_skew m.floor now stamp.0 then Skew
@@ -43,7 +43,7 @@ verdict_copied Skew = Skew
 verdict_copied (Repeat kept) = Repeat kept.now
 verdict_copied Full = Full
 
--- if the verdict is that the pair is within the clock skew and no repeat
+-- P holds if the verdict is that the pair is within the clock skew and no repeat
 abbrev pub IfNew : {T : Type 0} → Verdict T → Type 0 → Type 0
 IfNew Fresh P = P
 IfNew Skew P = ⊤

@@ -15,12 +15,12 @@ use Rattle.replay.specs.Stamp.{Stamp, stamp_cmp}
 abbrev pub stamp_seen : Seen → Stamp
 stamp_seen seen = (seen.ctime, seen.cusec)
 
--- the pairs of the client c with one that was seen, if it is this client's
+-- the pairs of the client c, and the seen authenticator if it is this client's
 abbrev pub with_seen : Components → map.FinMap stamp_cmp Kept → Seen → map.FinMap stamp_cmp Kept
 with_seen c pairs seen =
     if eq_by_cmp name_cmp c seen.client.components then map.insert pairs (stamp_seen seen) nothing_kept else pairs
 
--- with all of these
+-- the pairs of the client c, and all of the seen authenticators that are this client's
 abbrev pub with_all_seen : Components → map.FinMap stamp_cmp Kept → List Seen → map.FinMap stamp_cmp Kept
 with_all_seen c pairs [] = pairs
 with_all_seen c pairs (seen ∷ others) = with_all_seen c (with_seen c pairs seen) others

@@ -5,7 +5,7 @@ use Rattle.std.specs.FinMap as map
 use Rattle.replay.specs.Stamp.{stamp_cmp}
 use Rattle.replay.specs.declared.keep.Kept.{Kept}
 
--- up to the greatest count
+-- a count, which stops at the greatest `u64`
 abbrev pub limited : ℕ → ℕ
 limited n = min n (2 ^ 64 - 1)
 

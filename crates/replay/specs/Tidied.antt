@@ -1,5 +1,6 @@
 -- The empty replay cache of a client, and what is left of a cache after a tidying.
-use Rattle.std.specs.Prelude.{ℕ, ℤ, pos, ◌+ℤ◌, ◌-ℤ◌, Bool, ◌&&◌, nat_eq, List, [], ◌∷◌, Option, Some, None, if◌then◌else◌}
+use Rattle.std.specs.Prelude.{ℕ, ℤ, pos, ◌+ℤ◌, ◌-ℤ◌, Bool, ◌&&◌, nat_eq, List, [], ◌∷◌, Option, Some, None}
+use Rattle.std.specs.Prelude.{if◌then◌else◌}
 use Rattle.std.specs.Int.{int_max}
 use Rattle.std.specs.Ordering.{int_eq}
 use Rattle.std.specs.FinMap as map
@@ -25,17 +26,17 @@ is_empty floor m = never_failed m.failures && int_eq m.floor floor && nat_eq (ma
 abbrev pub day : ℕ
 day = 86400
 
--- the floor of a client with nothing recorded, tidied at a second: at least a day before it
+-- the floor that a tidying at a second leaves to a client with nothing recorded: not below that second minus a day
 abbrev pub floor_on : ℤ → ℤ → ℤ
 floor_on floor now = int_max floor (now -ℤ pos day)
 
--- the floor raised above those of these pairs whose ctime is before a second
+-- the floor, raised above each of these pairs whose ctime is before the second `start`
 abbrev pub raised : {T : Type 0} → ℤ → ℤ → List (Stamp × T) → ℤ
 raised start floor [] = floor
 raised start floor (e ∷ es) =
     if is_from start e.0 then raised start floor es else int_max (raised start floor es) (e.0.0 +ℤ pos 1)
 
--- the same, above one pair, if there is one
+-- the floor, raised above one pair in the same way, if there is one
 abbrev pub raised_if : {T : Type 0} → ℤ → ℤ → Option (Stamp × T) → ℤ
 raised_if start floor None = floor
 raised_if start floor (Some e) = raised start floor (e ∷ [])

@@ -29,8 +29,8 @@ pub struct ReplayCache<T> {
 impl<T: Keep> ReplayCache<T> {
     /// Returns the cache of a client that never sent anything.
     pub fn first(alloc: Global) -> ReplayCache<T>
-        // Promise: a client's replay cache after a first start, after a restart, at an opening, and with other
-        // failures; a copy is equal.
+        // Promise: a client's replay cache after a first start, after a restart and with other failures is that of the
+        // definition; a copy is equal.
         ensures { result ≡ first }
     {
         ReplayCache {
@@ -55,7 +55,8 @@ impl<T: Keep> ReplayCache<T> {
 
     /// Returns an empty cache with this floor.
     pub fn empty(alloc: Global, floor: i64) -> ReplayCache<T>
-        // Promise: whether a replay cache is empty.
+        // Promise: an empty replay cache has nothing recorded and the given floor; `is_empty` says whether a cache is
+        // that one.
         ensures { result ≡ empty_cache floor }
     {
         ReplayCache {
@@ -67,7 +68,7 @@ impl<T: Keep> ReplayCache<T> {
 
     /// Checks whether nothing is recorded, and the floor is this one.
     pub fn is_empty(&self, floor: i64) -> bool
-        // Promise, as ReplayCache::empty: whether a replay cache ..
+        // Promise, as ReplayCache::empty: an empty replay cache ..
         ensures { result ≡ is_empty floor self.now }
     {
         self.failures.are_none() && self.floor == floor && self.pairs.is_empty()
@@ -75,7 +76,8 @@ impl<T: Keep> ReplayCache<T> {
 
     /// Returns the verdict on the pair (`ctime`, `cusec`) at this moment, when at most `limit` pairs are recorded.
     pub fn check(&self, at: Moment, ctime: i64, cusec: u32, limit: u32) -> Verdict<&T>
-        // Promise (verdict, timely, new): a replay cache's verdict on an authenticator, and what it stores.
+        // Promise (verdict, timely, new): a replay cache's verdict on an authenticator, and what it stores for one, are
+        // those of the definition.
         ensures verdict { verdict_copied result ≡ verdict self.now at.sec (ctime, cusec) limit }
         // A pair within the clock skew that is no repeat may be recorded.
         ensures timely { IfNew result (is_beyond_clock_skew self.now.floor at.sec ctime ≡ false) }
@@ -118,12 +120,12 @@ impl<T: Keep> ReplayCache<T> {
     /// Drops the pairs that are too old to come again at this moment. It raises the floor above them, and to a day
     /// before this moment; the failures are unchanged. It allocates nothing.
     pub fn tidy(&mut self, at: Moment)
-        // Promise, as tidied_unseen: authenticators that can't come ..
+        // Promise, as tidied_unseen: a tidying drops authenticators ..
         ensures { self.new ≡ tidied self.old at.sec }
     {
         let start = self.floor.max(at.sec - SKEW);
         let above = self.pairs.drop_before(start, self.floor);
-        self.floor = floor_on(above, at);
+        self.floor = tidied_floor(above, at);
     }
 
     /// Frees the memory of the pairs that a tidying dropped.
@@ -155,9 +157,10 @@ impl<T: Keep> ReplayCache<T> {
     }
 }
 
-/// Returns the floor of a client with nothing recorded, tidied at this moment: at least a day before it.
-pub fn floor_on(floor: i64, at: Moment) -> i64
-    // Promise, as tidied_unseen: authenticators that can't come ..
+/// Returns the floor that a tidying at this moment leaves to a client with nothing recorded. It is at most a day before
+/// the moment.
+pub fn tidied_floor(floor: i64, at: Moment) -> i64
+    // Promise, as tidied_unseen: a tidying drops authenticators ..
     ensures { result ≡ floor_on floor at.sec }
 {
     floor.max(at.sec - DAY)

@@ -7,19 +7,19 @@ use crate::keep::Keep;
 use krb_fields::{Moment, SKEW};
 use std::alloc::Global;
 
-/// Whether a server starts for the first time, or again after it had answered requests.
+/// The start of a server: its first one, or another one after it had answered requests.
 #[derive(Clone, Copy, PartialEq, Eq)]
 pub enum Opening {
-    /// For the first time.
+    /// The first start.
     First,
-    /// At this moment.
+    /// A start at this moment, after requests were answered.
     Restart(Moment),
 }
 
 impl Opening {
     /// Returns the second since 1970 below which a time is too old, for a client that sent nothing since the opening.
     pub fn floor(self) -> i64
-        // Promise, as tidied_unseen: authenticators that can't come ..
+        // Promise, as tidied_unseen: a tidying drops authenticators ..
         // Promise, as Kdc::open of kdc_core: a KDC starts with ..
         ensures { result ≡ opening_floor self }
     {

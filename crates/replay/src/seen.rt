@@ -10,9 +10,9 @@ use std::alloc::{AllocError, Global};
 pub struct Seen {
     /// The client's name. Only its components matter.
     pub client: Name,
-    /// In seconds since 1970.
+    /// Its time, in seconds since 1970.
     pub ctime: i64,
-    /// In microseconds after `ctime`.
+    /// The microseconds of its time, after `ctime`.
     pub cusec: u32,
 }
 
@@ -29,7 +29,7 @@ impl Seen {
     }
 }
 
-/// What a server resumes with, instead of refusing all authenticators of the time before.
+/// What a server resumes with, instead of refusing all authenticators of the time before its start.
 #[derive(Drop)]
 pub struct Resumption {
     /// The second since 1970 below which a time is too old.

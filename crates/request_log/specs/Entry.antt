@@ -1,5 +1,6 @@
 -- The fields of a log entry, by the audit record of the request.
-use Rattle.std.specs.Prelude.{ℕ, ℤ, Bool, true, false, List, [], ◌∷◌, ◌++◌, codes, decimal, length, take, nat_lt, unsigned_abs}
+use Rattle.std.specs.Prelude.{ℕ, ℤ, Bool, true, false, List, [], ◌∷◌, ◌++◌, codes, decimal, length, take, nat_lt}
+use Rattle.std.specs.Prelude.{unsigned_abs}
 use Rattle.std.specs.Prelude.{Option, Some, None, if◌then◌else◌}
 use Rattle.std.specs.Net.Text.{socket_text}
 use Rattle.std.specs.declared.net.socket_addr.SocketAddr.{SocketAddr}
@@ -16,7 +17,8 @@ use Rattle.replay.specs.declared.keep.Bears.{Bears}
 use Rattle.replay.specs.declared.keep.Bears.TheVariants.{Ticket, Error}
 use Rattle.as_exchange.specs.Refusal.{code_of as as_code, word_of as as_word}
 use Rattle.as_exchange.specs.declared.outcome.AsOutcome.{AsOutcome}
-use Rattle.as_exchange.specs.declared.outcome.AsOutcome.TheVariants.{Refused as AsRefused, Issued as AsIssued, TooBig as AsTooBig}
+use Rattle.as_exchange.specs.declared.outcome.AsOutcome.TheVariants.{Refused as AsRefused, Issued as AsIssued}
+use Rattle.as_exchange.specs.declared.outcome.AsOutcome.TheVariants.{TooBig as AsTooBig}
 use Rattle.tgs_opening.specs.Refusal.{code_of as tgs_code, word_of as tgs_word}
 use Rattle.tgs_exchange.specs.declared.outcome.TgsOutcome.{TgsOutcome}
 use Rattle.tgs_exchange.specs.declared.outcome.TgsOutcome.TheVariants.{Refused, Issued, Resent, TooBig}
@@ -31,7 +33,8 @@ use Rattle.request_log.specs.declared.asker.Asker.{Asker}
 use Rattle.request_log.specs.declared.asker.Transport.{Transport as Carrier}
 use Rattle.request_log.specs.declared.asker.Transport.TheVariants.{Udp, Tcp}
 use Rattle.request_log.specs.declared.field.FieldName.TheVariants.{Time, Peer, Transport, Exchange, Client, Service}
-use Rattle.request_log.specs.declared.field.FieldName.TheVariants.{Outcome, Lifetime, Code, Reason, Rule, Etype as Etypes}
+use Rattle.request_log.specs.declared.field.FieldName.TheVariants.{Outcome, Lifetime, Code, Reason, Rule}
+use Rattle.request_log.specs.declared.field.FieldName.TheVariants.{Etype as Etypes}
 use Rattle.request_log.specs.declared.field.FieldName.TheVariants.{Flags, Until, Renew, Repeat, Sent}
 
 -- an entry: when the request came, who sent it, what the KDC made of it, or that memory ran out, and whether the reply

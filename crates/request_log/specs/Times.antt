@@ -1,5 +1,6 @@
 -- How the log writes times and lifetimes.
-use Rattle.std.specs.Prelude.{ℕ, ℤ, ◌+◌, ◌/◌, ◌%◌, ◌-ℤ◌, ◌==◌, unsigned_abs, List, [], ◌∷◌, ◌++◌, codes, decimal, get_or, nat_lt}
+use Rattle.std.specs.Prelude.{ℕ, ℤ, ◌+◌, ◌/◌, ◌%◌, ◌-ℤ◌, ◌==◌, unsigned_abs, List, [], ◌∷◌, ◌++◌, codes, decimal}
+use Rattle.std.specs.Prelude.{get_or, nat_lt}
 use Rattle.std.specs.Prelude.{if◌then◌else◌}
 use Rattle.krb_der.specs.Time.{time_octets}
 use Rattle.ticket_times.specs.declared.times.Times.{Times}

@@ -1,13 +1,21 @@
 -- The words for error codes.
 use Rattle.std.specs.Prelude.{ℕ, List, codes}
 use Rattle.krb_fields.specs.declared.code.Code.{Code}
-use Rattle.krb_fields.specs.declared.code.Code.TheVariants.{KdcErrNameExp, KdcErrServiceExp, KdcErrBadPvno, KdcErrCPrincipalUnknown, KdcErrSPrincipalUnknown}
-use Rattle.krb_fields.specs.declared.code.Code.TheVariants.{KdcErrCannotPostdate, KdcErrNeverValid, KdcErrPolicy, KdcErrBadoption, KdcErrEtypeNosupp}
-use Rattle.krb_fields.specs.declared.code.Code.TheVariants.{KdcErrSumtypeNosupp, KdcErrPadataTypeNosupp, KdcErrClientRevoked, KdcErrServiceRevoked, KdcErrTgtRevoked}
-use Rattle.krb_fields.specs.declared.code.Code.TheVariants.{KdcErrKeyExpired, KdcErrPreauthFailed, KdcErrPreauthRequired, KdcErrServerNomatch, KdcErrSvcUnavailable}
-use Rattle.krb_fields.specs.declared.code.Code.TheVariants.{KrbApErrBadIntegrity, KrbApErrTktExpired, KrbApErrTktNyv, KrbApErrRepeat, KrbApErrNotUs}
-use Rattle.krb_fields.specs.declared.code.Code.TheVariants.{KrbApErrBadmatch, KrbApErrSkew, KrbApErrBadaddr, KrbApErrBadversion, KrbApErrMsgType}
-use Rattle.krb_fields.specs.declared.code.Code.TheVariants.{KrbApErrModified, KrbApErrBadkeyver, KrbApErrNokey, KrbApErrInappCksum, KrbApPathNotAccepted}
+use Rattle.krb_fields.specs.declared.code.Code.TheVariants.{KdcErrNameExp, KdcErrServiceExp, KdcErrBadPvno}
+use Rattle.krb_fields.specs.declared.code.Code.TheVariants.{KdcErrCPrincipalUnknown, KdcErrSPrincipalUnknown}
+use Rattle.krb_fields.specs.declared.code.Code.TheVariants.{KdcErrCannotPostdate, KdcErrNeverValid, KdcErrPolicy}
+use Rattle.krb_fields.specs.declared.code.Code.TheVariants.{KdcErrBadoption, KdcErrEtypeNosupp}
+use Rattle.krb_fields.specs.declared.code.Code.TheVariants.{KdcErrSumtypeNosupp, KdcErrPadataTypeNosupp}
+use Rattle.krb_fields.specs.declared.code.Code.TheVariants.{KdcErrClientRevoked, KdcErrServiceRevoked, KdcErrTgtRevoked}
+use Rattle.krb_fields.specs.declared.code.Code.TheVariants.{KdcErrKeyExpired, KdcErrPreauthFailed}
+use Rattle.krb_fields.specs.declared.code.Code.TheVariants.{KdcErrPreauthRequired, KdcErrServerNomatch}
+use Rattle.krb_fields.specs.declared.code.Code.TheVariants.{KdcErrSvcUnavailable}
+use Rattle.krb_fields.specs.declared.code.Code.TheVariants.{KrbApErrBadIntegrity, KrbApErrTktExpired, KrbApErrTktNyv}
+use Rattle.krb_fields.specs.declared.code.Code.TheVariants.{KrbApErrRepeat, KrbApErrNotUs}
+use Rattle.krb_fields.specs.declared.code.Code.TheVariants.{KrbApErrBadmatch, KrbApErrSkew, KrbApErrBadaddr}
+use Rattle.krb_fields.specs.declared.code.Code.TheVariants.{KrbApErrBadversion, KrbApErrMsgType}
+use Rattle.krb_fields.specs.declared.code.Code.TheVariants.{KrbApErrModified, KrbApErrBadkeyver, KrbApErrNokey}
+use Rattle.krb_fields.specs.declared.code.Code.TheVariants.{KrbApErrInappCksum, KrbApPathNotAccepted}
 use Rattle.krb_fields.specs.declared.code.Code.TheVariants.{KrbErrResponseTooBig, KrbErrGeneric, KrbErrFieldToolong}
 
 -- the word for an error code

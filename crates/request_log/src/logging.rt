@@ -56,7 +56,7 @@ pub fn arrival_after<P: Peers>(
     match outcome {
         Ok((at, Some(event))) => Arrival {
             at: *at,
-            source: source_of(peers, event),
+            source: event_source(peers, event),
         },
         Ok((_, None)) => came,
         Err(_) => came,
@@ -64,7 +64,7 @@ pub fn arrival_after<P: Peers>(
 }
 
 /// Returns the address that the connection of an event came from, if it is known.
-fn source_of<P: Peers>(peers: &P, event: &Event) -> Option<SocketAddr>
+fn event_source<P: Peers>(peers: &P, event: &Event) -> Option<SocketAddr>
     ensures { result ≡ source_of (P.peer_of peers.now) event.now }
 {
     match event {
@@ -154,7 +154,7 @@ fn log_audit<L: LogWriter>(
 {
     let entry = Entry {
         at: tried.came.at,
-        asker: asker_of(tried.came.source, tried.action),
+        asker: action_asker(tried.came.source, tried.action),
         audit,
         is_sent: tried.is_sent,
     };
@@ -162,7 +162,7 @@ fn log_audit<L: LogWriter>(
 }
 
 /// Returns who sent the request that an action answers, by the address that its connection came from.
-fn asker_of(source: Option<SocketAddr>, action: &Action) -> Asker
+fn action_asker(source: Option<SocketAddr>, action: &Action) -> Asker
     ensures { result ≡ asker_of source action.now }
 {
     match action {

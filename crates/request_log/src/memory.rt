@@ -1,3 +1,3 @@
-//! What stands for a log in tests.
+//! The log of a server in tests.
 
 pub mod log;

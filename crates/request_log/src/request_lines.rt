@@ -63,7 +63,7 @@ impl<W: Write> RequestLines<W> {
     fn try_entry(&mut self, alloc: Global, entry: &Entry<'_>) -> io::Result<()>
         ensures { TriesLine W.contents self.old self.new (entry_line self.old.format entry.now) result }
     {
-        let line = line_of(alloc, self.format, entry)?;
+        let line = entry_line(alloc, self.format, entry)?;
         self.report_lost()?;
         self.write_line(&line)
     }
@@ -104,7 +104,7 @@ impl<W: Write> LogWriter for RequestLines<W> {
 }
 
 /// Returns the line of an entry.
-fn line_of(alloc: Global, format: LogFormat, entry: &Entry<'_>) -> Result<Vec<u8>, AllocError>
+fn entry_line(alloc: Global, format: LogFormat, entry: &Entry<'_>) -> Result<Vec<u8>, AllocError>
     // Promise, as LogWriter::write_entry: **an entry becomes its ..
     ensures { IfOk result (λ line. line.items ≡ entry_line format entry.now) }
 {

@@ -10,7 +10,7 @@ condition_of number_of number [] = false
 condition_of number_of number (rule ∷ rules) =
     if nat_eq (number_of rule.1) number then rule.0 else condition_of number_of number rules
 
--- if no condition holds, it doesn't
+-- if no condition holds, the one with this reason doesn't hold
 pub clear_of : {R : Type 0} (number_of : R → ℕ) (reason : R) (rules : List (Rule R)) → AreClear rules
     → condition_of number_of (number_of reason) rules ≡ false
 clear_of number_of reason [] clear = refl

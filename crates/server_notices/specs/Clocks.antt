@@ -1,10 +1,11 @@
 -- Which TGS-REQs are refused because the clock shows an earlier time than before, until when, and how often that is
 -- said.
-use Rattle.std.specs.Prelude.{◌+◌, ◌*◌, ℤ, pos, ◌+ℤ◌, ◌-ℤ◌, Bool, true, false, not, ◌||◌, int_lt, Option, Some, None}
+use Rattle.std.specs.Prelude.{◌+◌, ◌*◌, ℤ, pos, ◌+ℤ◌, ◌-ℤ◌, Bool, true, false, int_lt, Option, Some, None, is_some}
 use Rattle.std.specs.Prelude.{if◌then◌else◌}
 use Rattle.krb_fields.specs.Skew.{skew}
 use Rattle.krb_fields.specs.declared.moment.Moment.{Moment}
 use Rattle.replay.specs.Tidied.{day}
+use Rattle.kdc_hub.specs.Timer.{due_at}
 use Rattle.kdc_hub.specs.declared.wires.WireCall.{WireCall}
 use Rattle.kdc_hub.specs.declared.wires.WireCall.TheVariants.{Polled, Waited, Missed, Acted, Failed}
 use Rattle.server_notices.specs.declared.clock_watch.ClockWatch.{ClockWatch}
@@ -44,9 +45,8 @@ refused_at w now =
     first_refused (until_start w.floor now) (until_tidied w.latest now) (until_served w.latest now)
 
 -- it is said at once, and again after a minute; also where the clock went back behind the last time
-abbrev pub is_due : Option Moment → ℤ → Bool
-is_due None now = true
-is_due (Some said) now = int_lt now said.sec || not (int_lt now (said.sec +ℤ pos 60))
+abbrev pub is_due : Option Moment → Moment → Bool
+is_due said now = is_some (due_at (pos 60) said (Some now))
 
 abbrev pub if_due : Bool → Option Refused → Option Refused
 if_due true refused = refused
@@ -54,7 +54,7 @@ if_due false refused = None
 
 -- what is said at a moment
 abbrev pub said_at : ClockWatch → Moment → Option Refused
-said_at w now = if_due (is_due w.said now.sec) (refused_at w now.sec)
+said_at w now = if_due (is_due w.said now) (refused_at w now.sec)
 
 abbrev pub later : Option Moment → Moment → Moment
 later None now = now
@@ -63,7 +63,7 @@ later (Some latest) now = if int_lt latest.sec now.sec then now else latest
 -- when it was said last; nothing was while nothing is refused
 abbrev pub said_after : Option Moment → Option Refused → Moment → Option Moment
 said_after said None now = None
-said_after said (Some refused) now = if is_due said now.sec then Some now else said
+said_after said (Some refused) now = if is_due said now then Some now else said
 
 abbrev pub watched : ClockWatch → Moment → ClockWatch
 watched w now = record {

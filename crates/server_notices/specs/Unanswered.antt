@@ -39,7 +39,7 @@ total w lost = plus (if w.awaits then plus w.count 1 else w.count) lost
 
 -- there are more than were said: that is said at once, and then a minute after that
 abbrev pub is_said : MemoryWatch → ℕ → Moment → Bool
-is_said w lost at = nat_lt w.reported (total w lost) && is_due w.said at.sec
+is_said w lost at = nat_lt w.reported (total w lost) && is_due w.said at
 
 abbrev pub said_at : MemoryWatch → ℕ → Moment → Option ℕ
 said_at w lost at = if is_said w lost at then Some (total w lost - w.reported) else None

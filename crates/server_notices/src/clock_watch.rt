@@ -3,7 +3,7 @@ ghost use Rattle.std.specs.Prelude.{◌≡◌, None};
 ghost use Rattle.kdc_hub.specs.Wire.{polled};
 ghost use Rattle.server_notices.specs.Clocks as clocks;
 
-use kdc_hub::{Event, WireFault};
+use kdc_hub::{Event, WireFault, due_at};
 use krb_fields::{Moment, SKEW, Second};
 use std::fmt;
 use std::io::Write;
@@ -162,12 +162,9 @@ fn until_served(latest: &Option<Moment>, now: Moment) -> Option<i64>
 
 /// Checks whether it has to be said again that requests are refused.
 pub(crate) fn is_due(said: &Option<Moment>, now: Moment) -> bool
-    ensures { result ≡ clocks.is_due said.now now.sec }
+    ensures { result ≡ clocks.is_due said.now now }
 {
-    match said {
-        None => true,
-        Some(said) => now.sec < said.sec || now.sec >= said.sec + MINUTE,
-    }
+    due_at(MINUTE, said, &Some(now)).is_some()
 }
 
 fn later(latest: &Option<Moment>, now: Moment) -> Moment

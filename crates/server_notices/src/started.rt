@@ -4,7 +4,7 @@ ghost use Rattle.server_notices.specs.Started.{found_by, shown_ahead};
 
 use crate::clock_watch::Refused;
 use file_store::VERSION;
-use journal::{Doubt, Start};
+use journal::{ResumeRefusal, Start};
 use krb_fields::{Moment, SKEW, Second};
 use principal_rows::Limits;
 use std::fmt;
@@ -33,7 +33,7 @@ pub enum JournalFound {
     Early(usize),
     /// It could not resume. Its files show this second, if that is later than the clock in such a way that the start
     /// refuses for longer than by its clock alone.
-    Doubted(Doubt, Option<i64>),
+    Doubted(ResumeRefusal, Option<i64>),
 }
 
 impl JournalFound {

@@ -21,6 +21,6 @@ pub record IsMomentText (second : ℤ) (text : List ℕ) : Type 0 where
   pub marked : marks text ≡ codes "--T::"
   pub digits : unmarked text ≡ time_octets second
 
--- the same, or as its date alone if the day starts with it
+-- a second, as its date and time of day, or as its date alone if the day starts with it
 abbrev pub IsDateText : ℤ → List ℕ → Type 0
 IsDateText second text = IsMomentText second text ⊎ IsMomentText second (text ++ codes "T00:00:00Z")

@@ -1,10 +1,11 @@
--- The words of a line, as a shell splits it: spaces, tabs and carriage returns separate words; `'` and `"` enclose
--- characters of a word, and `\` stands before one; `#` at the start of a word begins a comment.
+-- The words of a line, as a shell splits it: spaces, tabs and carriage returns separate words; `'` and `"` quote the
+-- characters of a word between them, and `\` the next one; `#` at the start of a word begins a comment.
 use Rattle.std.specs.Prelude.{ℕ, Bool, List, [], ◌∷◌, ◌++◌, Option, Some, None, ◌==◌, ◌||◌, if◌then◌else◌}
 use Rattle.std.specs.Prelude.{chars, encode_utf8, map, string_bytes}
 use Rattle.text_fields.specs.declared.lines.LineReader.{LineReader}
 use Rattle.text_fields.specs.declared.lines.State.{State}
-use Rattle.text_fields.specs.declared.lines.State.TheVariants.{Between, InWord, InSingle, InDouble, Escaped, EscapedInDouble, InComment}
+use Rattle.text_fields.specs.declared.lines.State.TheVariants.{Between, InWord, InSingle, InDouble, Escaped}
+use Rattle.text_fields.specs.declared.lines.State.TheVariants.{EscapedInDouble, InComment}
 
 -- a line that was read up to a character
 pub record Reading : Type 0 where
@@ -28,7 +29,7 @@ with_letter letter state r = record { words = r.words; word = r.word ++ encode_u
 abbrev pub with_word : Reading → Reading
 with_word r = record { words = r.words ++ r.word ∷ []; word = []; state = Between }
 
--- ---- behind one more character
+-- ---- after one more character
 
 -- outside quotation marks
 abbrev pub after_plain : ℕ → Reading → Reading
@@ -55,11 +56,11 @@ after_double letter r =
     else if letter == 0x5C then in_state EscapedInDouble r
     else with_letter letter InDouble r
 
--- the characters that a `\` between `"` stands before
+-- the characters that a `\` quotes between `"`
 abbrev pub is_special : ℕ → Bool
 is_special letter = (letter == 0x22) || ((letter == 0x5C) || ((letter == 0x24) || (letter == 0x60)))
 
--- before another character it stands for itself
+-- before any other character the `\` stands for itself
 abbrev pub after_double_escape : ℕ → Reading → Reading
 after_double_escape letter r =
     if is_special letter then with_letter letter InDouble r

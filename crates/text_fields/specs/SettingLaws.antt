@@ -1,4 +1,4 @@
--- A field is found by its name; settings made in order.
+-- A field is found by its name, and setting all fields in order makes a policy.
 use Rattle.std.proofs.Common.{◌≡◌, ℕ, zero, suc, ◌+◌, List, [], ◌∷◌, ◌++◌, length, map, take, set, refl, sym, ap, ◌∙◌, Some}
 use Rattle.std.proofs.Common.{append_assoc, append-nil, arith}
 use Rattle.std.specs.List.{fold}
@@ -36,7 +36,7 @@ all_placed : (settings : List Setting) (p : Policy)
 all_placed [] p = refl
 all_placed (s ∷ ss) p = all_placed ss (with_setting s p) ∙ ap (put_all ss) (placed s p)
 
--- n, followed by this many numbers
+-- this many numbers, from n on
 abbrev upwards : ℕ → ℕ → List ℕ
 upwards n zero = []
 upwards n (suc m) = n ∷ upwards (suc n) m

@@ -165,7 +165,7 @@ newest_version_text = codes "3"
 
 -- ---- setting them in order
 
--- how many come before the member `keys` of a row
+-- how many fields come before the member `keys` of a row
 abbrev pub before_keys : ℕ
 before_keys = 5
 

@@ -22,7 +22,7 @@ impl fmt::Display for UtcDate {
 /// Returns the text of a second's date and time of day.
 #[tactic(auto, using(crate::proofs::DateTexts::is_moment_text))]
 fn date_octets(second: Second) -> [u8; 20]
-    // Promise: the date that is shown of a second spells it.
+    // Promise: a second is shown as a date that spells it.
     ensures { IsMomentText second result }
 {
     let o = KTime::of(second.get()).to_octets();
@@ -58,7 +58,7 @@ fn laid_over(date: &[u8]) -> [u8; 20]
 /// Reads a date with a time of day.
 fn moment(octets: &[u8]) -> Option<Second>
     requires { length octets.now ≡ 20 }
-    // Promise (read, none), as setting_of: a field of a ..
+    // Promise (read, none), as parse_setting: a field of a ..
     ensures read { IfSome result (λ second. IsMomentText second octets.now) }
     ensures none { IfNone result ((second : ℤ) → ¬ IsMomentText second octets.now) }
 {

@@ -10,7 +10,7 @@ use std::alloc::{AllocError, Global};
 
 /// Returns the default encryption types: 18, 17, 20 and 19.
 pub fn offered(alloc: Global) -> Result<Vec<Etype>, AllocError>
-    // Promise, as password_keys of principal_keys: a password's keys are ..
+    // Promise, as password_keys of principal_keys: the keys from a ..
     ensures { IfOk result (λ etypes. etypes.items ≡ offered) }
 {
     Vec::from_slice(

@@ -3,7 +3,7 @@
 //!
 //! ```
 //! let words = line_words(alloc, b"policy --name alice --set greatest_life=10h")?; // or what is wrong with the line
-//! if let Some(setting) = setting_of("greatest_life", "10h") {
+//! if let Some(setting) = parse_setting("greatest_life", "10h") {
 //!     row.policy = setting.on(row.policy);
 //! }
 //! let etypes = offered(alloc)?;
@@ -32,4 +32,4 @@ pub use settings::{
 };
 pub use shell::shell_word;
 pub use spans::{lifetime, span};
-pub use values::{is_past, setting_from, setting_of};
+pub use values::{is_past, parse_setting, setting_from};

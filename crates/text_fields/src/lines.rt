@@ -27,7 +27,7 @@ enum State {
     InDouble,
     /// The next character stands for itself.
     Escaped,
-    /// The same between `"`, if it is special there. A `\` before another one stands for itself.
+    /// The next character stands for itself if it is special between `"`; otherwise the `\` before it does, too.
     EscapedInDouble,
     InComment,
 }
@@ -36,21 +36,21 @@ enum State {
 #[derive(Drop)]
 struct LineReader {
     alloc: Global,
-    /// Those that have ended.
+    /// The words that have ended.
     words: Vec<String>,
-    /// The one that has not.
+    /// The word that has not ended.
     word: String,
     state: State,
 }
 
-/// Returns the words of a line: none if it is empty or a comment. Spaces and tabs separate words; `'` and `"` enclose
-/// characters of a word, and `\` stands before one; `#` at the start of a word begins a comment. The inner `Err` says
-/// what is wrong with the line: it is not UTF-8, or ends in a backslash or within quotation marks.
+/// Returns the words of a line: none if it is empty or a comment. Spaces and tabs separate words; `'` and `"` quote the
+/// characters of a word between them, and `\` the next one; `#` at the start of a word begins a comment. The inner
+/// `Err` says what is wrong with the line: it is not UTF-8, or ends in a backslash or within quotation marks.
 pub fn line_words(
     alloc: Global,
     line: &[u8],
 ) -> Result<Result<Vec<String>, &'static str>, AllocError>
-    // Promise: the words of a line are those of a shell's: a quotation, an escape and a comment as there.
+    // Promise: a line is split into words as a shell splits it, with the same quotation marks, escapes and comments.
     ensures words { IfOk result (λ read. IfOk read (λ words.
         words_of_line line.now ≡ Some (map string_bytes words.items))) }
 {
@@ -106,7 +106,7 @@ impl LineReader {
         }
     }
 
-    /// Reads a character behind a space: it begins a word or a comment, or is a space itself.
+    /// Reads a character after a space: it begins a word or a comment, or is a space itself.
     fn read_between(&mut self, letter: char) -> Result<(), AllocError>
         ensures { OnOk result (reading self.new ≡ after_between letter (reading self.old)) }
     {
@@ -157,7 +157,7 @@ impl LineReader {
         Ok(())
     }
 
-    /// Reads a character behind a `\` between `"`.
+    /// Reads a character after a `\` between `"`.
     fn read_escaped(&mut self, letter: char) -> Result<(), AllocError>
         ensures { OnOk result (reading self.new ≡ after_double_escape letter (reading self.old)) }
     {
@@ -209,7 +209,7 @@ impl LineReader {
     }
 }
 
-/// Checks whether a `\` between `"` stands before this character, and not for itself.
+/// Checks whether a `\` between `"` quotes this character. Otherwise the `\` stands for itself.
 fn is_special(letter: char) -> bool
     ensures { result ≡ is_special letter }
 {

@@ -4,7 +4,7 @@ ghost use Rattle.std.specs.Str.Parse.{IsNumeral, digits_value};
 
 /// Reads a decimal number below 2^64: digits only, with leading zeros allowed.
 pub fn number(text: &str) -> Option<u64>
-    // Promise (read, value): a field of a line is read exactly where its text spells it.
+    // Promise (read, value): a field of a line is read exactly if its text spells it.
     ensures read { IsSome result ↔ (IsNumeral 10 text.now × (digits_value 10 text.now < 2 ^ 64)) }
     ensures value { IfSome result (λ n. n ≡ digits_value 10 text.now) }
 {

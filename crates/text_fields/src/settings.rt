@@ -1,5 +1,6 @@
 //! Settings: a field of a policy and its new value. Names and values are those of the database's text, with `never` for
-//! null. Here stand also the versions of that text, which a new field changes, and what the help says of fields.
+//! null. This module also has the versions of that text, since a new field needs a new one, and what the help says
+//! about fields.
 ghost use Rattle.std.specs.Prelude.{◌≡◌, ℤ, ℕ, Bool, Option, Some, IfSome, IfNone, bytes_eq, find};
 ghost use Rattle.std.specs.List.{fold};
 ghost use Rattle.std.specs.Option.{option_copied};
@@ -25,9 +26,9 @@ use std::fmt;
 /// A boolean field.
 #[derive(Clone, Copy, PartialEq, Eq)]
 pub enum FlagField {
-    /// The principal gets no tickets, and none are for it.
+    /// The principal gets no tickets, and none are issued for it.
     Disabled,
-    /// A first ticket takes a timestamp.
+    /// The principal's first ticket requires a timestamp.
     Preauth,
     /// Tickets may be forwardable.
     Forwardable,
@@ -35,9 +36,9 @@ pub enum FlagField {
     Proxiable,
     /// Tickets may be postdated.
     Postdate,
-    /// Tickets for the service say OK-AS-DELEGATE.
+    /// Tickets for the service have the flag OK-AS-DELEGATE.
     OkAsDelegate,
-    /// Tickets may be for the principal.
+    /// Tickets may be issued for the principal.
     Service,
 }
 
@@ -46,7 +47,7 @@ pub enum FlagField {
 pub enum LifeField {
     /// The greatest lifetime of a ticket.
     GreatestLife,
-    /// How long a ticket can be renewed at most.
+    /// How long a ticket is renewable at most.
     GreatestRenewable,
 }
 
@@ -57,7 +58,7 @@ pub enum TimeField {
     Expires,
     /// When its password expires.
     PasswordExpires,
-    /// Tickets whose client authenticated before are revoked.
+    /// Tickets whose client authenticated before this moment are revoked.
     RevokedBefore,
 }
 
@@ -75,7 +76,7 @@ pub enum FieldKind {
 /// How many fields a policy has.
 pub const SETTINGS: usize = 12;
 
-/// How many of them come before the member `keys` of a row, in the order of names.
+/// How many fields come before the member `keys` of a row, in the order of names.
 pub const BEFORE_KEYS: usize = 5;
 
 /// The number of the newest version of the database's text, which is written.
@@ -190,7 +191,7 @@ impl TimeField {
 impl Setting {
     /// Reads a field's name and its value, with an equals sign between them.
     pub fn parse(text: &str) -> Option<Setting>
-        // Promise (read, none), as setting_of: a field of a ..
+        // Promise (read, none), as parse_setting: a field of a ..
         ensures read { IfSome result (λ setting. IsSettingText setting text.now) }
         ensures none { IfNone result ((setting : settings.Setting) → ¬ IsSettingText setting text.now) }
     {
@@ -201,7 +202,7 @@ impl Setting {
     /// Reads the value of the field with this name. Returns `None` if there is no such field or the value isn't valid
     /// for it.
     pub fn of(name: &str, value: &str) -> Option<Setting>
-        // Promise (read, none), as setting_of: a field of a ..
+        // Promise (read, none), as parse_setting: a field of a ..
         ensures read { IfSome result (λ setting. IsSettingOf setting name.now value.now) }
         ensures none { IfNone result ((setting : settings.Setting) → ¬ IsSettingOf setting name.now value.now) }
     {
@@ -215,7 +216,7 @@ impl Setting {
     /// Reads a date as the value of the field with this name. Returns `None` if there is no such field, its value is
     /// not a time, or this is not a date.
     pub fn of_date(name: &str, value: &str) -> Option<Setting>
-        // Promise (read, none), as setting_of: a field of a ..
+        // Promise (read, none), as parse_setting: a field of a ..
         ensures read { IfSome result (λ setting. IsDateOf setting name.now value.now) }
         ensures none { IfNone result ((setting : settings.Setting) → ¬ IsDateOf setting name.now value.now) }
     {
@@ -250,7 +251,7 @@ impl Setting {
 
     /// Returns the settings of a policy, in the order of their names.
     pub fn all(policy: Policy) -> [Setting; SETTINGS]
-        // Promise (settings, same), as Setting::on: the settings of a ..
+        // Promise (settings, same), as Setting::on: setting all fields of ..
         ensures settings { result ≡ settings_of policy }
         ensures same { (other : policies.Policy)
             → fold (λ made setting. with_setting setting made) other result ≡ policy }
@@ -273,7 +274,7 @@ impl Setting {
 
     /// Returns the policy with this field set.
     pub fn on(self, policy: Policy) -> Policy
-        // Promise: the settings of a policy make it of any other one.
+        // Promise: setting all fields of a policy in another one makes the two equal.
         ensures { result ≡ with_setting self policy }
     {
         let mut policy = policy;
@@ -312,8 +313,8 @@ impl fmt::Display for Setting {
 
 /// Returns what the value of the field with this name is. `None` if a policy has no such field.
 pub fn field_kind(name: &str) -> Option<FieldKind>
-    // Promise: `field_kind` says which kind of value a field takes, `since` is the version of the database's text that
-    // brought a field.
+    // Promise: `field_kind` says which kind of value a field takes, and `since` which version of the database's text
+    // brought it.
     ensures { result ≡ field_kind name.now }
 {
     match field_named(name) {

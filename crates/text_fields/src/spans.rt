@@ -1,4 +1,4 @@
-//! Time spans in seconds: a decimal number followed by its unit, as `10h` and `7d`.
+//! Time spans in seconds: a decimal number followed by its unit, such as `10h` and `7d`.
 ghost use Rattle.std.specs.Prelude.{◌≡◌, ◌⊎◌, ◌++◌, ℕ, List, IfNone, IfSome};
 ghost use Rattle.text_fields.specs.Numbers.{IsU32Text};
 ghost use Rattle.text_fields.specs.Spans.{IsSpanText, unit_mark, unit_seconds};
@@ -31,7 +31,8 @@ impl Unit {
 /// Reads a time span, in seconds: a decimal number followed by its unit, which is `s`, `m`, `h` or `d`. `None` also for
 /// 2^32 seconds and more.
 pub fn span(text: &str) -> Option<u32>
-    // Promise (read, none): a time span is read exactly where it is a decimal number with its unit, below 2^32 seconds.
+    // Promise (read, none): a text is read as a time span exactly if it is a decimal number with a unit, below 2^32
+    // seconds.
     ensures read { IfSome result (λ seconds. IsSpanText seconds text.now) }
     ensures none { IfNone result ((seconds : ℕ) → ¬ IsSpanText seconds text.now) }
 {
@@ -41,7 +42,7 @@ pub fn span(text: &str) -> Option<u32>
 
 /// Reads a lifetime: a number of seconds, or a time span.
 pub fn lifetime(text: &str) -> Option<u32>
-    // Promise (read, none), as span: a time span is ..
+    // Promise (read, none), as span: a text is read ..
     ensures read { IfSome result (λ seconds. IsU32Text seconds text.now ⊎ IsSpanText seconds text.now) }
     ensures none { IfNone result ((seconds : ℕ) → ¬ (IsU32Text seconds text.now ⊎ IsSpanText seconds text.now)) }
 {

@@ -8,11 +8,11 @@ use crate::settings::{Setting, life_field, time_field};
 use crate::spans::span;
 use krb_fields::Second;
 
-/// Reads a field with its value, which is not a time from now. Returns `None` if there is no such field or the value
-/// isn't valid for it.
-pub fn setting_of(field: &str, value: &str) -> Option<Setting>
-    // Promise (read, none): a field of a policy with its value is read exactly where its text spells it, and for a
-    // command also where it spells a date or a time span.
+/// Reads a field with its value, which doesn't depend on the clock. Returns `None` if there is no such field or the
+/// value isn't valid for it.
+pub fn parse_setting(field: &str, value: &str) -> Option<Setting>
+    // Promise (read, none): a field of a policy with its value is read exactly if its text spells it; in a command the
+    // text may also spell a date or a time span.
     ensures read { IfSome result (λ setting. IsFixedValue setting field.now value.now) }
     ensures none { IfNone result ((setting : settings.Setting) → ¬ IsFixedValue setting field.now value.now) }
 {
@@ -33,10 +33,10 @@ fn life_setting(field: &str, value: &str) -> Option<Setting>
     Some(Setting::Life(life_field(field)?, span(value)?))
 }
 
-/// Reads a field whose value is a time from now. Returns `None` if no time has this name, the value is no time span, or
-/// the time is after the year 9999.
+/// Reads a field whose value is a time span from now on. Returns `None` if no field with this name is a time, the value
+/// is no time span, or the time is after the year 9999.
 pub fn setting_from(field: &str, value: &str, now: u64) -> Option<Setting>
-    // Promise (read, none), as setting_of: a field of a ..
+    // Promise (read, none), as parse_setting: a field of a ..
     ensures read { IfSome result (λ setting. IsTimeFrom now setting field.now value.now) }
     ensures none { IfNone result ((setting : settings.Setting) → ¬ IsTimeFrom now setting field.now value.now) }
 {

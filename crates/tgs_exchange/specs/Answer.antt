@@ -103,7 +103,8 @@ tgs_answer v incoming body p = answer_by v incoming body p (decision v incoming.
 abbrev pub RepeatSpelled : TgsView → Moment → ReqBody → Kept → List ℕ → Type 0
 RepeatSpelled v at body kept octets =
     (octets ≡ kept.reply)
-    ⊎ (krb_error.Spells (too_big v.realm at body) octets ⊎ krb_error.Spells (tgs_error v.realm at body (Ap Repeated)) octets)
+    ⊎ (krb_error.Spells (too_big v.realm at body) octets
+    ⊎ krb_error.Spells (tgs_error v.realm at body (Ap Repeated)) octets)
 
 -- an error if the request was refused; otherwise the TGS-REP, or the error in its place
 abbrev pub SpelledBy : TgsView → Moment → List ℕ → ReqBody → Presented → Decision Kept → List ℕ → Type 0

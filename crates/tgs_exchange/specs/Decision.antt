@@ -1,5 +1,5 @@
 -- The decision on a TGS-REQ whose ticket and authenticator were decrypted. Its reply, the reply's encoding, what is
--- stored, and the ticket that is issued are read from it.
+-- stored, and the ticket that is issued follow from it.
 use Rattle.std.specs.Borrow.{Bor}
 use Rattle.std.specs.Prelude.{ℤ, ⊤, Option, Some, None, Result, Ok, Err}
 use Rattle.rule_lists.specs.Refusals.{first_holding}

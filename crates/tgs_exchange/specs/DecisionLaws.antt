@@ -1,6 +1,5 @@
 -- The facts behind a decision: the replay cache's verdict on the authenticator; and an issued ticket names principals
 -- with rows.
--- rows.
 use Rattle.std.proofs.Common.{◌≡◌, ℤ, Option, Some, None, Result, Ok, Err, IfOk, refl, sym, subst}
 use Rattle.std.specs.Borrow.{Bor}
 use Rattle.std.specs.Prelude.{⊤}

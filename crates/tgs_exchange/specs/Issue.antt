@@ -1,4 +1,4 @@
--- The ticket of an admission, and the reply that bears it (RFC 4120, section 3.3.3).
+-- The ticket of an admission, and the reply that carries it (RFC 4120, section 3.3.3).
 use Rattle.std.specs.Prelude.{ℕ, List, Option, Some, None}
 use Rattle.enctypes.specs.declared.key.Key.{Key}
 use Rattle.enctypes.specs.declared.key_usage.KeyUsage.TheVariants.{TgsRepEncPartSessionKey, TgsRepEncPartSubkey}
@@ -29,7 +29,7 @@ grant_by v random body p admission = record {
   authorization_data = p.ticket.authorization_data;
 }
 
--- the key that the client chose, else the session key of the presented ticket
+-- the key that the client chose, or else the session key of the presented ticket
 abbrev pub subkey_or_session_key : Key → Option Key → PartKey
 subkey_or_session_key session (Some subkey) = record { key = subkey; usage = TgsRepEncPartSubkey; kvno = None }
 subkey_or_session_key session None = record { key = session; usage = TgsRepEncPartSessionKey; kvno = None }

@@ -1,4 +1,4 @@
--- The ticket that a TGS-REQ is issued, if it is issued one now. A reply that is sent again issues none: the call that
+-- The ticket that is issued for a TGS-REQ, if one is issued now. A reply that is sent again issues none: the call that
 -- made the reply did.
 use Rattle.std.specs.Prelude.{ℕ, List, Option, Some, None}
 use Rattle.kdc_replies.specs.Issue.{Issue}

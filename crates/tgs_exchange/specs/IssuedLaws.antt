@@ -1,4 +1,4 @@
--- The reply to a TGS-REQ that is issued a ticket bears that ticket.
+-- The reply to a TGS-REQ for which a ticket is issued carries that ticket.
 use Rattle.std.proofs.Common.{◌≡◌, ◌≤◌, inl, inr, ℕ, List, length, Option, Some, ap, subst}
 use Rattle.std.specs.Option.{unwrap_or}
 use Rattle.kdc_replies.specs.GrantLaws.{session_key_size}
@@ -48,7 +48,7 @@ module _ (v : TgsView) (at : Moment) (random octets : List ℕ) (body : ReqBody)
     reply_by (Records refusal) sent e = absurd cc
     reply_by (Repeats kept) sent e = absurd cc
 
-    -- the reply to a TGS-REQ that is issued a ticket
+    -- the reply to a TGS-REQ for which a ticket is issued
     pub reply_is_issued : Sent v at random body p octets → issued v at random body p ≡ Some issue
         → IsIssuedOrError issue octets
     reply_is_issued sent e = reply_by (decision v at.sec body p) sent e

@@ -69,7 +69,7 @@ decided_named rules v body p found times otherwise a known is e =
     (subst (λ (o : Option Terms). o ≡ Some a.terms) is
     (admitted_terms found times a (decided_found rules (admission_of found times) otherwise a e)))
 
--- those of an admission
+-- the names and the key of an admission
 pub admitted_named : {R : Type 0} (rules : List (Rule R)) (v : TgsView) (body : ReqBody) (p : Presented)
     (found : Option Terms) (times : Option Times) (otherwise : R) (r : Result Admission R)
     → IsKnown v body p → found ≡ terms v body → r ≡ decided rules (admission_of found times) otherwise

@@ -74,8 +74,10 @@ tgs_outcome v incoming body p = outcome_by v incoming body p (decision v incomin
 
 -- ---- what the bytes encode, by cases on the outcome
 
-abbrev pub OutcomeSpelledBy : TgsView → Moment → List ℕ → ReqBody → Presented → TgsOutcome → Decision Kept → List ℕ → Type 0
-OutcomeSpelledBy v at random body p (Refused refusal) decided octets = krb_error.Spells (tgs_error v.realm at body refusal) octets
+abbrev pub OutcomeSpelledBy : TgsView → Moment → List ℕ → ReqBody → Presented → TgsOutcome → Decision Kept → List ℕ
+    → Type 0
+OutcomeSpelledBy v at random body p (Refused refusal) decided octets =
+    krb_error.Spells (tgs_error v.realm at body refusal) octets
 OutcomeSpelledBy v at random body p TooBig decided octets = krb_error.Spells (too_big v.realm at body) octets
 OutcomeSpelledBy v at random body p (Issued granted) (Refuses refusal) octets = ⊥
 OutcomeSpelledBy v at random body p (Issued granted) (Records refusal) octets = ⊥
@@ -88,7 +90,8 @@ OutcomeSpelledBy v at random body p (Resent bears) (Repeats kept) octets = (bear
 OutcomeSpelledBy v at random body p (Resent bears) (Issues admission) octets = ⊥
 
 abbrev pub OutcomeSpelled : TgsView → Moment → List ℕ → ReqBody → Presented → TgsOutcome → List ℕ → Type 0
-OutcomeSpelled v at random body p outcome octets = OutcomeSpelledBy v at random body p outcome (decision v at.sec body p) octets
+OutcomeSpelled v at random body p outcome octets = OutcomeSpelledBy v at random body p outcome
+    (decision v at.sec body p) octets
 
 -- ---- what it states about the bytes that were sent to this client, for this service
 

@@ -1,6 +1,7 @@
 -- All rules for a TGS-REQ, in one list, each with its section of RFC 4120. The first that holds decides; if none does,
 -- a ticket is issued.
-use Rattle.std.specs.Prelude.{ℕ, ℤ, pos, Bool, true, false, not, nat_eq, is_none, is_some, List, [], ◌∷◌, Option, Some, None}
+use Rattle.std.specs.Prelude.{ℕ, ℤ, pos, Bool, true, false, not, nat_eq, is_none, is_some, List, [], ◌∷◌, Option, Some}
+use Rattle.std.specs.Prelude.{None}
 use Rattle.std.specs.Prelude.{option_map}
 use Rattle.std.specs.Ordering.{int_eq}
 use Rattle.std.specs.Cmp.Lexicographic.{pointwise}
@@ -58,8 +59,8 @@ pub record Proved : Type 0 where
   pub key : Key
   pub authenticator : Authenticator
 
--- At a second: the message; the AP-REQ; the ticket's part and its session key; the authenticator; the replay cache's
--- verdict on that; and the terms and times of a new ticket. What can't be read, decrypted or found is `None`.
+-- What is known at a second: the message; the AP-REQ; the ticket's part and its session key; the authenticator; the
+-- replay cache's verdict on it; the terms and times of a new ticket. What can't be read, decrypted or found is `None`.
 pub record TgsFacts : Type 0 where
   pub now : ℤ
   pub message : Received

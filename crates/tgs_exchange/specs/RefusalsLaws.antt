@@ -1,4 +1,4 @@
--- The stages in which a TGS-REQ is decided find what the one list of rules says.
+-- The stages in which the code decides on a TGS-REQ give the same decision as the one list of rules.
 use Rattle.std.proofs.Common.{◌≡◌, ◌+◌, ℤ, Bool, true, false, List, [], ◌∷◌, ◌++◌, length, Option, Some, None, Result, Ok, Err, refl, sym, ap, ◌∙◌}
 use Rattle.std.specs.Prelude.{if◌then◌else◌, is_none, drop, option_map}
 use Rattle.rule_lists.specs.ClearLaws.{decided_clear}
@@ -31,7 +31,7 @@ use Rattle.tgs_opening.specs.declared.opened.OpenedTicket.{OpenedTicket}
 use Rattle.tgs_opening.specs.declared.presented.Presented.{Presented}
 use Rattle.tgs_opening.specs.declared.refusal.TgsRefusal.{TgsRefusal}
 use Rattle.tgs_opening.specs.declared.refusal.TgsRefusal.TheVariants as tgs
-use Rattle.tgs_opening.specs.declared.rejection.Rejection.{Rejection}
+use Rattle.tgs_opening.specs.declared.rejection.OpeningRefusal.{OpeningRefusal}
 use Rattle.ticket_times.specs.declared.times.Times.{Times}
 use Rattle.ap_req.specs.Validity.{ticket_terms}
 use Rattle.tgs_exchange.specs.Decision.{by_admission, unless_client_refused, unless_repeated, decision, verdict_on}
@@ -55,7 +55,7 @@ refusing (Records refusal) = Some (Records refusal)
 refusing (Repeats kept) = Some (Repeats kept)
 refusing (Issues admission) = None
 
-abbrev pub by_presented : TgsView → ℤ → Received → Result Presented Rejection → Option (Decision Kept)
+abbrev pub by_presented : TgsView → ℤ → Received → Result Presented OpeningRefusal → Option (Decision Kept)
 by_presented v now message (Ok p) = refusing (decision v now message.body.value p)
 by_presented v now message (Err rejected) = Some (Refuses rejected.rule)
 
@@ -65,7 +65,7 @@ abbrev wrapped : {R : Type 0} → (R → Decision Kept) → List (Rule R) → Li
 wrapped wrap [] rest = rest
 wrapped wrap (rule ∷ rules) rest = (rule.0, wrap rule.1) ∷ wrapped wrap rules rest
 
--- the first reason, or what comes then
+-- the first reason, or else what comes next
 abbrev or_then : {R : Type 0} → (R → Decision Kept) → Option R → Option (Decision Kept) → Option (Decision Kept)
 or_then wrap (Some reason) next = Some (wrap reason)
 or_then wrap None next = next
@@ -81,7 +81,7 @@ first_wrapped {R} wrap (rule ∷ rules) rest = by rule.0 (first_wrapped wrap rul
     by true e = refl
     by false e = e
 
--- what comes behind these rules and the one for the value that they guard
+-- what comes after these rules and the one for the value that they guard
 abbrev past : {R : Type 0} → List (Rule R) → List (Rule (Decision Kept)) → List (Rule (Decision Kept))
 past rules all = drop (length rules + 1) all
 
@@ -169,7 +169,7 @@ module _ (v : TgsView) (now : ℤ) (message : Received) where
     subkey = subkey;
   }
 
-  -- the rules behind the value of each stage
+  -- the rules after the value of each stage
   abbrev from_ticket : TgsFacts → List (Rule (Decision Kept))
   from_ticket k = past (request_rules message) (refusals v k)
 

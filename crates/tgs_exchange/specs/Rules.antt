@@ -1,5 +1,5 @@
--- The rules that refuse a TGS-REQ whose ticket and authenticator were decrypted, in order: first those of the client,
--- and then, once the authenticator is known to be new, those of the ticket and of the request. Each rule has its
+-- The rules that refuse a TGS-REQ whose ticket and authenticator were decrypted, in order. First come those of the
+-- client; once the authenticator is known to be new, those of the ticket and of the request follow. Each rule has its
 -- section of RFC 4120; the codes for rows that are disabled or have expired are those of section 7.5.9.
 use Rattle.std.specs.Prelude.{ℤ, Bool, false, not, ◌&&◌, ◌||◌, nat_eq, int_lt, is_none, is_some, List, []}
 use Rattle.std.specs.Prelude.{◌∷◌, Option, Some, None, Result, option_map}

@@ -77,6 +77,6 @@ module _ (v : TgsView) (body : ReqBody) (p : Presented) where
         (ap (λ (o : Option TgsRefusal). unless_refused o (Some p) NeverValid) is))
         (verdict_on v at.sec p)
 
-    -- of what is issued
+    -- the client and the service of an issued ticket are in good standing
     pub issued_standing : IfSome (issued v at random body p) (λ _. AreInGoodStanding v.realm (service_name body) v.client v.service at.sec)
     issued_standing = client_standing (first_holding (client_rules v at.sec p.ticket.authtime)) refl

@@ -14,7 +14,8 @@ ghost use Rattle.tgs_exchange.specs.Answer.{Opens, OpensBy, RepeatSpelled, Spell
 ghost use Rattle.tgs_exchange.specs.Decision.{decision_copied, stamp_of, IfIssued};
 ghost use Rattle.tgs_exchange.specs.Known.{IsKnown};
 ghost use Rattle.tgs_exchange.specs.NamedLaws.{IsNamed};
-ghost use Rattle.tgs_exchange.specs.Outcome.{outcome_by, repeated_outcome, resent_within, tgs_outcome, OutcomeSpelled, OutcomeSpelledBy};
+ghost use Rattle.tgs_exchange.specs.Outcome.{outcome_by, repeated_outcome, resent_within, tgs_outcome, OutcomeSpelled};
+ghost use Rattle.tgs_exchange.specs.Outcome.{OutcomeSpelledBy};
 ghost use Rattle.tgs_exchange.specs.declared.decision.Decision.TheVariants as decisions;
 ghost use Rattle.tgs_exchange.specs.declared.outcome.TgsOutcome.TheVariants as outcomes;
 
@@ -54,14 +55,15 @@ pub fn tgs_answer(
     presented: &Presented,
 ) -> Result<TgsAnswer, AllocError>
     requires { IsKnown view.now body.now presented.now }
-    // Promise (reply, kept): the answer to a TGS-REQ whose ticket and authenticator were decrypted, and what is stored
-    // of request and reply.
+    // Promise (reply, kept): the answer to a TGS-REQ whose ticket and authenticator were decrypted is that of the
+    // definition, and so is what is stored of request and reply.
     ensures reply { IfOk result (λ answer.
         answer.reply.items ≡ (tgs_answer view.now incoming.now body.now presented.now).reply) }
     ensures kept { IfOk result (λ answer.
         answer.kept ≡ (tgs_answer view.now incoming.now body.now presented.now).kept) }
     // The outcome follows from the decision, and from whether the reply fits the room.
-    // Promise (outcome, outcome_spelled): the outcome of a TGS-REQ is what was decided; the bytes spell what it says.
+    // Promise (outcome, outcome_spelled): the outcome of a TGS-REQ says what was decided; the bytes spell what the
+    // outcome says.
     ensures outcome { IfOk result (λ answer.
         answer.outcome ≡ tgs_outcome view.now incoming.now body.now presented.now) }
     // The bytes encode the message that the rules prescribe, or are the stored reply.
@@ -73,12 +75,12 @@ pub fn tgs_answer(
     ensures outcome_spelled { IfOk result (λ answer.
         OutcomeSpelled view.now incoming.now.at incoming.now.random body.now presented.now answer.outcome
         answer.reply.items) }
-    // If a ticket is issued, the reply key and the service's key find the same inside.
-    // Promise: if a ticket is admitted now, the reply key and the service's key, which the ticket names, find the same
-    // inside.
+    // If a ticket is issued, the reply key and the service's key decrypt it to the same contents.
+    // Promise: if a ticket is issued now, the reply key and the service's key, which the ticket names, decrypt it to
+    // the same contents.
     ensures same { IfOk result (λ answer. Opens view.now incoming.now.at incoming.now.random body.now presented.now) }
     // An authenticator to record is within the clock skew and no repeat.
-    // Promise (timely, new): an authenticator that is to be stored has no clock skew and is no repeat.
+    // Promise (timely, new): an authenticator that is to be stored is within the clock skew and no repeat.
     ensures timely { IfOk result (λ answer.
         IfSome answer.kept (λ kept. is_beyond_clock_skew view.now.cache.floor incoming.now.at.sec
         presented.now.authenticator.ctime ≡ false)) }
@@ -173,7 +175,7 @@ fn records(
         OutcomeSpelledBy view.now incoming.now.at random body.now p answer.outcome decided answer.reply.items) }
 {
     let reply = tgs_error(alloc, view.realm, incoming.at, body, refusal)?;
-    let kept = kept_of(alloc, view, incoming.octets, Bears::Error, &reply)?;
+    let kept = make_kept(alloc, view, incoming.octets, Bears::Error, &reply)?;
     Ok(TgsAnswer {
         reply,
         outcome: TgsOutcome::Refused(refusal),
@@ -304,7 +306,7 @@ fn issued(
     if reply.len() > incoming.room as usize {
         return refused_room(alloc, view, incoming.at, body);
     }
-    let kept = kept_of(alloc, view, incoming.octets, Bears::Ticket, &reply)?;
+    let kept = make_kept(alloc, view, incoming.octets, Bears::Ticket, &reply)?;
     Ok(TgsAnswer {
         reply,
         outcome: TgsOutcome::Issued(granted_by(body, presented, admission)),
@@ -314,7 +316,7 @@ fn issued(
 
 /// Returns what is stored of a request and its reply: nothing, if the request is longer than the limits say. Its
 /// authenticator is then refused if it comes again.
-fn kept_of(
+fn make_kept(
     alloc: Global,
     view: &TgsView<'_>,
     request: &[u8],

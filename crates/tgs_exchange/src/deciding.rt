@@ -81,7 +81,8 @@ fn unless_repeated<'v>(
     verdict: Verdict<&'v Kept>,
 ) -> Result<Decision<&'v Kept>, AllocError>
     ensures { IfOk result (λ decided.
-        decision_copied decided ≡ unless_repeated view.now at.sec body.now presented.now (verdict_copied verdict.entry)) }
+        decision_copied decided
+        ≡ unless_repeated view.now at.sec body.now presented.now (verdict_copied verdict.entry)) }
 {
     match verdict {
         Verdict::Skew => Ok(Decision::Refuses(TgsRefusal::Ap(ApRefusal::Skewed))),

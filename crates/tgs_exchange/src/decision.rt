@@ -11,6 +11,6 @@ pub enum Decision<K> {
     Records(TgsRefusal),
     /// Its authenticator came before, and this was stored for it.
     Repeats(K),
-    /// It is issued a ticket.
+    /// A ticket is issued for it.
     Issues(Admission),
 }

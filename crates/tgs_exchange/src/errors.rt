@@ -21,7 +21,7 @@ pub fn tgs_error(
 ) -> Result<Vec<u8>, AllocError>
     requires realm { length realm.now ≤ 255 }
     requires sname { IfSome body.now.sname (λ n. length (name.text n) < 2147483648) }
-    // Promise (written, spelled), as error_reply of kdc_replies: the bytes of an ..
+    // Promise (written, spelled), as error_reply of kdc_replies: an error is written ..
     ensures written { IfOk result (λ octets.
         octets.items ≡ written krb_error (tgs_error realm.now at body.now refusal)) }
     ensures spelled { IfOk result (λ octets. krb_error.Spells (tgs_error realm.now at body.now refusal) octets.items) }

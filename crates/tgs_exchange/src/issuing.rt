@@ -1,4 +1,4 @@
-//! The ticket of an admission, and the reply that bears it (RFC 4120, section 3.3.3).
+//! The ticket of an admission, and the reply that carries it (RFC 4120, section 3.3.3).
 ghost use Rattle.std.specs.Prelude.{◌≡◌, ◌≤◌, length, IfOk};
 ghost use Rattle.krb_elements.specs.Codec.{written};
 ghost use Rattle.krb_types.specs.KdcRep.{kdc_rep};
@@ -43,7 +43,7 @@ pub fn tgs_rep(
     ensures spelled { IfOk result (λ octets.
         (kdc_rep TGS_REP).Spells (tgs_rep view.now incoming.now.at incoming.now.random body.now presented.now
         admission.now) octets.items) }
-    // The client and the service find the same inside; the service uses the key that the ticket names.
+    // The client and the service decrypt it to the same contents; the service uses the key that the ticket names.
     ensures same { IfOk result (λ octets.
         OpensFor view.now incoming.now.at incoming.now.random body.now presented.now admission.now) }
 {
@@ -84,7 +84,7 @@ fn grant_by<'g>(
         client: Lent::new(&ticket.cname),
         service: Lent::new(&terms.service.name),
         session_key: session_key(terms.service.session_type, random),
-        flags: flags_of(body, presented, admission),
+        flags: issued_flags(body, presented, admission),
         authtime: ticket.authtime,
         times: *times,
         authorization_data: lent_data(&ticket.authorization_data),
@@ -101,7 +101,7 @@ fn lent_data(entries: &Option<Seq<Typed>>) -> Option<Lent<'_, Seq<Typed>>>
     }
 }
 
-fn flags_of(body: &ReqBodyRef<'_>, presented: &Presented, admission: &Admission) -> Flags
+fn issued_flags(body: &ReqBodyRef<'_>, presented: &Presented, admission: &Admission) -> Flags
     ensures { result ≡ tgs_flags body.now
         (ticket_terms presented.now.ticket) admission.now.terms.service.policy admission.now.times }
 {
@@ -124,13 +124,13 @@ pub fn granted_by(body: &ReqBodyRef<'_>, presented: &Presented, admission: &Admi
         reply_type: reply_key.key.etype(),
         ticket_type: terms.service.key.key.etype(),
         session_type: terms.service.session_type,
-        flags: flags_of(body, presented, admission),
+        flags: issued_flags(body, presented, admission),
         authtime: presented.ticket.authtime,
         times: *times,
     }
 }
 
-/// Returns the key that the client chose, else the session key of the presented ticket.
+/// Returns the key that the client chose, or else the session key of the presented ticket.
 fn reply_key_of(presented: &Presented) -> PartKey
     ensures { result ≡ reply_key_of presented.now }
 {

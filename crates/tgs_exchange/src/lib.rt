@@ -1,5 +1,5 @@
-//! The ticket-granting service exchange (RFC 4120, section 3.3): makes the reply, and what is stored of request and
-//! reply, from what a request presents and what is known of its client and its service.
+//! The Ticket-Granting Service exchange (RFC 4120, section 3.3): from what a request presents and the rows of its
+//! client and its service to the reply, and to what is stored of both.
 //!
 //! ```
 //! let incoming = Incoming { at, random, room, octets, ready }; // of `kdc_replies`

@@ -8,7 +8,7 @@ use tgs_opening::TgsRefusal;
 pub enum TgsOutcome {
     /// This rule refused it.
     Refused(TgsRefusal),
-    /// It was issued this ticket.
+    /// This ticket was issued for it.
     Issued(Granted),
     /// It came before, and the stored reply, which bears this, was sent again.
     Resent(Bears),

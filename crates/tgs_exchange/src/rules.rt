@@ -7,7 +7,7 @@ ghost use Rattle.tgs_exchange.specs.Rules.{is_not_yet_valid, is_renewed_too_late
 ghost use Rattle.tgs_exchange.specs.Rules.{is_ticket_revoked, is_validated_too_early, lacks_flag, rules_by};
 ghost use Rattle.tgs_exchange.specs.Rules.{is_service_denied, starts_late};
 
-use crate::terms::{Admission, Terms, admission_of, times_of};
+use crate::terms::{Admission, Terms, allowed_times, complete_admission};
 use crate::view::TgsView;
 use ap_req::{ApRefusal, has_ended, has_not_started, ticket_terms};
 use kdc_replies::{denies_tickets, is_disabled, is_expired};
@@ -44,9 +44,9 @@ pub fn admitted(
     ensures { result ≡ admitted_by view.now at.sec body.now presented.now terms }
 {
     let ticket = ticket_terms(&presented.ticket);
-    let times = times_of(view.limits, at, &ticket, body, &terms);
+    let times = allowed_times(view.limits, at, &ticket, body, &terms);
     let rules = rules_by(view, at, body, presented, &terms, &times);
-    let admission = admission_of(terms, times);
+    let admission = complete_admission(terms, times);
     // If no rule holds, there are terms and times, so the last reason is never given for any other cause.
     decide(&rules, admission, TgsRefusal::NeverValid)
 }

@@ -55,7 +55,7 @@ pub fn find_terms(
 }
 
 /// Returns the times of a ticket by these terms; `None` without terms, or if it would end no later than it starts.
-pub fn times_of(
+pub fn allowed_times(
     limits: &Limits,
     at: Moment,
     ticket: &TicketTerms,
@@ -78,7 +78,7 @@ pub fn times_of(
 }
 
 /// Returns the admission, if there are both terms and times.
-pub fn admission_of(terms: Option<Terms>, times: Option<Times>) -> Option<Admission>
+pub fn complete_admission(terms: Option<Terms>, times: Option<Times>) -> Option<Admission>
     ensures { result ≡ admission_of terms times }
 {
     let Some(terms) = terms else {

@@ -1,22 +1,13 @@
--- The result for a decrypted ticket.
-use Rattle.std.proofs.Common.{◌≡◌, ◌<◌, ℕ, List, length, Option, Some, None, Ok, Err, refl, ap, sym, ◌∙◌, arith}
+-- A ticket's authorization data are few, since its cipher is shorter than the request.
+use Rattle.std.proofs.Common.{◌≡◌, ◌<◌, ℕ, List, length, Option, Some, None, Ok, arith}
 use Rattle.std.specs.Prelude.{IfSome}
 use Rattle.rule_lists.specs.RefusalLaws.{decided_found}
-use Rattle.enctypes.specs.declared.key.Key.{Key}
-use Rattle.enctypes.specs.declared.key_usage.KeyUsage.TheVariants.{TgsReqAuthenticator}
 use Rattle.krb_types.specs.ApReq.{ApReq}
-use Rattle.krb_types.specs.Authenticator.{Authenticator}
 use Rattle.krb_types.specs.EncTicketPart.{EncTicketPart, enc_ticket_part}
 use Rattle.krb_types.specs.KdcReq.{Received}
 use Rattle.encrypted_data.specs.Parts.{IsSpelledWithin}
-use Rattle.ap_req.specs.Authenticators.{authenticator_of, session_key_of}
-use Rattle.tgs_opening.specs.Authenticators.{subkey_of}
-use Rattle.tgs_opening.specs.Opening.{authenticated}
 use Rattle.tgs_opening.specs.PartLaws.{AreFew, few_data}
 use Rattle.tgs_opening.specs.Tickets.{value_ap_req, ap_req_of, request_rules, tgs_data}
-use Rattle.tgs_opening.specs.View.{TicketView}
-use Rattle.tgs_opening.specs.declared.opened.OpenedTicket.{OpenedTicket}
-use Rattle.tgs_opening.specs.declared.refusal.TgsRefusal.{TgsRefusal}
 use Rattle.tgs_opening.specs.declared.refusal.TgsRefusal.TheVariants.{MalformedApReq}
 
 -- the cipher is shorter than the value that contains it
@@ -40,14 +31,3 @@ pub few_presented : (message : Received) (ap : ApReq) (part : EncTicketPart) →
     → IsSpelledWithin enc_ticket_part part ap.ticket.enc_part.cipher → AreFew 2147483648 part.authorization_data
 few_presented message ap part read few short within =
     few_data 2147483648 part ap.ticket.enc_part.cipher (cipher_short message ap read few short) within
-
--- if the last step refuses, the request is refused
-pub refused_last : (v : TicketView) (message : Received) (o : OpenedTicket) (key : Key) (auth : Authenticator)
-    (body : List ℕ) (refusal : TgsRefusal)
-    → session_key_of v.realm o.part ≡ Ok key → authenticator_of TgsReqAuthenticator key o.ap.authenticator ≡ Ok auth
-    → body ≡ message.body.octets → subkey_of o.part key body auth ≡ Err refusal
-    → authenticated v message o ≡ Err refusal
-refused_last v message o key auth body refusal keys shows same refuses =
-    let refused : subkey_of o.part key message.body.octets auth ≡ Err refusal =
-    ap (λ octets. subkey_of o.part key octets auth) (sym same) ∙ refuses in
-    rw (keys, shows, refused) refl

@@ -21,7 +21,7 @@ use Rattle.tgs_opening.specs.declared.refusal.TgsRefusal.TheVariants.{Ap, NoChec
 abbrev pub is_other_type : Key → Option Typed → Bool
 is_other_type key = holds_of (λ cksum. not (int_eq cksum.number (checksum_type key.etype)))
 
--- it is not the checksum of the request's body, as that was sent
+-- it is not the checksum of the request's body as it was sent
 abbrev pub is_modified : Key → List ℕ → Option Typed → Bool
 is_modified key body = holds_of (λ cksum.
     not (pointwise nat_eq cksum.octets (mac key.etype key.bytes (usage_number TgsReqAuthenticatorChecksum) body)))
@@ -34,6 +34,7 @@ authenticator_rules part key body auth =
     ∷ (is_modified key body auth.cksum, Modified)  -- 3.3.2
     ∷ []
 
--- the subkey, with which the reply will be encrypted, or else the last reason (section 3.3.3)
+-- the subkey, which will encrypt the reply, or the first reason to refuse it; the last one is a bad subkey (section
+-- 3.3.3)
 abbrev pub subkey_of : EncTicketPart → Key → List ℕ → Authenticator → Result (Option Key) TgsRefusal
 subkey_of part key body auth = decided (authenticator_rules part key body auth) (subkey_in auth.subkey) (Ap BadSubkey)

@@ -1,6 +1,5 @@
 pub mod View
 pub mod Refusal
-pub mod Fault
 pub mod Tickets
 pub mod Authenticators
 pub mod Opening

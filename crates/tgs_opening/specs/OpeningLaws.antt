@@ -10,11 +10,11 @@ use Rattle.tgs_opening.specs.View.{TicketView}
 use Rattle.tgs_opening.specs.declared.opened.OpenedTicket.{OpenedTicket}
 use Rattle.tgs_opening.specs.declared.presented.Presented.{Presented}
 use Rattle.tgs_opening.specs.declared.refusal.TgsRefusal.{TgsRefusal}
-use Rattle.tgs_opening.specs.declared.rejection.Rejection.{Rejection}
+use Rattle.tgs_opening.specs.declared.rejection.OpeningRefusal.{OpeningRefusal}
 
 module _ (v : TicketView) (message : Received) (p : Presented) where
   part_of : (o : OpenedTicket) (r : Result Authenticated TgsRefusal) → by_authenticated o r ≡ Ok p → o.part ≡ p.ticket
-  part_of o (Ok a) e = λ i. (ok_is {R = Rejection} (presented_as o a) p e i).ticket
+  part_of o (Ok a) e = λ i. (ok_is {R = OpeningRefusal} (presented_as o a) p e i).ticket
   part_of o (Err rule) e = absurd cc
 
   ticket_of : (r : Result OpenedTicket TgsRefusal) → opened_ticket v message ≡ r → by_ticket v message r ≡ Ok p
@@ -31,22 +31,22 @@ abbrev pub client_of : Result OpenedTicket TgsRefusal → Option Name
 client_of (Ok o) = Some o.part.cname
 client_of (Err rule) = None
 
-module _ (v : TicketView) (message : Received) (rejected : Rejection) where
+module _ (v : TicketView) (message : Received) (rejected : OpeningRefusal) where
   client_shown : (o : OpenedTicket) (r : Result Authenticated TgsRefusal) → by_authenticated o r ≡ Err rejected
       → Some o.part.cname ≡ rejected.client
   client_shown o (Ok a) e = absurd cc
-  client_shown o (Err rule) e = ap (λ (r : Result Presented Rejection). again r) e
+  client_shown o (Err rule) e = ap (λ (r : Result Presented OpeningRefusal). again r) e
     where
-      again : Result Presented Rejection → Option Name
+      again : Result Presented OpeningRefusal → Option Name
       again (Ok p) = None
       again (Err r) = r.client
 
   client_opened : (r : Result OpenedTicket TgsRefusal) → by_ticket v message r ≡ Err rejected
       → client_of r ≡ rejected.client
   client_opened (Ok o) e = client_shown o (authenticated v message o) e
-  client_opened (Err rule) e = ap (λ (r : Result Presented Rejection). again r) e
+  client_opened (Err rule) e = ap (λ (r : Result Presented OpeningRefusal). again r) e
     where
-      again : Result Presented Rejection → Option Name
+      again : Result Presented OpeningRefusal → Option Name
       again (Ok p) = None
       again (Err r) = r.client
 

@@ -47,7 +47,7 @@ in_part =
     in_contents size 99 (sequence (enc_ticket_part_form typed string name (list_of typed))).Spells
     (λ x. part_of (λ list. Some list) x.authorization_data) (λ (x : EncTicketPart). x) in_fields
 
--- fewer bytes than n
+-- the text of the list, if there is one, has fewer than n bytes
 abbrev pub AreFew : ℕ → Option (List Typed) → Type 0
 AreFew n o = IfSome o (λ list. length ((list_of typed).text list) < n)
 

@@ -65,7 +65,7 @@ ap_ok {A} (Ok y) x e = ap (λ (r : Result A TgsRefusal). again r) e
 ap_ok (Err r) x e = absurd cc
 
 module _ (v : TicketView) (message : Received) where
-  -- whose row was found
+  -- the row of that service was found
   row_found : (service : Name) (tgs asked : Bool) → is_for_tgs v.realm service ≡ tgs
       → is_for_asked message.body.value service ≡ asked → (row : Row)
       → row_of v (if tgs then Tgs else if asked then AskedFor else Other) ≡ Some row
@@ -74,7 +74,7 @@ module _ (v : TicketView) (message : Received) where
   row_found service false true t a row e = inr (a, (service_of v.service row e).0, (service_of v.service row e).1)
   row_found service false false t a row e = absurd cc
 
-  -- whose key was found
+  -- a key of that service was found
   key_found : (ap : ApReq) (part : EncTicketPart) → value_ap_req (tgs_data message) ≡ Some ap
       → pointwise nat_eq ap.ticket.realm v.realm ≡ true → (found : Option Row)
       → holder v message.body.value ap.ticket ≡ found → (key : Option Key)

@@ -82,8 +82,9 @@ abbrev pub if_service : Option Row → Option Row
 if_service (Some row) = if row.policy.service then Some row else None
 if_service None = None
 
--- The row whose keys may have encrypted the ticket. The ticket-granting service is always a service; any other
--- principal only if its row says so: else a user, who knows a password, could make tickets in any client's name.
+-- The row whose keys may have encrypted the ticket. The ticket-granting service is always a service. Any other
+-- principal is one only if its row says so: otherwise a user, who knows a password, could make tickets in any client's
+-- name.
 abbrev pub row_of : TicketView → Addressee → Option Row
 row_of v Tgs = v.tgs
 row_of v AskedFor = if_service v.service

@@ -1,4 +1,4 @@
--- What decrypting a ticket needs beside the request.
+-- What decrypting a ticket needs besides the request.
 use Rattle.std.specs.Prelude.{ℕ, List, Option}
 use Rattle.principal_rows.specs.declared.row.Row.{Row}
 

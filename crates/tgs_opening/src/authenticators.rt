@@ -14,7 +14,7 @@ use krb_types::{Authenticator, EncTicketPart};
 use rule_lists::decide;
 
 /// Returns the subkey, after checking that the authenticator matches the ticket and the bytes of the request's body.
-pub fn subkey_of(
+pub fn checked_subkey(
     ready: &ReadyKeys,
     part: &EncTicketPart,
     key: &Key,

@@ -17,7 +17,6 @@
 #![tactic(auto)]
 
 mod authenticators;
-mod fault;
 mod opened;
 mod opening;
 mod presented;
@@ -29,6 +28,6 @@ mod view;
 pub use opening::tgs_open;
 pub use presented::Presented;
 pub use refusal::TgsRefusal;
-pub use rejection::Rejection;
+pub use rejection::OpeningRefusal;
 pub use tickets::is_named;
 pub use view::TicketView;

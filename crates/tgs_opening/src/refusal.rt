@@ -39,7 +39,7 @@ pub enum TgsRefusal {
     // what it is presented for, after `TicketExpired` (another service, section 3.3.2; else 3.3.3)
     /// The requested realm is another one, there is no sname, or it has no row.
     ServiceUnknown,
-    /// No tickets are for the service, and it is not the ticket-granting service.
+    /// No tickets may be issued for the service, and it is not the ticket-granting service.
     ServiceDenied,
     /// The service is disabled.
     ServiceRevoked,
@@ -65,14 +65,14 @@ pub enum TgsRefusal {
     NeverValid,
 }
 
-/// How many of them are not those of every AP-REQ.
+/// The number of rules that only a TGS-REQ has.
 const OWN_COUNT: usize = 24;
 
 impl TgsRefusal {
-    /// How many there are, with those of every AP-REQ.
+    /// The number of all rules, with those for every AP-REQ.
     pub const COUNT: usize = OWN_COUNT + ApRefusal::COUNT;
 
-    /// Those of this exchange alone, each at its place. Behind them come those of every AP-REQ.
+    /// The rules that only a TGS-REQ has, each at its place. Those for every AP-REQ come after them.
     pub const OWN: [TgsRefusal; OWN_COUNT] = [
         TgsRefusal::BadVersion,
         TgsRefusal::BadMessageType,
@@ -102,7 +102,7 @@ impl TgsRefusal {
 
     /// Returns the error code of the KRB-ERROR that answers it (RFC 4120, section 7.5.9).
     pub fn code(self) -> Code
-        // Promise, as AsRefusal::code of as_exchange: the code of each ..
+        // Promise, as AsRefusal::code of as_exchange: each refusal has its ..
         ensures { result ≡ code_of self }
     {
         match self {
@@ -136,7 +136,7 @@ impl TgsRefusal {
 
     /// Returns its name in the log and among the counters.
     pub fn word(self) -> &'static str
-        // Promise, as AsRefusal::word of as_exchange: the name of each ..
+        // Promise, as AsRefusal::word of as_exchange: each refusal has its ..
         ensures { result.now ≡ word_of self }
     {
         match self {
@@ -170,7 +170,7 @@ impl TgsRefusal {
 
     /// Returns its place among those of its exchange.
     pub fn place(self) -> usize
-        // Promise (value, range), as AsRefusal::word of as_exchange: the name of each ..
+        // Promise (value, range), as AsRefusal::word of as_exchange: each refusal has its ..
         ensures value { result ≡ place_of self }
         ensures range { result < refusal_count }
     {

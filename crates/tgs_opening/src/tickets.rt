@@ -17,7 +17,7 @@ use krb_elements::OctetsRef;
 use krb_fields::numbers::{PA_TGS_REQ, PVNO, TGS_REQ};
 use krb_fields::{EncryptedDataRef, Name, NameRef};
 use krb_types::{ApReqRef, EncTicketPart, KdcReqRef, ReqBodyRef, TicketRef, read_ap_req};
-use preauth::{first_of, key_by, key_numbered};
+use preauth::{first_padata, key_by, key_numbered};
 use principal_rows::{Row, Versions};
 use principals::names_tgs;
 use rule_lists::{Attempt, decide};
@@ -42,7 +42,7 @@ pub fn ap_req_of<'a>(message: &KdcReqRef<'a>) -> Result<ApReqRef<'a>, TgsRefusal
     ensures short { IfOk result (λ ap.
         IfSome (tgs_data message.now) (λ value. length ap.ticket.enc_part.cipher < length value)) }
 {
-    let value = first_of(PA_TGS_REQ, message.padata.as_ref());
+    let value = first_padata(PA_TGS_REQ, message.padata.as_ref());
     let rules = request_rules(message, value.is_none());
     decide(&rules, value_ap_req(value), TgsRefusal::MalformedApReq)
 }
@@ -83,7 +83,7 @@ pub fn shown_ticket(
 {
     let whom = find_addressee(alloc, view.realm, body, &ap.ticket.sname)?;
     let is_ours = is_for_us(view, &ap.ticket, whom);
-    let held = held_by(is_ours, row_of(view, whom), &ap.ticket.enc_part);
+    let held = held_by(is_ours, addressee_row(view, whom), &ap.ticket.enc_part);
     ap_req::shown_ticket(alloc, Some(view.ready), &held, ap)
 }
 
@@ -122,7 +122,7 @@ fn is_for_asked(
 
 /// Checks whether the name is this service's. Only the components count.
 pub fn is_named(name: Option<&NameRef<'_>>, service: &Name) -> bool
-    // Promise: whether a name that may be absent is this service's.
+    // Promise: `is_named` says whether a name, if there is one, is this service's.
     ensures { result ≡ is_named (option_copied name.entry) service.now }
 {
     match name {
@@ -132,7 +132,7 @@ pub fn is_named(name: Option<&NameRef<'_>>, service: &Name) -> bool
 }
 
 /// Returns the row whose keys may have encrypted the ticket.
-fn row_of<'v>(view: &TicketView<'v>, whom: Addressee) -> Option<&'v Row>
+fn addressee_row<'v>(view: &TicketView<'v>, whom: Addressee) -> Option<&'v Row>
     ensures { option_copied result ≡ row_of view.now whom }
 {
     match whom {

@@ -1,4 +1,4 @@
-//! What decrypting a ticket needs beside the request.
+//! What decrypting a ticket needs besides the request.
 use encrypted_data::ReadyKeys;
 use principal_rows::Row;
 use std::marker::Model;

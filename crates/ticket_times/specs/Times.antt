@@ -69,7 +69,7 @@ renewals start wanted ceiling client service limits =
     ∷ last_second
     ∷ []
 
--- none if it would not be after the start
+-- until when the ticket is renewable; none if that would not be after the start
 abbrev pub renewable_until : ℤ → ℤ → Ceiling → Policy → Policy → Limits → Option ℤ
 renewable_until start wanted ceiling client service limits =
     let until : ℤ = least (renewals start wanted ceiling client service limits) in then_some (int_lt start until) until
@@ -83,7 +83,7 @@ renew_till_of start (Some wanted) ceiling client service limits =
 abbrev pub is_never_valid : ℤ → ℤ → Bool
 is_never_valid start end = int_le end start
 
--- none if it would never be valid
+-- these times, or none if the ticket would never be valid
 abbrev pub valid_times : ℤ → ℤ → Option ℤ → Option Times
 valid_times start end renew_till =
     if is_never_valid start end then None else Some (record { start = start; end = end; renew_till = renew_till })
@@ -95,7 +95,7 @@ pub record IsTimes (times : Times) : Type 0 where
   pub renew_till : IfSome times.renew_till IsCivilSecond
   pub lasting : times.start <ℤ times.end
 
--- a new ticket within these bounds
+-- the times of a new ticket within these bounds
 abbrev pub fresh_times : ℤ → Ceiling → Policy → Policy → Limits → ReqBody → Option Times
 fresh_times now ceiling client service limits body =
     let start : ℤ = start_of now body in

@@ -7,7 +7,8 @@ use krb_types::ReqBodyRef;
 
 /// Checks whether the request asks for the option.
 pub fn asks(body: &ReqBodyRef<'_>, option: KdcOption) -> bool
-    // Promise: whether a request asks for an option, and for a renewal or a validation.
+    // Promise: `asks` says whether a request asks for an option, and `keeps_ticket` whether it asks for a renewal or a
+    // validation.
     ensures { result ≡ asks body.now option }
 {
     body.kdc_options.has(option)
@@ -15,7 +16,7 @@ pub fn asks(body: &ReqBodyRef<'_>, option: KdcOption) -> bool
 
 /// Checks whether the request renews or validates the presented ticket.
 pub fn keeps_ticket(body: &ReqBodyRef<'_>) -> bool
-    // Promise, as asks: whether a request asks ..
+    // Promise, as asks: `asks` says whether a ..
     ensures { result ≡ keeps_ticket body.now }
 {
     asks(body, KdcOption::Renew) || asks(body, KdcOption::Validate)

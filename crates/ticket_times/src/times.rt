@@ -37,16 +37,16 @@ pub fn as_times(
     limits: &Limits,
     body: &ReqBodyRef<'_>,
 ) -> Option<Times>
-    // Promise (value, range): the times of a ticket are those of the definition, and are civil seconds, the end after
-    // the start; whether a request without POSTDATED asks for a start that is too late.
+    // Promise (value, range): the times of a ticket are those of the definition: civil seconds, the end after the
+    // start; `starts_too_late` says whether a request asks for a start that needs POSTDATED without this option.
     ensures value { result ≡ as_times at.sec client.now service.now limits.now body.now }
     ensures range { IfSome result IsTimes }
 {
     fresh_times(at.sec, &Ceiling::none(), client, service, limits, body)
 }
 
-/// Returns the times of a ticket of the TGS exchange, for which this ticket is presented, or `None` if it would not end
-/// after it starts.
+/// Returns the times of a ticket of the TGS exchange, which is requested with this ticket, or `None` if it would not
+/// end after it starts.
 pub fn tgs_times(
     at: Moment,
     ticket: &TicketTerms,
@@ -81,8 +81,8 @@ fn fresh_times(
     ensures value { result ≡ fresh_times now ceiling.now client.now service.now limits.now body.now }
     ensures range { IfSome result IsTimes }
 {
-    let start = start_of(now, body);
-    let end = end_of(start, ceiling, client, service, limits, body);
+    let start = ticket_start(now, body);
+    let end = latest_end(start, ceiling, client, service, limits, body);
     let renew_till = match wanted(ceiling, body, end) {
         Some(wanted) => renewable_until(start, wanted, ceiling, client, service, limits),
         None => None,
@@ -166,7 +166,7 @@ pub fn starts_too_late(now: i64, body: &ReqBodyRef<'_>) -> bool
     !asks(body, KdcOption::Postdated) && now + SKEW < from_or(now, body)
 }
 
-fn start_of(now: i64, body: &ReqBodyRef<'_>) -> i64
+fn ticket_start(now: i64, body: &ReqBodyRef<'_>) -> i64
     requires { IsSecond now }
     ensures value { result ≡ start_of now body.now }
     ensures range { IsSecond result }
@@ -191,7 +191,7 @@ fn from_or(now: i64, body: &ReqBodyRef<'_>) -> i64
 }
 
 /// Returns the latest end of a ticket with this start.
-fn end_of(
+fn latest_end(
     start: i64,
     ceiling: &Ceiling,
     client: &Policy,

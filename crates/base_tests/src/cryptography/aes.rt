@@ -78,14 +78,14 @@ const TEXTS: &[Row] = &[
 ];
 
 #[test]
-fn blocks_are_those_of_the_standard(rt: HostRuntime) {
+fn blocks_are_encrypted_and_decrypted_as_in_the_standard(rt: HostRuntime) {
     for row in BLOCKS {
         same(&rt, row, &is_block(rt.alloc(), row), &true);
     }
 }
 
 #[test]
-fn texts_are_those_of_the_standard(rt: HostRuntime) {
+fn texts_are_encrypted_and_decrypted_as_in_the_standard(rt: HostRuntime) {
     for row in TEXTS {
         same(&rt, row, &is_row(rt.alloc(), row), &true);
     }
@@ -124,6 +124,18 @@ fn is_text(key: &[u8], iv: &[u8; 16], enciphered: &[u8]) -> bool {
     is_enciphered && *text == *plain
 }
 
+#[test]
+fn keys_have_16_or_32_bytes(rt: HostRuntime) {
+    for length in [0, 15, 17, 24, 31, 33] {
+        same(
+            &rt,
+            &length,
+            &AesKey::new(&[0; 33][..length]).is_none(),
+            &true,
+        );
+    }
+}
+
 /// The first words of four of the tables, as other implementations print them, and none past their end.
 const WORDS: [Option<u32>; 5] = [
     Some(0xc663_63a5),
@@ -134,15 +146,7 @@ const WORDS: [Option<u32>; 5] = [
 ];
 
 #[test]
-fn keys_have_two_lengths_and_tables_their_words(rt: HostRuntime) {
-    for length in [0, 15, 17, 24, 31, 33] {
-        same(
-            &rt,
-            &length,
-            &AesKey::new(&[0; 33][..length]).is_none(),
-            &true,
-        );
-    }
+fn tables_have_their_words(rt: HostRuntime) {
     let words = [
         table_word(0, 0),
         table_word(1, 0),

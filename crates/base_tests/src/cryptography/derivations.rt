@@ -4,7 +4,7 @@ ghost use Rattle.std.specs.Prelude.{◌<◌};
 
 use crate::cryptography::digit_vectors::DIGITS;
 use crate::cryptography::vectors::{Function, Row, TEXTS};
-use crate::expect::{BEGIN, END, JUDGED, are, bytes, mark, same};
+use crate::expect::{are, at_last, bytes, judged, same};
 use enctypes::{Etype, string_to_key};
 use prf_kdf::{
     hmac_sha1, hmac_sha256, hmac_sha384, kdf_sha256, kdf_sha384, n_fold, pbkdf2_sha1,
@@ -57,29 +57,28 @@ fn is_key(
 }
 
 #[test]
-fn keys_and_texts_make_what_the_standards_say(rt: HostRuntime) {
+fn derivations_from_texts_are_those_of_the_standards(rt: HostRuntime) {
     let alloc = rt.alloc();
     for (function, key, text, count, digits) in TEXTS {
         let given = (key.as_bytes(), text.as_bytes(), *count);
-        mark(alloc, BEGIN);
-        let mut found = makes(alloc, *function, given, *digits);
-        mark(alloc, END);
-        if found.is_err() {
-            found = makes(alloc, *function, given, *digits);
-        }
+        let found = at_last(
+            alloc,
+            &AllocError,
+            || makes(alloc, *function, given, *digits),
+        );
         same(&rt, digits, &found, &Ok(true));
-        mark(alloc, JUDGED);
+        judged(alloc);
     }
 }
 
 #[test]
-fn keys_and_texts_in_digits_make_what_the_standards_say(rt: HostRuntime) {
+fn derivations_from_digits_are_those_of_the_standards(rt: HostRuntime) {
     for row in DIGITS {
-        same(&rt, &row.4, &makes_of(rt.alloc(), row), &Ok(true));
+        same(&rt, &row.4, &holds_row(rt.alloc(), row), &Ok(true));
     }
 }
 
-fn makes_of(alloc: Global, row: &Row) -> Result<bool, AllocError> {
+fn holds_row(alloc: Global, row: &Row) -> Result<bool, AllocError> {
     let (function, key, text, count, digits) = row;
     let (key, text) = (bytes(alloc, *key), bytes(alloc, *text));
     makes(alloc, *function, (&key, &text, *count), *digits)
@@ -87,7 +86,7 @@ fn makes_of(alloc: Global, row: &Row) -> Result<bool, AllocError> {
 
 // A text may come in parts: case 2 of RFC 2202 and RFC 4231. Without parts it is empty (by Python's hmac).
 #[test]
-fn parts_are_one_text(rt: HostRuntime) {
+fn parts_are_hashed_as_one_text(rt: HostRuntime) {
     let alloc = rt.alloc();
     let parts: [&[u8]; 4] = [b"what do ya want ", b"", b"for ", b"nothing?"];
     let found = [

@@ -27,15 +27,23 @@ const USAGES: &[(KeyUsage, u32)] = &[
 ];
 
 #[test]
-fn numbers_are_those_of_the_standards(rt: HostRuntime) {
+fn types_have_the_standards_numbers_and_lengths(rt: HostRuntime) {
     for row in TYPES {
         let (etype, number, ..) = row;
         same(&rt, number, &Etype::from_number(*number), &Some(*etype));
         same(&rt, number, &numbers(*etype), row);
     }
+}
+
+#[test]
+fn other_numbers_are_no_types(rt: HostRuntime) {
     for number in [i32::MIN, -17, 0, 16, 21, 23, i32::MAX] {
         same(&rt, &number, &Etype::from_number(number), &None);
     }
+}
+
+#[test]
+fn usages_have_the_standards_numbers(rt: HostRuntime) {
     for (usage, number) in USAGES {
         same(&rt, number, &usage.number(), number);
     }

@@ -4,9 +4,9 @@ ghost use Rattle.cred_files.specs.Cache.{FitsButForTimes};
 ghost use Rattle.cred_files.specs.Principal as formats;
 
 use crate::cryptography::fixtures::sized;
-use crate::expect::{BEGIN, END, JUDGED, are, bytes, mark, same, written};
+use crate::expect::{are, at_last, bytes, judged, marked, same, written};
 use cred_files::{
-    Cache, CredFault, Credential, Keytab, KeytabEntry, Miss, Principal, SessionKey, Times,
+    Cache, CredError, Credential, Keytab, KeytabEntry, Miss, Principal, SessionKey, Times,
 };
 use enctypes::{Etype, Key};
 use krb_der::KTime;
@@ -67,7 +67,7 @@ const WRITTEN: &[(Way, &str)] = &[
     (Way::NewCache, CACHE),
 ];
 
-fn file(alloc: Global, way: Way, octets: &[u8]) -> Result<Vec<u8>, CredFault> {
+fn file(alloc: Global, way: Way, octets: &[u8]) -> Result<Vec<u8>, CredError> {
     match way {
         Way::KeytabAgain => keytab_again(alloc, octets),
         Way::CacheAgain => cache_again(alloc, octets),
@@ -76,29 +76,18 @@ fn file(alloc: Global, way: Way, octets: &[u8]) -> Result<Vec<u8>, CredFault> {
     }
 }
 
-/// Does the same, in a second call if memory ran out in the first one.
-fn file_again(alloc: Global, way: Way, octets: &[u8]) -> Result<Vec<u8>, CredFault> {
-    mark(alloc, BEGIN);
-    let found = file(alloc, way, octets);
-    mark(alloc, END);
-    match found {
-        Err(CredFault::Memory) => file(alloc, way, octets),
-        found => found,
-    }
-}
-
-fn keytab_again(alloc: Global, octets: &[u8]) -> Result<Vec<u8>, CredFault> {
+fn keytab_again(alloc: Global, octets: &[u8]) -> Result<Vec<u8>, CredError> {
     Keytab::read(alloc, octets)?.write(alloc)
 }
 
-fn cache_again(alloc: Global, octets: &[u8]) -> Result<Vec<u8>, CredFault> {
+fn cache_again(alloc: Global, octets: &[u8]) -> Result<Vec<u8>, CredError> {
     Cache::read(alloc, octets)?
         .write(alloc)
-        .map_err(CredFault::from)
+        .map_err(CredError::from)
 }
 
 /// Writes a keytab with the entry of `KEYTAB` in this realm.
-fn new_keytab(alloc: Global, realm: &[u8]) -> Result<Vec<u8>, CredFault> {
+fn new_keytab(alloc: Global, realm: &[u8]) -> Result<Vec<u8>, CredError> {
     let key = Key::from_random(Etype::Aes128CtsHmacSha1_96, &sized(KEY));
     let entries = [KeytabEntry {
         realm: KerberosString::from_slice(alloc, realm)?,
@@ -106,77 +95,71 @@ fn new_keytab(alloc: Global, realm: &[u8]) -> Result<Vec<u8>, CredFault> {
         version: 1,
         key,
     }];
-    keytab_of(alloc, &entries)
+    written_keytab(alloc, &entries)
 }
 
 /// The bytes 00, 01, .. 0f, and others that a key of type 17 does not have.
 const KEY: &str = "000102030405060708090a0b0c0d0e0fffffffffffffffffffffffffffffffff";
 
-fn keytab_of(alloc: Global, entries: &[KeytabEntry]) -> Result<Vec<u8>, CredFault> {
+fn written_keytab(alloc: Global, entries: &[KeytabEntry]) -> Result<Vec<u8>, CredError> {
     Keytab::new(alloc, entries)?.write(alloc)
 }
 
-fn written_cache(alloc: Global) -> Result<Vec<u8>, CredFault> {
-    new_cache(alloc)?.write(alloc).map_err(CredFault::from)
+fn written_cache(alloc: Global) -> Result<Vec<u8>, CredError> {
+    new_cache(alloc)?.write(alloc).map_err(CredError::from)
 }
 
 /// Returns an empty cache of `u`.
 #[tactic(auto, unfolding(cred_files::specs::Principal::principal))]
-fn new_cache(alloc: Global) -> Result<Cache, CredFault> {
+fn new_cache(alloc: Global) -> Result<Cache, CredError> {
     let u = Name::new(alloc, 1, &[b"u"])?;
-    Cache::new(alloc, b"A.B", &u).map_err(CredFault::from)
+    Cache::new(alloc, b"A.B", &u).map_err(CredError::from)
 }
 
 /// Returns the number of entries of a keytab.
-fn count(alloc: Global, octets: &[u8]) -> Result<usize, CredFault> {
+fn count(alloc: Global, octets: &[u8]) -> Result<usize, CredError> {
     Ok(Keytab::read(alloc, octets)?.len())
 }
 
 #[test]
-fn files_are_read_and_written(rt: HostRuntime) {
+fn files_of_stock_tools_are_read_and_written(rt: HostRuntime) {
     let alloc = rt.alloc();
     for (way, digits) in WRITTEN {
         let octets = bytes(alloc, *digits);
-        written(&rt, file_again(alloc, *way, &octets), &octets);
-        mark(alloc, JUDGED);
+        let found = at_last(alloc, &CredError::Memory, || file(alloc, *way, &octets));
+        written(&rt, found, &octets);
+        judged(alloc);
     }
 }
 
 #[test]
-fn keytabs_are_read(rt: HostRuntime) {
+fn keytabs_have_their_entries(rt: HostRuntime) {
     let alloc = rt.alloc();
     for (digits, wanted) in [(KEYTAB, 1), (STOCK_KEYTAB, 2), (HEIMDAL_KEYTAB, 2)] {
-        same(
-            &rt,
-            &digits,
-            &count(alloc, &bytes(alloc, digits)),
-            &Ok(wanted),
-        );
+        let found = count(alloc, &bytes(alloc, digits));
+        same(&rt, &digits, &found, &Ok(wanted));
     }
+}
+
+#[test]
+fn bad_entries_are_refused(rt: HostRuntime) {
+    let alloc = rt.alloc();
     // A key that is too short, a field that is longer than the entry, and a realm that is.
     for (old, new) in [("0011001000", "0011000f00"), ("00016800", "00406800")] {
-        same(
-            &rt,
-            &new,
-            &count_with(alloc, old, new),
-            &Err(CredFault::BadEntry),
-        );
+        let found = entries_after(alloc, old, new);
+        same(&rt, &new, &found, &Err(CredError::BadEntry));
     }
-    same(
-        &rt,
-        &"a long realm",
-        &long_keytab(alloc).err(),
-        &Some(CredFault::BadEntry),
-    );
+    let long = long_keytab(alloc).err();
+    same(&rt, &"a long realm", &long, &Some(CredError::BadEntry));
 }
 
 /// Counts the entries of `KEYTAB` with a part of its digits replaced.
-fn count_with(alloc: Global, old: &str, new: &str) -> Result<usize, CredFault> {
+fn entries_after(alloc: Global, old: &str, new: &str) -> Result<usize, CredError> {
     let digits = KEYTAB.replace(alloc, old, new)?;
     count(alloc, &bytes(alloc, digits.as_str()))
 }
 
-fn long_keytab(alloc: Global) -> Result<Vec<u8>, CredFault> {
+fn long_keytab(alloc: Global) -> Result<Vec<u8>, CredError> {
     let realm = vec![in alloc; 0x41; 0x1_0000]?;
     new_keytab(alloc, &realm)
 }
@@ -187,7 +170,7 @@ fn find(
     realm: &[u8],
     etype: Etype,
     version: Option<u32>,
-) -> Result<Result<bool, Miss>, CredFault> {
+) -> Result<Result<bool, Miss>, CredError> {
     let h = Name::new(alloc, 3, &[b"h"])?;
     let keytab = Keytab::read(alloc, &bytes(alloc, HEIMDAL_KEYTAB))?;
     Ok(match keytab.find(realm, &h, etype, version) {
@@ -216,35 +199,32 @@ fn keys_of_a_stock_keytab_are_found(rt: HostRuntime) {
 }
 
 #[test]
-fn files_that_were_cut_are_refused(rt: HostRuntime) {
+fn keytabs_that_were_cut_are_refused(rt: HostRuntime) {
     let alloc = rt.alloc();
     let keytab = bytes(alloc, KEYTAB);
     for len in 0..keytab.len() {
         let wanted = match len {
-            0 | 1 => Err(CredFault::BadMagic),
+            0 | 1 => Err(CredError::BadMagic),
             2 => Ok(0),
-            _ => Err(CredFault::Truncated),
+            _ => Err(CredError::Truncated),
         };
         same(&rt, &len, &count(alloc, &keytab[..len]), &wanted);
     }
-    same(
-        &rt,
-        &"magic",
-        &count(alloc, &[5, 1, 0, 0]),
-        &Err(CredFault::BadMagic),
-    );
+    let found = count(alloc, &[5, 1, 0, 0]);
+    same(&rt, &"magic", &found, &Err(CredError::BadMagic));
+}
+
+#[test]
+fn caches_that_were_cut_are_refused(rt: HostRuntime) {
+    let alloc = rt.alloc();
     let cache = bytes(alloc, CACHE);
     for len in 0..cache.len() {
         let wanted = match len {
-            0 | 1 => CredFault::BadMagic,
-            _ => CredFault::Truncated,
+            0 | 1 => CredError::BadMagic,
+            _ => CredError::Truncated,
         };
-        same(
-            &rt,
-            &len,
-            &cache_again(alloc, &cache[..len]).err(),
-            &Some(wanted),
-        );
+        let found = cache_again(alloc, &cache[..len]).err();
+        same(&rt, &len, &found, &Some(wanted));
     }
 }
 
@@ -289,7 +269,7 @@ fn principal(alloc: Global, name: &[u8]) -> Result<Principal, AllocError>
 }
 
 /// Puts a credential with this end.
-fn put(alloc: Global, cache: &mut Cache, end: i64) -> Result<(), CredFault> {
+fn put(alloc: Global, cache: &mut Cache, end: i64) -> Result<(), CredError> {
     let start = time(1_704_067_200)?;
     let times = Times {
         auth_time: start,
@@ -301,7 +281,7 @@ fn put(alloc: Global, cache: &mut Cache, end: i64) -> Result<(), CredFault> {
 }
 
 /// Returns the end of the credential for a service.
-fn end_of(alloc: Global, cache: &Cache, service: &[u8]) -> Result<i64, CredFault> {
+fn service_end(alloc: Global, cache: &Cache, service: &[u8]) -> Result<i64, CredError> {
     let service = Name::new(alloc, 2, &[service])?;
     match cache.find(&service) {
         Ok(found) => Ok(found.times.end_time.seconds()),
@@ -310,32 +290,30 @@ fn end_of(alloc: Global, cache: &Cache, service: &[u8]) -> Result<i64, CredFault
 }
 
 /// Ends of credentials that are put one after the other, how that ends, and the end of the one that is found then.
-const PUT: &[(i64, Result<(), CredFault>, i64)] = &[
+const PUT: &[(i64, Result<(), CredError>, i64)] = &[
     (1_704_103_200, Ok(()), 1_704_103_200),
     (2_147_483_648, Ok(()), 2_147_483_648),
-    (4_294_967_296, Err(CredFault::TooLate), 2_147_483_648),
+    (4_294_967_296, Err(CredError::TooLate), 2_147_483_648),
     (1_704_103_201, Ok(()), 1_704_103_201),
 ];
 
 fn are_put(rt: &impl Abort, alloc: Global, cache: &mut Cache) {
     for (end, wanted, found) in PUT {
-        let before = end_of(alloc, cache, b"h");
-        mark(alloc, BEGIN);
-        let mut outcome = put(alloc, cache, *end);
-        mark(alloc, END);
-        if outcome == Err(CredFault::Memory) {
-            same(rt, end, &end_of(alloc, cache, b"h"), &before);
+        let before = service_end(alloc, cache, b"h");
+        let mut outcome = marked(alloc, || put(alloc, cache, *end));
+        if outcome == Err(CredError::Memory) {
+            same(rt, end, &service_end(alloc, cache, b"h"), &before);
             outcome = put(alloc, cache, *end);
         }
         same(rt, end, &outcome, wanted);
-        same(rt, end, &end_of(alloc, cache, b"h"), &Ok(*found));
-        mark(alloc, JUDGED);
+        same(rt, end, &service_end(alloc, cache, b"h"), &Ok(*found));
+        judged(alloc);
     }
     same(
         rt,
         &"u",
-        &end_of(alloc, cache, b"u"),
-        &Err(CredFault::Absent),
+        &service_end(alloc, cache, b"u"),
+        &Err(CredError::Absent),
     );
 }
 

@@ -1,5 +1,5 @@
 //! Tests of what the two stores of `file_store` show alike: that of the system's files, and the one in memory.
-use crate::expect::same;
+use crate::expect::{gives, same};
 use file_store::{FileStore, MemoryStore, NewMode, Store, WriteEnd, Written};
 use std::alloc::Global;
 use std::{fs, io};
@@ -72,16 +72,12 @@ const SHOWN: Shown = (
 );
 
 #[test]
-fn files_in_memory_are_as_those_of_the_system(rt: HostRuntime) {
+fn files_in_memory_behave_like_those_of_the_system(rt: HostRuntime) {
     let alloc = rt.alloc();
-    match shown(alloc, &mut FileStore::new(&rt)) {
-        Ok(shown) => same(&rt, &"the system's files", &shown, &SHOWN),
-        Err(fault) => panic!(rt; "{fault:?}"),
-    }
-    match shown(alloc, &mut MemoryStore::new(alloc)) {
-        Ok(shown) => same(&rt, &"files in memory", &shown, &SHOWN),
-        Err(fault) => panic!(rt; "{fault:?}"),
-    }
+    let of_system = shown(alloc, &mut FileStore::new(&rt));
+    gives(&rt, &"the system's files", of_system, &SHOWN);
+    let in_memory = shown(alloc, &mut MemoryStore::new(alloc));
+    gives(&rt, &"files in memory", in_memory, &SHOWN);
     same(&rt, &STORED, &fs::remove_file(&rt, STORED).is_ok(), &true);
 }
 
@@ -106,20 +102,19 @@ fn user_and_owner(alloc: Global, user: u32) -> io::Result<(Option<u32>, u32)> {
 }
 
 #[test]
-fn a_write_in_memory_has_the_end_that_is_set(rt: HostRuntime) {
+fn a_write_in_memory_has_the_result_that_was_set(rt: HostRuntime) {
     let alloc = rt.alloc();
     for (end, wanted) in [
         (WriteEnd::Synced, (Some(true), true, 0)),
         (WriteEnd::NotSynced, (Some(false), true, 1)),
         (WriteEnd::Unchanged, (None, false, 1)),
     ] {
-        match ended(alloc, end) {
-            Ok(found) => same(&rt, &"the end of a write", &found, &wanted),
-            Err(fault) => panic!(rt; "{fault:?}"),
-        }
+        gives(&rt, &"the end of a write", ended(alloc, end), &wanted);
     }
-    match user_and_owner(alloc, 7) {
-        Ok(found) => same(&rt, &"a user", &found, &(Some(7), 0)),
-        Err(fault) => panic!(rt; "{fault:?}"),
-    }
+}
+
+#[test]
+fn a_store_in_memory_has_the_user_that_was_set(rt: HostRuntime) {
+    let found = user_and_owner(rt.alloc(), 7);
+    gives(&rt, &"a user", found, &(Some(7), 0));
 }

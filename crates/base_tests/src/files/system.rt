@@ -1,5 +1,5 @@
 //! Tests of the store over the system's files (`file_store`). Each removes its files at the end.
-use crate::expect::same;
+use crate::expect::{gives, same};
 use file_store::{FileStore, NewMode, Store, Written, folder_of, sync_folder};
 use std::fs::Permissions;
 use std::os::unix::fs::{MetadataExt, PermissionsExt};
@@ -127,17 +127,14 @@ const SEEN: Seen = (
 #[test]
 fn files_are_written_read_and_locked(rt: HostRuntime) {
     let mut store = FileStore::new(&rt);
-    match seen(&rt, &mut store) {
-        Ok(seen) => same(&rt, &"the system's files", &seen, &SEEN),
-        Err(fault) => panic!(rt; "{fault:?}"),
-    }
+    gives(&rt, &"the system's files", seen(&rt, &mut store), &SEEN);
     for path in [WRITTEN, UPDATED, BEGUN, LIMITED, "tested.locked.lock"] {
         same(&rt, &path, &fs::remove_file(&rt, path).is_ok(), &true);
     }
 }
 
 #[test]
-fn the_folder_of_a_file_is_synced(rt: HostRuntime) {
+fn a_file_has_its_folder(rt: HostRuntime) {
     for (path, folder) in [
         ("name", "."),
         ("./name", "."),
@@ -150,6 +147,10 @@ fn the_folder_of_a_file_is_synced(rt: HostRuntime) {
     ] {
         same(&rt, &path, &folder_of(path), &folder);
     }
+}
+
+#[test]
+fn the_folder_of_a_file_is_synced(rt: HostRuntime) {
     for (path, wanted) in [("name", true), ("/name", true), ("no.folder/name", false)] {
         same(&rt, &path, &sync_folder(&rt, path).is_ok(), &wanted);
     }

@@ -1,56 +1,71 @@
 //! Tests of single DER values (`krb_der`).
 ghost use Rattle.std.specs.Prelude.{◌<◌};
 
-use crate::expect::{BEGIN, END, JUDGED, bytes, mark, same, shows, written};
+use crate::expect::{bytes, judged, marked, same, shows, written};
 use krb_der::{DerFault, Items, KTime, Reader, Writer};
 use std::alloc::{AllocError, Global};
 use std::process::Abort;
 
-// X.690, section 8.3.
-#[test]
-fn reads_numbers(rt: HostRuntime) {
-    const NUMBERS: &[(&str, Result<i64, DerFault>)] = &[
-        ("020100", Ok(0)),
-        ("020105", Ok(5)),
-        ("02017f", Ok(127)),
-        ("02020080", Ok(128)),
-        ("020180", Ok(-128)),
-        ("0202ff7f", Ok(-129)),
-        ("02087fffffffffffffff", Ok(i64::MAX)),
-        ("02088000000000000000", Ok(i64::MIN)),
-        ("0200", Err(DerFault::BadInteger)),
-        ("02020005", Err(DerFault::BadInteger)),
-        ("0202ffff", Err(DerFault::BadInteger)),
-        ("0209010000000000000000", Err(DerFault::BadInteger)),
-    ];
-    for (digits, number) in NUMBERS {
-        let octets = bytes(rt.alloc(), *digits);
-        same(&rt, digits, &Reader::new(&octets).read_int(), number);
+/// A type of values.
+#[derive(Clone, Copy)]
+enum Kind {
+    Number,
+    Bits,
+}
+
+/// A type, the bytes in digits, and the value or the error with which they are read: of bits the first 32, as a number,
+/// and how many there are.
+const VALUES: &[(Kind, &str, &str)] = &[
+    // X.690, section 8.3: a number has its shortest form.
+    (Kind::Number, "020100", "Ok(0)"),
+    (Kind::Number, "020105", "Ok(5)"),
+    (Kind::Number, "02017f", "Ok(127)"),
+    (Kind::Number, "02020080", "Ok(128)"),
+    (Kind::Number, "020180", "Ok(-128)"),
+    (Kind::Number, "0202ff7f", "Ok(-129)"),
+    (
+        Kind::Number,
+        "02087fffffffffffffff",
+        "Ok(9223372036854775807)",
+    ),
+    (
+        Kind::Number,
+        "02088000000000000000",
+        "Ok(-9223372036854775808)",
+    ),
+    (Kind::Number, "0200", "Err(BadInteger)"),
+    (Kind::Number, "02020005", "Err(BadInteger)"),
+    (Kind::Number, "0202ffff", "Err(BadInteger)"),
+    (Kind::Number, "0209010000000000000000", "Err(BadInteger)"),
+    // X.690, sections 8.6 and 11.2: unused bits are zero. The bits of a KDC option, fewer than 32, and more.
+    (Kind::Bits, "03050040000010", "Ok((1073741840, 32))"),
+    (Kind::Bits, "030100", "Ok((0, 0))"),
+    (Kind::Bits, "03020780", "Ok((2147483648, 1))"),
+    (Kind::Bits, "0303041230", "Ok((305135616, 12))"),
+    (Kind::Bits, "0306010102030406", "Ok((16909060, 39))"),
+    (Kind::Bits, "0300", "Err(BadBits)"),
+    (Kind::Bits, "030101", "Err(BadBits)"),
+    (Kind::Bits, "03020800", "Err(BadBits)"),
+    (Kind::Bits, "030207c0", "Err(BadBits)"),
+];
+
+/// Asserts that the bytes are read with this value or error.
+fn is_read(rt: &impl Abort, alloc: Global, kind: Kind, octets: &[u8], value: &str) {
+    match kind {
+        Kind::Number => shows(rt, alloc, Reader::new(octets).read_int(), value),
+        Kind::Bits => shows(rt, alloc, Reader::new(octets).read_bits(), value),
     }
 }
 
-// X.690, sections 8.6 and 11.2: the bits of a KDC option, fewer than 32 bits, and more.
 #[test]
-fn reads_bits(rt: HostRuntime) {
-    const BITS: &[(&str, Result<(u32, u64), DerFault>)] = &[
-        ("03050040000010", Ok((0x4000_0010, 32))),
-        ("030100", Ok((0, 0))),
-        ("03020780", Ok((0x8000_0000, 1))),
-        ("0303041230", Ok((0x1230_0000, 12))),
-        ("0306010102030406", Ok((0x0102_0304, 39))),
-        ("0300", Err(DerFault::BadBits)),
-        ("030101", Err(DerFault::BadBits)),
-        ("03020800", Err(DerFault::BadBits)),
-        ("030207c0", Err(DerFault::BadBits)),
-    ];
-    for (digits, bits) in BITS {
-        let octets = bytes(rt.alloc(), *digits);
-        same(&rt, digits, &Reader::new(&octets).read_bits(), bits);
+fn numbers_and_bits_are_read_only_in_their_one_form(rt: HostRuntime) {
+    for (kind, digits, value) in VALUES {
+        is_read(&rt, rt.alloc(), *kind, &bytes(rt.alloc(), *digits), *value);
     }
 }
 
 #[test]
-fn returns_the_first_fault(rt: HostRuntime) {
+fn a_value_is_refused_by_its_first_fault(rt: HostRuntime) {
     const REFUSED: &[(&str, DerFault)] = &[
         ("", DerFault::Truncated),
         ("1c", DerFault::BadTag),
@@ -83,7 +98,7 @@ fn fault_of(octets: &[u8]) -> Option<DerFault> {
 }
 
 #[test]
-fn iterates_over_the_elements(rt: HostRuntime) {
+fn the_elements_of_a_list_are_returned_in_order(rt: HostRuntime) {
     let mut items = Items::new(&[0x1b, 1, 0x75, 4, 2, 1, 2]);
     let found = (
         items.iter().next(),
@@ -101,7 +116,7 @@ fn iterates_over_the_elements(rt: HostRuntime) {
 }
 
 #[test]
-fn writes_each_type(rt: HostRuntime) {
+fn each_type_is_written_in_its_encoding(rt: HostRuntime) {
     const WRITTEN: &str = "0202ff7f0202008003050040000010040201021b01753000";
     written(&rt, each_type(rt.alloc()), &bytes(rt.alloc(), WRITTEN));
 }
@@ -156,9 +171,7 @@ fn full(alloc: Global) -> Result<Writer, AllocError> {
 
 /// Makes the call, a second time if memory ran out. Then the writer has its one byte still.
 fn is_called(rt: &impl Abort, alloc: Global, out: &mut Writer, place: usize) {
-    mark(alloc, BEGIN);
-    let mut found = call(out, place);
-    mark(alloc, END);
+    let mut found = marked(alloc, || call(out, place));
     if found.is_err() {
         same(rt, &place, &out.len(), &1);
         found = call(out, place);
@@ -173,12 +186,12 @@ fn a_writer_without_memory_is_unchanged(rt: HostRuntime) {
         let mut out = full(alloc).unwrap_or(Writer::new(alloc));
         is_called(&rt, alloc, &mut out, *place);
         same(&rt, place, &out.finish(), &bytes(alloc, *digits));
-        mark(alloc, JUDGED);
+        judged(alloc);
     }
 }
 
 #[test]
-fn writes_the_length_in_the_fewest_bytes(rt: HostRuntime) {
+fn a_length_is_written_in_the_fewest_bytes(rt: HostRuntime) {
     const HEADS: &[(usize, &str)] = &[
         (127, "047f"),
         (128, "048180"),

@@ -4,9 +4,10 @@ ghost use Rattle.std.specs.Prelude.{◌<◌, ◌*◌, length, IfOk};
 use crate::expect::{bytes, shows, written};
 use krb_der::{DerFault, KTime, Reader, Writer};
 use krb_elements::{
-    Decode, Encode, Fault, KerberosString, KerberosStringRef, MakeOwned, Microseconds, Octets,
-    OctetsRef, Seq, SeqRef, UInt32, application_tag, end_of, look_either, read, take_field,
-    take_fixed, take_optional, take_sent, write, write_field, write_inside, write_optional,
+    ByteString, ByteStringRef, Decode, Encode, Fault, KerberosString, KerberosStringRef, MakeOwned,
+    Microseconds, Octets, OctetsRef, Seq, SeqRef, UInt32, application_tag, expect_end, look_either,
+    read, take_field, take_fixed, take_optional, take_sent, write, write_field, write_inside,
+    write_optional,
 };
 use std::alloc::{AllocError, Global};
 use std::cmp::Ordering;
@@ -23,6 +24,11 @@ enum Kind {
     KerberosString,
     Octets,
 }
+
+/// The tags of strings of bytes.
+const GENERAL_STRING: u8 = 0x1b;
+
+const OCTET_STRING: u8 = 0x04;
 
 const BAD: &str = "Err(BadInteger)";
 
@@ -112,18 +118,14 @@ const VALUES: &[(Kind, &str, &str)] = &[
     (Kind::Octets, "040200ff", "Ok(Octets { bytes: [0, 255] })"),
 ];
 
-fn numbers_of(alloc: Global, octets: &[u8]) -> Result<Seq<i32>, Fault> {
+fn read_numbers(alloc: Global, octets: &[u8]) -> Result<Seq<i32>, Fault> {
     let found: SeqRef<'_, i32> = read(octets)?;
     found.copy(alloc).map_err(Fault::from)
 }
 
-fn string_of(alloc: Global, octets: &[u8]) -> Result<KerberosString, Fault> {
-    let found: KerberosStringRef<'_> = read(octets)?;
-    found.copy(alloc).map_err(Fault::from)
-}
-
-fn octets_of(alloc: Global, octets: &[u8]) -> Result<Octets, Fault> {
-    let found: OctetsRef<'_> = read(octets)?;
+/// Reads a string of bytes with this tag.
+fn read_string<const TAG: u8>(alloc: Global, octets: &[u8]) -> Result<ByteString<TAG>, Fault> {
+    let found: ByteStringRef<'_, TAG> = read(octets)?;
     found.copy(alloc).map_err(Fault::from)
 }
 
@@ -154,18 +156,27 @@ fn list_written(alloc: Global, list: &Seq<i32>) -> Result<Vec<u8>, AllocError> {
     write(alloc, list)
 }
 
-fn string_written(alloc: Global, string: &KerberosString) -> Result<Vec<u8>, AllocError> {
+/// Writes a string of at most three bytes.
+fn string_written<const TAG: u8>(
+    alloc: Global,
+    string: &ByteString<TAG>,
+) -> Result<Vec<u8>, AllocError> {
     if string.as_slice().len() > 3 {
         return Ok(Vec::new(alloc));
     }
     write(alloc, string)
 }
 
-fn octets_written(alloc: Global, octets: &Octets) -> Result<Vec<u8>, AllocError> {
-    if octets.as_slice().len() > 2 {
-        return Ok(Vec::new(alloc));
-    }
-    write(alloc, octets)
+/// Reads a string, and writes it again.
+fn string_again<const TAG: u8>(alloc: Global, octets: &[u8]) -> Result<Vec<u8>, Fault> {
+    let string: ByteString<TAG> = read_string(alloc, octets)?;
+    string_written(alloc, &string).map_err(Fault::from)
+}
+
+/// Reads a list of two numbers, and writes it again.
+fn list_again(alloc: Global, octets: &[u8]) -> Result<Vec<u8>, Fault> {
+    let list = read_numbers(alloc, octets)?;
+    list_written(alloc, &list).map_err(Fault::from)
 }
 
 /// Reads a value of fewer than a thousand bytes, and writes it again.
@@ -178,11 +189,9 @@ fn again(alloc: Global, kind: Kind, octets: &[u8]) -> Result<Vec<u8>, Fault> {
         Kind::UInt32 => value_again::<UInt32>(alloc, octets),
         Kind::Microseconds => value_again::<Microseconds>(alloc, octets),
         Kind::Time => value_again::<KTime>(alloc, octets),
-        Kind::Numbers => list_written(alloc, &numbers_of(alloc, octets)?).map_err(Fault::from),
-        Kind::KerberosString => string_written(alloc, &string_of(alloc, octets)?).map_err(
-            Fault::from,
-        ),
-        Kind::Octets => octets_written(alloc, &octets_of(alloc, octets)?).map_err(Fault::from),
+        Kind::Numbers => list_again(alloc, octets),
+        Kind::KerberosString => string_again::<GENERAL_STRING>(alloc, octets),
+        Kind::Octets => string_again::<OCTET_STRING>(alloc, octets),
     }
 }
 
@@ -193,9 +202,14 @@ fn is_read(rt: &impl Abort, alloc: Global, kind: Kind, octets: &[u8], value: &st
         Kind::UInt32 => shows(rt, alloc, read::<UInt32>(octets), value),
         Kind::Microseconds => shows(rt, alloc, read::<Microseconds>(octets), value),
         Kind::Time => shows(rt, alloc, read::<KTime>(octets), value),
-        Kind::Numbers => shows(rt, alloc, numbers_of(alloc, octets), value),
-        Kind::KerberosString => shows(rt, alloc, string_of(alloc, octets), value),
-        Kind::Octets => shows(rt, alloc, octets_of(alloc, octets), value),
+        Kind::Numbers => shows(rt, alloc, read_numbers(alloc, octets), value),
+        Kind::KerberosString => shows(
+            rt,
+            alloc,
+            read_string::<GENERAL_STRING>(alloc, octets),
+            value,
+        ),
+        Kind::Octets => shows(rt, alloc, read_string::<OCTET_STRING>(alloc, octets), value),
     }
     if value.starts_with("Ok") {
         written(rt, again(alloc, kind, octets), octets);
@@ -213,7 +227,7 @@ fn values_are_read_and_written(rt: HostRuntime) {
 const LIST: [u8; 10] = [0xa8, 8, 0x30, 6, 2, 1, 17, 2, 1, 18];
 
 /// Returns the numbers of the field, or `None` if it is absent.
-fn numbers_at(alloc: Global, n: u8) -> Result<Option<Seq<i32>>, Fault>
+fn optional_numbers(alloc: Global, n: u8) -> Result<Option<Seq<i32>>, Fault>
     requires { n < 31 }
 {
     let mut fields = Reader::new(&LIST);
@@ -244,8 +258,8 @@ fn lists_are_read_in_place_and_keep_their_items(rt: HostRuntime) {
     let numbers = take_field(&mut Reader::new(&LIST), 8);
     let found = (
         numbers.map(is_iterated_twice),
-        numbers_at(alloc, 8),
-        numbers_at(alloc, 9),
+        optional_numbers(alloc, 8),
+        optional_numbers(alloc, 9),
         lists(alloc),
         Seq::<u32>::new(alloc).is_empty(),
     );
@@ -296,15 +310,15 @@ fn strings_and_octets_are_made_and_compared(rt: HostRuntime) {
 const FIELDS: &[u8] = &[0xa0, 3, 2, 1, 5, 0xa1, 3, 2, 1, 0xff, 0xa2, 3, 2, 1, 5];
 
 #[test]
-fn fields_are_read(rt: HostRuntime) {
+fn fields_are_read_in_order(rt: HostRuntime) {
     let mut fields = Reader::new(FIELDS);
     let found = (
         take_field::<i32>(&mut fields, 0),
         take_optional::<i32>(&mut fields, 0),
         take_optional::<i32>(&mut fields, 1),
-        end_of(&fields),
+        expect_end(&fields),
         take_fixed(&mut fields, 2, 5),
-        end_of(&fields),
+        expect_end(&fields),
         take_fixed(&mut Reader::new(FIELDS), 0, 6),
     );
     shows(
@@ -352,7 +366,7 @@ fn written_inside(alloc: Global, n: u8, number: i32) -> Result<Vec<u8>, AllocErr
 }
 
 #[test]
-fn fields_are_written(rt: HostRuntime) {
+fn fields_are_written_in_their_tags(rt: HostRuntime) {
     let alloc = rt.alloc();
     let fields = bytes(alloc, "a003020105a2030201ffa303020100a40402020080");
     written(&rt, fields_written(alloc), &fields);
@@ -361,9 +375,13 @@ fn fields_are_written(rt: HostRuntime) {
 }
 
 #[test]
-fn errors_are_converted_and_numbers_have_a_range(rt: HostRuntime) {
+fn errors_are_converted(rt: HostRuntime) {
     let faults = (Fault::from(DerFault::BadTag), Fault::from(AllocError));
     shows(&rt, rt.alloc(), faults, "(Der(BadTag), Memory)");
+}
+
+#[test]
+fn numbers_have_a_range(rt: HostRuntime) {
     let made = (
         Microseconds::new(999999).is_some(),
         Microseconds::new(1000000).is_some(),

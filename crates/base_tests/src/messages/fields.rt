@@ -1,5 +1,5 @@
 //! Tests of names, flags, codes and moments (`krb_fields`).
-use crate::expect::{BEGIN, END, JUDGED, mark, same, shows, written};
+use crate::expect::{at_last, judged, same, shows, written};
 use krb_elements::KerberosString;
 use krb_fields::{
     ApOption, Code, Flags, KdcOption, Moment, Name, NameFault, TicketFlag, component_from_text,
@@ -66,16 +66,21 @@ const OTHER_TEXTS: &[&str] = &[
 
 #[test]
 fn names_are_read_and_written(rt: HostRuntime) {
+    let alloc = rt.alloc();
     for (text, name) in NAMES {
-        shows(&rt, rt.alloc(), Name::from_text(rt.alloc(), *text), *name);
+        shows(&rt, alloc, Name::from_text(alloc, *text), *name);
+        let found = at_last(alloc, &NameFault::Memory, || is_written(alloc, *text));
+        same(&rt, text, &found, &Ok(true));
+        judged(alloc);
     }
+}
+
+#[test]
+fn other_texts_are_no_names(rt: HostRuntime) {
+    let alloc = rt.alloc();
     for text in OTHER_TEXTS {
-        shows(
-            &rt,
-            rt.alloc(),
-            Name::from_text(rt.alloc(), *text),
-            "Err(BadName)",
-        );
+        let found = Name::from_text(alloc, *text);
+        shows(&rt, alloc, found, "Err(BadName)");
     }
 }
 
@@ -87,7 +92,7 @@ fn is_written(alloc: Global, text: &str) -> Result<bool, NameFault> {
 }
 
 /// Returns the text of a component of this many bytes 255.
-fn text_of(alloc: Global, count: usize) -> Result<String, AllocError> {
+fn long_text(alloc: Global, count: usize) -> Result<String, AllocError> {
     let mut text = String::new(alloc);
     for _ in 0..count {
         text.push_str("\\ff")?;
@@ -97,7 +102,7 @@ fn text_of(alloc: Global, count: usize) -> Result<String, AllocError> {
 
 /// Checks whether that text is read and written.
 fn is_spelled(alloc: Global, count: usize) -> Result<bool, NameFault> {
-    let text = text_of(alloc, count)?;
+    let text = long_text(alloc, count)?;
     spells(alloc, text.as_str(), &[0xff; 255])
 }
 
@@ -170,25 +175,11 @@ fn salts_join_realm_and_components(rt: HostRuntime) {
         (b"A.B", &[b"krbtgt", b"A.B"], b"A.BkrbtgtA.B"),
         (b"A.B", &[], b"A.B"),
     ];
+    let alloc = rt.alloc();
     for (realm, components, salt) in SALTS {
-        let salted = salt_again(rt.alloc(), *realm, *components);
+        let salted = at_last(alloc, &AllocError, || salt_of(alloc, *realm, *components));
         written(&rt, salted.map(KerberosString::into_vec), *salt);
-        mark(rt.alloc(), JUDGED);
-    }
-}
-
-/// Returns the same, in a second call if memory ran out in the first one.
-fn salt_again(
-    alloc: Global,
-    realm: &[u8],
-    components: &[&[u8]],
-) -> Result<KerberosString, AllocError> {
-    mark(alloc, BEGIN);
-    let found = salt_of(alloc, realm, components);
-    mark(alloc, END);
-    match found {
-        Err(AllocError) => salt_of(alloc, realm, components),
-        found => found,
+        judged(alloc);
     }
 }
 
@@ -206,7 +197,7 @@ fn names_are_ordered_by_components(rt: HostRuntime) {
     ];
     for (i, one) in TEXTS.iter().enumerate() {
         for (j, other) in TEXTS.iter().enumerate() {
-            let order = order_of(rt.alloc(), *one, *other);
+            let order = compare_texts(rt.alloc(), *one, *other);
             same(&rt, &(one, other), &order, &Ok((i.cmp(&j), i == j, 2)));
         }
     }
@@ -214,7 +205,11 @@ fn names_are_ordered_by_components(rt: HostRuntime) {
 
 /// Returns the order of the names with two texts, and whether they are equal. The second one gets the type 2 and is
 /// copied, and the last part is the type of its copy.
-fn order_of(alloc: Global, one: &str, other: &str) -> Result<(Ordering, bool, i32), NameFault> {
+fn compare_texts(
+    alloc: Global,
+    one: &str,
+    other: &str,
+) -> Result<(Ordering, bool, i32), NameFault> {
     let one = Name::from_text(alloc, one)?;
     let mut other = Name::from_text(alloc, other)?;
     other.name_type = 2;
@@ -280,11 +275,16 @@ const OPTIONS: &[(KdcOption, u32)] = &[
 ];
 
 #[test]
-fn flags_have_their_bits(rt: HostRuntime) {
+fn flags_of_tickets_have_their_bits(rt: HostRuntime) {
     let none = Flags::from_bits(0);
     for (flag, mask) in TICKET {
         same(&rt, &"a ticket's flag", &none.with(*flag).bits(), mask);
     }
+}
+
+#[test]
+fn options_have_their_bits(rt: HostRuntime) {
+    let none = Flags::from_bits(0);
     for (option, mask) in OPTIONS {
         same(&rt, &"an option", &none.with(*option).bits(), mask);
     }
@@ -385,19 +385,4 @@ fn codes_have_their_names(rt: HostRuntime) {
 fn is_printed(alloc: Global, code: Code, text: &str) -> Result<bool, AllocError> {
     let printed = format!(in alloc; "{} {code}", code.number())?;
     Ok(printed.as_str() == text)
-}
-
-#[test]
-fn names_work_after_memory_ran_out(rt: HostRuntime) {
-    let alloc = rt.alloc();
-    for (text, _) in NAMES {
-        mark(alloc, BEGIN);
-        let mut found = is_written(alloc, *text);
-        mark(alloc, END);
-        if found == Err(NameFault::Memory) {
-            found = is_written(alloc, *text);
-        }
-        same(&rt, text, &found, &Ok(true));
-        mark(alloc, JUDGED);
-    }
 }

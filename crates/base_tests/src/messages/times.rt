@@ -52,9 +52,17 @@ fn times_are_read_and_written(rt: HostRuntime) {
     for (text, seconds) in TIMES {
         same(&rt, text, &is_spelled(*text, *seconds), &true);
     }
+}
+
+#[test]
+fn other_texts_are_refused(rt: HostRuntime) {
     for text in REFUSED {
         same(&rt, text, &KTime::from_octets(text.as_bytes()), &None);
     }
+}
+
+#[test]
+fn seconds_before_and_after_the_years_with_four_digits_are_no_time(rt: HostRuntime) {
     for seconds in [i64::MIN, -62_167_219_201, 253_402_300_800, i64::MAX] {
         same(&rt, &seconds, &KTime::new(seconds), &None);
     }

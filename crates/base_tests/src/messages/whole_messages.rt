@@ -2,7 +2,7 @@
 ghost use Rattle.std.specs.Prelude.{◌≡◌, ◌<◌, ◌*◌, length, IfOk};
 ghost use Rattle.krb_types.specs.KdcReq.{SpellsKdcReq, message, without_octets};
 
-use crate::expect::{BEGIN, END, JUDGED, bytes, mark, same, shows, written};
+use crate::expect::{at_last, bytes, judged, marked, same, shows, written};
 use crate::messages::vectors::*;
 use krb_der::DerFault;
 use krb_elements::{Encode, Fault, MakeOwned, ReadOwned, Seq, SeqRef, decode, encode, read};
@@ -71,6 +71,11 @@ const MESSAGES: &[Row] = &[
     (Kind::EtypeInfo2, ETYPE_INFO2, ETYPE_INFO2_VALUE),
     (Kind::MethodData, METHOD_DATA, METHOD_DATA_VALUE),
 ];
+
+/// Returns the messages. Only this function names the table: each that does takes long to prove.
+fn messages() -> &'static [Row] {
+    MESSAGES
+}
 
 const BAD_TAG: &str = "Err(Der(BadTag))";
 
@@ -179,54 +184,17 @@ fn kdc_req_again(alloc: Global, octets: &[u8]) -> Result<Vec<u8>, Fault>
     encode_kdc_req(alloc, exchange, &request).map_err(Fault::from)
 }
 
-fn krb_error_again(alloc: Global, octets: &[u8]) -> Result<Vec<u8>, Fault>
-    requires { length octets.now < 1000 }
+/// Reads a message, and writes it again by this call.
+fn again_by<X: ReadOwned, F: Fn(Global, &X) -> Result<Vec<u8>, AllocError>>(
+    alloc: Global,
+    octets: &[u8],
+    encode: F,
+) -> Result<Vec<u8>, Fault>
+    requires short { length octets.now < 1000 }
+    requires callable { (to : _) (x : _) → length (X.codec.text x.now) < 3000 → F.pre encode to x }
 {
-    encode_krb_error(alloc, &decode(alloc, octets)?).map_err(Fault::from)
-}
-
-fn ap_req_again(alloc: Global, octets: &[u8]) -> Result<Vec<u8>, Fault>
-    requires { length octets.now < 1000 }
-{
-    encode_ap_req(alloc, &decode(alloc, octets)?).map_err(Fault::from)
-}
-
-fn ap_rep_again(alloc: Global, octets: &[u8]) -> Result<Vec<u8>, Fault>
-    requires { length octets.now < 1000 }
-{
-    encode_ap_rep(alloc, &decode(alloc, octets)?).map_err(Fault::from)
-}
-
-fn ticket_part_again(alloc: Global, octets: &[u8]) -> Result<Vec<u8>, Fault>
-    requires { length octets.now < 1000 }
-{
-    encode_enc_ticket_part(alloc, &decode(alloc, octets)?).map_err(Fault::from)
-}
-
-fn authenticator_again(alloc: Global, octets: &[u8]) -> Result<Vec<u8>, Fault>
-    requires { length octets.now < 1000 }
-{
-    encode_authenticator(alloc, &decode(alloc, octets)?).map_err(Fault::from)
-}
-
-fn service_answer_again(alloc: Global, octets: &[u8]) -> Result<Vec<u8>, Fault>
-    requires { length octets.now < 1000 }
-{
-    encode_enc_ap_rep_part(alloc, &decode(alloc, octets)?).map_err(Fault::from)
-}
-
-#[tactic(auto, using(krb_types::specs::PaEncTsEnc::pa_enc_ts_enc_short))]
-fn timestamp_written(alloc: Global, part: &PaEncTsEnc) -> Result<Vec<u8>, AllocError> {
-    encode_pa_enc_ts_enc(alloc, part)
-}
-
-/// Reads a timestamp with microseconds, and writes it again.
-fn timestamp_again(alloc: Global, octets: &[u8]) -> Result<Vec<u8>, Fault> {
-    let part = decode_pa_enc_ts_enc(alloc, octets)?;
-    if part.pausec.is_none() {
-        return Ok(Vec::new(alloc));
-    }
-    timestamp_written(alloc, &part).map_err(Fault::from)
+    let message: X = decode(alloc, octets)?;
+    encode(alloc, &message).map_err(Fault::from)
 }
 
 /// Reads a message of fewer than a thousand bytes, and writes it again.
@@ -240,14 +208,9 @@ fn again<X: ReadOwned + Encode>(alloc: Global, octets: &[u8]) -> Result<Vec<u8>,
 
 /// Asserts that the message is written as it was read, as a marked call. Reads and writes it again if memory ran out.
 fn is_written<X: ReadOwned + Encode>(rt: &impl Abort, alloc: Global, octets: &[u8]) {
-    mark(alloc, BEGIN);
-    let found = again::<X>(alloc, octets);
-    mark(alloc, END);
-    match found {
-        Err(Fault::Memory) => written(rt, again::<X>(alloc, octets), octets),
-        found => written(rt, found, octets),
-    }
-    mark(alloc, JUDGED);
+    let found = at_last(alloc, &Fault::Memory, || again::<X>(alloc, octets));
+    written(rt, found, octets);
+    judged(alloc);
 }
 
 /// Asserts that the bytes are read with this value or error, and that a value is written as it was read.
@@ -263,8 +226,8 @@ fn is_read<X: ReadOwned + Encode + Debug>(
     }
 }
 
-/// Asserts it for this type of message.
-fn is_read_as(rt: &impl Abort, alloc: Global, kind: Kind, octets: &[u8], value: &str) {
+/// Asserts what `is_read` does, for this type of message.
+fn is_message_read(rt: &impl Abort, alloc: Global, kind: Kind, octets: &[u8], value: &str) {
     match kind {
         Kind::EncryptedData => is_read::<EncryptedData>(rt, alloc, octets, value),
         Kind::Ticket => is_read::<Ticket>(rt, alloc, octets, value),
@@ -291,15 +254,15 @@ fn is_read_as(rt: &impl Abort, alloc: Global, kind: Kind, octets: &[u8], value: 
 fn is_whole(rt: &impl Abort, alloc: Global, row: &Row) {
     let (kind, digits, value) = row;
     let octets = bytes(alloc, *digits);
-    is_read_as(rt, alloc, *kind, &octets, *value);
+    is_message_read(rt, alloc, *kind, &octets, *value);
     for len in 0..octets.len() {
-        is_read_as(rt, alloc, *kind, &octets[..len], "Err(Der(Truncated))");
+        is_message_read(rt, alloc, *kind, &octets[..len], "Err(Der(Truncated))");
     }
 }
 
 #[test]
 fn each_message_is_read_and_written(rt: HostRuntime) {
-    for row in MESSAGES {
+    for row in messages() {
         is_whole(&rt, rt.alloc(), row);
     }
 }
@@ -312,13 +275,13 @@ fn again_by_name(alloc: Global, kind: Kind, octets: &[u8]) -> Option<Result<Vec<
     match kind {
         Kind::AsReq => Some(kdc_req_again(alloc, octets)),
         Kind::TgsReq => Some(kdc_req_again(alloc, octets)),
-        Kind::KrbError => Some(krb_error_again(alloc, octets)),
-        Kind::ApReq => Some(ap_req_again(alloc, octets)),
-        Kind::ApRep => Some(ap_rep_again(alloc, octets)),
-        Kind::EncTicketPart => Some(ticket_part_again(alloc, octets)),
-        Kind::Authenticator => Some(authenticator_again(alloc, octets)),
-        Kind::EncApRepPart => Some(service_answer_again(alloc, octets)),
-        Kind::PaEncTsEnc => Some(timestamp_again(alloc, octets)),
+        Kind::KrbError => Some(again_by(alloc, octets, |to, x| encode_krb_error(to, x))),
+        Kind::ApReq => Some(again_by(alloc, octets, |to, x| encode_ap_req(to, x))),
+        Kind::ApRep => Some(again_by(alloc, octets, |to, x| encode_ap_rep(to, x))),
+        Kind::EncTicketPart => Some(again_by(alloc, octets, |to, x| encode_enc_ticket_part(to, x))),
+        Kind::Authenticator => Some(again_by(alloc, octets, |to, x| encode_authenticator(to, x))),
+        Kind::EncApRepPart => Some(again_by(alloc, octets, |to, x| encode_enc_ap_rep_part(to, x))),
+        Kind::PaEncTsEnc => Some(again_by(alloc, octets, |to, x| encode_pa_enc_ts_enc(to, x))),
         _ => None,
     }
 }
@@ -326,9 +289,7 @@ fn again_by_name(alloc: Global, kind: Kind, octets: &[u8]) -> Option<Result<Vec<
 /// Asserts that the message is written as it was read, if there are calls of its name. Reads and writes it again if
 /// memory ran out.
 fn is_written_by_name(rt: &impl Abort, alloc: Global, kind: Kind, octets: &[u8]) {
-    mark(alloc, BEGIN);
-    let first = again_by_name(alloc, kind, octets);
-    mark(alloc, END);
+    let first = marked(alloc, || again_by_name(alloc, kind, octets));
     let found = match first {
         Some(Err(Fault::Memory)) => again_by_name(alloc, kind, octets),
         first => first,
@@ -336,7 +297,7 @@ fn is_written_by_name(rt: &impl Abort, alloc: Global, kind: Kind, octets: &[u8])
     if let Some(found) = found {
         written(rt, found, octets);
     }
-    mark(alloc, JUDGED);
+    judged(alloc);
 }
 
 /// Asserts that the bytes are read with this value, if there is a call of its name.
@@ -361,16 +322,16 @@ fn is_named(rt: &impl Abort, alloc: Global, row: &Row) {
 }
 
 #[test]
-fn each_message_is_read_and_written_by_name(rt: HostRuntime) {
-    for row in MESSAGES {
+fn each_message_is_read_and_written_by_its_own_calls(rt: HostRuntime) {
+    for row in messages() {
         is_named(&rt, rt.alloc(), row);
     }
 }
 
 #[test]
-fn other_bytes_are_refused(rt: HostRuntime) {
+fn bytes_that_encode_no_such_message_are_refused(rt: HostRuntime) {
     for (kind, digits, value) in REFUSED {
-        is_read_as(&rt, rt.alloc(), *kind, &bytes(rt.alloc(), *digits), *value);
+        is_message_read(&rt, rt.alloc(), *kind, &bytes(rt.alloc(), *digits), *value);
     }
 }
 
@@ -386,7 +347,7 @@ fn is_changed(rt: &impl Abort, alloc: Global, row: &Changed) {
     match digits.replace(alloc, *old, *new) {
         Ok(digits) => {
             let octets = bytes(alloc, digits.as_str());
-            is_read_as(rt, alloc, *kind, &octets, *value);
+            is_message_read(rt, alloc, *kind, &octets, *value);
         }
         Err(AllocError) => panic!(rt; "no memory"),
     }

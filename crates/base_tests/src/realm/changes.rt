@@ -1,5 +1,5 @@
 //! Tests of changes of a database (`principals`).
-use crate::expect::{BEGIN, END, JUDGED, mark, same};
+use crate::expect::{judged, marked, same};
 use crate::realm::fixtures::{Checks, LONGEST, Seen, Step, TOO_LONG, change, check, seen};
 use principals::{ChangeFault, Database};
 use std::alloc::Global;
@@ -59,9 +59,7 @@ const CASES: &[Case] = &[
 pub fn are_changed(rt: &impl Abort, alloc: Global, database: &mut Database, cases: &[Case]) {
     for (place, (step, components, wanted, rows, wanted_row)) in cases.iter().enumerate() {
         let before = (database.len(), seen(alloc, database, &[U]));
-        mark(alloc, BEGIN);
-        let mut found = change(alloc, database, *components, *step);
-        mark(alloc, END);
+        let mut found = marked(alloc, || change(alloc, database, *components, *step));
         if found == Err(ChangeFault::Memory) {
             let left = (database.len(), seen(alloc, database, &[U]));
             same(rt, &place, &left, &before);
@@ -69,11 +67,11 @@ pub fn are_changed(rt: &impl Abort, alloc: Global, database: &mut Database, case
         }
         let after = (found, database.len(), seen(alloc, database, &[U]));
         same(rt, &place, &after, &(*wanted, *rows, Ok(*wanted_row)));
-        mark(alloc, JUDGED);
+        judged(alloc);
     }
 }
 
 #[test]
-fn rows_are_changed(rt: HostRuntime) {
+fn each_change_is_made_or_refused(rt: HostRuntime) {
     check(&rt, rt.alloc(), &Checks::Changes(CASES));
 }

@@ -1,7 +1,7 @@
 //! Tests of the text of a database (`principals_text`).
-use crate::expect::{BEGIN, END, JUDGED, mark, same};
+use crate::expect::{at_last, judged, same};
 use principals::Database;
-use principals_text::ReadFault;
+use principals_text::ReadError;
 use std::alloc::{AllocError, Global};
 
 const VERSION_1: &str = "{\"principals\":{\"krbtgt/A.B\":{\"disabled\":false,\"expires\":null,\
@@ -28,7 +28,7 @@ const NEWEST: &str = VERSION_3;
 const END_OF_NEWEST: &str = "\"version\":3}";
 
 /// Whether the text of a database, and of its copy, are as expected.
-type Read = Result<(bool, bool), ReadFault>;
+type Read = Result<(bool, bool), ReadError>;
 
 /// The keys in it, and the versions with these keys.
 const KEYS: &str = "[{\"etype\":17,\"key\":\"000102030405060708090a0b0c0d0e0f\"}]";
@@ -46,46 +46,46 @@ const AND_VERSION_2: &str =
 /// A part of `NEWEST`, what replaces it, and how the text is then read. If an object has a member twice, the last
 /// one counts.
 const CHANGED: &[(&str, &str, Read)] = &[
-    (END_OF_NEWEST, "\"version\":4}", Err(ReadFault::BadVersion)),
+    (END_OF_NEWEST, "\"version\":4}", Err(ReadError::BadVersion)),
     (
         END_OF_NEWEST,
         "\"version\":3.0}",
-        Err(ReadFault::BadVersion),
+        Err(ReadError::BadVersion),
     ),
-    (",\"version\":3}", "}", Err(ReadFault::BadVersion)),
-    (END_OF_NEWEST, "\"version\":2}", Err(ReadFault::BadRow)),
-    (END_OF_NEWEST, "\"version\":1}", Err(ReadFault::BadRow)),
-    (",\"service\":true", "", Err(ReadFault::BadRow)),
+    (",\"version\":3}", "}", Err(ReadError::BadVersion)),
+    (END_OF_NEWEST, "\"version\":2}", Err(ReadError::BadRow)),
+    (END_OF_NEWEST, "\"version\":1}", Err(ReadError::BadRow)),
+    (",\"service\":true", "", Err(ReadError::BadRow)),
     (
         "\"service\":true",
         "\"service\":null",
-        Err(ReadFault::BadRow),
+        Err(ReadError::BadRow),
     ),
-    ("krbtgt/A.B", "krbtgt/A.C", Err(ReadFault::NoTicketGranter)),
-    ("krbtgt/A.B", "krbtgt/", Err(ReadFault::BadRow)),
-    ("\"A.B\"", "\"A/B\"", Err(ReadFault::BadRow)),
-    ("null", "253402300800", Err(ReadFault::BadRow)),
-    ("4294967295", "4294967296", Err(ReadFault::BadRow)),
-    ("\"version\":1", "\"version\":0", Err(ReadFault::BadRow)),
-    ("\"etype\":17", "\"etype\":18", Err(ReadFault::BadRow)),
-    ("0f\"", "0g\"", Err(ReadFault::BadRow)),
-    ("true,", "true,\"a\":1,", Err(ReadFault::BadRow)),
-    ("\"preauth\":true,", "", Err(ReadFault::BadRow)),
+    ("krbtgt/A.B", "krbtgt/A.C", Err(ReadError::NoTicketGranter)),
+    ("krbtgt/A.B", "krbtgt/", Err(ReadError::BadRow)),
+    ("\"A.B\"", "\"A/B\"", Err(ReadError::BadRow)),
+    ("null", "253402300800", Err(ReadError::BadRow)),
+    ("4294967295", "4294967296", Err(ReadError::BadRow)),
+    ("\"version\":1", "\"version\":0", Err(ReadError::BadRow)),
+    ("\"etype\":17", "\"etype\":18", Err(ReadError::BadRow)),
+    ("0f\"", "0g\"", Err(ReadError::BadRow)),
+    ("true,", "true,\"a\":1,", Err(ReadError::BadRow)),
+    ("\"preauth\":true,", "", Err(ReadError::BadRow)),
     (
         "\"disabled\":false",
         "\"disabled\":0",
-        Err(ReadFault::BadRow),
+        Err(ReadError::BadRow),
     ),
-    ("\"realm\":\"A.B\",", "", Err(ReadFault::BadRow)),
-    ("\"realm\":\"A.B\"", "\"realm\":1", Err(ReadFault::BadRow)),
-    (KEYS, "[]", Err(ReadFault::BadRow)),
-    (VERSIONS, "[]", Err(ReadFault::BadRow)),
-    ("1}],", AND_VERSION_1, Err(ReadFault::BadRow)),
-    ("1}],", AND_VERSION_2, Err(ReadFault::BadRow)),
+    ("\"realm\":\"A.B\",", "", Err(ReadError::BadRow)),
+    ("\"realm\":\"A.B\"", "\"realm\":1", Err(ReadError::BadRow)),
+    (KEYS, "[]", Err(ReadError::BadRow)),
+    (VERSIONS, "[]", Err(ReadError::BadRow)),
+    ("1}],", AND_VERSION_1, Err(ReadError::BadRow)),
+    ("1}],", AND_VERSION_2, Err(ReadError::BadRow)),
     (
         "\"disabled\":false",
         "\"disabled\":false,\"disabled\":0",
-        Err(ReadFault::BadRow),
+        Err(ReadError::BadRow),
     ),
     (
         "\"disabled\":false",
@@ -95,14 +95,14 @@ const CHANGED: &[(&str, &str, Read)] = &[
     (
         "{\"principals\"",
         "[{\"principals\"",
-        Err(ReadFault::NotJson),
+        Err(ReadError::NotJson),
     ),
 ];
 
 /// Returns whether the database of the text is written as this text, and whether its copy is.
 fn read_as(alloc: Global, text: &str, wanted: &str) -> Read {
     let database = principals_text::read(alloc, text)?;
-    are_written(alloc, &database, wanted).map_err(ReadFault::from)
+    are_written(alloc, &database, wanted).map_err(ReadError::from)
 }
 
 fn are_written(
@@ -120,7 +120,7 @@ fn is_written(alloc: Global, database: &Database, wanted: &str) -> Result<bool, 
 }
 
 /// Reads `NEWEST` with a part of it replaced.
-fn read_with(alloc: Global, old: &str, new: &str) -> Read {
+fn read_replaced(alloc: Global, old: &str, new: &str) -> Read {
     let text = NEWEST.replace(alloc, old, new)?;
     read_as(alloc, text.as_str(), NEWEST)
 }
@@ -138,16 +138,11 @@ fn a_text_is_read_and_written_in_the_newest_version(rt: HostRuntime) {
         (VERSION_1, Ok((true, true))),
         (VERSION_2, Ok((true, true))),
         (VERSION_3, Ok((true, true))),
-        ("[]", Err(ReadFault::NotJson)),
+        ("[]", Err(ReadError::NotJson)),
     ] {
-        mark(alloc, BEGIN);
-        let mut found = read_as(alloc, text, NEWEST);
-        mark(alloc, END);
-        if found == Err(ReadFault::Memory) {
-            found = read_as(alloc, text, NEWEST);
-        }
+        let found = at_last(alloc, &ReadError::Memory, || read_as(alloc, text, NEWEST));
         same(&rt, &text, &found, &wanted);
-        mark(alloc, JUDGED);
+        judged(alloc);
     }
 }
 
@@ -155,35 +150,36 @@ fn a_text_is_read_and_written_in_the_newest_version(rt: HostRuntime) {
 fn a_changed_text_is_refused_by_its_first_fault(rt: HostRuntime) {
     let alloc = rt.alloc();
     for (old, new, wanted) in CHANGED {
-        same(&rt, &(old, new), &read_with(alloc, *old, *new), wanted);
-    }
-    same(
-        &rt,
-        &"no service",
-        &is_no_service_kept(alloc),
-        &Ok((true, true)),
-    );
-    // No proper prefix is JSON.
-    for end in 0..NEWEST.len() {
-        if let Some(front) = NEWEST.get(..end) {
-            same(
-                &rt,
-                &end,
-                &read_as(alloc, front, ""),
-                &Err(ReadFault::NotJson),
-            );
-        }
+        same(&rt, &(old, new), &read_replaced(alloc, *old, *new), wanted);
     }
     let deep = read_with_realm(alloc, "", '[', 10_000);
-    same(&rt, &"a deep text", &deep, &Err(ReadFault::NotJson));
+    same(&rt, &"a deep text", &deep, &Err(ReadError::NotJson));
     let long = read_with_realm(alloc, "\"", 'x', 1_000_000);
-    same(&rt, &"a long text", &long, &Err(ReadFault::BadRow));
+    same(&rt, &"a long text", &long, &Err(ReadError::BadRow));
+}
+
+#[test]
+fn a_principal_that_is_no_service_is_kept(rt: HostRuntime) {
+    let found = is_no_service_kept(rt.alloc());
+    same(&rt, &"no service", &found, &Ok((true, true)));
+}
+
+// No proper prefix is JSON.
+#[test]
+fn a_text_that_was_cut_is_refused(rt: HostRuntime) {
+    let alloc = rt.alloc();
+    for end in 0..NEWEST.len() {
+        if let Some(front) = NEWEST.get(..end) {
+            let found = read_as(alloc, front, "");
+            same(&rt, &end, &found, &Err(ReadError::NotJson));
+        }
+    }
 }
 
 /// Reads `NEWEST` with this character this many times as its realm, between these quotes.
 fn read_with_realm(alloc: Global, quote: &str, fill: char, count: usize) -> Read {
     let realm = filled(alloc, quote, fill, count)?;
-    read_with(alloc, "\"A.B\"", realm.as_str())
+    read_replaced(alloc, "\"A.B\"", realm.as_str())
 }
 
 fn filled(alloc: Global, quote: &str, fill: char, count: usize) -> Result<String, AllocError> {

@@ -1,5 +1,5 @@
 //! Tests of databases and the order of names in them (`principals`).
-use crate::expect::{BEGIN, END, JUDGED, bytes, mark, same, shows};
+use crate::expect::{at_last, bytes, judged, same, shows};
 use crate::realm::fixtures::{Checks, LONGEST, Step, TOO_LONG, change, check, first, seen};
 use krb_elements::read;
 use krb_fields::{Name, NameFault, NameRef, tgs_name};
@@ -38,7 +38,7 @@ pub fn is_first(rt: &impl Abort, alloc: Global, database: &mut Database) {
         same(
             rt,
             text,
-            &place_of(alloc, database, *place, *text),
+            &finds_name(alloc, database, *place, *text),
             &Ok(*wanted),
         );
     }
@@ -49,7 +49,7 @@ pub fn is_first(rt: &impl Abort, alloc: Global, database: &mut Database) {
 }
 
 /// Checks whether the name is found, and whether it is at this place.
-fn place_of(
+fn finds_name(
     alloc: Global,
     database: &Database,
     place: usize,
@@ -76,20 +76,16 @@ fn rows(alloc: Global, realm: &[u8]) -> Result<usize, NameFault> {
 
 #[test]
 fn a_realm_has_1_to_255_bytes(rt: HostRuntime) {
+    let alloc = rt.alloc();
     for (realm, wanted) in [
         (b"A.B".as_slice(), Ok(1)),
         (LONGEST, Ok(1)),
         (b"", Err(NameFault::BadName)),
         (TOO_LONG, Err(NameFault::BadName)),
     ] {
-        mark(rt.alloc(), BEGIN);
-        let mut found = rows(rt.alloc(), realm);
-        mark(rt.alloc(), END);
-        if found == Err(NameFault::Memory) {
-            found = rows(rt.alloc(), realm);
-        }
+        let found = at_last(alloc, &NameFault::Memory, || rows(alloc, realm));
         same(&rt, &realm, &found, &wanted);
-        mark(rt.alloc(), JUDGED);
+        judged(alloc);
     }
 }
 

@@ -4,8 +4,8 @@ use crate::expect::same;
 use crate::realm::fixtures::{T, at};
 use crate::realm::journals::seen;
 use journal::{
-    Doubt, Found, FoundFiles, JournalFile, JournalFiles, Left, MemoryFiles, Part, Place,
-    SealOutcome, Start, WriteFailures, read_files, read_part, seal_journal, start_of,
+    Found, FoundFiles, JournalFile, JournalFiles, Left, MemoryFiles, Part, Place, ResumeRefusal,
+    SealOutcome, Start, WriteFailures, decide_start, read_files, read_part, seal_journal,
 };
 use krb_elements::Octets;
 use krb_fields::Moment;
@@ -28,8 +28,8 @@ const FAILURES: &[(Failure, Kept)] = &[
         (Some([true, true, true]), Ok((3, T + 301))),
     ),
     // The start can't begin a file. A part of it is beside; or there is nothing.
-    ((1, 1, 9, Left::Before), (None, Err(Doubt::Damaged))),
-    ((1, 1, 9, Left::Between), (None, Err(Doubt::Absent))),
+    ((1, 1, 9, Left::Before), (None, Err(ResumeRefusal::Damaged))),
+    ((1, 1, 9, Left::Between), (None, Err(ResumeRefusal::Absent))),
     // It did, but that may not be on the disk. So a file is begun again in place of the first entry.
     (
         (1, 1, 9, Left::InPlace),
@@ -67,7 +67,7 @@ const FAILURES: &[(Failure, Kept)] = &[
     // The last entry is cut, and no file can be begun.
     (
         (5, 2, 9, Left::Before),
-        (Some([true, true, false]), Err(Doubt::Damaged)),
+        (Some([true, true, false]), Err(ResumeRefusal::Damaged)),
     ),
     // It is not there. The start finds what was kept before; or the older file was removed to make room; or the file
     // that was begun is in place, and the older one is still there.
@@ -77,7 +77,7 @@ const FAILURES: &[(Failure, Kept)] = &[
     ),
     (
         (5, 2, 0, Left::Between),
-        (Some([true, true, false]), Err(Doubt::Unlinked)),
+        (Some([true, true, false]), Err(ResumeRefusal::Unlinked)),
     ),
     (
         (5, 2, 0, Left::InPlace),
@@ -110,7 +110,7 @@ fn after(alloc: Global, failure: &Failure) -> Result<Kept, AllocError> {
     let mut journal = journal_in(alloc, files, b"boot")?;
     let kept = are_kept(alloc, &mut journal)?;
     let mut files = journal.into_files();
-    Ok((kept, resumed_in(alloc, &mut files, b"boot")?))
+    Ok((kept, resume_memory(alloc, &mut files, b"boot")?))
 }
 
 /// Starts where there is no journal, and keeps three authenticators. Returns which of them were kept, if it started.
@@ -119,7 +119,7 @@ fn are_kept(
     journal: &mut JournalFile<MemoryFiles>,
 ) -> Result<Option<[bool; 3]>, AllocError> {
     let absent = Start::Refuses {
-        doubt: Doubt::Absent,
+        doubt: ResumeRefusal::Absent,
         floor: None,
     };
     let begun = journal.start(alloc, at(0), &absent, &Found::Nothing, 0);
@@ -159,9 +159,9 @@ fn is_kept(
 }
 
 /// With how many authenticators a start resumes, and its floor; or why it doesn't.
-type Resumed = Result<(usize, i64), Doubt>;
+type Resumed = Result<(usize, i64), ResumeRefusal>;
 
-type Sealed = Result<(), Doubt>;
+type Sealed = Result<(), ResumeRefusal>;
 
 #[test]
 fn a_sealed_journal_outlives_a_boot(rt: HostRuntime) {
@@ -173,28 +173,28 @@ fn a_sealed_journal_outlives_a_boot(rt: HostRuntime) {
         &Ok((
             [
                 // One authenticator was kept. Another boot refuses it.
-                Err(Doubt::OtherBoot),
+                Err(ResumeRefusal::OtherBoot),
                 Ok((1, T + 301)),
                 // The start broke the seal, and kept one more: a third boot refuses, and the second one resumes with
                 // both.
-                Err(Doubt::OtherBoot),
+                Err(ResumeRefusal::OtherBoot),
                 Ok((2, T + 301)),
             ],
             // Another boot can't seal it. It is sealed in its own boot.
-            [Err(Doubt::OtherBoot), Ok(())],
+            [Err(ResumeRefusal::OtherBoot), Ok(())],
         )),
     );
 }
 
 fn starts_in_boots(alloc: Global) -> Result<([Resumed; 4], [Sealed; 2]), AllocError> {
-    let mut files = kept_in(alloc, MemoryFiles::new(), b"boot", 0)?;
-    let unsealed = resumed_in(alloc, &mut files, b"bott")?;
-    let foreign = sealed_in(alloc, &mut files, b"bott")?;
-    let sealed = sealed_in(alloc, &mut files, b"boot")?;
-    let resumed = resumed_in(alloc, &mut files, b"bott")?;
-    let mut files = kept_in(alloc, files, b"bott", 1)?;
-    let third = resumed_in(alloc, &mut files, b"bout")?;
-    let again = resumed_in(alloc, &mut files, b"bott")?;
+    let mut files = keep_one(alloc, MemoryFiles::new(), b"boot", 0)?;
+    let unsealed = resume_memory(alloc, &mut files, b"bott")?;
+    let foreign = seal_memory(alloc, &mut files, b"bott")?;
+    let sealed = seal_memory(alloc, &mut files, b"boot")?;
+    let resumed = resume_memory(alloc, &mut files, b"bott")?;
+    let mut files = keep_one(alloc, files, b"bott", 1)?;
+    let third = resume_memory(alloc, &mut files, b"bout")?;
+    let again = resume_memory(alloc, &mut files, b"bott")?;
     Ok(([unsealed, resumed, third, again], [foreign, sealed]))
 }
 
@@ -219,10 +219,14 @@ fn start_in(alloc: Global, found: &Files, boot: &[u8]) -> Result<Start, AllocErr
         seal: &found.seal,
         at: at(302),
     };
-    start_of(alloc, &place, &found.found)
+    decide_start(alloc, &place, &found.found)
 }
 
-fn resumed_in(alloc: Global, files: &mut MemoryFiles, boot: &[u8]) -> Result<Resumed, AllocError> {
+fn resume_memory(
+    alloc: Global,
+    files: &mut MemoryFiles,
+    boot: &[u8],
+) -> Result<Resumed, AllocError> {
     let found = files_in(alloc, files)?;
     resumed(alloc, &found, boot)
 }
@@ -235,7 +239,7 @@ fn resumed(alloc: Global, found: &Files, boot: &[u8]) -> Result<Resumed, AllocEr
 }
 
 /// Seals files.
-fn sealed_in(alloc: Global, files: &mut MemoryFiles, boot: &[u8]) -> Result<Sealed, AllocError> {
+fn seal_memory(alloc: Global, files: &mut MemoryFiles, boot: &[u8]) -> Result<Sealed, AllocError> {
     let found = files_in(alloc, files)?;
     seal(files, &found, boot)
 }
@@ -255,7 +259,7 @@ fn seal(files: &mut MemoryFiles, found: &Files, boot: &[u8]) -> Result<Sealed, A
 }
 
 /// Starts in a boot, and keeps an authenticator with this number of microseconds.
-fn kept_in(
+fn keep_one(
     alloc: Global,
     files: MemoryFiles,
     boot: &[u8],
@@ -317,48 +321,53 @@ const BEGUN: &[(&[u8], Left, Begun)] = &[
     (
         b"boot",
         Left::Before,
-        (true, true, Ok((1, T + 301)), Err(Doubt::OtherBoot)),
+        (true, true, Ok((1, T + 301)), Err(ResumeRefusal::OtherBoot)),
     ),
     // The next start finishes the turn.
     (
         b"boot",
         Left::Between,
-        (true, false, Ok((1, T + 301)), Err(Doubt::OtherBoot)),
+        (true, false, Ok((1, T + 301)), Err(ResumeRefusal::OtherBoot)),
     ),
     (
         b"boot",
         Left::InPlace,
-        (true, true, Ok((1, T + 301)), Err(Doubt::OtherBoot)),
+        (true, true, Ok((1, T + 301)), Err(ResumeRefusal::OtherBoot)),
     ),
     (
         b"bott",
         Left::Before,
-        (false, true, Ok((1, T + 301)), Err(Doubt::OtherBoot)),
+        (false, true, Ok((1, T + 301)), Err(ResumeRefusal::OtherBoot)),
     ),
     (
         b"bott",
         Left::Between,
-        (false, true, Ok((1, T + 301)), Err(Doubt::OtherBoot)),
+        (false, true, Ok((1, T + 301)), Err(ResumeRefusal::OtherBoot)),
     ),
     (
         b"bott",
         Left::InPlace,
-        (true, true, Err(Doubt::OtherBoot), Ok((0, T + 301))),
+        (true, true, Err(ResumeRefusal::OtherBoot), Ok((0, T + 301))),
     ),
 ];
 
 #[test]
-fn a_start_that_begins_no_file_loses_nothing(rt: HostRuntime) {
+fn a_start_that_fails_to_begin_a_file_loses_nothing(rt: HostRuntime) {
     let alloc = rt.alloc();
     for (boot, left, wanted) in BEGUN {
         let given = (*boot, *left);
-        same(&rt, &given, &begun_in(alloc, *boot, *left), &Ok(*wanted));
+        same(
+            &rt,
+            &given,
+            &fail_to_begin(alloc, *boot, *left),
+            &Ok(*wanted),
+        );
     }
 }
 
 /// Keeps an authenticator in `boot`, and has a start in a boot fail to begin a file.
-fn begun_in(alloc: Global, boot: &[u8], left: Left) -> Result<Begun, AllocError> {
-    let mut files = kept_in(alloc, MemoryFiles::new(), b"boot", 0)?;
+fn fail_to_begin(alloc: Global, boot: &[u8], left: Left) -> Result<Begun, AllocError> {
+    let mut files = keep_one(alloc, MemoryFiles::new(), b"boot", 0)?;
     let found = files_in(alloc, &mut files)?;
     fail(&mut files, &(1, 1, 9, left));
     begun_after(alloc, files, &found, boot)
@@ -377,8 +386,8 @@ fn begun_after(
 
 fn begun(alloc: Global, files: &mut MemoryFiles, started: bool) -> Result<Begun, AllocError> {
     let is_there = is_newer_there(alloc, files);
-    let here = resumed_in(alloc, files, b"boot")?;
-    let there = resumed_in(alloc, files, b"bott")?;
+    let here = resume_memory(alloc, files, b"boot")?;
+    let there = resume_memory(alloc, files, b"bott")?;
     Ok((started, is_there, here, there))
 }
 

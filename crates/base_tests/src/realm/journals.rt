@@ -4,8 +4,8 @@ use crate::cryptography::fixtures::sized;
 use crate::expect::{are, bytes, holds, same};
 use crate::realm::fixtures::{T, at};
 use journal::{
-    Doubt, FileText, Found, FoundFiles, Place, Start, Written, found_of, shown_in, start_of,
-    write_beginning, write_seen,
+    FileText, Found, FoundFiles, Place, ResumeRefusal, Start, Written, decide_start, judge_text,
+    shown_in, write_beginning, write_seen,
 };
 use krb_fields::{Moment, Name};
 use replay::Seen;
@@ -112,13 +112,13 @@ fn found(alloc: Global, text: &[u8]) -> Found {
     let Ok(octets) = Vec::from_slice(alloc, text) else {
         return Found::Nothing;
     };
-    match found_of(alloc, &FileText::Octets(octets)) {
+    match judge_text(alloc, &FileText::Octets(octets)) {
         Ok(found) => found,
         Err(AllocError) => Found::Nothing,
     }
 }
 
-fn found_in(alloc: Global, parts: &[&str]) -> Found {
+fn find_parts(alloc: Global, parts: &[&str]) -> Found {
     match text(alloc, parts) {
         Ok(text) => found(alloc, &text),
         Err(AllocError) => Found::Nothing,
@@ -149,7 +149,7 @@ const ORDERS: &[(&[&str], Option<usize>)] = &[
 fn a_journal_that_was_cut_or_changed_is_broken(rt: HostRuntime) {
     let alloc = rt.alloc();
     for (parts, wanted) in ORDERS {
-        same(&rt, parts, &count(&found_in(alloc, *parts)), &Ok(*wanted));
+        same(&rt, parts, &count(&find_parts(alloc, *parts)), &Ok(*wanted));
     }
     match text(alloc, &[BEGINNING, FIRST, SECOND]) {
         Ok(mut text) => {
@@ -197,7 +197,7 @@ type Where = (&'static [u8], &'static [u8], &'static [u8], i64);
 
 /// The floor and the number of authenticators with which a start resumes. Or why it can't, and the floor that its files
 /// ask for.
-type Made = Result<(i64, usize), (Doubt, Option<i64>)>;
+type Made = Result<(i64, usize), (ResumeRefusal, Option<i64>)>;
 
 fn made(alloc: Global, place: &Where, found: &FoundFiles) -> Result<Made, AllocError> {
     let (realm, boot, seal, second) = place;
@@ -210,7 +210,7 @@ fn made(alloc: Global, place: &Where, found: &FoundFiles) -> Result<Made, AllocE
         seal: *seal,
         at,
     };
-    Ok(match start_of(alloc, &place, found)? {
+    Ok(match decide_start(alloc, &place, found)? {
         Start::Resumes { resumption, .. } => Ok((resumption.floor, resumption.seen.len())),
         Start::Refuses { doubt, floor } => Err((doubt, floor)),
     })
@@ -232,26 +232,26 @@ const STARTS: &[(Where, Made)] = &[
     ((b"A.B", b"boot", b"", T + 602), Ok((T + 302, 2))),
     (
         (b"A.C", b"boot", b"", T + 2),
-        Err((Doubt::OtherRealm, Some(T + 303))),
+        Err((ResumeRefusal::OtherRealm, Some(T + 303))),
     ),
     (
         (b"A.B", b"bott", b"", T + 2),
-        Err((Doubt::OtherBoot, Some(T + 303))),
+        Err((ResumeRefusal::OtherBoot, Some(T + 303))),
     ),
     // It was sealed before the boot, or it was sealed, and then there was one more entry, or one less.
     ((b"A.B", b"bott", SEAL, T + 2), Ok((T + 301, 2))),
     (
         (b"A.B", b"bott", EARLIER_SEAL, T + 2),
-        Err((Doubt::Damaged, Some(T + 303))),
+        Err((ResumeRefusal::Damaged, Some(T + 303))),
     ),
     (
         (b"A.B", b"boot", EARLIER_SEAL, T + 2),
-        Err((Doubt::Damaged, Some(T + 303))),
+        Err((ResumeRefusal::Damaged, Some(T + 303))),
     ),
     ((b"A.B", b"boot", SEAL, T + 2), Ok((T + 301, 2))),
     (
         (b"A.C", b"boot", EARLIER_SEAL, T + 2),
-        Err((Doubt::OtherRealm, Some(T + 303))),
+        Err((ResumeRefusal::OtherRealm, Some(T + 303))),
     ),
     // The clock is behind the journal.
     ((b"A.B", b"boot", b"", T + 1), Ok((T + 302, 2))),
@@ -269,7 +269,7 @@ fn linked(alloc: Global, floor: i64) -> Found {
 #[test]
 fn a_start_resumes_or_says_why_not(rt: HostRuntime) {
     let alloc = rt.alloc();
-    let whole = only(found_in(alloc, &[BEGINNING, FIRST, SECOND]));
+    let whole = only(find_parts(alloc, &[BEGINNING, FIRST, SECOND]));
     for (place, wanted) in STARTS {
         same(&rt, place, &made(alloc, place, &whole), &Ok(*wanted));
     }
@@ -303,13 +303,13 @@ enum Content {
     LinkedLower,
 }
 
-fn file_with(alloc: Global, content: Content) -> Found {
+fn make_file(alloc: Global, content: Content) -> Found {
     match content {
         Content::Nothing => Found::Nothing,
         Content::Unusable => Found::Broken(None),
-        Content::Broken => found_in(alloc, &[BEGINNING, SECOND]),
-        Content::Whole => found_in(alloc, &[BEGINNING, FIRST, SECOND]),
-        Content::Shorter => found_in(alloc, &[BEGINNING, FIRST]),
+        Content::Broken => find_parts(alloc, &[BEGINNING, SECOND]),
+        Content::Whole => find_parts(alloc, &[BEGINNING, FIRST, SECOND]),
+        Content::Shorter => find_parts(alloc, &[BEGINNING, FIRST]),
         Content::Linked => linked(alloc, T + 301),
         Content::LinkedLower => linked(alloc, T + 300),
     }
@@ -322,27 +322,27 @@ type Contents = (Content, Content, Content);
 const FILES: &[(Contents, Made)] = &[
     (
         (Content::Nothing, Content::Nothing, Content::Nothing),
-        Err((Doubt::Absent, None)),
+        Err((ResumeRefusal::Absent, None)),
     ),
     (
         (Content::Whole, Content::Nothing, Content::Nothing),
-        Err((Doubt::Damaged, Some(T + 303))),
+        Err((ResumeRefusal::Damaged, Some(T + 303))),
     ),
     (
         (Content::Nothing, Content::Nothing, Content::Unusable),
-        Err((Doubt::Damaged, None)),
+        Err((ResumeRefusal::Damaged, None)),
     ),
     (
         (Content::Whole, Content::Nothing, Content::Linked),
-        Err((Doubt::Damaged, Some(T + 951))),
+        Err((ResumeRefusal::Damaged, Some(T + 951))),
     ),
     (
         (Content::Nothing, Content::Broken, Content::Nothing),
-        Err((Doubt::Damaged, Some(T + 301))),
+        Err((ResumeRefusal::Damaged, Some(T + 301))),
     ),
     (
         (Content::Whole, Content::Broken, Content::Unusable),
-        Err((Doubt::Damaged, Some(T + 303))),
+        Err((ResumeRefusal::Damaged, Some(T + 303))),
     ),
     (
         (Content::Whole, Content::Linked, Content::Nothing),
@@ -355,28 +355,28 @@ const FILES: &[(Contents, Made)] = &[
     ),
     (
         (Content::Shorter, Content::Linked, Content::Nothing),
-        Err((Doubt::Unlinked, Some(T + 951))),
+        Err((ResumeRefusal::Unlinked, Some(T + 951))),
     ),
     (
         (Content::Nothing, Content::Linked, Content::Nothing),
-        Err((Doubt::Unlinked, Some(T + 951))),
+        Err((ResumeRefusal::Unlinked, Some(T + 951))),
     ),
     (
         (Content::Broken, Content::Linked, Content::Nothing),
-        Err((Doubt::Unlinked, Some(T + 951))),
+        Err((ResumeRefusal::Unlinked, Some(T + 951))),
     ),
     (
         (Content::Whole, Content::LinkedLower, Content::Nothing),
-        Err((Doubt::Unlinked, Some(T + 951))),
+        Err((ResumeRefusal::Unlinked, Some(T + 951))),
     ),
 ];
 
-fn files_with(alloc: Global, contents: &Contents) -> FoundFiles {
+fn make_files(alloc: Global, contents: &Contents) -> FoundFiles {
     let (older, newer, beside) = *contents;
     FoundFiles {
-        older: file_with(alloc, older),
-        newer: file_with(alloc, newer),
-        beside: file_with(alloc, beside),
+        older: make_file(alloc, older),
+        newer: make_file(alloc, newer),
+        beside: make_file(alloc, beside),
     }
 }
 
@@ -385,7 +385,7 @@ fn a_start_with_all_files_resumes_or_says_why_not(rt: HostRuntime) {
     const HERE: Where = (b"A.B", b"boot", b"", T + 700);
     let alloc = rt.alloc();
     for (contents, wanted) in FILES {
-        let found = made(alloc, &HERE, &files_with(alloc, contents));
+        let found = made(alloc, &HERE, &make_files(alloc, contents));
         same(&rt, contents, &found, &Ok(*wanted));
     }
 }
@@ -401,7 +401,7 @@ const SHOWN: &[((usize, Option<usize>), Option<i64>)] = &[
     ((79, None), Some(T + 301)),
     ((78, None), None),
     ((0, None), None),
-    // Where an entry is changed, it counts for nothing, and the one behind it still counts.
+    // Where an entry is changed, it counts for nothing, and the one after it still counts.
     ((216, Some(150)), Some(T + 302)),
     ((216, Some(100)), Some(T + 303)),
     ((146, Some(100)), Some(T + 301)),
@@ -416,11 +416,16 @@ const SHOWN: &[((usize, Option<usize>), Option<i64>)] = &[
 ];
 
 #[test]
-fn a_text_asks_for_a_floor(rt: HostRuntime) {
+fn a_cut_or_changed_journal_still_asks_for_a_floor(rt: HostRuntime) {
     let alloc = rt.alloc();
     for (given, wanted) in SHOWN {
         same(&rt, given, &shown(alloc, given), &Ok(*wanted));
     }
+}
+
+#[test]
+fn an_entry_without_a_header_asks_for_a_floor(rt: HostRuntime) {
+    let alloc = rt.alloc();
     for (given, wanted) in LONE {
         same(&rt, given, &told_after(alloc, given), &Ok(Some(*wanted)));
     }
@@ -458,7 +463,7 @@ const LONE: &[((i64, i64), i64)] = &[
     ((LAST, LAST), LAST),
 ];
 
-/// Returns the floor that an entry asks for, behind the check that it follows.
+/// Returns the floor that an entry asks for, after the check that it follows.
 fn told_after(alloc: Global, given: &(i64, i64)) -> Result<Option<i64>, AllocError> {
     let (ctime, came) = *given;
     let (Some(at), check) = (Moment::new(came, 0), sized::<16>(CHECKS[0])) else {
@@ -495,12 +500,12 @@ const AGES: &[(&[i64], usize)] = &[
 fn entries_that_are_too_old_are_not_kept(rt: HostRuntime) {
     let alloc = rt.alloc();
     for (times, wanted) in AGES {
-        same(&rt, times, &count_of(alloc, *times), &Ok(Some(*wanted)));
+        same(&rt, times, &count_kept(alloc, *times), &Ok(Some(*wanted)));
     }
 }
 
 /// Counts the entries that are kept of a journal with entries of these times.
-fn count_of(alloc: Global, times: &[i64]) -> Result<Option<usize>, AllocError> {
+fn count_kept(alloc: Global, times: &[i64]) -> Result<Option<usize>, AllocError> {
     let Some(mut journal) = begun(alloc, 0, &[])? else {
         return Err(AllocError);
     };

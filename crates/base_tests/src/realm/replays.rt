@@ -1,5 +1,5 @@
 //! Tests of a client's replay cache (`replay`): replays, restarts and limits, at the second T.
-use crate::expect::{BEGIN, END, JUDGED, mark, same, shows};
+use crate::expect::{at_last, judged, same, shows};
 use crate::realm::fixtures::{T, at};
 use krb_elements::Octets;
 use replay::{Bears, Failures, Keep, Kept, ReplayCache, Verdict};
@@ -71,12 +71,7 @@ fn verdicts(alloc: Global) -> Result<[Verdict<bool>; 4], AllocError> {
 
 #[test]
 fn a_repeated_pair_finds_its_kept_reply(rt: HostRuntime) {
-    mark(rt.alloc(), BEGIN);
-    let mut found = verdicts(rt.alloc());
-    mark(rt.alloc(), END);
-    if found.is_err() {
-        found = verdicts(rt.alloc());
-    }
+    let found = at_last(rt.alloc(), &AllocError, || verdicts(rt.alloc()));
     let wanted = [
         Verdict::Repeat(true),
         Verdict::Fresh,
@@ -84,7 +79,7 @@ fn a_repeated_pair_finds_its_kept_reply(rt: HostRuntime) {
         Verdict::Full,
     ];
     same(&rt, &"four pairs", &found, &Ok(wanted));
-    mark(rt.alloc(), JUDGED);
+    judged(rt.alloc());
 }
 
 /// What is done with a replay cache: the first number is the second after T, the other one that of the pair.
@@ -157,13 +152,7 @@ fn accept_at_last(
     pair: u32,
 ) -> Result<bool, AllocError> {
     let ctime = T + i64::from(pair);
-    mark(alloc, BEGIN);
-    let found = accept(cache, later, ctime, 0, ());
-    mark(alloc, END);
-    match found {
-        Err(AllocError) => accept(cache, later, ctime, 0, ()),
-        found => found,
-    }
+    at_last(alloc, &AllocError, || accept(cache, later, ctime, 0, ()))
 }
 
 /// Takes a step, and asserts what it shows.
@@ -213,7 +202,7 @@ fn run(rt: &impl Abort, alloc: Global, is_restarted: bool, steps: Steps) {
     };
     for (step, shown) in steps {
         take(rt, alloc, &mut cache, step, *shown);
-        mark(alloc, JUDGED);
+        judged(alloc);
     }
 }
 

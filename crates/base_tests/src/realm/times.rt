@@ -48,7 +48,7 @@ fn body(options: u32, till: &[u8; 15]) -> [u8; 49] {
     body
 }
 
-fn body_from(options: u32) -> [u8; 68] {
+fn late_body(options: u32) -> [u8; 68] {
     let mut body = *BODY_FROM;
     body[7..11].copy_from_slice(&options.to_be_bytes());
     body
@@ -134,11 +134,11 @@ fn an_as_exchange_gives_these_times(rt: HostRuntime) {
         same(&rt, &(options, renewable), &found, &Ok(wanted(given)));
     }
     // A later start is for postdated tickets.
-    let postdated = body_from(POSTDATED);
+    let postdated = late_body(POSTDATED);
     let found = (
         granted(&postdated, 0),
         starts_late(&postdated),
-        starts_late(&body_from(0)),
+        starts_late(&late_body(0)),
     );
     let given = times((3_600, 39_600, None, 0x0740_0000));
     same(

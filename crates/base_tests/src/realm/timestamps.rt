@@ -1,17 +1,17 @@
 //! Tests of preauthentication with timestamps, and of the lockout (`preauth`).
-use crate::expect::{BEGIN, END, JUDGED, are, bytes, mark, same};
+use crate::expect::{are, at_last, bytes, judged, same};
 use crate::realm::fixtures::{T, at};
 use encrypted_data::ReadyKeys;
 use enctypes::{Etype, Key};
-use krb_elements::{Octets, SeqRef, read};
+use krb_elements::{SeqRef, read};
 use krb_fields::{Moment, PaDataRef};
 use preauth::{
     Outcome, after_failure, after_success, check_timestamp, counted_for, first_key, is_locked,
-    key_numbered, method_data, types_of,
+    key_numbered, method_data, usable_types,
 };
-use principal_rows::{KeyList, KeyListFault, Limits, Row};
+use principal_rows::{KeyList, KeyListError, Limits, Row};
 use replay::Failures;
-use std::alloc::Global;
+use std::alloc::{AllocError, Global};
 use std::process::Abort;
 
 // The bytes come from a program in Python over `cryptography`, in hexadecimal. The timestamps are of the second T.
@@ -78,13 +78,13 @@ fn key(etype: Etype, first: u8) -> Key {
     Key::from_random(etype, &octets)
 }
 
-fn keys(alloc: Global) -> Result<KeyList, KeyListFault> {
+fn keys(alloc: Global) -> Result<KeyList, KeyListError> {
     let first = key(Etype::Aes256CtsHmacSha1_96, 0);
     let second = key(Etype::Aes256CtsHmacSha384_192, 32);
     Ok(KeyList::new(alloc, &[first, second])?)
 }
 
-fn client(alloc: Global) -> Result<Row, KeyListFault> {
+fn client(alloc: Global) -> Result<Row, KeyListError> {
     Ok(Row::first(alloc, keys(alloc)?)?)
 }
 
@@ -101,15 +101,14 @@ fn all_show(rt: &impl Abort, alloc: Global, cases: &[Case]) {
             for (digits, sec, outcome) in cases {
                 let found = shown(alloc, &ready, &client, *sec, *digits);
                 same(rt, &(digits, sec), &found, &Some(*outcome));
-                mark(alloc, JUDGED);
+                judged(alloc);
             }
         }
         Err(fault) => panic!(rt; "{fault:?}"),
     }
 }
 
-/// Returns the outcome of the padata in these digits at this second, by a second call if memory ran out in the first
-/// one.
+/// Returns the outcome of the padata in these digits at this second.
 fn shown(
     alloc: Global,
     ready: &ReadyKeys,
@@ -119,14 +118,27 @@ fn shown(
 ) -> Option<Outcome> {
     let at = Moment::new(sec, 0)?;
     let octets = bytes(alloc, digits);
-    let padata: SeqRef<'_, PaDataRef<'_>> = read(&octets).ok()?;
-    mark(alloc, BEGIN);
-    let found = check_timestamp(alloc, ready, client, at, Some(&padata)).ok();
-    mark(alloc, END);
-    match found {
-        None => check_timestamp(alloc, ready, client, at, Some(&padata)).ok(),
-        found => found,
-    }
+    at_last(
+        alloc,
+        &AllocError,
+        || check_padata(alloc, ready, client, at, &octets),
+    )
+    .ok()?
+}
+
+/// Checks the padata that these bytes encode. Returns `None` if they encode none.
+fn check_padata(
+    alloc: Global,
+    ready: &ReadyKeys,
+    client: &Row,
+    at: Moment,
+    octets: &[u8],
+) -> Result<Option<Outcome>, AllocError> {
+    let padata: SeqRef<'_, PaDataRef<'_>> = match read(octets) {
+        Ok(padata) => padata,
+        Err(_) => return Ok(None),
+    };
+    Ok(Some(check_timestamp(alloc, ready, client, at, Some(&padata))?))
 }
 
 /// A timestamp is good within 300 seconds. The first one counts, under the key of its type.
@@ -166,7 +178,7 @@ fn hints(alloc: Global, octets: &[u8]) -> Option<Hints> {
     let first = first_key(&keys, &asked)?.etype();
     let has_18 = key_numbered(&keys, 18).is_some();
     let has_17 = key_numbered(&keys, 17).is_some();
-    let found = method_data_at_last(alloc, &types)?;
+    let found = at_last(alloc, &AllocError, || method_data(alloc, b"A.Bu", &types)).ok()?;
     Some((
         types,
         first,
@@ -176,19 +188,8 @@ fn hints(alloc: Global, octets: &[u8]) -> Option<Hints> {
     ))
 }
 
-/// Returns the METHOD-DATA for these types, by a second call if memory ran out in the first one.
-fn method_data_at_last(alloc: Global, types: &[i32; 2]) -> Option<Octets> {
-    mark(alloc, BEGIN);
-    let found = method_data(alloc, b"A.Bu", types).ok();
-    mark(alloc, END);
-    match found {
-        None => method_data(alloc, b"A.Bu", types).ok(),
-        found => found,
-    }
-}
-
 fn hinted(alloc: Global, keys: &KeyList, asked: &SeqRef<'_, i32>) -> Option<[i32; 2]> {
-    let found = types_of(alloc, keys, asked).ok()?;
+    let found = usable_types(alloc, keys, asked).ok()?;
     match found.as_slice() {
         [first, second] => Some([*first, *second]),
         _ => None,
@@ -200,7 +201,7 @@ fn types_are_hinted_in_the_order_of_the_request(rt: HostRuntime) {
     let wanted = ([20, 18], Etype::Aes256CtsHmacSha384_192, true, false, true);
     let found = hints(rt.alloc(), &bytes(rt.alloc(), ETYPES));
     same(&rt, &"two types", &found, &Some(wanted));
-    mark(rt.alloc(), JUDGED);
+    judged(rt.alloc());
 }
 
 fn failures(count: u32, version: u32, usec: u32) -> Failures {
@@ -236,7 +237,10 @@ fn a_client_is_locked_until_lock_seconds_are_over(rt: HostRuntime) {
         let found = is_locked(failures, &locking(*lock_after), at(*later));
         same(&rt, &(count, lock_after, later), &found, locked);
     }
-    // They are counted to the maximum.
+}
+
+#[test]
+fn failures_are_counted_to_the_maximum_until_a_success(rt: HostRuntime) {
     for (count, next) in [(0, 1), (u32::MAX - 1, u32::MAX), (u32::MAX, u32::MAX)] {
         let before = failures(count, 3, 7);
         let wanted = Failures {
@@ -247,7 +251,10 @@ fn a_client_is_locked_until_lock_seconds_are_over(rt: HostRuntime) {
         same(&rt, &count, &after_failure(before, at(1)), &wanted);
         same(&rt, &count, &after_success(before), &failures(0, 0, 7));
     }
-    // Those for another key version do not count.
+}
+
+#[test]
+fn failures_of_another_key_version_do_not_count(rt: HostRuntime) {
     for (count, version, current, counted) in [
         (2, 1, 1, 2),
         (2, 1, 2, 0),

@@ -5,6 +5,6 @@ use Rattle.encrypted_data.proofs.open_part.Goals as goal
 
 pub returns-clause-value : goal.returns-clause-value
 returns-clause-value g c =
-    subst (λ ready. IfOk c.open_part_by.result (λ found. found
+    subst (λ ready. IfOk c.open_with.result (λ found. found
     ≡ opened_as g.T.Coded.codec ready.key.etype ready.key.bytes (usage_number ready.usage) c.args.cipher.now))
-    c.new.ensures.ready c.open_part_by.ensures.value
+    c.new.ensures.ready c.open_with.ensures.value

@@ -110,7 +110,7 @@ impl Service {
         compared(alloc, found, made)
     }
 
-    /// Returns the same, by a second call if memory ran out in the first one.
+    /// Answers like `answer`, by a second call if memory ran out in the first one.
     fn answer_at_last(&mut self, octets: &[u8], made: Option<&Made>) -> Result<bool, ApFault> {
         let (alloc, at) = (self.alloc, self.at);
         mark(alloc, BEGIN);
@@ -254,7 +254,7 @@ fn a_rotation_of_keys_keeps_the_replay_caches(rt: HostRuntime) -> Result<(), Fai
 }
 
 #[test]
-fn ap_reqs_are_accepted_once_and_only_as_they_are(rt: HostRuntime) -> Result<(), Fail> {
+fn ap_reqs_are_accepted_once_and_only_unchanged(rt: HostRuntime) -> Result<(), Fail> {
     are_passed(rt.alloc(), MADE_TRIALS)
 }
 
@@ -269,6 +269,6 @@ fn authenticators_are_refused_by_their_rule(rt: HostRuntime) -> Result<(), Fail>
 }
 
 #[test]
-fn replay_caches_keep_what_they_have_to(rt: HostRuntime) -> Result<(), Fail> {
+fn replay_caches_refuse_repeats_and_new_ones_when_full(rt: HostRuntime) -> Result<(), Fail> {
     are_passed(rt.alloc(), CACHE_TRIALS)
 }

@@ -7,11 +7,11 @@ use crate::client::messages::{
     AP_REP, AP_REQ, AS_REP, CLIENT_UNKNOWN, OTHER_NAME, OTHER_REALM, PLAIN, PREAUTH_REQUIRED,
     REPEATED, STAMPED, TGS_REP, TGS_REQ,
 };
-use crate::fixtures::{BEGIN, END, JUDGED, is_spelled, key_from, mark, octets, up};
+use crate::fixtures::{BEGIN, END, JUDGED, counted_key, is_spelled, mark, octets, up};
 use crate::outcomes::Outcome::{CannotOpen, Differs, Memory, NotAReply, Other, Refused, Taken};
 use crate::outcomes::{Outcome, outcome_by};
 use client_core::{
-    Asked, ClientFault, EtypeInfo2, Mismatch, ap_request, is_presentable, password_key,
+    Asked, EtypeInfo2, Mismatch, ReplyError, ap_request, is_presentable, password_key,
     read_ap_reply, read_as_reply, read_tgs_reply,
 };
 use cred_files::Credential;
@@ -62,7 +62,7 @@ impl Kind {
 
 /// Returns a key of encryption type 18.
 fn key(first: u8) -> Key {
-    key_from(Etype::Aes256CtsHmacSha1_96, first)
+    counted_key(Etype::Aes256CtsHmacSha1_96, first)
 }
 
 /// Returns whether these bytes are written.
@@ -324,7 +324,7 @@ fn read(
     twist: &Twist,
     asked: &Asked,
     reply: &[u8],
-) -> Result<Credential, ClientFault> {
+) -> Result<Credential, ReplyError> {
     let (first, _) = kind.keys();
     let key = key(first.wrapping_add(twist.key));
     let at = moment(twist.clock, 0);
@@ -334,7 +334,7 @@ fn read(
     }
 }
 
-fn come_of(alloc: Global, kind: Kind, twist: &Twist, asked: &Asked, reply: &[u8]) -> Outcome {
+fn judge(alloc: Global, kind: Kind, twist: &Twist, asked: &Asked, reply: &[u8]) -> Outcome {
     match read(alloc, kind, twist, asked, reply) {
         Ok(credential) => taken(alloc, &credential, kind),
         Err(fault) => outcome_by(&fault),
@@ -350,10 +350,10 @@ fn is_due(alloc: Global, kind: Kind, twist: &Twist) -> Result<bool, Fail> {
     let reply = octets(alloc, twist.reply.unwrap_or(kind.reply()))?;
     let asked = asked(alloc, &want, ETYPES)?;
     mark(alloc, BEGIN);
-    let mut found = come_of(alloc, kind, twist, &asked, &reply);
+    let mut found = judge(alloc, kind, twist, &asked, &reply);
     mark(alloc, END);
     if found == Memory {
-        found = come_of(alloc, kind, twist, &asked, &reply);
+        found = judge(alloc, kind, twist, &asked, &reply);
     }
     Ok(found == twist.outcome)
 }
@@ -409,7 +409,7 @@ fn ap_reply_outcome(alloc: Global, first: u8, at: Moment, reply: &[u8]) -> Outco
     }
 }
 
-/// Returns the same, by a second call if memory ran out in the first one.
+/// Returns the outcome like `ap_reply_outcome`, by a second call if memory ran out in the first one.
 fn ap_reply_outcome_at_last(
     alloc: Global,
     first: u8,
@@ -469,7 +469,7 @@ fn derived(alloc: Global, name: &Name, info: &EtypeInfo2) -> Outcome {
     }
 }
 
-/// Returns the same for that ETYPE-INFO2, by a second call if memory ran out in the first one.
+/// Returns the outcome of `derived` for that ETYPE-INFO2, by a second call if memory ran out in the first one.
 fn derived_at_last(alloc: Global) -> Result<Outcome, Fail> {
     let name = Name::new(alloc, 1, &[b"u"])?;
     let info = info(alloc)?;
@@ -483,7 +483,7 @@ fn derived_at_last(alloc: Global) -> Result<Outcome, Fail> {
 }
 
 #[test]
-fn a_password_has_its_key(rt: HostRuntime) -> Result<(), Fail> {
+fn a_password_gives_the_key_of_its_client(rt: HostRuntime) -> Result<(), Fail> {
     assert!(rt; derived_at_last(rt.alloc())? == Taken);
     Ok(())
 }

@@ -4,17 +4,17 @@ ghost use Rattle.client_core.specs.Presenting.{IsShortChecksum};
 
 use crate::asking::{MIDNIGHT, Parts, USER, WANT, Want, asked, moment, request, service_asked};
 use crate::contents::{Terms, is_client, is_granted};
-use crate::fixtures::{is_key_from, is_spelled, key_from, up};
+use crate::fixtures::{counted_key, has_octets_from, is_spelled, up};
 use crate::outcomes::{Outcome, outcome_by};
 use crate::paths::realm::{Types, USER_FIRST, kdc};
 use crate::services::{limits, opened};
 use ap_accept::{Accepted, Acceptor, ApFault};
-use client_core::{ClientFault, KeyRole, session_key};
+use client_core::{KeyRole, ReplyError, session_key};
 use cred_files::Credential;
 use enctypes::Key;
 use kdc_core::Kdc;
 use krb_fields::Moment;
-use krb_joined::{Answering, Client, Issuing, JoinedFault, Reader, Sealing, end_to_end, obtain};
+use krb_joined::{Answering, Client, Issuing, JoinedError, Reader, Sealing, end_to_end, obtain};
 use std::alloc::{AllocError, Global};
 use std::test::Fail;
 
@@ -55,17 +55,17 @@ pub enum End {
     Memory,
 }
 
-fn end_by(fault: &JoinedFault) -> End {
+fn end_by(fault: &JoinedError) -> End {
     match fault {
-        JoinedFault::NoReply => End::NoReply,
-        JoinedFault::NotTaken(ClientFault::Memory) => End::Memory,
-        JoinedFault::NotTaken(fault) => End::NotTaken(outcome_by(fault)),
-        JoinedFault::NotPresentable => End::NotPresentable,
-        JoinedFault::NotAccepted(ApFault::Memory) => End::Memory,
-        JoinedFault::NotAccepted(fault) => End::NotAccepted(*fault),
-        JoinedFault::NotAnswered(ClientFault::Memory) => End::Unheard,
-        JoinedFault::NotAnswered(_) => End::NotAnswered,
-        JoinedFault::Memory => End::Memory,
+        JoinedError::NoReply => End::NoReply,
+        JoinedError::NotTaken(ReplyError::Memory) => End::Memory,
+        JoinedError::NotTaken(fault) => End::NotTaken(outcome_by(fault)),
+        JoinedError::NotPresentable => End::NotPresentable,
+        JoinedError::NotAccepted(ApFault::Memory) => End::Memory,
+        JoinedError::NotAccepted(fault) => End::NotAccepted(*fault),
+        JoinedError::NotAnswered(ReplyError::Memory) => End::Unheard,
+        JoinedError::NotAnswered(_) => End::NotAnswered,
+        JoinedError::Memory => End::Memory,
     }
 }
 
@@ -158,12 +158,12 @@ fn keys(step: Step<'_>, found: &[Credential], at: Moment) -> (Option<Key>, Reade
     let Some(credential) = found.last() else {
         let reader = Reader {
             role: KeyRole::Client,
-            key: key_from(reply, way.key),
+            key: counted_key(reply, way.key),
             at,
         };
-        return (Some(key_from(reply, USER_FIRST)), reader);
+        return (Some(counted_key(reply, USER_FIRST)), reader);
     };
-    let subkey = key_from(reply, 32);
+    let subkey = counted_key(reply, 32);
     match session_key(credential) {
         Some(key) if !trip.choice.tgs_subkey => {
             let reader = Reader {
@@ -195,7 +195,7 @@ fn client(
 {
     let (leg, types, choice) = (step.leg, step.trip.types, step.trip.choice);
     let more = if choice.subkey {
-        Some((key_from(types.reply, 96), u32::MAX))
+        Some((counted_key(types.reply, 96), u32::MAX))
     } else {
         None
     };
@@ -220,7 +220,7 @@ fn client(
 fn is_as_sent(accepted: &Accepted, trip: Trip) -> bool {
     let choice = trip.choice;
     let has_subkey = match &accepted.subkey {
-        Some(key) => choice.subkey && is_key_from(key, trip.types.reply, 96),
+        Some(key) => choice.subkey && has_octets_from(key, trip.types.reply, 96),
         None => !choice.subkey,
     };
     let has_number = match accepted.seq_number {
@@ -254,7 +254,7 @@ fn is_due(alloc: Global, accepted: &Accepted, step: Step<'_>) -> bool {
         },
     };
     // A key made from random bytes is these bytes (RFC 3961, section 5.3).
-    is_key_from(&accepted.session_key, trip.types.service, leg.octet())
+    has_octets_from(&accepted.session_key, trip.types.service, leg.octet())
         && is_client(alloc, &accepted.client, USER)
         && is_granted(&accepted.ticket, &terms)
         && is_as_sent(accepted, trip)

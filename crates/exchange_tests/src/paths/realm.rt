@@ -1,6 +1,6 @@
 //! The KDC of the tests.
 use crate::asking::{HOST, Parts, REALM, TGS, USER};
-use crate::fixtures::key_from;
+use crate::fixtures::counted_key;
 use enctypes::{Etype, Key};
 use kdc_core::{Kdc, Opening};
 use krb_fields::Name;
@@ -53,7 +53,7 @@ fn apply(
 }
 
 fn keys(alloc: Global, etype: Etype, first: u8) -> Result<KeyList, Fail> {
-    match KeyList::new(alloc, &[key_from(etype, first)]) {
+    match KeyList::new(alloc, &[counted_key(etype, first)]) {
         Ok(keys) => Ok(keys),
         Err(_) => Err(Fail::from("no keys")),
     }

@@ -23,8 +23,8 @@ pub struct MemoryWire {
 }
 
 impl MemoryWire {
-    /// Returns a Wire with these events. After them none come, and time stands still. After `calls_before_fault` polls
-    /// and acts one fails, if any is to.
+    /// Returns a Wire with these events. After them none come, and time stands still. One poll or act fails after
+    /// `calls_before_fault` others, if that is given.
     pub fn new(
         alloc: Global,
         coming: VecDeque<(Moment, Event)>,

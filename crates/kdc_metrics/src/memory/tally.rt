@@ -44,12 +44,12 @@ impl Tally for MemoryTally {
 
     fn add_poll(&mut self, alloc: Global, outcome: &Result<(Moment, Option<Event>), WireFault>) {
         self.count.add_poll(alloc, outcome);
-        self.did.keep(poll_of(alloc, outcome));
+        self.did.keep(copy_poll(alloc, outcome));
     }
 
     fn add_act(&mut self, alloc: Global, action: &Action, outcome: Result<(), WireFault>) {
         self.count.add_act(alloc, action, outcome);
-        self.did.keep(act_of(alloc, action, outcome));
+        self.did.keep(copy_act(alloc, action, outcome));
     }
 
     fn faults(&self) -> u64 {
@@ -58,7 +58,7 @@ impl Tally for MemoryTally {
 }
 
 /// Returns a copy of a poll's outcome.
-fn poll_of(
+fn copy_poll(
     alloc: Global,
     outcome: &Result<(Moment, Option<Event>), WireFault>,
 ) -> Result<WireCall, AllocError>
@@ -75,7 +75,7 @@ fn poll_of(
 }
 
 /// Returns a copy of an action with its outcome.
-fn act_of(
+fn copy_act(
     alloc: Global,
     action: &Action,
     outcome: Result<(), WireFault>,

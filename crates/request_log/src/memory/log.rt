@@ -65,7 +65,8 @@ impl MemoryLog {
 impl LogWriter for MemoryLog {
     ghost logged = { λ l. seen_as entry_by l.entries };
 
-    ghost Logs = { λ old entry new. Records (seen_as entry_by old.entries) (entry ∷ []) (seen_as entry_by new.entries) };
+    ghost Logs = { λ old entry new. Records (seen_as entry_by old.entries) (entry ∷ [])
+        (seen_as entry_by new.entries) };
 
     ghost records = { λ old entry new is. is };
 

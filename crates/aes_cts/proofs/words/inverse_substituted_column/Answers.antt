@@ -7,7 +7,7 @@ use Rattle.aes_cts.proofs.words.inverse_substituted_column.Goals as goal
 pub returns : goal.returns
 returns c =
     rw (
-      c.word_of.ensures.word,
+      c.join_bytes.ensures.word,
       c.inverse_substitute.ensures,
       c.inverse_substitute-2.ensures,
       c.inverse_substitute-3.ensures,

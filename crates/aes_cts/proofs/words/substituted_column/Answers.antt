@@ -7,7 +7,7 @@ use Rattle.aes_cts.proofs.words.substituted_column.Goals as goal
 pub returns : goal.returns
 returns c =
     rw (
-      c.word_of.ensures.word,
+      c.join_bytes.ensures.word,
       c.substitute.ensures,
       c.substitute-2.ensures,
       c.substitute-3.ensures,

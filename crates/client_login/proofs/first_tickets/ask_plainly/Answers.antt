@@ -1,7 +1,7 @@
 use Rattle.std.proofs.Common.{rules, ◌≡◌, Result, subst}
 use Rattle.std.specs.Prelude.{IfErr}
 use Rattle.client_core.specs.Replies.{refusal_in}
-use Rattle.client_core.specs.declared.fault.ClientFault.TheVariants as found
+use Rattle.client_core.specs.declared.fault.ReplyError.TheVariants as found
 use Rattle.enctypes.specs.declared.key.Key.{Key}
 use Rattle.client_login.specs.Faults.{IsFirstFault, SaysRefused}
 use Rattle.client_login.specs.Replies.{IsExchanged}

@@ -23,7 +23,7 @@ returns-in_err-take_check-clause-only c =
     λ h rest has found.
     let first = c.in_ok-octets.ensures.only (written header h) (tlv 4 (header_check h) ++ rest) has.1 (found ∙ append_assoc (tlv 4 (written header h)) (tlv 4 (header_check h)) rest) in
     let is = c.in_ok-found.ensures.only h (subst (λ o. header.Spells h o) (sym first.0) has.0) in
-    let check_is = c.check_of-check.ensures ∙ ap (λ l. check_of l c.in_ok-octets.octets.now) (c.as_slice.ensures ∙ ap (λ x. x.link) is) ∙ ap (λ o. check_of h.link o) first.0 in
+    let check_is = c.next_check-check.ensures ∙ ap (λ l. check_of l c.in_ok-octets.octets.now) (c.as_slice.ensures ∙ ap (λ x. x.link) is) ∙ ap (λ o. check_of h.link o) first.0 in
     absurd (c.in_err-take_check.ensures.only rest (first.1 ∙ ap (λ k. tlv 4 k ++ rest) (sym check_is)))
 
 pub returns-clause-only : goal.returns-clause-only
@@ -31,5 +31,5 @@ returns-clause-only c =
     λ h rest has found.
     let first = c.in_ok-octets.ensures.only (written header h) (tlv 4 (header_check h) ++ rest) has.1 (found ∙ append_assoc (tlv 4 (written header h)) (tlv 4 (header_check h)) rest) in
     let is = c.in_ok-found.ensures.only h (subst (λ o. header.Spells h o) (sym first.0) has.0) in
-    let check_is = c.check_of-check.ensures ∙ ap (λ l. check_of l c.in_ok-octets.octets.now) (c.as_slice.ensures ∙ ap (λ x. x.link) is) ∙ ap (λ o. check_of h.link o) first.0 in
+    let check_is = c.next_check-check.ensures ∙ ap (λ l. check_of l c.in_ok-octets.octets.now) (c.as_slice.ensures ∙ ap (λ x. x.link) is) ∙ ap (λ o. check_of h.link o) first.0 in
     (c.in_ok-owned_header.ensures ∙ is, c.in_ok-take_check.ensures.only rest (first.1 ∙ ap (λ k. tlv 4 k ++ rest) (sym check_is)))

@@ -1,5 +1,6 @@
 use Rattle.std.proofs.Common.{◌≡◌, length}
-use Rattle.kclient.specs.Words.{texts, value_of}
+use Rattle.command_line.specs.Values.{texts}
+use Rattle.kclient.specs.Words.{value_of}
 use Rattle.kclient.proofs.values.value_of.Given as goal
 
 abbrev pub invariant-loop-rest : goal.invariant-loop-rest

@@ -1,5 +1,5 @@
 use Rattle.std.proofs.Common.{◌≡◌, map, string_bytes, take}
-use Rattle.kclient.specs.Words.{texts}
+use Rattle.command_line.specs.Values.{texts}
 use Rattle.kclient.proofs.values.words_of.Given as goal
 
 -- the words so far

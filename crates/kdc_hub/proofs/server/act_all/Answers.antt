@@ -16,12 +16,12 @@ loop-action-init g c = record {
 pub loop-action-preserved : goal.loop-action-preserved
 loop-action-preserved g c = elim c.match-act.branch [
   | in-Ok w ↦ record {
-    tried = one_done _ _ c.args.actions.now.all.now c.loop-action.action-index _ _ _ _ c.loop-action.invariant.tried c.action-item.result c.loop-action-test.true c.action-item.is _ _ _ _ w.in-Ok.ensures.records refl w.faults-is w.lost-is;
+    tried = one_done _ _ c.args.actions.now c.loop-action.action-index _ _ _ _ c.loop-action.invariant.tried c.action-item.result c.loop-action-test.true c.action-item.is _ _ _ _ w.in-Ok.ensures.records refl w.faults-is w.lost-is;
     counted = subst (λ n. IsCounted (g.W.Wire.fault_count c.args.wire.now) n (g.W.Wire.fault_count c.act.new.self)) (omega (arith, w.faults-is)) (counted_on _ _ _ _ _ c.loop-action.invariant.counted w.in-Ok.ensures.counted);
     few = omega (arith, w.faults-is, c.loop-action.invariant.few);
   }
   | in-Err w ↦ record {
-    tried = one_failed _ _ c.args.actions.now.all.now c.loop-action.action-index _ _ _ _ c.loop-action.invariant.tried c.action-item.result c.loop-action-test.true c.action-item.is _ _ _ _ w.in-Err.ensures.records refl w.faults-is (w.lost-is ∙ w.or-lost.ensures ∙ ap (option_or c.loop-action.lost) w.connection.ensures);
+    tried = one_failed _ _ c.args.actions.now c.loop-action.action-index _ _ _ _ c.loop-action.invariant.tried c.action-item.result c.loop-action-test.true c.action-item.is _ _ _ _ w.in-Err.ensures.records refl w.faults-is (w.lost-is ∙ w.or-lost.ensures ∙ ap (option_or c.loop-action.lost) w.connection.ensures);
     counted = subst (λ n. IsCounted (g.W.Wire.fault_count c.args.wire.now) n (g.W.Wire.fault_count c.act.new.self)) (sym w.faults-is) (counted_on _ _ _ _ _ c.loop-action.invariant.counted w.in-Err.ensures.counted);
     few = omega (arith, w.faults-is, c.loop-action.invariant.few);
   }

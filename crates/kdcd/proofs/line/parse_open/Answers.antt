@@ -1,5 +1,5 @@
 use Rattle.std.proofs.Common.{◌≡◌, Err, rules}
-use Rattle.kdcd.specs.declared.line.LineFault.TheVariants.{Form}
+use Rattle.kdcd.specs.declared.line.LineError.TheVariants.{Form}
 use Rattle.kdcd.proofs.LineTexts.{open_texts}
 use Rattle.kdcd.proofs.line.parse_open.Goals as goal
 

@@ -11,8 +11,8 @@ loop-init g c = λ block holds.
     let prf : List ℕ → List ℕ = hmac_of_block g.H.Hasher.hash block in
     let first : c.write_mac.new.out ≡ prf (c.args.salt.now ++ to_be_bytes w32 c.args.index) =
     c.write_mac.ensures.mac block holds ∙ rw (append-nil, c.to_be_bytes.ensures) refl in
-    let octet_of_copies : take c.SIZE-2.result c.block_of-total.result ≡ c.write_mac.new.out =
-    rw (c.block_of-total.ensures, c.SIZE-2.ensures)
+    let octet_of_copies : take c.SIZE-2.result c.padded_block-total.result ≡ c.write_mac.new.out =
+    rw (c.padded_block-total.ensures, c.SIZE-2.ensures)
     (take_at c.write_mac.new.out _ g.H.Hasher.SIZE c.write_mac.ensures.len) in
     (first ∙ sym (iterate_none prf _), octet_of_copies ∙ first ∙ sym (iterates_xor_none prf _))
 

@@ -1,7 +1,7 @@
 use Rattle.std.proofs.Common.{rules, ◌≡◌, ◌∙◌, [], ◌∷◌, ◌<◌, ◌^◌, None, Some, Err, Result, ap, sym}
 use Rattle.principal_rows.specs.KeyList.{has_type_twice}
-use Rattle.principal_rows.specs.declared.key_list.KeyListFault.{KeyListFault}
-use Rattle.principal_rows.specs.declared.key_list.KeyListFault.TheVariants.{Doubled}
+use Rattle.principal_rows.specs.declared.key_list.KeyListError.{KeyListError}
+use Rattle.principal_rows.specs.declared.key_list.KeyListError.TheVariants.{Doubled}
 use Rattle.principal_keys.specs.Keytabs.{keys_at, next_number, with_version}
 use Rattle.principal_keys.proofs.KeytabFaults.{none_ordered, ordered_to}
 use Rattle.principal_keys.proofs.KeytabVersions.{all_taken, less_room, none_taken, taken_to}
@@ -45,5 +45,5 @@ returns-in_err-push_version-clause-doubled c is =
       ap has_type_twice (sym (c.deref.ensures.value ∙ c.in_ok-keys.ensures)) ∙ c.in_err-push_version.ensures.doubled (ap err doubled),
     )
   where
-    err : KeyListFault → Result (Unit {0}) KeyListFault
+    err : KeyListError → Result (Unit {0}) KeyListError
     err fault = Err fault

@@ -1,6 +1,6 @@
 use Rattle.std.proofs.Common.{rules, ◌≡◌, ◌<◌, length, get_or, Some, None, sym, ap, ◌∙◌, Err}
 use Rattle.serde_json.specs.View.{view, items_view}
-use Rattle.principals_text.specs.declared.row_fault.RowFault.TheVariants.{BadRow}
+use Rattle.principals_text.specs.declared.row_fault.RowError.TheVariants.{BadRow}
 use Rattle.principals_text.specs.RowValue.{each, version_of}
 use Rattle.principals_text.proofs.Values.{each-push, each-fails}
 use Rattle.principals_text.proofs.row_value.read_versions.Goals as goal

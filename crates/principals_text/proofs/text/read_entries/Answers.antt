@@ -3,7 +3,7 @@ use Rattle.serde_json.specs.View.{view, members_view}
 use Rattle.principals_text.specs.NameOf.{name_of}
 use Rattle.principals_text.specs.RowValue.{row_of}
 use Rattle.principals_text.specs.Value.{entries_of}
-use Rattle.principals_text.specs.declared.row_fault.RowFault.TheVariants.{BadRow}
+use Rattle.principals_text.specs.declared.row_fault.RowError.TheVariants.{BadRow}
 use Rattle.principals_text.proofs.RowEntries.{Text, entries_more, no_name, no_row}
 use Rattle.principals_text.proofs.RowEntries.{rows_push}
 use Rattle.principals_text.proofs.text.read_entries.Goals as goal

@@ -10,8 +10,8 @@ use Rattle.principals_text.proofs.RowTokens.{from_nothing}
 use Rattle.principals_text.proofs.Shapes.{nests}
 use Rattle.principals_text.proofs.text.write.Goals as goal
 
-pub text_of-requires : goal.text_of-requires
-text_of-requires c =
+pub utf8_text-requires : goal.utf8_text-requires
+utf8_text-requires c =
     let d = database_value c.args.database.now in
     let held = from_nothing _ _ (data_tokens d) (c.new-out.ensures.before ∙ c.new.ensures.items) c.new-out.ensures.tokens c.in_ok-write_tokens.ensures.tokens in
     let items = c.into_inner.ensures.items ∙ (λ i. held.1 i ++ print (held.0 i)) in
@@ -22,7 +22,7 @@ returns-clause-text c =
     let d = database_value c.args.database.now in
     let held = from_nothing _ _ (data_tokens d) (c.new-out.ensures.before ∙ c.new.ensures.items) c.new-out.ensures.tokens c.in_ok-write_tokens.ensures.tokens in
     let items = c.into_inner.ensures.items ∙ (λ i. held.1 i ++ print (held.0 i)) in
-    c.text_of.ensures ∙ items ∙ print-outline d
+    c.utf8_text.ensures ∙ items ∙ print-outline d
 
 pub returns-clause-value : goal.returns-clause-value
 returns-clause-value c =
@@ -30,7 +30,7 @@ returns-clause-value c =
     let held = from_nothing _ _ (data_tokens d) (c.new-out.ensures.before ∙ c.new.ensures.items) c.new-out.ensures.tokens c.in_ok-write_tokens.ensures.tokens in
     let items = c.into_inner.ensures.items ∙ (λ i. held.1 i ++ print (held.0 i)) in
     let back = subst (λ ts. tokens (print ts) ≡ ts) held.0 c.into_inner.ensures.reads_back in
-    kept_text d _ c.in_ok-write_tokens.ensures.kept (nests c.args.database.now) (ap tokens (c.text_of.ensures ∙ items) ∙ back)
+    kept_text d _ c.in_ok-write_tokens.ensures.kept (nests c.args.database.now) (ap tokens (c.utf8_text.ensures ∙ items) ∙ back)
 
 pub returns-clause-reads_back : goal.returns-clause-reads_back
 returns-clause-reads_back c =
@@ -38,4 +38,4 @@ returns-clause-reads_back c =
     let held = from_nothing _ _ (data_tokens d) (c.new-out.ensures.before ∙ c.new.ensures.items) c.new-out.ensures.tokens c.in_ok-write_tokens.ensures.tokens in
     let items = c.into_inner.ensures.items ∙ (λ i. held.1 i ++ print (held.0 i)) in
     let back = subst (λ ts. tokens (print ts) ≡ ts) held.0 c.into_inner.ensures.reads_back in
-    ap database_or (kept_text d _ c.in_ok-write_tokens.ensures.kept (nests c.args.database.now) (ap tokens (c.text_of.ensures ∙ items) ∙ back)) ∙ c.in_ok-write_tokens.ensures.reads
+    ap database_or (kept_text d _ c.in_ok-write_tokens.ensures.kept (nests c.args.database.now) (ap tokens (c.utf8_text.ensures ∙ items) ∙ back)) ∙ c.in_ok-write_tokens.ensures.reads

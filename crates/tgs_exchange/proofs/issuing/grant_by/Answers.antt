@@ -10,7 +10,7 @@ returns-clause-value c =
     let client : c.new-2.result ≡ c.args.presented.now.ticket.cname = search rules in
     let service : c.new-3.result ≡ c.args.admission.now.terms.service.name = search rules in
     let key : c.session_key.result ≡ session_key c.args.admission.now.terms.service.session_type c.args.random.now = search rules in
-    let flags : c.flags_of.result ≡ tgs_flags c.args.body.now (ticket_terms c.args.presented.now.ticket) c.args.admission.now.terms.service.policy c.args.admission.now.times = search rules in
+    let flags : c.issued_flags.result ≡ tgs_flags c.args.body.now (ticket_terms c.args.presented.now.ticket) c.args.admission.now.terms.service.policy c.args.admission.now.times = search rules in
     let authorization : c.lent_data.result ≡ c.args.presented.now.ticket.authorization_data = search rules in
     λ i. record {
       realm = realm i;

@@ -5,7 +5,7 @@ use Rattle.aes_cts.proofs.key.AesKey.decrypt_under.Goals as goal
 
 pub returns-clause-value : goal.returns-clause-value
 returns-clause-value c =
-    c.octets_of.ensures ∙ c.decipher.ensures.value ∙ ap (aes_inverse c.args.self.now) c.words_of-state.ensures
+    c.join_words.ensures ∙ c.decipher.ensures.value ∙ ap (aes_inverse c.args.self.now) c.split_block-state.ensures
 
 pub returns-clause-inverse : goal.returns-clause-inverse
 returns-clause-inverse c =

@@ -20,7 +20,7 @@ returns-in-Some-clause-kept g c =
     let known = known_by floor start in
     let fits : SFits w64 c.in-Some.floor = search rules in
     let broken : IfSome (world c.unseal.new.self) (IsStart c.args.at floor newer start) =
-    unsealed (IsStart c.args.at floor newer start) (λ w seal is. sealed_start c.args.at floor newer start w seal is) true (world c.args.self.now.files) (world c.unseal.new.self) c.in_default.ensures starts in
+    unsealed (IsStart c.args.at floor newer start) (λ w seal is. sealed_start c.args.at floor newer start w seal is) true (world c.args.self.now.files) (world c.unseal.new.self) c.in_ok-unseal.ensures starts in
     let on : IfSome (world c.unseal.new.self) (λ w. IsKept low known known w (Some c.in-Some.tail) (Some c.in-Some.floor)) =
     start_goes_on c.args.at floor newer start (c.in-Some.tail, c.in-Some.floor) (world c.unseal.new.self) c.in-Some.ensures broken in
     simp to_z-of_z
@@ -34,20 +34,20 @@ returns-in-Ok-clause-kept g c =
     let start = c.args.start.now in
     let none : HasTail start newer None = search rules in
     let broken : IfSome (world c.unseal.new.self) (IsStart c.args.at floor newer start) =
-    unsealed (IsStart c.args.at floor newer start) (λ w seal is. sealed_start c.args.at floor newer start w seal is) true (world c.args.self.now.files) (world c.unseal.new.self) c.in_default.ensures starts in
+    unsealed (IsStart c.args.at floor newer start) (λ w seal is. sealed_start c.args.at floor newer start w seal is) true (world c.args.self.now.files) (world c.unseal.new.self) c.in_ok-unseal.ensures starts in
     start_in_place c.args.at floor newer start none _ c.args.self.now.floor floor_is c.in-Ok.tail (world c.unseal.new.self) (world c.begin_in_place.new.files) c.in-Ok.ensures broken
+
+pub returns-in_err-unseal-clause-safe : goal.returns-in_err-unseal-clause-safe
+returns-in_err-unseal-clause-safe g c =
+    λ low r safe failed.
+    unsealed (IsSafe low r) (λ w seal is. sealed_safe low r w seal is) false (g.F.JournalFiles.world c.args.self.now.files) (g.F.JournalFiles.world c.unseal.new.self) c.in_err-unseal.ensures safe
 
 pub returns-in-Err-clause-safe : goal.returns-in-Err-clause-safe
 returns-in-Err-clause-safe g c =
     λ low r safe failed.
-    unsealed (IsSafe low r) (λ w seal is. sealed_safe low r w seal is) false (g.F.JournalFiles.world c.args.self.now.files) (g.F.JournalFiles.world c.unseal.new.self) c.in-Err.ensures safe
-
-pub returns-in-Err-begin_in_place-clause-safe : goal.returns-in-Err-begin_in_place-clause-safe
-returns-in-Err-begin_in_place-clause-safe g c =
-    λ low r safe failed.
     let world = g.F.JournalFiles.world in
-    let broken = unsealed (IsSafe low r) (λ w seal is. sealed_safe low r w seal is) true (world c.args.self.now.files) (world c.unseal.new.self) c.in_default.ensures safe in
-    start_fails low r _ c.args.self.now.floor (world c.unseal.new.self) (world c.begin_in_place.new.files) broken c.in-Err-begin_in_place.ensures
+    let broken = unsealed (IsSafe low r) (λ w seal is. sealed_safe low r w seal is) true (world c.args.self.now.files) (world c.unseal.new.self) c.in_ok-unseal.ensures safe in
+    start_fails low r _ c.args.self.now.floor (world c.unseal.new.self) (world c.begin_in_place.new.files) broken c.in-Err.ensures
 
 pub returns-in-Some-clause-there : goal.returns-in-Some-clause-there
 returns-in-Some-clause-there g c =
@@ -59,11 +59,11 @@ returns-in-Some-clause-there g c =
     let known = known_by floor start in
     let fits : SFits w64 c.in-Some.floor = search rules in
     let broken : IfSome (world c.unseal.new.self) (IsStart c.args.at floor newer start) =
-    unsealed (IsStart c.args.at floor newer start) (λ w seal is. sealed_start c.args.at floor newer start w seal is) true (world c.args.self.now.files) (world c.unseal.new.self) c.in_default.ensures starts in
+    unsealed (IsStart c.args.at floor newer start) (λ w seal is. sealed_start c.args.at floor newer start w seal is) true (world c.args.self.now.files) (world c.unseal.new.self) c.in_ok-unseal.ensures starts in
     let on : IfSome (world c.unseal.new.self) (λ w. IsKept low known known w (Some c.in-Some.tail) (Some c.in-Some.floor)) =
     start_goes_on c.args.at floor newer start (c.in-Some.tail, c.in-Some.floor) (world c.unseal.new.self) c.in-Some.ensures broken in
     there_twice before (world c.args.self.now.files) (world c.unseal.new.self) (world c.turn_if_due-self.new.files)
-    (unsealed_there before true (world c.args.self.now.files) (world c.unseal.new.self) c.in_default.ensures)
+    (unsealed_there before true (world c.args.self.now.files) (world c.unseal.new.self) c.in_ok-unseal.ensures)
     (turn_stays_there before low known known _ (Some c.in-Some.floor) (Some c.in-Some.tail) (world c.unseal.new.self) c.turn_if_due-self.result (world c.turn_if_due-self.new.files) (simp to_z-of_z at c.turn_if_due-self.ensures) on)
 
 pub returns-in-Ok-clause-there : goal.returns-in-Ok-clause-there
@@ -74,21 +74,21 @@ returns-in-Ok-clause-there g c =
     let start = c.args.start.now in
     let none : HasTail start newer None = search rules in
     let broken : IfSome (world c.unseal.new.self) (IsStart c.args.at floor newer start) =
-    unsealed (IsStart c.args.at floor newer start) (λ w seal is. sealed_start c.args.at floor newer start w seal is) true (world c.args.self.now.files) (world c.unseal.new.self) c.in_default.ensures starts in
+    unsealed (IsStart c.args.at floor newer start) (λ w seal is. sealed_start c.args.at floor newer start w seal is) true (world c.args.self.now.files) (world c.unseal.new.self) c.in_ok-unseal.ensures starts in
     there_twice before (world c.args.self.now.files) (world c.unseal.new.self) (world c.begin_in_place.new.files)
-    (unsealed_there before true (world c.args.self.now.files) (world c.unseal.new.self) c.in_default.ensures)
+    (unsealed_there before true (world c.args.self.now.files) (world c.unseal.new.self) c.in_ok-unseal.ensures)
     (start_stays_there before floor _ c.args.self.now.floor floor_is c.in-Ok.tail (world c.unseal.new.self) (world c.begin_in_place.new.files) c.in-Ok.ensures
     (all_over c.args.at floor newer start none before counts (world c.unseal.new.self) broken))
+
+pub returns-in_err-unseal-clause-stays : goal.returns-in_err-unseal-clause-stays
+returns-in_err-unseal-clause-stays g c =
+    λ before failed.
+    unsealed_there before false (g.F.JournalFiles.world c.args.self.now.files) (g.F.JournalFiles.world c.unseal.new.self) c.in_err-unseal.ensures
 
 pub returns-in-Err-clause-stays : goal.returns-in-Err-clause-stays
 returns-in-Err-clause-stays g c =
     λ before failed.
-    unsealed_there before false (g.F.JournalFiles.world c.args.self.now.files) (g.F.JournalFiles.world c.unseal.new.self) c.in-Err.ensures
-
-pub returns-in-Err-begin_in_place-clause-stays : goal.returns-in-Err-begin_in_place-clause-stays
-returns-in-Err-begin_in_place-clause-stays g c =
-    λ before failed.
     let world = g.F.JournalFiles.world in
     there_twice before (world c.args.self.now.files) (world c.unseal.new.self) (world c.begin_in_place.new.files)
-    (unsealed_there before true (world c.args.self.now.files) (world c.unseal.new.self) c.in_default.ensures)
-    (failed_start_there before _ c.args.self.now.floor (world c.unseal.new.self) (world c.begin_in_place.new.files) c.in-Err-begin_in_place.ensures)
+    (unsealed_there before true (world c.args.self.now.files) (world c.unseal.new.self) c.in_ok-unseal.ensures)
+    (failed_start_there before _ c.args.self.now.floor (world c.unseal.new.self) (world c.begin_in_place.new.files) c.in-Err.ensures)

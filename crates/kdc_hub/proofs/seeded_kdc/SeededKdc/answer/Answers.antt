@@ -11,21 +11,21 @@ pub returns-clause-reply : goal.returns-clause-reply
 unfolding reply_of
 returns-clause-reply g c =
     let random : c.fill_bytes.new.dst ≡ (fill_bytes 64 (g.R.Rng.stream c.args.self.now.rng)).0 = search rules in
-    let octets = c.args.request.now.octets.now in
+    let octets = c.args.request.now in
     let v = view c.args.self.now.kdc octets in
-    subst (λ (w : List ℕ). IfOk c.answer.result (λ reply. reply ≡ reply_by c.args.self.now.keeps_audits v c.args.request.now.at w c.args.room octets))
+    subst (λ (w : List ℕ). IfOk c.answer.result (λ reply. reply ≡ reply_by c.args.self.now.keeps_audits v c.args.at w c.args.room octets))
     random
-    (all_made c.args.self.now.keeps_audits c.args.self.now.kdc c.answer.new.self c.args.request.now.at c.fill_bytes.new.dst c.args.room octets
+    (all_made c.args.self.now.keeps_audits c.args.self.now.kdc c.answer.new.self c.args.at c.fill_bytes.new.dst c.args.room octets
     c.answer.result c.answer.ensures.answered)
 
 pub returns-clause-holds : goal.returns-clause-holds
 returns-clause-holds g c =
     let random : c.fill_bytes.new.dst ≡ (fill_bytes 64 (g.R.Rng.stream c.args.self.now.rng)).0 = search rules in
-    let octets = c.args.request.now.octets.now in
+    let octets = c.args.request.now in
     let v = view c.args.self.now.kdc octets in
-    subst (λ (w : List ℕ). IfOk c.answer.result (λ reply. ReplyHolds v c.args.request.now.at w octets reply))
+    subst (λ (w : List ℕ). IfOk c.answer.result (λ reply. ReplyHolds v c.args.at w octets reply))
     random
-    (all_hold c.args.self.now.keeps_audits c.args.self.now.kdc c.answer.new.self c.args.request.now.at c.fill_bytes.new.dst c.args.room octets
+    (all_hold c.args.self.now.keeps_audits c.args.self.now.kdc c.answer.new.self c.args.at c.fill_bytes.new.dst c.args.room octets
     c.answer.result c.answer.ensures.answered)
 
 pub returns-clause-after : goal.returns-clause-after
@@ -33,12 +33,12 @@ unfolding after
 returns-clause-after g c =
     let random : c.fill_bytes.new.dst ≡ (fill_bytes 64 (g.R.Rng.stream c.args.self.now.rng)).0 = search rules in
     let rest : g.R.Rng.stream c.fill_bytes.new.self ≡ (fill_bytes 64 (g.R.Rng.stream c.args.self.now.rng)).1 = search rules in
-    let octets = c.args.request.now.octets.now in
+    let octets = c.args.request.now in
     then_ok c.answer.result _ _
-    (all_after c.args.self.now.keeps_audits c.args.self.now.kdc c.answer.new.self c.args.request.now.at c.fill_bytes.new.dst c.args.room octets
+    (all_after c.args.self.now.keeps_audits c.args.self.now.kdc c.answer.new.self c.args.at c.fill_bytes.new.dst c.args.room octets
     c.answer.result c.answer.ensures.answered)
     (λ state. λ i. record {
-      kdc = (state ∙ ap (λ (w : List ℕ). after_request c.args.self.now.kdc c.args.request.now.at w c.args.room octets) random) i;
+      kdc = (state ∙ ap (λ (w : List ℕ). after_request c.args.self.now.kdc c.args.at w c.args.room octets) random) i;
       random = rest i;
       audits = c.args.self.now.keeps_audits;
     })

@@ -4,7 +4,7 @@ use Rattle.kdc_replies.proofs.grant.Grant.ticket_part.Goals as goal
 pub returns-clause-value : goal.returns-clause-value
 returns-clause-value c = λ i. record {
   flags = c.args.self.now.flags;
-  key = c.in_ok-key_part.ensures.value i;
+  key = c.lent_key.ensures.value i;
   crealm = c.new.ensures i;
   cname = c.new-2.ensures i;
   transited = c.no_realms.ensures i;

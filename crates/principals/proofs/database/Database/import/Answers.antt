@@ -11,5 +11,5 @@ pub invariant_of-self-2 : goal.invariant_of-self-2
 invariant_of-self-2 c =
     let taken : None ≡ first_holding (add_rules c.args.self.now c.args.name.now.components) = search rules in
     let fits = within_limits_if_added c.args.self.now c.args.name.now.components taken in
-    is_database-insert c.self.inside.realm c.self.inside.rows c.put.new.self c.in_ok-copy.field-0.components c.row_of.result c.self.invariant
-    (subst (λ (name : Name). IsWithinLimits name.components) (sym c.in_ok-copy.ensures) fits) c.row_of.ensures.valid c.in_ok-put.ensures.ok
+    is_database-insert c.self.inside.realm c.self.inside.rows c.put.new.self c.in_ok-copy.field-0.components c.default_row.result c.self.invariant
+    (subst (λ (name : Name). IsWithinLimits name.components) (sym c.in_ok-copy.ensures) fits) c.default_row.ensures.valid c.in_ok-put.ensures.ok

@@ -1,6 +1,0 @@
-use Rattle.std.proofs.Common.{◌∙◌}
-use Rattle.aes_cts.proofs.BlockWords.{sum_is}
-use Rattle.aes_cts.proofs.words.sum_of.Goals as goal
-
-pub returns : goal.returns
-returns c = c.add_round_key.ensures ∙ sum_is _ _
