@@ -22,7 +22,8 @@ pub fn status_text(number: i32) -> &'static str {
         numbers::KRB_AP_ERR_BAD_INTEGRITY =>
             "KRB_AP_ERR_BAD_INTEGRITY: the ticket, the authenticator or the sealed bytes can't be decrypted",
         numbers::KRB_AP_ERR_NOKEY =>
-            "KRB_AP_ERR_NOKEY: the keytab has no key of the ticket's encryption type, or the client asks for user-to-user",
+            "KRB_AP_ERR_NOKEY: the keytab has no key of the ticket's encryption type, \
+             or the client asks for user-to-user",
         numbers::KRB_AP_ERR_MODIFIED => "KRB_AP_ERR_MODIFIED: the checksum is that of other bytes",
         numbers::KRB_AP_ERR_INAPP_CKSUM =>
             "KRB_AP_ERR_INAPP_CKSUM: the checksum's type is not the one for the session key",

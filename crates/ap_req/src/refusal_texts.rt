@@ -17,13 +17,15 @@ impl ApRefusal {
             ApRefusal::BadKeyVersion =>
                 "KRB_AP_ERR_BADKEYVER: the keytab has no key of the service with the ticket's key version",
             ApRefusal::TicketNotOpened =>
-                "KRB_AP_ERR_BAD_INTEGRITY: the keytab's key does not decrypt the ticket: it is another key of the same version, or the ticket was changed",
+                "KRB_AP_ERR_BAD_INTEGRITY: the keytab's key does not decrypt the ticket: \
+                 it is another key of the same version, or the ticket was changed",
             ApRefusal::ForeignClient => "KRB_AP_PATH_NOT_ACCEPTED: the client is of another realm",
             ApRefusal::BoundAddress => "KRB_AP_ERR_BADADDR: the ticket is bound to addresses",
             ApRefusal::BadSessionKey =>
                 "KDC_ERR_ETYPE_NOSUPP: the ticket's session key has an encryption type that is not supported",
             ApRefusal::AuthenticatorNotOpened =>
-                "KRB_AP_ERR_BAD_INTEGRITY: the ticket's session key does not decrypt the authenticator: the sender has another key",
+                "KRB_AP_ERR_BAD_INTEGRITY: the ticket's session key does not decrypt the authenticator: \
+                 the sender has another key",
             ApRefusal::BadMatch =>
                 "KRB_AP_ERR_BADMATCH: the ticket and the authenticator name different clients",
             ApRefusal::BadSubkey =>

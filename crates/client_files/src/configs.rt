@@ -200,7 +200,8 @@ fn note_deeper(alloc: Global, reading: &mut Reading) -> Result<(), AllocError> {
             let path = component_to_text(alloc, path)?;
             writeln!(
                 reading.notes,
-                "{path}: it is included more than {MOST_DEEP} deep, as by a file that includes itself, so it is passed over"
+                "{path}: it is included more than {MOST_DEEP} deep, as by a file that includes itself, \
+                 so it is passed over"
             )?;
         }
     }

@@ -37,7 +37,8 @@ impl NameOf {
             NameOf::CacheVariable =>
                 "KRB5CCNAME names a cache of another type than FILE, which kclient has not: --cache takes a file",
             NameOf::CacheSetting =>
-                "default_ccache_name of the krb5.conf names a cache of another type than FILE, which kclient has not: --cache takes a file",
+                "default_ccache_name of the krb5.conf names a cache of another type than FILE, which kclient has not: \
+                 --cache takes a file",
             NameOf::Keytab =>
                 "--keytab names a keytab of another type than FILE, which kclient has not: it takes a file",
         }

@@ -34,7 +34,8 @@ impl StepError {
             StepError::OtherRealm => ("OtherRealm", "its realm is not that of the cache"),
             StepError::NotOurs => (
                 "NotOurs",
-                "the cache belongs to another user, or other users may write it: name a cache of your own, or chmod go-w",
+                "the cache belongs to another user, or other users may write it: \
+                 name a cache of your own, or chmod go-w",
             ),
             StepError::Ended(_) => ("Ended", "the ticket-granting ticket has ended: run kinit"),
             StepError::NotRenewable => (

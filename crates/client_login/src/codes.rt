@@ -134,7 +134,8 @@ const CODES: &[(i32, &str)] = &[
     ),
     (
         numbers::KRB_AP_ERR_SKEW,
-        "the KDC was just started and takes no request for five minutes, so try again then; or the clocks differ by more than 300 seconds",
+        "the KDC was just started and takes no request for five minutes, so try again then; \
+         or the clocks differ by more than 300 seconds",
     ),
     (
         numbers::KRB_AP_ERR_BADADDR,

@@ -155,19 +155,22 @@ impl LoginError {
             LoginError::NotAReply => "the bytes that came back are not a reply of a KDC",
             LoginError::Mismatch(what) => mismatch_text(what),
             LoginError::CannotOpen =>
-                "the client's key does not decrypt the reply: the password or the keytab is wrong, or it is another KDC",
+                "the client's key does not decrypt the reply: the password or the keytab is wrong, \
+                 or it is another KDC",
             LoginError::SessionCannotOpen =>
                 "the session key of the ticket-granting ticket does not decrypt the reply: it is another KDC",
             LoginError::NoKnownType =>
                 "the KDC names no key of the client with one of the encryption types 17 to 20",
             LoginError::CountTooLarge =>
-                "the KDC asks for more iterations of string-to-key than 1048576, or for none, or its parameters are not four bytes",
+                "the KDC asks for more iterations of string-to-key than 1048576, or for none, \
+                 or its parameters are not four bytes",
             LoginError::WeakCount =>
-                "the KDC asks for fewer iterations of string-to-key than the least count that is accepted: somebody may have changed its reply to guess the password",
+                "the KDC asks for fewer iterations of string-to-key than the least count that is accepted: \
+                 somebody may have changed its reply to guess the password",
             LoginError::NoServiceKey =>
                 "the keytab has no key of the service with the ticket's encryption type and version",
-            LoginError::TicketNotOpened =>
-                "the keytab's key does not decrypt the ticket: it is another key of the same version, or it is another KDC",
+            LoginError::TicketNotOpened => "the keytab's key does not decrypt the ticket: \
+                 it is another key of the same version, or it is another KDC",
             LoginError::OtherTicket =>
                 "the ticket has another client or session key than the KDC's reply: it is another KDC",
             LoginError::TicketNotValid => "the ticket is not valid now: the clocks may differ",

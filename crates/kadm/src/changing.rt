@@ -51,7 +51,8 @@ pub(crate) const CHANGES: &[SubcommandRow] = &[
     },
     SubcommandRow {
         name: "import",
-        about: "Adds a principal with its keys from a keytab, in all their versions; or makes the database of a realm from a dump of MIT's",
+        about: "Adds a principal with its keys from a keytab, in all their versions; \
+                or makes the database of a realm from a dump of MIT's",
         options: &[DATABASE, IMPORTED_NAME, IMPORTED_KEYTAB, TYPES, DUMP, STASH],
         flags: &[SKIPS, WHOLE_REALM, KEEPS_MODE],
     },
@@ -69,7 +70,8 @@ pub(crate) const CHANGES: &[SubcommandRow] = &[
     },
     SubcommandRow {
         name: "batch",
-        about: "Runs commands from standard input, one on each line and without --db, and writes the database once: if one is refused, none is done",
+        about: "Runs commands from standard input, one on each line and without --db, and writes the database once: \
+                if one is refused, none is done",
         options: &[DATABASE],
         flags: &[KEEPS_GOING, WHOLE_REALM, KEEPS_MODE],
     },

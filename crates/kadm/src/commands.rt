@@ -30,13 +30,13 @@ A first realm:
   kadm list --db database
 
 Each command prints `ok`; `list`, `lint` and `show` print what they found. A command that is refused prints `refused`
-and the reason, with status 1. If a file can't be read or written, or memory runs out, it prints `failed`, with status 3.
-Standard error then says which name or file, and why. A usage error has status 2.
+and the reason, with status 1. If a file can't be read or written, or memory runs out, it prints `failed`, with
+status 3. Standard error then says which name or file, and why. A usage error has status 2.
 
 Without --db the database is the file that KADM_DB names in the environment.
 
-A name is components joined by `/`. Write `/`, `\\` and `@` inside a component, and all bytes other than 21 to 7e, as `\\`
-and two lower case hexadecimal digits.";
+A name is components joined by `/`. Write `/`, `\\` and `@` inside a component, and all bytes other than 21 to 7e, as
+`\\` and two lower case hexadecimal digits.";
 
 /// The option that allows a command to end the whole realm.
 pub(crate) const WHOLE_REALM: &str = "--whole-realm";

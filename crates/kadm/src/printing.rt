@@ -31,7 +31,8 @@ const PRINTS: &[SubcommandRow] = &[
     },
     SubcommandRow {
         name: "lint",
-        about: "Prints what to check, with the command that mends it: rights on the file, what has expired, weak or older keys, and tickets for users",
+        about: "Prints what to check, with the command that mends it: \
+                rights on the file, what has expired, weak or older keys, and tickets for users",
         options: &[DATABASE],
         flags: &[CHECKS, JSON_FINDINGS],
     },
@@ -43,7 +44,8 @@ const PRINTS: &[SubcommandRow] = &[
     },
     SubcommandRow {
         name: "check",
-        about: "Prints the realm, the number of rows and the version of a database, and the lines of lint; refuses a file that is none",
+        about: "Prints the realm, the number of rows and the version of a database, and the lines of lint; \
+                refuses a file that is none",
         options: &[DATABASE],
         flags: &[],
     },

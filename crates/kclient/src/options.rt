@@ -102,7 +102,8 @@ const START: OptionRow = OptionRow {
 const LEAST_COUNT: OptionRow = OptionRow {
     name: "least-count",
     shape: "N",
-    help: "The fewest iterations of string-to-key that the KDC may ask for; by default 4096 or 32768, by the encryption type",
+    help: "The fewest iterations of string-to-key that the KDC may ask for; \
+           by default 4096 or 32768, by the encryption type",
     times: Times::AtMostOnce,
 };
 
@@ -268,7 +269,8 @@ fn command<'a>(alloc: Global, kind: Subcommand) -> Result<Command<'a>, AllocErro
 /// Returns `kinit` with what it takes besides a first ticket's description.
 fn kinit<'a>(alloc: Global, kinit: Command<'a>) -> Result<Command<'a>, AllocError> {
     let client = Arg::new(alloc, "client").value_name("CLIENT").help(
-        "The client's name, also with its realm, such as alice@EXAMPLE.COM; by default the cache's client, or else LOGNAME",
+        "The client's name, also with its realm, such as alice@EXAMPLE.COM; \
+         by default the cache's client, or else LOGNAME",
     );
     let kinit = with_options(alloc, kinit, KINIT_OPTIONS)?;
     with_flags(alloc, kinit, KINIT_FLAGS)?.arg(client)

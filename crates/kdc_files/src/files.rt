@@ -79,7 +79,8 @@ impl fmt::Display for ServerFileError {
                 "its journal is beside it; start with --journal to go on with that, or with --no-journal to remove it",
             ),
             ServerFileError::NotFirst => f.write_str(
-                "there is a journal of an earlier start, and --first is for the first start alone; start without --first",
+                "there is a journal of an earlier start, and --first is for the first start alone; \
+                 start without --first",
             ),
             ServerFileError::NotJournalBeside(part) => {
                 write!(f, "{NOT_REMOVED}: {part}; move it away")

@@ -28,28 +28,28 @@ Once it listens, standard error says where, which database with how many rows, u
 limits. Port 0 is one that the system chooses. If the clock goes back, a line a minute says which TGS-REQs are refused
 for that, and until when. With --log each request is a line: the time in UTC, the peer, udp or tcp, as or tgs, the
 client, the service, and the outcome: `ticket` with its lifetime, or `refused` with the error's code and a word for it;
-then rule=NAME for a refusal, and etype=, flags=, until= and renew= for a ticket; and sent=no if the reply was withheld or
-could not be sent. A line that can't be written is lost.
+then rule=NAME for a refusal, and etype=, flags=, until= and renew= for a ticket; and sent=no if the reply was withheld
+or could not be sent. A line that can't be written is lost.
 
 With --journal the server appends each authenticator that enters a replay cache to FILE before it sends the reply. The
-next start reads FILE, refuses these authenticators, and refuses nothing else. It does so only if the journal is of this
-realm, whole, and of this boot of the system or sealed by `kdcd seal` before the system went down. Otherwise it starts as
-without a journal, and standard error says why. If the clock is behind the journal, it refuses all that may have come
-before. FILE and FILE.old take turns every ten minutes, or when FILE has --journal-size bytes. FILE.lock keeps a second
-server from FILE; it stays there. While FILE can't be written the server sends no reply, and standard error says so. If
-FILE, or FILE.old, FILE.new, FILE.lock or FILE.sealed, is something else than a journal's, the start is refused, and it
-stays as it is. --first is refused if there is a journal, since it is for the first start alone. --journal without a
-value takes DATABASE.journal. A server without --journal is refused while that file is there, since what it answers
-would be missing in the journal; with --no-journal it removes that journal.
+next start reads FILE, refuses these authenticators, and refuses nothing else. It does so only if the journal is of
+this realm, whole, and of this boot of the system or sealed by `kdcd seal` before the system went down. Otherwise it
+starts as without a journal, and standard error says why. If the clock is behind the journal, it refuses all that may
+have come before. FILE and FILE.old take turns every ten minutes, or when FILE has --journal-size bytes. FILE.lock
+keeps a second server from FILE; it stays there. While FILE can't be written the server sends no reply, and standard
+error says so. If FILE, or FILE.old, FILE.new, FILE.lock or FILE.sealed, is something else than a journal's, the start
+is refused, and it stays as it is. --first is refused if there is a journal, since it is for the first start alone.
+--journal without a value takes DATABASE.journal. A server without --journal is refused while that file is there, since
+what it answers would be missing in the journal; with --no-journal it removes that journal.
 
 With --metrics the server writes its numbers to FILE every ten seconds: requests by exchange, outcome and rule, replies
-by transport, events and faults, rows, replay caches and the journal. Everybody may read FILE (mode 644). FILE.new beside
-it is renamed to it, so no reader sees half of it. If FILE can't be written, or something else than numbers is there,
-standard error says so once, and the server goes on.
+by transport, events and faults, rows, replay caches and the journal. Everybody may read FILE (mode 644). FILE.new
+beside it is renamed to it, so no reader sees half of it. If FILE can't be written, or something else than numbers is
+there, standard error says so once, and the server goes on.
 
 Status: 0 after the last round; 1 if a file is refused (`refused NAME`: NotJson, BadVersion, BadRow, NoTicketGranter,
-ShortSeed, LongFile, NotJournal, Journal); 2 for a usage error; 3 if a file, a socket, the clock or memory failed (`failed`).
-Standard error says why the server did not start.";
+ShortSeed, LongFile, NotJournal, Journal); 2 for a usage error; 3 if a file, a socket, the clock or memory failed
+(`failed`). Standard error says why the server did not start.";
 
 const SERVE: SubcommandRow = SubcommandRow {
     name: "serve",
@@ -64,7 +64,8 @@ const SERVE: SubcommandRow = SubcommandRow {
         OptionRow {
             name: "udp",
             shape: "ADDRESS:PORT",
-            help: "Accepts datagrams at this address, such as 127.0.0.1:88 or [::1]:88. At most 8 of --udp and --tcp in all",
+            help: "Accepts datagrams at this address, such as 127.0.0.1:88 or [::1]:88. \
+                   At most 8 of --udp and --tcp in all",
             times: Times::Any,
         },
         OptionRow {
@@ -82,7 +83,8 @@ const SERVE: SubcommandRow = SubcommandRow {
         OptionRow {
             name: "seed",
             shape: "FILE",
-            help: "Makes all session keys from the first 32 bytes of this file, new for each start; by default the system draws them",
+            help: "Makes all session keys from the first 32 bytes of this file, new for each start; \
+                   by default the system draws them",
             times: Times::AtMostOnce,
         },
         OptionRow {
@@ -94,13 +96,15 @@ const SERVE: SubcommandRow = SubcommandRow {
         OptionRow {
             name: "kept",
             shape: "N",
-            help: "Keeps the replies to TGS-REQs of up to N bytes, 0 to 65535, by default 4096: one that comes again gets the same reply",
+            help: "Keeps the replies to TGS-REQs of up to N bytes, 0 to 65535, by default 4096: \
+                   one that comes again gets the same reply",
             times: Times::AtMostOnce,
         },
         OptionRow {
             name: "lock-after",
             shape: "N",
-            help: "Locks a client after N failed logins in a row; by default 0, which means never. It needs --lock-seconds",
+            help: "Locks a client after N failed logins in a row; by default 0, which means never. \
+                   It needs --lock-seconds",
             times: Times::AtMostOnce,
         },
         OptionRow {
@@ -130,7 +134,8 @@ const SERVE: SubcommandRow = SubcommandRow {
         OptionRow {
             name: "metrics",
             shape: "FILE",
-            help: "Writes the server's numbers to FILE every ten seconds, in Prometheus' text format, for those who watch it",
+            help: "Writes the server's numbers to FILE every ten seconds, in Prometheus' text format, \
+                   for those who watch it",
             times: Times::AtMostOnce,
         },
         OptionRow {
@@ -143,12 +148,13 @@ const SERVE: SubcommandRow = SubcommandRow {
     flags: &[
         FlagRow {
             name: "first",
-            help: "\
-                No request was ever answered with this database. Without it, TGS-REQs are refused with error 37 for 301 seconds",
+            help: "No request was ever answered with this database. \
+                   Without it, TGS-REQs are refused with error 37 for 301 seconds",
         },
         FlagRow {
             name: "quiet-start",
-            help: "Sends no reply to a TGS-REQ while all are refused after the start, and closes its connection: clients then ask another KDC",
+            help: "Sends no reply to a TGS-REQ while all are refused after the start, and closes its connection: \
+                   clients then ask another KDC",
         },
         FlagRow {
             name: "no-journal",
@@ -172,8 +178,8 @@ seal, FILE.sealed. The next start breaks the seal. Only a whole journal of this 
 that a server has open.
 
 Status: 0 if it is sealed (`ok`); 1 if a start would not resume with it, or a file is none of a journal's
-(`refused NAME`: Absent, Damaged, OtherBoot, Unlinked, NotJournal); 2 for a usage error; 3 if a file or memory failed (`failed`).
-Standard error says why.";
+(`refused NAME`: Absent, Damaged, OtherBoot, Unlinked, NotJournal); 2 for a usage error; 3 if a file or memory failed
+(`failed`). Standard error says why.";
 
 const SEAL: SubcommandRow = SubcommandRow {
     name: "seal",
@@ -220,7 +226,8 @@ fn journal_option<'a>(alloc: Global, beside: &'a str) -> Arg<'a> {
         .default_missing_value(beside)
         .value_parser(ValueParser::NonEmptyString)
         .help(
-            "Appends the authenticators of the replay caches to FILE, by default DATABASE.journal, so that a restart refuses nothing else",
+            "Appends the authenticators of the replay caches to FILE, by default DATABASE.journal, \
+             so that a restart refuses nothing else",
         )
 }
 

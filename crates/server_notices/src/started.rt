@@ -146,7 +146,8 @@ fn write_shown<W: fmt::Write>(f: &mut fmt::Formatter<W>, path: &str, second: i64
     }
     writeln!(
         f,
-        ", which the clock is behind: set the clock; or, if the clock was ahead then, move {path}, {path}.old and {path}.new away"
+        ", which the clock is behind: set the clock; or, if the clock was ahead then, \
+         move {path}, {path}.old and {path}.new away"
     )
 }
 
