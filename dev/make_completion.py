@@ -90,6 +90,11 @@ class Option(typing.NamedTuple):
         return f"--{self.name}" if len(self.name) > 1 else f"-{self.name}"
 
 
+def text_of(literal):
+    """The text of a literal between its quotes. A backslash at the end of a line joins the next one."""
+    return re.sub(r"\\(.)", r"\1", re.sub(r"\\\n\s*", "", literal))
+
+
 class Reader:
     """Reads the constants of a source that are rows, lists of rows, or texts."""
     TOKEN = re.compile(r'\s*(?:("(?:[^"\\]|\\.)*")|(\w+(?:::\w+)*)|(.))', re.S)
@@ -118,7 +123,7 @@ class Reader:
         if token == "[":
             return self.list_at(end)
         if token.startswith('"'):
-            return re.sub(r"\\(.)", r"\1", re.sub(r"\\\n\s*", "", token[1:-1])), end
+            return text_of(token[1:-1]), end
         if self.token(end)[0] == "{":
             return self.row_at(token, self.token(end)[1])
         return (self.constant(token), end) if token.isupper() or token in self.places else (token, end)
@@ -144,10 +149,10 @@ class Reader:
 def argument(text, function):
     """The option that a function makes without a row."""
     body = text.partition(f"fn {function}")[2].partition("\n}\n")[0]
-    found = [re.search(rf'\.{call}\(\s*"((?:[^"\\]|\\.)*)"', body) for call in ("long", "help", "value_name")]
+    found = [re.search(rf'\.{call}\(\s*"((?:[^"\\]|\\.)*)"', body, re.S) for call in ("long", "help", "value_name")]
     if not all(found):
         raise Unreadable(f"{function} makes no option")
-    return Option(*(each[1] for each in found), is_optional="num_args(0..=1)" in body)
+    return Option(*(text_of(each[1]) for each in found), is_optional="num_args(0..=1)" in body)
 
 
 def option_of(row):

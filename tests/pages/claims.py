@@ -106,7 +106,7 @@ def tgs_rules():
     code_of = coded("TgsRefusal", "crates/tgs_opening/src/refusal.rt")
     code_of |= {f"Ap.{name}": code for name, code in coded("ApRefusal", "crates/ap_req/src/refusal.rt").items()}
     code_of["Ap.ForeignClient"] = "KdcErrPolicy"
-    rule = r"(?:Refuses|Records) \(?tgs\.(?:(Ap) ap_refusals\.)?(\w+)|(Repeats) "
+    rule = r"(?:Refuses|Records) \(?tgs\.(?:(Ap) ap\.)?(\w+)|(Repeats) "
     listed = re.findall(rule, read("crates/tgs_exchange/specs/Refusals.antt"))
     rules = [f"{'Ap.' * bool(ap)}{name}" if not repeats else "Ap.Repeated" for ap, name, repeats in listed]
     return [(names[rule].replace("-", " "), known[code_of[rule]]) for rule in rules if rule in names]

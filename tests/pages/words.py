@@ -161,7 +161,8 @@ def wide_among(lines, mark=""):
 
 @test()
 def scripts(notes):
-    """The widths of Python's and C's files, and of comments of code and of sessions; the lengths of Python's files."""
+    """The widths of Python's and C's files, of code, definitions without laws, and comments of sessions; the lengths of
+    Python's files."""
     files_of = [
         TOP / "tests" / "run", *(path for folder in ("tests", "bench", "dev") for path in TOP.glob(f"{folder}/**/*.py"))
     ]
@@ -170,7 +171,8 @@ def scripts(notes):
         "Python": ("", files_of),
         "C and shell": ("", [TOP / ".ci/run", *TOP.glob("tests/**/*.c"), *TOP.glob("docs/*.h")]),
         "units and settings": ("", [path for path in TOP.glob("docs/*") if path.suffix in UNITS]),
-        "comments of code": ("//", TOP.glob("crates/*/src/**/*.rt")),
+        "code": ("", TOP.glob("crates/*/src/**/*.rt")),
+        "definitions": ("", (path for path in TOP.glob("crates/*/specs/**/*.antt") if not path.stem.endswith("Laws"))),
         "comments of sessions": ("#", TOP.glob("tests/**/*.session")),
     }
     for what, (mark, paths) in kinds.items():

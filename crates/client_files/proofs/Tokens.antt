@@ -25,3 +25,6 @@ pub ahead_last : (user : ℕ) (name whole rest path : List ℕ) → IsAhead user
     → FindsText (codes "%{") rest None → path ≡ whole ++ rest → IsExpanded user name path
 ahead_last user name whole rest path ahead finds pushed =
     subst (λ p. IsExpanded user name p) (sym pushed) (ahead rest (plain rest finds))
+
+-- what writing a path token by token needs to know
+pub ruleset each_token = (ahead_first, ahead_next, ahead_last)

@@ -179,7 +179,7 @@ fn unit_length(c: char) -> Option<u32> {
 }
 
 /// Returns a path with the text for each token such as `%{uid}` in it; `None` if a token is not known.
-#[tactic(auto, using(crate::proofs::Tokens::ahead_first, crate::proofs::Tokens::ahead_next, crate::proofs::Tokens::ahead_last))]
+#[tactic(auto, using(crate::proofs::Tokens::each_token))]
 fn with_tokens(alloc: Global, path: &str, user: u32) -> Result<Option<String>, AllocError>
     ensures { IfOk result (λ expanded. IfSome expanded (λ text. IsExpanded user path.now (string_bytes text))) }
 {

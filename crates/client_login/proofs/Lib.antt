@@ -3,6 +3,7 @@ mod Clients
 mod InfoCopies
 mod Moving
 mod OwnKeys
+mod Steps
 mod Takings
 mod Verified
 mod Wider

@@ -488,3 +488,6 @@ takes carries granting asked at confounder octets presentable all written = by_s
     by_session (Some held) is e = subst carries (sym e) (all held is)
     by_session None is e =
         absurd (no_session (ticket_in granting.ticket) (session_key granting) _ _ _ is presentable)
+
+-- what reading a reply with a first ticket needs to know
+pub ruleset first_read = (took_first, rejected_first, keyless_first)

@@ -221,3 +221,6 @@ module _ (answers : SocketAddr → List ℕ → List ℕ → Type 0) where
   not_come keytab granting asked now says.TicketNotOpened None is = absurd is
   not_come keytab granting asked now says.OtherTicket None is = absurd is
   not_come keytab granting asked now says.TicketNotValid None is = absurd is
+
+-- what a login that is verified by a ticket needs to know
+pub ruleset verified_login = (valid_at, ticket_of, further_client, doubted, not_come)

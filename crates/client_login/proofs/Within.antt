@@ -92,3 +92,6 @@ module _ (finds : List ℕ → ℕ → SocketAddr → Type 0) where
       → IsWithin finds before after → AreWithin finds places (set places i after)
   looked_up_at places i before after listed within =
       record { at = λ kdc is. leads places i before after kdc listed within is }
+
+-- what sending to each place of a realm needs to know
+pub ruleset each_place = (same_places, contained, none_found, at_place, looked_up_at)

@@ -108,7 +108,7 @@ impl Reply {
 /// all requests of a login go to one, and then the others in order. It skips a KDC that doesn't reply, or says that it
 /// is not available or that the clocks differ. If no KDC does better, the first such error counts. A host's name is
 /// looked up when its turn comes.
-#[tactic(auto, using(crate::proofs::Takings::counted_unheard, crate::proofs::Within::further_within, crate::proofs::Within::same_places, crate::proofs::Wider::reply, crate::proofs::Wider::unheard))]
+#[tactic(auto, using(crate::proofs::Steps::asking))]
 pub(crate) fn ask<X: Network>(
     alloc: Global,
     kdcs: &mut Kdcs<X>,
@@ -206,7 +206,7 @@ fn further_at<X: Network>(
 
 /// Returns the addresses of a place. A host's name is looked up now, unless that was done before.
 /// It is a function apart from `further_at` only for the sake of the proof.
-#[tactic(auto, using(crate::proofs::Within::same_places, crate::proofs::Within::contained, crate::proofs::Within::none_found, crate::proofs::Within::at_place, crate::proofs::Within::looked_up_at))]
+#[tactic(auto, using(crate::proofs::Within::each_place))]
 fn kdc_addresses<X: Network>(
     alloc: Global,
     kdcs: &mut Kdcs<X>,

@@ -52,7 +52,7 @@ impl<X: Network> KdcClient<X> {
     /// Gets a first ticket. The client sends a request without a timestamp, and another with one if the KDC requires
     /// preauthentication. It derives its key as the KDC says, but with no fewer iterations of string-to-key than the
     /// password's least count. With a keytab it requests exactly the types of the client's keys in it.
-    #[tactic(auto, using(crate::proofs::Moving::moved_none, crate::proofs::Moving::drawn_none, crate::proofs::Clients::first_client, crate::proofs::Within::same_places))]
+    #[tactic(auto, using(crate::proofs::Steps::log_in))]
     pub fn log_in<R: Rng>(
         &mut self,
         rng: &mut R,
@@ -125,7 +125,7 @@ impl<X: Network> KdcClient<X> {
 }
 
 /// Sends the request without a timestamp.
-#[tactic(auto, using(crate::proofs::Takings::first_blamed, crate::proofs::Takings::first_taken, crate::proofs::Takings::first_unheard, crate::proofs::Moving::moved_none, crate::proofs::Moving::drawn_none, crate::proofs::Within::same_places, crate::proofs::Within::further_within, crate::proofs::Wider::first_wider, crate::proofs::Wider::first_fault_wider))]
+#[tactic(auto, using(crate::proofs::Steps::plain))]
 fn ask_plainly<X: Network, R: Rng>(
     client: &mut KdcClient<X>,
     rng: &mut R,
@@ -180,7 +180,7 @@ fn key_for_timestamp(
 }
 
 /// Sends the request with a timestamp under the client's key.
-#[tactic(auto, using(crate::proofs::Takings::first_blamed, crate::proofs::Takings::first_taken, crate::proofs::Takings::first_unheard, crate::proofs::Carried::carries_stamped))]
+#[tactic(auto, using(crate::proofs::Steps::stamped))]
 fn ask_with_timestamp<X: Network, R: Rng>(
     client: &mut KdcClient<X>,
     rng: &mut R,
@@ -212,7 +212,7 @@ fn ask_with_timestamp<X: Network, R: Rng>(
 }
 
 /// Returns the ticket of a reply to a request without a timestamp. The reply is no KRB-ERROR.
-#[tactic(auto, using(crate::proofs::Takings::took_first, crate::proofs::Takings::rejected_first, crate::proofs::Takings::keyless_first))]
+#[tactic(auto, using(crate::proofs::Takings::first_read))]
 fn take_plain(
     alloc: Global,
     first: &FirstRequest<'_>,
@@ -238,7 +238,7 @@ fn take_plain(
 }
 
 /// Returns the ticket of a reply to a request with a timestamp under a key of the client.
-#[tactic(auto, using(crate::proofs::Takings::took_first, crate::proofs::Takings::rejected_first, crate::proofs::Takings::keyless_first))]
+#[tactic(auto, using(crate::proofs::Takings::first_read))]
 fn take_stamped(
     alloc: Global,
     stamped: &StampedRequest<'_>,

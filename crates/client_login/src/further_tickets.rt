@@ -39,7 +39,7 @@ struct FurtherRequest<'a> {
 
 impl<X: Network> KdcClient<X> {
     /// Gets a ticket for a service of the client's realm, with a ticket-granting ticket. It ends as late as that one.
-    #[tactic(auto, using(crate::proofs::Moving::moved_none, crate::proofs::Moving::drawn_none, crate::proofs::Within::same_places))]
+    #[tactic(auto, using(crate::proofs::Steps::further))]
     pub fn service_ticket<R: Rng>(
         &mut self,
         rng: &mut R,
@@ -98,7 +98,7 @@ impl<X: Network> KdcClient<X> {
 
     /// Gets a ticket again: renewed, with a new start; or validated, if it was postdated (RFC 4120, sections 2.3 and
     /// 2.4).
-    #[tactic(auto, using(crate::proofs::Moving::moved_none, crate::proofs::Moving::drawn_none, crate::proofs::Within::same_places))]
+    #[tactic(auto, using(crate::proofs::Steps::further))]
     pub fn renew<R: Rng>(
         &mut self,
         rng: &mut R,
@@ -156,7 +156,7 @@ impl<X: Network> KdcClient<X> {
 }
 
 /// Sends the request with the ticket.
-#[tactic(auto, using(crate::proofs::Takings::further_blamed, crate::proofs::Takings::further_taken, crate::proofs::Takings::further_unheard, crate::proofs::Moving::moved_none, crate::proofs::Moving::drawn_none, crate::proofs::Within::same_places, crate::proofs::Carried::carries_presented))]
+#[tactic(auto, using(crate::proofs::Steps::presented))]
 fn ask_with_ticket<X: Network, R: Rng>(
     client: &mut KdcClient<X>,
     rng: &mut R,

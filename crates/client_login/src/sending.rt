@@ -36,7 +36,7 @@ pub(crate) enum ProvingRequest<'a> {
 
 /// Returns the reply to a request. A KDC that has seen another request of the client with the same moment gets another
 /// one, with the next moment.
-#[tactic(auto, using(crate::proofs::Moving::moved_once, crate::proofs::Moving::moved_twice, crate::proofs::Moving::drawn_once, crate::proofs::Moving::drawn_twice, crate::proofs::Within::further_within, crate::proofs::Wider::reply_wider, crate::proofs::Wider::unheard_wider))]
+#[tactic(auto, using(crate::proofs::Steps::proving))]
 pub(crate) fn send<X: Network, R: Rng>(
     client: &mut KdcClient<X>,
     rng: &mut R,

@@ -35,7 +35,7 @@ impl<X: Network> KdcClient<X> {
     /// **A program that lets somebody in by a password has to call this.** `log_in` alone shows that a KDC knows the
     /// password. The person who types it may also answer in the KDC's place. So the service's key has to be random, and
     /// the moment that of the computer's own clock.
-    #[tactic(auto, using(crate::proofs::Verified::valid_at, crate::proofs::Verified::ticket_of, crate::proofs::Verified::further_client, crate::proofs::Verified::doubted, crate::proofs::Verified::not_come))]
+    #[tactic(auto, using(crate::proofs::Verified::verified_login))]
     pub fn verify<R: Rng>(
         &mut self,
         rng: &mut R,

@@ -166,3 +166,8 @@ ended (Ok status) (Ok reported) words before input after done stopped is = subst
 ended (Ok status) (Err e) words before input after done stopped is = end_failed words before input status after done
 ended (Err stop) (Ok reported) words before input after done stopped is = stopped_end words before input stop reported after stopped is
 ended (Err stop) (Err e) words before input after done stopped is = stopped_failed words before input stop after stopped
+
+-- what the end of a command needs to know, and that of the words that spell it
+pub ruleset command_ends = (write_done, write_tried, write_refused, write_stopped, print_end)
+
+pub ruleset words_end = (spelled_end, spelled_stop, failed_after)

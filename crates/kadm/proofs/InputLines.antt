@@ -84,3 +84,6 @@ none_pushed text lines (word ∷ words) octets is none = absurd (omega (arith, n
 pub nothing_left : {A : Type 0} (items : List A) → length items ≡ 0 → items ≡ []
 nothing_left [] none = refl
 nothing_left (item ∷ items) none = absurd (omega (arith, none))
+
+-- what reading the input line by line needs to know
+pub ruleset each_line = (none_read, read_on, all_read)

@@ -119,7 +119,7 @@ pub(crate) fn run_batch<'p, T: Store, W: Write, E: Write>(
 }
 
 /// Reads the lines of standard input up to its end. Skips empty lines and comments.
-#[tactic(auto, using(crate::proofs::InputLines::none_read, crate::proofs::InputLines::read_on, crate::proofs::InputLines::all_read))]
+#[tactic(auto, using(crate::proofs::InputLines::each_line))]
 fn read_lines<T: Store, E: Write>(
     alloc: Global,
     store: &mut T,

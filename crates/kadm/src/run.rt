@@ -119,7 +119,7 @@ fn report_end<W: Write, E: Write>(
 }
 
 /// Runs the command, or prints the help that the words ask for, and flushes what is printed.
-#[tactic(auto, using(crate::proofs::Ending::spelled_end, crate::proofs::Ending::spelled_stop, crate::proofs::Ending::failed_after))]
+#[tactic(auto, using(crate::proofs::Ending::words_end))]
 fn run_words<'a, T: Store, W: Write, E: Write>(
     context: &mut Context<W, E>,
     store: &mut T,
@@ -167,7 +167,7 @@ fn asks<'a, W: Write, E: Write>(
 }
 
 /// Runs a command that was read. One that writes prints `ok` if all was done and is on the disk.
-#[tactic(auto, using(crate::proofs::Ending::write_done, crate::proofs::Ending::write_tried, crate::proofs::Ending::write_refused, crate::proofs::Ending::write_stopped, crate::proofs::Ending::print_end))]
+#[tactic(auto, using(crate::proofs::Ending::command_ends))]
 fn run_command<'a, T: Store, W: Write, E: Write>(
     context: &mut Context<W, E>,
     store: &mut T,

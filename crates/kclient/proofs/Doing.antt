@@ -246,3 +246,6 @@ module _ (First : Came) (Further : CameBy) (now : ℤ) (command : Command) (host
   did_stop_filling (Err fault) is (inl same) = inl same
   did_stop_filling (Err fault) is (inr filled) =
       inr (subst (λ k. IsKindTried Further (IsCacheOf command host) k before after) (sym is) filled)
+
+-- what each kind of command needs to know
+pub ruleset each_kind = (did_make_first, did_make_further, did_serve, did_remove, did_list, did_stop, did_stop_filling)

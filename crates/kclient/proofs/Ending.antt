@@ -114,3 +114,6 @@ reported_failed P status is = inr is
 
 pub reported_so : (P : Type 0) (status : Status) → P → P ⊎ (status ≡ Failed)
 reported_so P status is = inl is
+
+-- what the end of the words of a command needs to know
+pub ruleset words_end = (help_end, spelled_end, spelled_stop, stopped_same)

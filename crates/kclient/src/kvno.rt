@@ -118,7 +118,7 @@ fn fill<T: ClientStore, X: AnyMessage>(
 }
 
 /// Gets a ticket for each service, until one fails. Returns a line for each.
-#[tactic(auto, using(crate::proofs::Doing::collected_none, crate::proofs::Doing::collected_more, crate::proofs::Serving::held_more))]
+#[tactic(auto, using(crate::proofs::Steps::each_service))]
 fn get_each<T: ClientStore, X: AnyMessage>(
     context: &mut Context<T, X>,
     host: &Host<'_>,
@@ -170,7 +170,7 @@ fn read_session<T: ClientStore, X>(
     })
 }
 
-#[tactic(auto, using(crate::proofs::Doing::written_or_kept, crate::proofs::Serving::not_written, crate::proofs::Serving::written))]
+#[tactic(auto, using(crate::proofs::Steps::cache_written))]
 fn write_changed<T: ClientStore>(
     alloc: Global,
     store: &mut T,
@@ -308,7 +308,7 @@ const OPENED: &str = ", keytab entry valid";
 
 /// Returns the key version of a ticket for the service: of the one in the cache, if it can be used, or of a new one.
 /// Only a request needs KDCs.
-#[tactic(auto, using(crate::proofs::Doing::collected_none, crate::proofs::Doing::collected_one, crate::proofs::Serving::held_there, crate::proofs::Serving::put_there))]
+#[tactic(auto, using(crate::proofs::Steps::one_service))]
 fn get_ticket<T: ClientStore, X: AnyMessage>(
     context: &mut Context<T, X>,
     host: &Host<'_>,

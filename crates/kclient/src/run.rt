@@ -116,7 +116,7 @@ fn note_hosts<T, X>(context: &mut Context<T, X>, end: &Result<Printed, ClientErr
 }
 
 /// Runs the command that the words spell, or returns the help that they ask for.
-#[tactic(auto, using(crate::proofs::Ending::help_end, crate::proofs::Ending::spelled_end, crate::proofs::Ending::spelled_stop, crate::proofs::Ending::stopped_same))]
+#[tactic(auto, using(crate::proofs::Ending::words_end))]
 fn run_words<T: ClientStore, X: AnyMessage>(
     context: &mut Context<T, X>,
     words: &[&str],
@@ -140,7 +140,7 @@ fn run_words<T: ClientStore, X: AnyMessage>(
 }
 
 /// Runs a command that was read.
-#[tactic(auto, using(crate::proofs::Doing::did_make_first, crate::proofs::Doing::did_make_further, crate::proofs::Doing::did_serve, crate::proofs::Doing::did_remove, crate::proofs::Doing::did_list, crate::proofs::Doing::did_stop, crate::proofs::Doing::did_stop_filling))]
+#[tactic(auto, using(crate::proofs::Doing::each_kind))]
 fn run_command<T: ClientStore, X: AnyMessage>(
     context: &mut Context<T, X>,
     command: &Command<'_>,

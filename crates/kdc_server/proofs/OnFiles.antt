@@ -105,3 +105,8 @@ module _ {A : Type 0} where
         decided = s.started.ready.decided;
         floor = s.started.ready.floor;
       })
+
+-- what a start that fails needs to know, and one that finds a journal
+pub ruleset failing = (failed_reading, failed_then, failed_to_begin)
+
+pub ruleset finding = (untouched_once, untouched_twice, untouched_thrice, finished_behind, found_behind)

@@ -125,7 +125,7 @@ pub fn run_server<'a, H: Host>(
 }
 
 /// Starts a server as its options say.
-#[tactic(auto, using(crate::proofs::OnFiles::failed_reading, crate::proofs::OnFiles::failed_then, crate::proofs::OnFiles::failed_to_begin))]
+#[tactic(auto, using(crate::proofs::OnFiles::failing))]
 pub fn start<'a, H: Host>(
     alloc: Global,
     host: &mut H,

@@ -115,7 +115,7 @@ pub struct ReadyServer<H: Host> {
 /// Makes a server ready as its options say. It reads the database and the seed, opens its sockets, then reads the
 /// journals, if it is to have one, and only then the clock. So no earlier process appends to a journal after it was
 /// read, or answers a request after the moment of this start.
-#[tactic(auto, using(crate::proofs::OnFiles::untouched_once, crate::proofs::OnFiles::untouched_twice, crate::proofs::OnFiles::untouched_thrice, crate::proofs::OnFiles::finished_behind, crate::proofs::OnFiles::found_behind))]
+#[tactic(auto, using(crate::proofs::OnFiles::finding))]
 pub fn ready<'a, H: Host>(
     alloc: Global,
     host: &mut H,

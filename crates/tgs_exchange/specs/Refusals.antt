@@ -11,7 +11,7 @@ use Rattle.ap_req.specs.Authenticators.{authenticator_in, is_mismatched, subkey_
 use Rattle.ap_req.specs.HeldKey.{HeldKey, lacks_key, lacks_version}
 use Rattle.ap_req.specs.Tickets.{is_other_version, part_of}
 use Rattle.ap_req.specs.Validity.{has_ended, ticket_terms}
-use Rattle.ap_req.specs.declared.refusal.ApRefusal.TheVariants as ap_refusals
+use Rattle.ap_req.specs.declared.refusal.ApRefusal.TheVariants as ap
 use Rattle.enctypes.specs.declared.key.Key.{Key}
 use Rattle.enctypes.specs.declared.key_usage.KeyUsage.TheVariants.{TgsReqAuthenticator}
 use Rattle.kdc_replies.specs.Standing.{is_disabled, is_expired}
@@ -117,55 +117,58 @@ is_full NoPlace = true
 abbrev pub refusals : TgsView → TgsFacts → List (Rule (Decision Kept))
 refusals v k =
     let body = k.message.body.value in
+    let octets = k.message.body.octets in
+    let now = k.now in
     (not (int_eq k.message.pvno PVNO), Refuses tgs.BadVersion)  -- 5.4.1
     ∷ (not (int_eq k.message.msg_type (pos TGS_REQ)), Refuses tgs.BadMessageType)  -- 5.4.1
     ∷ (is_none (tgs_data k.message), Refuses tgs.NoApReq)  -- 3.3.2
     ∷ (is_none k.shown, Refuses tgs.MalformedApReq)  -- 5.2.7.1
-    ∷ (holds_of (λ s. is_other_version s.ap) k.shown, Refuses (tgs.Ap ap_refusals.BadVersion))  -- 5.5.1, 5.3
-    ∷ (holds_of (λ s. not (int_eq s.ap.msg_type (pos AP_REQ))) k.shown, Refuses (tgs.Ap ap_refusals.BadMessageType))  -- 3.2.3
-    ∷ (holds_of asks_session_key k.shown, Refuses (tgs.Ap ap_refusals.SessionKeyAsked))  -- 3.2.3
-    ∷ (holds_of (λ s. not s.held.is_for_us) k.shown, Refuses (tgs.Ap ap_refusals.NotForUs))  -- 3.2.3, 3.3.2
-    ∷ (holds_of has_no_key k.shown, Refuses (tgs.Ap ap_refusals.NoKey))  -- 3.2.3
-    ∷ (holds_of has_no_version k.shown, Refuses (tgs.Ap ap_refusals.BadKeyVersion))  -- 3.2.3
-    ∷ (is_none k.part, Refuses (tgs.Ap ap_refusals.TicketNotOpened))  -- 3.2.3
-    ∷ (holds_of (λ part. not (pointwise nat_eq part.crealm v.realm)) k.part, Refuses (tgs.Ap ap_refusals.ForeignClient))  -- 3.3.3.2
-    ∷ (holds_of (λ part. is_some part.caddr) k.part, Refuses (tgs.Ap ap_refusals.BoundAddress))  -- 3.2.3
-    ∷ (is_none k.key, Refuses (tgs.Ap ap_refusals.BadSessionKey))  -- 3.2.3
-    ∷ (is_none k.proved, Refuses (tgs.Ap ap_refusals.AuthenticatorNotOpened))  -- 3.2.3
-    ∷ (holds_of (λ p. is_mismatched p.part p.authenticator) k.proved, Refuses (tgs.Ap ap_refusals.BadMatch))  -- 3.2.3
+    ∷ (holds_of (λ s. is_other_version s.ap) k.shown, Refuses (tgs.Ap ap.BadVersion))  -- 5.5.1, 5.3
+    ∷ (holds_of (λ s. not (int_eq s.ap.msg_type (pos AP_REQ))) k.shown, Refuses (tgs.Ap ap.BadMessageType))  -- 3.2.3
+    ∷ (holds_of asks_session_key k.shown, Refuses (tgs.Ap ap.SessionKeyAsked))  -- 3.2.3
+    ∷ (holds_of (λ s. not s.held.is_for_us) k.shown, Refuses (tgs.Ap ap.NotForUs))  -- 3.2.3, 3.3.2
+    ∷ (holds_of has_no_key k.shown, Refuses (tgs.Ap ap.NoKey))  -- 3.2.3
+    ∷ (holds_of has_no_version k.shown, Refuses (tgs.Ap ap.BadKeyVersion))  -- 3.2.3
+    ∷ (is_none k.part, Refuses (tgs.Ap ap.TicketNotOpened))  -- 3.2.3
+    ∷ (holds_of (λ t. not (pointwise nat_eq t.crealm v.realm)) k.part, Refuses (tgs.Ap ap.ForeignClient))  -- 3.3.3.2
+    ∷ (holds_of (λ t. is_some t.caddr) k.part, Refuses (tgs.Ap ap.BoundAddress))  -- 3.2.3
+    ∷ (is_none k.key, Refuses (tgs.Ap ap.BadSessionKey))  -- 3.2.3
+    ∷ (is_none k.proved, Refuses (tgs.Ap ap.AuthenticatorNotOpened))  -- 3.2.3
+    ∷ (holds_of (λ p. is_mismatched p.part p.authenticator) k.proved, Refuses (tgs.Ap ap.BadMatch))  -- 3.2.3
     ∷ (holds_of (λ p. is_none p.authenticator.cksum) k.proved, Refuses tgs.NoChecksum)  -- 3.3.2
     ∷ (holds_of (λ p. is_other_type p.key p.authenticator.cksum) k.proved, Refuses tgs.BadChecksumType)  -- 3.3.2
-    ∷ (holds_of (λ p. is_modified p.key k.message.body.octets p.authenticator.cksum) k.proved, Refuses tgs.Modified)  -- 3.3.2
-    ∷ (holds_of (λ p. is_none (subkey_in p.authenticator.subkey)) k.proved, Refuses (tgs.Ap ap_refusals.BadSubkey))  -- 3.3.3
+    ∷ (holds_of (λ p. is_modified p.key octets p.authenticator.cksum) k.proved, Refuses tgs.Modified)  -- 3.3.2
+    ∷ (holds_of (λ p. is_none (subkey_in p.authenticator.subkey)) k.proved, Refuses (tgs.Ap ap.BadSubkey))  -- 3.3.3
     ∷ (is_none v.client, Refuses tgs.ClientUnknown)  -- 3.3.3.1
     ∷ (is_disabled v.client, Refuses tgs.ClientDisabled)  -- 3.3.3.1
-    ∷ (is_expired v.client k.now, Refuses tgs.ClientExpired)  -- 3.3.3.1
-    ∷ (holds_of (λ part. is_ticket_revoked v.client part.authtime) k.part, Refuses tgs.TicketRevoked)  -- 3.3.3.1
-    ∷ (is_skewed k.verdict, Refuses (tgs.Ap ap_refusals.Skewed))  -- 3.2.3
+    ∷ (is_expired v.client now, Refuses tgs.ClientExpired)  -- 3.3.3.1
+    ∷ (holds_of (λ t. is_ticket_revoked v.client t.authtime) k.part, Refuses tgs.TicketRevoked)  -- 3.3.3.1
+    ∷ (is_skewed k.verdict, Refuses (tgs.Ap ap.Skewed))  -- 3.2.3
     ∷ (is_repeated k.verdict, Repeats (stored_for k.verdict))  -- 3.3.2
-    ∷ (is_full k.verdict, Refuses (tgs.Ap ap_refusals.Full))  -- 3.2.3
+    ∷ (is_full k.verdict, Refuses (tgs.Ap ap.Full))  -- 3.2.3
     -- from here on the authenticator is recorded
-    ∷ (holds_of (λ part. is_not_yet_valid (ticket_terms part) k.now body) k.part, Records (tgs.Ap ap_refusals.NotYetValid))  -- 3.2.3
-    ∷ (holds_of (λ part. has_ended (ticket_terms part) k.now) k.part, Records (tgs.Ap ap_refusals.TicketExpired))  -- 3.2.3
+    ∷ (holds_of (λ t. is_not_yet_valid (ticket_terms t) now body) k.part, Records (tgs.Ap ap.NotYetValid))  -- 3.2.3
+    ∷ (holds_of (λ t. has_ended (ticket_terms t) now) k.part, Records (tgs.Ap ap.TicketExpired))  -- 3.2.3
     ∷ (is_service_unknown v body, Records tgs.ServiceUnknown)  -- 3.3.3
     ∷ (is_service_denied v body, Records tgs.ServiceDenied)  -- 3.3.3
     ∷ (is_disabled v.service, Records tgs.ServiceRevoked)  -- 3.3.3
-    ∷ (is_expired v.service k.now, Records tgs.ServiceExpired)  -- 3.3.3
+    ∷ (is_expired v.service now, Records tgs.ServiceExpired)  -- 3.3.3
     ∷ (holds_of (λ s. is_for_other_service body s.ap.ticket.sname) k.shown, Records tgs.OtherService)  -- 3.3.2
     ∷ (is_some body.enc_authorization_data, Records tgs.AuthorizationData)  -- 3.3.3
-    ∷ (holds_of (λ part. asks_bad_option body (ticket_terms part)) k.part, Records tgs.BadOption)  -- 3.3.3
-    ∷ (holds_of (λ part. has_nothing_to_validate body (ticket_terms part)) k.part, Records tgs.NothingToValidate)  -- 3.3.3
-    ∷ (holds_of (λ part. is_validated_too_early body (ticket_terms part) k.now) k.part, Records tgs.ValidatedTooEarly)  -- 3.3.3
-    ∷ (holds_of (λ part. is_renewed_too_late body (ticket_terms part) k.now) k.part, Records tgs.RenewedTooLate)  -- 3.3.3
+    ∷ (holds_of (λ t. asks_bad_option body (ticket_terms t)) k.part, Records tgs.BadOption)  -- 3.3.3
+    ∷ (holds_of (λ t. has_nothing_to_validate body (ticket_terms t)) k.part, Records tgs.NothingToValidate)  -- 3.3.3
+    ∷ (holds_of (λ t. is_validated_too_early body (ticket_terms t) now) k.part, Records tgs.ValidatedTooEarly)  -- 3.3.3
+    ∷ (holds_of (λ t. is_renewed_too_late body (ticket_terms t) now) k.part, Records tgs.RenewedTooLate)  -- 3.3.3
     ∷ (is_none k.found, Records tgs.NoCommonType)  -- 3.3.3, 3.1.3
-    ∷ (starts_late body k.now, Records tgs.StartsTooLate)  -- 3.3.3, 3.1.3
+    ∷ (starts_late body now, Records tgs.StartsTooLate)  -- 3.3.3, 3.1.3
     ∷ (is_none k.times, Records tgs.NeverValid)  -- 3.3.3, 3.1.3
     ∷ []
 
 -- ---- the facts of a request
 
 abbrev pub shown_in : TicketView → Received → Option ApReq → Option Shown
-shown_in o message = option_map (λ ap. record { ap = ap; held = held_key o message.body.value ap.ticket })
+shown_in o message =
+    option_map (λ request. record { ap = request; held = held_key o message.body.value request.ticket })
 
 abbrev pub part_shown : Option Shown → Option EncTicketPart
 part_shown (Some s) = part_of s.held s.ap.ticket.enc_part
@@ -193,7 +196,8 @@ asked_times v now message (Some part) =
     times_of v.limits now (ticket_terms part) message.body.value (terms v message.body.value)
 asked_times v now message None = None
 
-abbrev pub facts_by : TgsView → ℤ → Received → Option Shown → Option EncTicketPart → Option Key → Option Proved → TgsFacts
+abbrev pub facts_by : TgsView → ℤ → Received → Option Shown → Option EncTicketPart → Option Key
+    → Option Proved → TgsFacts
 facts_by v now message shown part key proved = record {
   now = now;
   message = message;
