@@ -3,7 +3,6 @@
 
 mod aes;
 mod derivations;
-mod digit_vectors;
 pub mod fixtures;
 mod parts;
 mod sealing;

@@ -7,9 +7,8 @@ ghost use Rattle.krb_fields.specs.NameLimits.{IsWithinLimits};
 ghost use Rattle.tgs_exchange.specs.Known.{IsKnown};
 ghost use Rattle.tgs_opening.specs.Tickets.{tgs_data};
 
-use crate::fixtures::{BEGIN, END, JUDGED, holds, mark, octets};
-use crate::kdcs::{addition, extended, first_database, is_message, limits, moment, random_octets};
-use crate::messages::message;
+use crate::fixtures::{BEGIN, END, JUDGED, holds, is_spelled, mark, octets};
+use crate::kdcs::{addition, extended, first_database, limits, moment, random_octets};
 use as_exchange::{AsAnswer, AsView, as_answer};
 use encrypted_data::ReadyKeys;
 use kdc_replies::Incoming;
@@ -123,7 +122,7 @@ fn is_login_answered(
     let (_, message) = read_short(incoming.octets).ok_or("a short request")?;
     let view = as_view(alloc, database, &limits, &message).ok_or("two rows")?;
     let answer = as_answered(alloc, &view, incoming, &message)?;
-    is_message(alloc, &answer.reply, "LOGIN_REP")
+    Ok(is_spelled(&answer.reply, "LOGIN_REP"))
 }
 
 // ---- a TGS-REQ
@@ -245,7 +244,7 @@ fn is_presented_answered(
     let cache = ReplayCache::empty(alloc, 0);
     let view = tgs_view(alloc, database, limits, &cache, message, presented).ok_or("two rows")?;
     let answer = tgs_answered(alloc, &view, incoming, message, presented)?;
-    is_message(alloc, &answer.reply, "TGS_REP")
+    Ok(is_spelled(&answer.reply, "TGS_REP"))
 }
 
 // ---- both
@@ -258,7 +257,7 @@ fn is_answered(
     random: &str,
 ) -> Result<bool, Fail> {
     let database = realm(alloc)?;
-    let request = octets(alloc, message(request))?;
+    let request = octets(alloc, request)?;
     let random = random_octets(random)?;
     let ready = ReadyKeys::new(alloc)?;
     let incoming = Incoming {

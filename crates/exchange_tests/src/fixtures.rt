@@ -1,4 +1,5 @@
 //! Helpers of the tests.
+use crate::messages::parts;
 use enctypes::{Etype, Key};
 use std::alloc::Global;
 use std::process::Abort;
@@ -37,24 +38,56 @@ pub fn has_octets_from(key: &Key, etype: Etype, first: u8) -> bool {
     key.etype() == etype && key.bytes() == counted_key(etype, first).bytes()
 }
 
-/// Returns the bytes for hexadecimal digits.
-pub fn octets(alloc: Global, digits: &str) -> Result<Vec<u8>, Fail> {
-    Ok(hex::decode(alloc, digits.as_bytes())?)
+/// Returns the bytes of a text: hexadecimal digits and names of messages.
+pub fn octets(alloc: Global, text: &str) -> Result<Vec<u8>, Fail> {
+    let mut found = Vec::new(alloc);
+    for word in text.split_whitespace() {
+        push_parts(alloc, &mut found, parts(word))?;
+    }
+    Ok(found)
 }
 
-/// Checks whether these hexadecimal digits spell the bytes.
-pub fn is_spelled(octets: &[u8], digits: &str) -> bool {
-    let mut rest = digits.as_bytes();
-    for octet in octets {
-        let [high, low, later @ ..] = rest else {
+fn push_parts(alloc: Global, found: &mut Vec<u8>, words: &str) -> Result<(), Fail> {
+    for word in words.split_whitespace() {
+        found.extend_from_slice(&hex::decode(alloc, parts(word).as_bytes())?)?;
+    }
+    Ok(())
+}
+
+/// Checks whether the text spells the bytes, without asking for memory.
+pub fn is_spelled(octets: &[u8], text: &str) -> bool {
+    let mut rest = octets;
+    for word in text.split_whitespace() {
+        let Some(later) = behind_parts(rest, parts(word)) else {
             return false;
         };
-        if *high != digit(*octet >> 4) || *low != digit(*octet & 15) {
-            return false;
-        }
         rest = later;
     }
     rest.is_empty()
+}
+
+/// Returns the bytes behind those of these words, or `None` if they don't begin with them.
+fn behind_parts<'a>(octets: &'a [u8], words: &str) -> Option<&'a [u8]> {
+    let mut rest = octets;
+    for word in words.split_whitespace() {
+        rest = behind_digits(rest, parts(word))?;
+    }
+    Some(rest)
+}
+
+/// Returns the bytes behind those of the digits, or `None` if they don't begin with them.
+fn behind_digits<'a>(octets: &'a [u8], digits: &str) -> Option<&'a [u8]> {
+    let mut rest = octets;
+    for pair in digits.as_bytes().chunks(2) {
+        let [octet, later @ ..] = rest else {
+            return None;
+        };
+        if *pair != [digit(*octet >> 4), digit(*octet & 15)] {
+            return None;
+        }
+        rest = later;
+    }
+    Some(rest)
 }
 
 fn digit(value: u8) -> u8 {

@@ -2,7 +2,6 @@
 use crate::fixtures::{BEGIN, END, holds, mark, octets};
 use crate::hubs::{Case, Come, Done, EACH, ONE, TO_1001, TWO, done, expect, is_done, push_all};
 use crate::kdcs::opened;
-use crate::messages::message;
 use kdc_hub::{Action, Event, Hub, HubFault};
 use krb_fields::Moment;
 use rand_chacha::ChaCha20Rng;
@@ -82,7 +81,7 @@ fn steps(
     coming: &mut VecDeque<(Moment, Event)>,
     all: &mut Vec<Done>,
 ) -> Result<bool, Fail> {
-    let wanted = octets(alloc, message("CLIENT_UNKNOWN"))?;
+    let wanted = octets(alloc, "CLIENT_UNKNOWN")?;
     let mut has_failed = false;
     for _ in 0..coming.len() {
         let Some((at, event)) = coming.pop_front() else {

@@ -2,7 +2,6 @@
 //! request with an error of code 6.
 use crate::fixtures::{BEGIN, END, JUDGED, holds, mark, octets};
 use crate::kdcs::{opened, with_one};
-use crate::messages::message;
 use kdc_hub::{
     Action, CloseReason, Event, Hub, Look, MemoryRows, MemoryWire, Peer, Served, Wire, WireCall,
     serve, serve_life,
@@ -220,7 +219,7 @@ pub(crate) fn push_all(
     coming: &mut VecDeque<(Moment, Event)>,
     comes: &[Come],
 ) -> Result<(), Fail> {
-    let stream = octets(alloc, message("STREAM"))?;
+    let stream = octets(alloc, "STREAM")?;
     for come in comes {
         push_come(alloc, coming, &stream, *come)?;
     }
@@ -280,7 +279,7 @@ struct Seen {
 }
 
 fn all_done(alloc: Global, did: &[WireCall]) -> Result<Vec<Done>, Fail> {
-    let wanted = octets(alloc, message("CLIENT_UNKNOWN"))?;
+    let wanted = octets(alloc, "CLIENT_UNKNOWN")?;
     let mut all = Vec::new(alloc);
     for call in did {
         if let WireCall::Acted { action } = call {

@@ -1,10 +1,10 @@
 //! Tests of a KDC (`kdc_core`) for the realm `A.B`: runs of events, with databases that are replaced, tidying, and
 //! resuming; runs that continue after memory ran out, and single calls that are repeated after it (`handled`). Other
 //! requests are tried over `kdcd script`.
-use crate::fixtures::{BEGIN, END, JUDGED, holds, mark, octets};
+use crate::fixtures::{BEGIN, END, JUDGED, holds, is_spelled, mark, octets};
 use crate::handled::are_handled;
 use crate::kdc_runs::{KeyBytes, RUNS, Run};
-use crate::messages::message;
+use crate::messages::parts;
 use enctypes::{Etype, Key};
 use kdc_core::{Event, Kdc, Opening, Resumption, RunFault, Seen};
 use krb_elements::{Octets, Seq};
@@ -101,7 +101,7 @@ pub fn opened(alloc: Global, tgs_key: KeyBytes, lock_after: u32) -> Result<Kdc, 
 /// Returns the random bytes of this name.
 pub fn random_octets(name: &str) -> Result<[u8; 64], Fail> {
     let mut octets = [0; 64];
-    hex::decode_to_slice(message(name), &mut octets)?;
+    hex::decode_to_slice(parts(name), &mut octets)?;
     Ok(octets)
 }
 
@@ -117,11 +117,11 @@ fn request(second: u32, random: &str, request: Vec<u8>) -> Result<Event, Fail> {
 
 fn asks(alloc: Global, second: &str, name: &str) -> Result<Event, Fail> {
     let second = second.parse()?;
-    request(second, "UP_FROM_0", octets(alloc, message(name))?)
+    request(second, "UP_FROM_0", octets(alloc, name)?)
 }
 
 fn draws(alloc: Global, random: &str, name: &str) -> Result<Event, Fail> {
-    request(0, random, octets(alloc, message(name))?)
+    request(0, random, octets(alloc, name)?)
 }
 
 /// Appends a cipher of a million bytes, and the body of the basic request.
@@ -129,11 +129,11 @@ fn push_million(alloc: Global, request: &mut Vec<u8>) -> Result<(), Fail> {
     for _ in 0..1_000 {
         request.extend_from_slice(&[0; 1_000])?;
     }
-    Ok(request.extend_from_slice(&octets(alloc, message("BODY"))?)?)
+    Ok(request.extend_from_slice(&octets(alloc, "BODY")?)?)
 }
 
 fn asks_long(alloc: Global) -> Result<Event, Fail> {
-    let mut octets = octets(alloc, message("BEFORE_A_MILLION"))?;
+    let mut octets = octets(alloc, "BEFORE_A_MILLION")?;
     match push_million(alloc, &mut octets) {
         Ok(()) => request(0, "UP_FROM_0", octets),
         Err(fail) => Err(fail),
@@ -268,25 +268,21 @@ fn is_error(reply: &[u8], code: u8) -> bool {
     reply.first() == Some(&0x7e) && reply.get(42) == Some(&code)
 }
 
-pub fn is_message(alloc: Global, reply: &[u8], name: &str) -> Result<bool, Fail> {
-    Ok(reply == octets(alloc, message(name))?.as_slice())
-}
-
 /// Checks whether a reply is this outcome.
-fn is_outcome(alloc: Global, reply: &[u8], outcome: &str) -> Result<bool, Fail> {
+fn is_outcome(reply: &[u8], outcome: &str) -> bool {
     if outcome == "ticket" {
-        return Ok(is_ticket(reply));
+        return is_ticket(reply);
     }
     match outcome.parse::<u8>() {
-        Ok(code) => Ok(is_error(reply, code)),
-        Err(_) => is_message(alloc, reply, outcome),
+        Ok(code) => is_error(reply, code),
+        Err(_) => is_spelled(reply, outcome),
     }
 }
 
-pub fn has_come(alloc: Global, reply: &Option<Vec<u8>>, outcome: &str) -> Result<bool, Fail> {
+pub fn has_come(reply: &Option<Vec<u8>>, outcome: &str) -> bool {
     match reply {
-        Some(reply) => is_outcome(alloc, reply, outcome),
-        None => Ok(outcome == "-"),
+        Some(reply) => is_outcome(reply, outcome),
+        None => outcome == "-",
     }
 }
 
@@ -299,31 +295,26 @@ fn ran(alloc: Global, kdc: &mut Kdc, events: &[Event]) -> (usize, Vec<Option<Vec
 }
 
 /// Checks whether each step has its outcome.
-fn are_outcomes(
-    alloc: Global,
-    first: &[Option<Vec<u8>>],
-    rest: &[Option<Vec<u8>>],
-    words: &[&str],
-) -> Result<bool, Fail> {
+fn are_outcomes(first: &[Option<Vec<u8>>], rest: &[Option<Vec<u8>>], words: &[&str]) -> bool {
     let mut replies = first.iter().chain(rest);
     for step in words.chunks(4) {
         let (Some(reply), Some(outcome)) = (replies.next(), step.last()) else {
-            return Ok(false);
+            return false;
         };
-        if !has_come(alloc, reply, outcome)? {
-            return Ok(false);
+        if !has_come(reply, outcome) {
+            return false;
         }
     }
-    Ok(replies.next().is_none())
+    replies.next().is_none()
 }
 
 /// Runs the events. If memory runs out the run continues with the event at which it stopped.
-fn is_run(alloc: Global, kdc: &mut Kdc, events: &[Event], words: &[&str]) -> Result<bool, Fail> {
+fn is_run(alloc: Global, kdc: &mut Kdc, events: &[Event], words: &[&str]) -> bool {
     mark(alloc, BEGIN);
     let (done, first) = ran(alloc, kdc, events);
     mark(alloc, END);
     let (_, rest) = ran(alloc, kdc, events.get(done..).unwrap_or(&[]));
-    are_outcomes(alloc, &first, &rest, words)
+    are_outcomes(&first, &rest, words)
 }
 
 fn apply(alloc: Global, kdc: &mut Kdc, change: &Change) -> Result<(), ChangeFault> {
@@ -376,7 +367,7 @@ fn runs_events(
         return is_added(alloc, &mut kdc);
     }
     match calls {
-        Calls::Run => is_run(alloc, &mut kdc, events, words),
+        Calls::Run => Ok(is_run(alloc, &mut kdc, events, words)),
         Calls::Handle => are_handled(alloc, &mut kdc, events, words),
     }
 }

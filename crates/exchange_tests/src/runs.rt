@@ -1,5 +1,6 @@
 //! A server over a host in memory: what it asks of its host, and what its sockets, its tally, its journal and its log
 //! record. Its journal fails once. And starts without a journal that find the one of an earlier server.
+use crate::fixtures::{is_spelled, octets};
 use journal::{ResumeRefusal, Start};
 use kdc_core::{AuditRecord, Bears, TgsOutcome};
 use kdc_files::{HandedOver, JournalBeginning};
@@ -38,42 +39,17 @@ const ROW: &str = "{\"disabled\":false,\"expires\":null,\"forwardable\":true,\
     \"ok_as_delegate\":false,\"password_expires\":null,\"postdate\":false,\"preauth\":true,\
     \"proxiable\":true}";
 
-/// An AS-REQ of `x` for `krbtgt/A.B`.
-const BASIC_OF_X: &str = "\
-    6a693067a103020105a20302010aa45b3059a00703050000000000a10e300ca003020101a10530031b0178a2051b03412e42\
-    a3183016a003020102a10f300d1b066b72627467741b03412e42a511180f31393730303130313030303030305aa703020101\
-    a8053003020112";
-
-/// The KRB-ERROR with code 6 to it.
-const CLIENT_UNKNOWN: &str = "\
-    7e4a3048a003020105a10302011ea411180f32303234303130313030303030305aa503020100a603020106a9051b03412e42\
-    aa183016a003020102a10f300d1b066b72627467741b03412e42";
-
-/// A TGS-REQ of `u` for `h`, whose authenticator is of that moment, by `tests/harness/kerberos.py`.
-const BUYS: &str = "\
-    6c820202308201fea103020105a20302010ca38201a4308201a03082019ca103020101a28201930482018f6e82018b308201\
-    87a003020105a10302010ea20703050000000000a381f76181f43081f1a003020105a1051b03412e42a2183016a003020102\
-    a10f300d1b066b72627467741b03412e42a381c83081c5a003020112a103020101a281b80481b5db6461cdc1e7d7bda0689a\
-    6c14c37a08daf7e42a3bbf9cd6117862082689cd21e6438d8dd4e9d62b25ac3bdbf63fc911218badaf06a23a630379527b92\
-    f49ee4adb158068f95dca13f0cb70f5d4850784f61488da2cf0251bb5d8aaa9ab07448d4f715acf1ba47f1a5b6ec45b4e048\
-    4082c9055f327075fea99477349dcee243e111807daf42be2e77d1ca11f9c9e5dd7d1eca3890b07e58e8a67b34d6724fbce8\
-    20c024b30307c7c5d9cfe4b6073331db832636a9a4783076a003020112a26f046dc4df3067a1c3a05bd27020a7327f86b196\
-    1b5a250b34ebfbf90c1b473eb9c0e5fb9a85af9558b2d0dc8068cf5d9b5d2ff6fad15880d57c9a9b4c7d60070434eed89a0a\
-    1d663917037ae71ef2ad8c8ced3f975fb4313bef74a82047ebb303ac929a7152f2e6b8c3855945f9bc8ba44a3048a0070305\
-    0000000000a2051b03412e42a30e300ca003020102a10530031b0168a511180f31393730303130313030303030305aa70302\
-    0101a80e300c020112020111020114020113";
-
-/// Its length.
-const LENGTH: &str = "00000206";
+/// A TGS-REQ after its length.
+const PIECE: &str = "00000206 BUYS_AT_0";
 
 /// A login of an unknown client in a datagram. Then a TGS-REQ on a connection, whose reply the journal can't keep; and
 /// the same in a datagram. Then nothing comes.
 fn coming(alloc: Global) -> Result<VecDeque<(Moment, Event)>, Fail> {
     let mut coming = VecDeque::new(alloc);
-    push(&mut coming, datagram(octets(alloc, BASIC_OF_X)?, 1001))?;
+    push(&mut coming, datagram(request(alloc, "BASIC_OF_X")?, 1001))?;
     push(&mut coming, Event::Opened { conn: 1 })?;
     push(&mut coming, piece(alloc)?)?;
-    push(&mut coming, datagram(octets(alloc, BUYS)?, 1002))?;
+    push(&mut coming, datagram(request(alloc, "BUYS_AT_0")?, 1002))?;
     Ok(coming)
 }
 
@@ -99,8 +75,9 @@ const NUMBERS: [&str; 12] = [
     "kdcd_replies_total{transport=\"tcp\",sent=\"no\"} 1\n",
 ];
 
-fn octets(alloc: Global, digits: &str) -> Result<Octets, Fail> {
-    Ok(Octets::new(hex::decode(alloc, digits)?))
+/// Returns the message with this name.
+fn request(alloc: Global, name: &str) -> Result<Octets, Fail> {
+    Ok(Octets::new(octets(alloc, name)?))
 }
 
 fn push(coming: &mut VecDeque<(Moment, Event)>, event: Event) -> Result<(), Fail> {
@@ -117,12 +94,8 @@ fn datagram(request: Octets, port: u16) -> Event {
 
 /// Returns the TGS-REQ after its length, on a connection.
 fn piece(alloc: Global) -> Result<Event, Fail> {
-    let mut piece = hex::decode(alloc, LENGTH)?;
-    piece.extend_from_slice(octets(alloc, BUYS)?.as_slice())?;
-    Ok(Event::Bytes {
-        conn: 1,
-        piece: Octets::new(piece),
-    })
+    let piece = request(alloc, PIECE)?;
+    Ok(Event::Bytes { conn: 1, piece })
 }
 
 fn rows(alloc: Global) -> Result<Database, Fail> {
@@ -231,10 +204,11 @@ fn message(record: Option<&[WireCall]>, place: usize) -> &[u8] {
 }
 
 /// Checks whether the login is refused, and the ticket that was withheld is sent at last.
-fn are_replies(alloc: Global, tried: Option<&[WireCall]>) -> Result<bool, Fail> {
-    let refused = octets(alloc, CLIENT_UNKNOWN)?;
+fn are_replies(tried: Option<&[WireCall]>) -> bool {
     let (withheld, sent) = (message(tried, 4), message(tried, 6));
-    Ok(message(tried, 1) == refused.as_slice() && sent.first() == Some(&0x6d) && withheld == sent)
+    is_spelled(message(tried, 1), "CLIENT_UNKNOWN")
+        && sent.first() == Some(&0x6d)
+        && withheld == sent
 }
 
 /// Checks whether the journal was handed the authenticator of the TGS-REQ, once.
@@ -346,7 +320,7 @@ fn is_looked(rows: &Option<MemoryRows>) -> bool {
     }
 }
 
-fn is_right(alloc: Global, ran: &Finished) -> Result<bool, Fail> {
+fn is_right(ran: &Finished) -> bool {
     let wire = &ran.server.wire;
     let (sockets, tried) = (wire.sockets(), wire.tally().did());
     let wanted = Totals {
@@ -354,24 +328,22 @@ fn is_right(alloc: Global, ran: &Finished) -> Result<bool, Fail> {
         faults: 1,
         refused: 0,
     };
-    Ok(
-        ran.totals == wanted
-            && are(tried, TRIED)
-            && are(sockets.did(), SUCCEEDED)
-            && sockets.ended() == Some([1].as_slice())
-            && is_handed(wire.journal().handed())
-            && are_logged(wire.log().log().entries())
-            && is_looked(&ran.rows)
-            && are_numbers(&ran.metrics)
-            && are_replies(alloc, tried)?,
-    )
+    ran.totals == wanted
+        && are(tried, TRIED)
+        && are(sockets.did(), SUCCEEDED)
+        && sockets.ended() == Some([1].as_slice())
+        && is_handed(wire.journal().handed())
+        && are_logged(wire.log().log().entries())
+        && is_looked(&ran.rows)
+        && are_numbers(&ran.metrics)
+        && are_replies(tried)
 }
 
 fn is_run(alloc: Global) -> Result<(bool, bool), Fail> {
     let mut host = host(alloc, MIDNIGHT, coming(alloc)?, None)?;
     let options = options(alloc, Some("journal"), true)?;
     match run(alloc, &mut host, &options) {
-        Ok(ran) => Ok((is_right(alloc, &ran)?, are_calls(host.calls()))),
+        Ok(ran) => Ok((is_right(&ran), are_calls(host.calls()))),
         Err(word) => Err(Fail::from(word)),
     }
 }
@@ -412,7 +384,7 @@ const BEGUN: &[((bool, Option<i64>), Begun)] = &[
 /// Returns the TGS-REQ in a datagram, at midnight.
 fn bought(alloc: Global) -> Result<VecDeque<(Moment, Event)>, Fail> {
     let mut coming = VecDeque::new(alloc);
-    push(&mut coming, datagram(octets(alloc, BUYS)?, 1002))?;
+    push(&mut coming, datagram(request(alloc, "BUYS_AT_0")?, 1002))?;
     Ok(coming)
 }
 

@@ -2,8 +2,7 @@
 //! (`enctypes`).
 ghost use Rattle.std.specs.Prelude.{◌<◌};
 
-use crate::cryptography::digit_vectors::DIGITS;
-use crate::cryptography::vectors::{Function, Row, TEXTS};
+use crate::cryptography::vectors::{DIGITS, TEXTS};
 use crate::expect::{are, at_last, bytes, judged, same};
 use enctypes::{Etype, string_to_key};
 use prf_kdf::{
@@ -11,12 +10,53 @@ use prf_kdf::{
     pbkdf2_sha256, pbkdf2_sha384,
 };
 use std::alloc::{AllocError, Global};
+use std::process::Abort;
+
+/// A key or password, a text, label or salt, and a number of iterations.
+type Given<'a> = (&'a [u8], &'a [u8], u32);
+
+/// What makes bytes of a key and a text.
+#[derive(Clone, Copy)]
+enum Function {
+    HmacSha1,
+    HmacSha256,
+    HmacSha384,
+    Pbkdf2Sha1,
+    Pbkdf2Sha256,
+    Pbkdf2Sha384,
+    KdfSha256,
+    KdfSha384,
+    NFold,
+    Key(Etype),
+}
+
+impl Function {
+    /// Returns the function with this name. The key from a password has the number of its type.
+    fn named(name: &str) -> Option<Self> {
+        Some(match name {
+            "hmac-sha1" => Function::HmacSha1,
+            "hmac-sha256" => Function::HmacSha256,
+            "hmac-sha384" => Function::HmacSha384,
+            "pbkdf2-sha1" => Function::Pbkdf2Sha1,
+            "pbkdf2-sha256" => Function::Pbkdf2Sha256,
+            "pbkdf2-sha384" => Function::Pbkdf2Sha384,
+            "kdf-sha256" => Function::KdfSha256,
+            "kdf-sha384" => Function::KdfSha384,
+            "n-fold" => Function::NFold,
+            "key-17" => Function::Key(Etype::Aes128CtsHmacSha1_96),
+            "key-18" => Function::Key(Etype::Aes256CtsHmacSha1_96),
+            "key-19" => Function::Key(Etype::Aes128CtsHmacSha256_128),
+            "key-20" => Function::Key(Etype::Aes256CtsHmacSha384_192),
+            _ => return None,
+        })
+    }
+}
 
 /// Checks whether the function makes these bytes, at most 97.
 fn makes(
     alloc: Global,
     function: Function,
-    (key, text, count): (&[u8], &[u8], u32),
+    (key, text, count): Given<'_>,
     digits: &str,
 ) -> Result<bool, AllocError> {
     let len = digits.len() / 2;
@@ -56,32 +96,38 @@ fn is_key(
     Ok(key.etype() == etype && are(alloc, key.bytes(), digits))
 }
 
-#[test]
-fn derivations_from_texts_are_those_of_the_standards(rt: HostRuntime) {
-    let alloc = rt.alloc();
-    for (function, key, text, count, digits) in TEXTS {
-        let given = (key.as_bytes(), text.as_bytes(), *count);
-        let found = at_last(
-            alloc,
-            &AllocError,
-            || makes(alloc, *function, given, *digits),
-        );
-        same(&rt, digits, &found, &Ok(true));
+/// Checks whether the function with this name makes these bytes.
+fn is_made(alloc: Global, name: &str, given: Given<'_>, digits: &str) -> Result<bool, AllocError> {
+    match Function::named(name) {
+        Some(function) => makes(alloc, function, given, digits),
+        None => Ok(false),
+    }
+}
+
+/// Asserts that the functions make the bytes that these words say.
+fn are_made(rt: &impl Abort, alloc: Global, given: Given<'_>, words: &str) {
+    for word in words.split_whitespace() {
+        let (name, digits) = word.split_once(':').unwrap_or((word, ""));
+        let found = at_last(alloc, &AllocError, || is_made(alloc, name, given, digits));
+        same(rt, &word, &found, &Ok(true));
         judged(alloc);
     }
 }
 
 #[test]
-fn derivations_from_digits_are_those_of_the_standards(rt: HostRuntime) {
-    for row in DIGITS {
-        same(&rt, &row.4, &holds_row(rt.alloc(), row), &Ok(true));
+fn derivations_from_texts_are_those_of_the_standards(rt: HostRuntime) {
+    for (key, text, count, words) in TEXTS {
+        let given = (key.as_bytes(), text.as_bytes(), *count);
+        are_made(&rt, rt.alloc(), given, *words);
     }
 }
 
-fn holds_row(alloc: Global, row: &Row) -> Result<bool, AllocError> {
-    let (function, key, text, count, digits) = row;
-    let (key, text) = (bytes(alloc, *key), bytes(alloc, *text));
-    makes(alloc, *function, (&key, &text, *count), *digits)
+#[test]
+fn derivations_from_digits_are_those_of_the_standards(rt: HostRuntime) {
+    for (key, text, count, words) in DIGITS {
+        let (key, text) = (bytes(rt.alloc(), *key), bytes(rt.alloc(), *text));
+        are_made(&rt, rt.alloc(), (&key, &text, *count), *words);
+    }
 }
 
 // A text may come in parts: case 2 of RFC 2202 and RFC 4231. Without parts it is empty (by Python's hmac).

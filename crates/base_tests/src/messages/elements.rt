@@ -32,70 +32,24 @@ const OCTET_STRING: u8 = 0x04;
 
 const BAD: &str = "Err(BadInteger)";
 
-/// Values in digits, and what is read. The numbers are the bounds of RFC 4120, section 5.2.4, encoded by X.690, section
-/// 8.3. A UInt32 may be sent as a signed number.
+/// Numbers in digits, and which of the types i32, UInt32 and Microseconds have them. They are the bounds of RFC 4120,
+/// section 5.2.4, encoded by X.690, section 8.3. A UInt32 may be sent as a signed number.
+const NUMBERS: &[(&str, &str, [bool; 3])] = &[
+    ("020480000000", "-2147483648", [true, true, false]),
+    ("0201ff", "-1", [true, true, false]),
+    ("020100", "0", [true, true, true]),
+    ("02020080", "128", [true, true, true]),
+    ("02030f423f", "999999", [true, true, true]),
+    ("02030f4240", "1000000", [true, true, false]),
+    ("02047fffffff", "2147483647", [true, true, false]),
+    ("02050080000000", "2147483648", [false, true, false]),
+    ("020500ffffffff", "4294967295", [false, true, false]),
+    ("0205ff7fffffff", "-2147483649", [false, false, false]),
+    ("02050100000000", "4294967296", [false, false, false]),
+];
+
+/// Values in digits, and what is read.
 const VALUES: &[(Kind, &str, &str)] = &[
-    (Kind::Int32, "020480000000", "Ok(-2147483648)"),
-    (
-        Kind::UInt32,
-        "020480000000",
-        "Ok(UInt32 { value: -2147483648 })",
-    ),
-    (Kind::Microseconds, "020480000000", BAD),
-    (Kind::Int32, "0201ff", "Ok(-1)"),
-    (Kind::UInt32, "0201ff", "Ok(UInt32 { value: -1 })"),
-    (Kind::Microseconds, "0201ff", BAD),
-    (Kind::Int32, "020100", "Ok(0)"),
-    (Kind::UInt32, "020100", "Ok(UInt32 { value: 0 })"),
-    (
-        Kind::Microseconds,
-        "020100",
-        "Ok(Microseconds { value: 0 })",
-    ),
-    (Kind::Int32, "02020080", "Ok(128)"),
-    (Kind::UInt32, "02020080", "Ok(UInt32 { value: 128 })"),
-    (
-        Kind::Microseconds,
-        "02020080",
-        "Ok(Microseconds { value: 128 })",
-    ),
-    (Kind::Int32, "02030f423f", "Ok(999999)"),
-    (Kind::UInt32, "02030f423f", "Ok(UInt32 { value: 999999 })"),
-    (
-        Kind::Microseconds,
-        "02030f423f",
-        "Ok(Microseconds { value: 999999 })",
-    ),
-    (Kind::Int32, "02030f4240", "Ok(1000000)"),
-    (Kind::UInt32, "02030f4240", "Ok(UInt32 { value: 1000000 })"),
-    (Kind::Microseconds, "02030f4240", BAD),
-    (Kind::Int32, "02047fffffff", "Ok(2147483647)"),
-    (
-        Kind::UInt32,
-        "02047fffffff",
-        "Ok(UInt32 { value: 2147483647 })",
-    ),
-    (Kind::Microseconds, "02047fffffff", BAD),
-    (Kind::Int32, "02050080000000", BAD),
-    (
-        Kind::UInt32,
-        "02050080000000",
-        "Ok(UInt32 { value: 2147483648 })",
-    ),
-    (Kind::Microseconds, "02050080000000", BAD),
-    (Kind::Int32, "020500ffffffff", BAD),
-    (
-        Kind::UInt32,
-        "020500ffffffff",
-        "Ok(UInt32 { value: 4294967295 })",
-    ),
-    (Kind::Microseconds, "020500ffffffff", BAD),
-    (Kind::Int32, "0205ff7fffffff", BAD),
-    (Kind::UInt32, "0205ff7fffffff", BAD),
-    (Kind::Microseconds, "0205ff7fffffff", BAD),
-    (Kind::Int32, "02050100000000", BAD),
-    (Kind::UInt32, "02050100000000", BAD),
-    (Kind::Microseconds, "02050100000000", BAD),
     (Kind::Int32, "02010500", "Err(Trailing)"),
     (Kind::UInt32, "02010500", "Err(Trailing)"),
     (Kind::Microseconds, "02010500", "Err(Trailing)"),
@@ -213,6 +167,39 @@ fn is_read(rt: &impl Abort, alloc: Global, kind: Kind, octets: &[u8], value: &st
     }
     if value.starts_with("Ok") {
         written(rt, again(alloc, kind, octets), octets);
+    }
+}
+
+/// Returns what is read of a number: the value, as `{:?}` prints it, or the error.
+fn shown(alloc: Global, kind: Kind, number: &str, fits: bool) -> Result<String, AllocError> {
+    match kind {
+        _ if !fits => String::from_str(alloc, BAD),
+        Kind::UInt32 => format!(in alloc; "Ok(UInt32 {{ value: {number} }})"),
+        Kind::Microseconds => format!(in alloc; "Ok(Microseconds {{ value: {number} }})"),
+        _ => format!(in alloc; "Ok({number})"),
+    }
+}
+
+/// Asserts that the number is read as this type, or refused.
+fn is_number(
+    rt: &impl Abort,
+    alloc: Global,
+    kind: Kind,
+    (digits, number): (&str, &str),
+    fits: bool,
+) {
+    let value = shown(alloc, kind, number, fits).unwrap_or(String::new(alloc));
+    is_read(rt, alloc, kind, &bytes(alloc, digits), value.as_str());
+}
+
+#[test]
+fn numbers_are_read_and_written_within_their_bounds(rt: HostRuntime) {
+    let alloc = rt.alloc();
+    for (digits, number, [int32, uint32, microseconds]) in NUMBERS {
+        let given = (*digits, *number);
+        is_number(&rt, alloc, Kind::Int32, given, *int32);
+        is_number(&rt, alloc, Kind::UInt32, given, *uint32);
+        is_number(&rt, alloc, Kind::Microseconds, given, *microseconds);
     }
 }
 
@@ -346,7 +333,7 @@ fn is_second(octets: &[u8]) -> Result<(bool, i32), DerFault> {
     look_either(&mut Reader::new(octets), (0x6a, false), (0x6c, true))
 }
 
-#[tactic(auto, using(krb_der::specs::IntLaws::int_short, krb_elements::proofs::TextLengths::field_short, krb_elements::proofs::TextLengths::optional_number_short))]
+#[tactic(auto, using(crate::proofs::Lengths::fields_short))]
 fn fields_written(alloc: Global) -> Result<Vec<u8>, AllocError> {
     let mut out = Writer::new(alloc);
     for (n, number) in [(0, Some(5i32)), (1, None), (2, Some(-1))] {

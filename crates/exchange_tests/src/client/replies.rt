@@ -4,8 +4,7 @@ use crate::asking::{
     HOST, MIDNIGHT, POSTDATED, Parts, REALM, TGS, WANT, Want, asked, moment, request, service_asked,
 };
 use crate::client::messages::{
-    AP_REP, AP_REQ, AS_REP, CLIENT_UNKNOWN, OTHER_NAME, OTHER_REALM, PLAIN, PREAUTH_REQUIRED,
-    REPEATED, STAMPED, TGS_REP, TGS_REQ,
+    AP_REP, AP_REQ, AS_REP, OTHER_NAME, OTHER_REALM, PREAUTH_REQUIRED, REPEATED, STAMPED,
 };
 use crate::fixtures::{BEGIN, END, JUDGED, counted_key, is_spelled, mark, octets, up};
 use crate::outcomes::Outcome::{CannotOpen, Differs, Memory, NotAReply, Other, Refused, Taken};
@@ -46,7 +45,7 @@ impl Kind {
     fn reply(self) -> &'static str {
         match self {
             Kind::As => AS_REP,
-            Kind::Tgs => TGS_REP,
+            Kind::Tgs => "TGS_REP",
         }
     }
 
@@ -112,7 +111,7 @@ fn as_req(alloc: Global, first: Option<u8>) -> Result<Vec<u8>, AllocError> {
 }
 
 /// The first byte of a timestamp's key, and the AS-REQ.
-const AS_REQS: &[(Option<u8>, &str)] = &[(None, PLAIN), (Some(64), STAMPED)];
+const AS_REQS: &[(Option<u8>, &str)] = &[(None, "BASIC"), (Some(64), STAMPED)];
 
 /// Checks whether the AS-REQ has these bytes, in a second call if memory ran out in the first one.
 fn is_as_req(alloc: Global, first: Option<u8>, digits: &str) -> bool {
@@ -150,7 +149,7 @@ fn taken(alloc: Global, credential: &Credential, kind: Kind) -> Outcome {
         return Other;
     }
     match kind {
-        Kind::As => written(tgs_req(alloc, credential), TGS_REQ),
+        Kind::As => written(tgs_req(alloc, credential), "TGS_REQ"),
         Kind::Tgs => written(ap_req(alloc, credential), AP_REQ),
     }
 }
@@ -271,7 +270,7 @@ const TWISTS: &[Twist] = &[
 /// What comes in the place of an AS-REP.
 const AS_REPLIES: &[Twist] = &[
     Twist {
-        reply: Some(CLIENT_UNKNOWN),
+        reply: Some("CLIENT_UNKNOWN"),
         outcome: Refused(6, None),
         ..NOTHING
     },
@@ -281,7 +280,7 @@ const AS_REPLIES: &[Twist] = &[
         ..NOTHING
     },
     Twist {
-        reply: Some(TGS_REP),
+        reply: Some("TGS_REP"),
         outcome: NotAReply,
         ..NOTHING
     },
@@ -290,7 +289,7 @@ const AS_REPLIES: &[Twist] = &[
 /// What comes in the place of a TGS-REP.
 const TGS_REPLIES: &[Twist] = &[
     Twist {
-        reply: Some(CLIENT_UNKNOWN),
+        reply: Some("CLIENT_UNKNOWN"),
         outcome: Refused(6, None),
         ..NOTHING
     },
