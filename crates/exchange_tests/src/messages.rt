@@ -1,5 +1,5 @@
-//! Requests in the realm `A.B`, and replies to them. The clients' names are one letter. All are one text, because a table
-//! of them takes half a minute to prove: a line has a name, and the digits or the names of its parts.
+//! Requests in the realm `A.B`, and replies to them. The clients' names are one letter. All are one text, because a
+//! table of them takes half a minute to prove: a line has a name, and the digits or the names of its parts.
 
 /// The messages:
 ///

@@ -1,5 +1,5 @@
-//! Vectors of HMAC, PBKDF2, n-fold, the key derivation of RFC 8009 and keys from passwords: the standards' own, and those
-//! of Python's hashlib and hmac.
+//! Vectors of HMAC, PBKDF2, n-fold, the key derivation of RFC 8009 and keys from passwords: the standards' own, and
+//! those of Python's hashlib and hmac.
 use crate::cryptography::fixtures::BASE_256;
 
 /// A key or password, its text, label or salt, its iterations, and what functions make of these: words, each with the

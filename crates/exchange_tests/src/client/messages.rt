@@ -1,5 +1,5 @@
-//! Further messages of a client, its KDC and its service, in hexadecimal digits and names of parts (`messages.rt`). They
-//! come from models of the messages and of the cryptography in Python.
+//! Further messages of a client, its KDC and its service, in hexadecimal digits and names of parts (`messages.rt`).
+//! They come from models of the messages and of the cryptography in Python.
 
 /// `BASIC` with a timestamp of 2024-01-01 00:00:00 and 7 microseconds under the key of `u`.
 pub const STAMPED: &str = "\
