@@ -82,7 +82,7 @@ fn behind_digits<'a>(octets: &'a [u8], digits: &str) -> Option<&'a [u8]> {
         let [octet, later @ ..] = rest else {
             return None;
         };
-        if *pair != [digit(*octet >> 4), digit(*octet & 15)] {
+        if pair != [digit(*octet >> 4), digit(*octet & 15)].as_slice() {
             return None;
         }
         rest = later;
