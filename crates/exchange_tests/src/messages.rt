@@ -3,6 +3,7 @@
 
 /// The messages:
 ///
+/// - `NOTHING` has no bytes.
 /// - `BASIC` is an AS-REQ of `u` for `krbtgt/A.B`, with till zero, nonce 1 and encryption type 18; `BASIC_OF_X` is
 ///   the same of `x`. `BODY` is the body of `BASIC`.
 /// - `CLIENT_UNKNOWN`, `PREAUTH_REQUIRED` and `PREAUTH_FAILED` are the KRB-ERRORs of 2024-01-01 00:00:00 with the
@@ -27,6 +28,7 @@
 ///   ticket, the ticket up to the cipher, the cipher, and the authenticator. `OTHER_SEALED` is another cipher.
 /// - `STREAM` is a stream of two requests after their lengths: `BASIC`, and the same for the service `krbtgu/A.B`.
 const MESSAGES: &str = "\
+NOTHING
 BASIC 6a693067a103020105a20302010a BODY
 BODY a45b3059a00703050000000000a10e300ca003020101a10530031b0175a2051b03412e42a3183016a003020102a10f\
     300d1b066b72627467741b03412e42a511180f31393730303130313030303030305aa703020101a8053003020112
@@ -165,10 +167,9 @@ STREAM 0000006b 6a693067a103020105a20302010a BODY 0000006b6a693067a103020105a203
 /// Returns the parts of the message with this name: digits, and names of digits. Another text is its own part.
 pub fn parts(text: &str) -> &str {
     for line in MESSAGES.lines() {
-        if let Some((name, parts)) = line.split_once(' ') {
-            if name == text {
-                return parts;
-            }
+        let (name, parts) = line.split_once(' ').unwrap_or((line, ""));
+        if name == text {
+            return parts;
         }
     }
     text
