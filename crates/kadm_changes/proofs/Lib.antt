@@ -1,4 +1,5 @@
 mod Doing
+mod Fitting
 mod KeytabParts
 mod Making
 mod Moved

@@ -1,12 +1,15 @@
 -- What loops over slices have made so far.
-use Rattle.std.proofs.Common.{◌≡◌, ◌∙◌, ℕ, suc, ◌+◌, ◌<◌, ◌≤◌, All, List, [], ◌∷◌, ◌++◌, OnErr, OnOk, Option, Some, None, Result, Ok, Err, append_assoc, ap, drop, drop-cons, flat_map, get_or, option_map, refl, string_bytes, subst, sym, take, length}
-use Rattle.std.proofs.lemmas.List.{take_all, take_more}
+use Rattle.std.proofs.Common.{◌≡◌, ◌∙◌, ℕ, suc, ◌+◌, ◌<◌, ◌≤◌, All, List, [], ◌∷◌, ◌++◌, OnErr, OnOk, Option, Some, None, Result, Ok, Err, append_assoc, ap, drop, drop-cons, flat_map, get_or, map, option_map, refl, string_bytes, subst, sym, take, length}
+use Rattle.std.proofs.lemmas.List.{append-nil, map-append, take_all, take_more}
+use Rattle.std.specs.FinMap as rows
 use Rattle.std.proofs.lemmas.List.Elements.{All-push, All-take}
 use Rattle.std.proofs.Math.Seq.{take-append_seam}
 use Rattle.file_store.specs.World.{World, with_file}
+use Rattle.krb_fields.specs.PrincipalName.{Name}
 use Rattle.principals.specs.Database.{Principals}
-use Rattle.kadm_changes.specs.KeytabFolders.{AreKeytabs, IsKeytabFile, WroteKeytabs, with_files}
+use Rattle.kadm_changes.specs.KeytabFolders.{AreKeytabs, IsKeytabFile, WroteKeytabs, path_in, with_files}
 use Rattle.kadm_changes.specs.Keytabs.{IsFreePath}
+use Rattle.kadm_changes.specs.Patterns.{names_like}
 use Rattle.kadm_changes.specs.Worlds.{HoldsDatabase}
 use Rattle.kadm_changes.specs.declared.keytab_folder.FolderArgs.{FolderArgs}
 use Rattle.kadm_changes.specs.declared.keytab_folder.KeytabFile.{KeytabFile}
@@ -49,6 +52,9 @@ all_end P xs i le holds = subst (λ ys. All P ys) (take_all i xs le) holds
 
 -- ---- keytabs
 
+abbrev path_of : KeytabFile → List ℕ
+path_of file = string_bytes file.path
+
 fewer : (before : Option World) (db : List ℕ) (to : FolderArgs) (files written left : List KeytabFile) → files ≡ written ++ left → AreKeytabs before db to files
     → AreKeytabs before db to written
 fewer before db to files written left is are =
@@ -57,6 +63,10 @@ fewer before db to files written left is are =
       old = are.old;
       read = are.read;
       made = subst (All (IsKeytabFile to.folder.now are.old)) front (All-take (IsKeytabFile to.folder.now are.old) (length written) files are.made);
+      left = map path_of left ++ are.left;
+      fit = sym (append_assoc (map path_of written) (map path_of left) are.left)
+          ∙ ap (λ paths. paths ++ are.left) (sym (map-append path_of written left) ∙ ap (map path_of) (sym is))
+          ∙ are.fit;
       free = subst (All (λ file. IsFreePath before (string_bytes file.path))) front
           (All-take (λ file. IsFreePath before (string_bytes file.path)) (length written) files are.free);
     }
@@ -64,11 +74,13 @@ fewer before db to files written left is are =
 -- all files, or those before the first that failed
 pub wrote : {A E : Type 0} (r : Result A E) (before locked opened made checked after : Option World) (db : List ℕ) (to : FolderArgs) (p : Principals) (files shown put : List KeytabFile)
     → locked ≡ before → opened ≡ locked → made ≡ opened → checked ≡ made → shown ≡ files → put ≡ files
-    → HoldsDatabase locked db p → All (IsKeytabFile to.folder.now p) files → All (λ file. IsFreePath made (string_bytes file.path)) shown
+    → HoldsDatabase locked db p → All (IsKeytabFile to.folder.now p) files
+    → map (λ file. string_bytes file.path) files ≡ map (path_in to.folder.now) (names_like to.like.now (rows.entries p.rows))
+    → All (λ file. IsFreePath made (string_bytes file.path)) shown
     → OnOk r (after ≡ option_map (with_files put) checked)
     → OnErr r ((written : List KeytabFile) × (left : List KeytabFile) × (put ≡ written ++ left) × (after ≡ option_map (with_files written) checked))
     → WroteKeytabs before db to after
-wrote {A = A} {E = E} r before locked opened made checked after db to p files shown put first kept same still seen given read are free done begun =
+wrote {A = A} {E = E} r before locked opened made checked after db to p files shown put first kept same still seen given read are fit free done begun =
     by r done begun
   where
     back : checked ≡ before
@@ -79,6 +91,8 @@ wrote {A = A} {E = E} r before locked opened made checked after db to p files sh
       old = p;
       read = subst (λ world. HoldsDatabase world db p) first read;
       made = are;
+      left = [];
+      fit = append-nil (map (λ file. string_bytes file.path) files) ∙ fit;
       free = subst (λ fs. All (λ file. IsFreePath before (string_bytes file.path)) fs) seen
           (subst (λ world. All (λ file. IsFreePath world (string_bytes file.path)) shown) (same ∙ kept ∙ first) free);
     }
@@ -89,3 +103,16 @@ wrote {A = A} {E = E} r before locked opened made checked after db to p files sh
     by (Ok x) all_done none = (files, all, all_done ∙ ap (λ world. option_map (with_files put) world) back ∙ ap (λ fs. option_map (with_files fs) before) given)
     by (Err e) none (written, left, is, part) =
         (written, fewer before db to files written left (sym given ∙ is) all, part ∙ ap (λ world. option_map (with_files written) world) back)
+
+-- one more keytab, at the path of its name
+pub pathed_on : (folder : List ℕ) (names : List Name) (i j : ℕ) (name : Name) (files new : List KeytabFile) (file : KeytabFile)
+    → j ≡ i + 1 → name ≡ get_or names i name → i < length names → new ≡ files ++ file ∷ []
+    → string_bytes file.path ≡ path_in folder name.components
+    → map (λ file. string_bytes file.path) files ≡ map (path_in folder) (map (λ name. name.components) (take i names))
+    → map (λ file. string_bytes file.path) new ≡ map (path_in folder) (map (λ name. name.components) (take j names))
+pathed_on folder names i j name files new file next is lt put at so_far =
+    ap (map path_of) put ∙ map-append path_of files (file ∷ []) ∙ (λ k. so_far k ++ at k ∷ [])
+    ∙ sym (map-append (path_in folder) (map (λ name. name.components) (take i names)) (name.components ∷ []))
+    ∙ ap (map (path_in folder)) (sym (map-append (λ name. name.components) (take i names) (name ∷ [])))
+    ∙ ap (λ some. map (path_in folder) (map (λ name. name.components) some))
+    (ap (λ n. take i names ++ n ∷ []) is ∙ sym (take_more names i name lt) ∙ ap (λ k. take k names) (sym next))

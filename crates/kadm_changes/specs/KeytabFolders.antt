@@ -1,12 +1,14 @@
 -- A keytab for each of several principals, in a folder.
 use Rattle.std.specs.Prelude.{◌≡◌, ◌==◌, ◌++◌, ◌∷◌, [], ℕ, List, All, flat_map, map, codes, option_map, string_bytes}
 use Rattle.std.specs.Prelude.{Option, None, if◌then◌else◌}
+use Rattle.std.specs.FinMap as rows
 use Rattle.file_store.specs.World.{World, with_file}
 use Rattle.krb_fields.specs.Name.{Components}
 use Rattle.krb_fields.specs.NameText.{text_of}
 use Rattle.krb_fields.specs.PrincipalName.{Name}
 use Rattle.principals.specs.Database.{Principals}
 use Rattle.kadm_changes.specs.Keytabs.{IsFreePath, IsNewKeytab}
+use Rattle.kadm_changes.specs.Patterns.{names_like}
 use Rattle.kadm_changes.specs.Texts.{Text}
 use Rattle.kadm_changes.specs.Worlds.{HoldsDatabase}
 use Rattle.kadm_changes.specs.declared.keytab_folder.FolderArgs.{FolderArgs}
@@ -40,11 +42,15 @@ with_files (file ∷ files) world = with_files files (with_file (string_bytes fi
 
 -- ---- what is done
 
--- keytabs of principals that the database has, each at a path without a database or a lock
+-- keytabs of the principals that the database has and whose names fit, in the order of their names, each at a path
+-- without a database or a lock; or the first of these
 pub record AreKeytabs (before : Option World) (db : Text) (to : FolderArgs) (files : List KeytabFile) : Type 0 where
   pub old : Principals
   pub read : HoldsDatabase before db old
   pub made : All (IsKeytabFile to.folder.now old) files
+  pub left : List Text
+  pub fit : map (λ file. string_bytes file.path) files ++ left
+      ≡ map (path_in to.folder.now) (names_like to.like.now (rows.entries old.rows))
   pub free : All (λ file. IsFreePath before (string_bytes file.path)) files
 
 -- such keytabs are written, and no other file

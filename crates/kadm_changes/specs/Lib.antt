@@ -8,6 +8,7 @@ pub mod Importing
 pub mod KeytabFolders
 pub mod Keytabs
 pub mod Owners
+pub mod Patterns
 pub mod Realm
 pub mod Restoring
 pub mod Staging

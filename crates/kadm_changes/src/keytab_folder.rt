@@ -1,9 +1,11 @@
 //! The command that writes a keytab for each of several principals.
-ghost use Rattle.std.specs.Prelude.{◌≡◌, ◌++◌, List, All, IfErr, IfOk, OnErr, OnOk, flat_map, option_map, string_bytes};
+ghost use Rattle.std.specs.Prelude.{◌≡◌, ◌++◌, List, All, IfErr, IfOk, OnErr, OnOk, flat_map, map, option_map, string_bytes};
+ghost use Rattle.std.specs.FinMap as rows;
 ghost use Rattle.file_store.specs.World.{with_file};
 ghost use Rattle.kadm_changes.specs.KeytabFolders.{AreKeytabs, IsKeytabFile, WroteKeytabs, file_octet, path_in};
 ghost use Rattle.kadm_changes.specs.KeytabFolders.{with_files};
 ghost use Rattle.kadm_changes.specs.Keytabs.{IsFreePath};
+ghost use Rattle.kadm_changes.specs.Patterns.{names_like};
 ghost use Rattle.kadm_changes.specs.Stops.{IsFailed};
 ghost use Rattle.kadm_changes.specs.declared.keytab_folder.KeytabFile as folder_files;
 
@@ -49,9 +51,9 @@ pub fn write_keytabs<'p, T: Store, W: Write, E: Write>(
     target: &Target<'p>,
     to: FolderArgs<'p>,
 ) -> Result<Result<Written, CommandError<'p>>, CommandError<'p>>
-    // Promise (wrote, failed): `keytab --like` writes keytabs into the folder, each of the current keys of one
-    // principal and at a path of its own name, and no other file; none if one is refused. If a write of several fails,
-    // this holds of those before it.
+    // Promise (wrote, failed): `keytab --like` writes keytabs into the folder, each of the current keys of a principal
+    // whose name fits, at a path of that name, and no other file; in the order of the names, none between left out; none
+    // at all if one is refused.
     ensures wrote { OnOk result (WroteKeytabs
         (T.world store.old) target.now.db.now to.entry (T.world store.new)) }
     ensures failed { IfOk result (λ end. IfErr end IsFailed) }
@@ -74,6 +76,8 @@ fn keytab_files<'p, T: Store>(
     to: FolderArgs<'p>,
 ) -> Result<Vec<KeytabFile>, CommandError<'p>>
     ensures made { IfOk result (λ files. All (IsKeytabFile to.entry.folder.now database.now) files.items) }
+    ensures fit { IfOk result (λ files. map (λ file. string_bytes file.path) files.items
+        ≡ map (path_in to.entry.folder.now) (names_like to.entry.like.now (rows.entries database.now.rows))) }
     ensures unchanged { T.world store.new ≡ T.world store.old }
 {
     let names = names_like(alloc, database, to.like)?;
@@ -92,13 +96,14 @@ fn keytab_files<'p, T: Store>(
 }
 
 /// Returns the names that fit a pattern.
-fn names_like(alloc: Global, database: &Database, pattern: &str) -> Result<Vec<Name>, AllocError> {
+fn names_like(alloc: Global, database: &Database, pattern: &str) -> Result<Vec<Name>, AllocError>
+    ensures { IfOk result (λ names. map (λ name. name.components) names.items
+        ≡ names_like pattern.now (rows.entries database.now.rows)) }
+{
     let mut names = Vec::new(alloc);
-    for place in 0..database.len() {
-        if let Some((name, _)) = database.at(place) {
-            if is_like(pattern, &name.to_text(alloc)?) {
-                names.push(name.copy(alloc)?)?;
-            }
+    for entry in database.entries() {
+        if is_like(pattern, &entry.name.to_text(alloc)?) {
+            names.push(entry.name.copy(alloc)?)?;
         }
     }
     Ok(names)
@@ -113,6 +118,7 @@ fn keytab_file<'p, T: Store>(
     folder: &'p str,
 ) -> Result<KeytabFile, CommandError<'p>>
     ensures made { IfOk result (λ file. IsKeytabFile folder.now database.now file) }
+    ensures path { IfOk result (λ file. string_bytes file.path ≡ path_in folder.now name.now.components) }
     ensures unchanged { T.world store.new ≡ T.world store.old }
 {
     let path = path_in(alloc, folder, name)?;

@@ -1,28 +1,34 @@
 //! Patterns of names.
+ghost use Rattle.std.specs.Prelude.{◌≡◌};
+ghost use Rattle.kadm_changes.specs.Patterns.{fits, some_end};
 
-/// Checks whether a text fits a pattern, in which each `*` stands for any bytes.
-pub fn is_like(pattern: &str, text: &str) -> bool {
+/// Checks whether a text fits a pattern, in which each `*` stands for any bytes, or for none.
+pub fn is_like(pattern: &str, text: &str) -> bool
+    // Promise: a text fits a pattern exactly if it is the pattern with some bytes, or none, in place of each `*`.
+    ensures fits { result ≡ fits pattern.now text.now }
+{
     let Some((front, rest)) = pattern.split_once('*') else {
         return pattern == text;
     };
     match text.strip_prefix(front) {
-        Some(left) => ends_like(rest, left),
+        Some(left) => has_end(rest, left),
         None => false,
     }
 }
 
-/// Checks whether a text fits a pattern that has a `*` in front of it.
-fn ends_like(pattern: &str, text: &str) -> bool {
-    let Some((parts, end)) = pattern.rsplit_once('*') else {
-        return text.ends_with(pattern);
-    };
+/// Checks whether an end of a text fits a pattern.
+fn has_end(pattern: &str, text: &str) -> bool
+    ensures fits { result ≡ some_end (fits pattern.now) text.now }
+{
+    let mut pattern = pattern;
     let mut left = text;
-    for part in parts.split('*') {
-        // the first match leaves the most for what follows it
+    while let Some((part, rest)) = pattern.split_once('*') {
+        // The first match leaves the most for what follows it.
         let Some((_, behind)) = left.split_once(part) else {
             return false;
         };
+        pattern = rest;
         left = behind;
     }
-    left.ends_with(end)
+    left.ends_with(pattern)
 }
