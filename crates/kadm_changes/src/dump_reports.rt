@@ -5,7 +5,7 @@ ghost use Rattle.kadm_changes.specs.Dumps.{LosesNothing};
 use crate::reason::{CommandRefusal, Part};
 use crate::stop::CommandError;
 use krb_fields::component_to_text;
-use mit_dump::{DumpError, DumpedPrincipal, LineError};
+use mit_dump::{DumpError, DumpedPrincipal};
 use std::alloc::{AllocError, Global};
 use std::io::Write;
 
@@ -15,10 +15,10 @@ pub(crate) fn report_fault<E: Write>(
     dump: &str,
     fault: DumpError,
 ) -> CommandError<'static> {
-    if fault.cause == LineError::Memory {
+    if fault.is_memory() {
         return CommandError::from(AllocError);
     }
-    let _ = writeln!(errors, "kadm: {dump}: line {}: {}", fault.line, fault.cause);
+    let _ = writeln!(errors, "kadm: {dump}: {fault}");
     CommandError::refused(Part::Dump, CommandRefusal::BadDump)
 }
 
@@ -36,9 +36,9 @@ pub(crate) fn report_key_fault<E: Write>(
     alloc: Global,
     errors: &mut E,
     principal: &DumpedPrincipal,
-    fault: LineError,
+    fault: DumpError,
 ) -> CommandError<'static> {
-    if fault == LineError::Memory {
+    if fault.is_memory() {
         return CommandError::from(AllocError);
     }
     if let Err(error) = begin_principal(alloc, errors, principal) {
