@@ -19,8 +19,8 @@ use Rattle.kadm.specs.declared.writing.WriteCommand.{WriteCommand}
 use Rattle.kadm.specs.declared.writing.WriteCommand.TheVariants as writes
 use Rattle.command_line.specs.declared.status.Status.{Status}
 use Rattle.command_line.specs.declared.status.Status.TheVariants as statuses
-use Rattle.kadm_changes.specs.declared.stop.CommandError.{CommandError}
-use Rattle.kadm_changes.specs.declared.stop.CommandError.TheVariants as stops
+use Rattle.kadm_changes.specs.declared.early_end.EarlyEnd.{EarlyEnd}
+use Rattle.kadm_changes.specs.declared.early_end.EarlyEnd.TheVariants as stops
 
 -- ---- commands that write
 
@@ -46,7 +46,7 @@ pub write_refused : (before : Option World) (input : Option Input) (command : Co
 write_refused before input command write after is tried = inr (write_tried before input command write after is tried)
 
 -- some of several files were written
-pub write_stopped : (before : Option World) (input : Option Input) (command : Command) (write : WriteCommand) (stop : CommandError) (after : Option World)
+pub write_stopped : (before : Option World) (input : Option Input) (command : Command) (write : WriteCommand) (stop : EarlyEnd) (after : Option World)
     → command.kind ≡ kinds.Write write → IsStoppedPart before input command.target write stop after → IsCommandStopped before input command stop after
 write_stopped before input command write stop after is (failed, done) =
     inr (failed, subst (λ kind. IsKindDone before input command.target kind after) (sym is) done)
@@ -72,14 +72,14 @@ spelled_end (Ok statuses.Failed) words before input command after spelled (inl d
 spelled_end (Ok statuses.Failed) words before input command after spelled (inr tried) = inr (inr (command, spelled, tried))
 spelled_end (Err e) words before input command after spelled done = tt
 
-pub spelled_stop : {A : Type 0} (r : Result A CommandError) (words : List Text) (before : Option World) (input : Option Input) (command : Command) (after : Option World)
+pub spelled_stop : {A : Type 0} (r : Result A EarlyEnd) (words : List Text) (before : Option World) (input : Option Input) (command : Command) (after : Option World)
     → Spells words command → IfErr r (λ stop. IsCommandStopped before input command stop after) → IfErr r (λ stop. IsStopped words before input stop after)
 spelled_stop (Ok x) words before input command after spelled stopped = tt
 spelled_stop (Err stop) words before input command after spelled (inl same) = inl same
 spelled_stop (Err stop) words before input command after spelled (inr (failed, done)) = inr (failed, inl (command, spelled, done))
 
 -- the output fails after a command
-pub failed_after : (words : List Text) (before : Option World) (input : Option Input) (status : Status) (stop : CommandError) (after : Option World)
+pub failed_after : (words : List Text) (before : Option World) (input : Option Input) (status : Status) (stop : EarlyEnd) (after : Option World)
     → IsEnd words before input status after → IsFailed stop → IsStopped words before input stop after
 failed_after words before input statuses.Done stop after (inl (asks, same)) failed = inl same
 failed_after words before input statuses.Done stop after (inr done) failed = inr (failed, inl done)
@@ -117,7 +117,7 @@ cause_other ShortSeed statuses.Done is = absurd is
 cause_other ShortSeed statuses.Usage is = tt
 cause_other (Failed error) status is = subst IsOther (sym is) tt
 
-other : (stop : CommandError) (status : Status) → IsStatusOf stop status → IsOther status
+other : (stop : EarlyEnd) (status : Status) → IsStatusOf stop status → IsOther status
 other stops.Usage status is = subst IsOther (sym is) tt
 other stops.LineRefused status is = subst IsOther (sym is) tt
 other stops.LineFailed status is = subst IsOther (sym is) tt
@@ -137,7 +137,7 @@ failed_cause LongFile status failed is = absurd failed
 failed_cause ShortSeed status failed is = absurd failed
 failed_cause (Failed error) status failed is = is
 
-failed_status : (stop : CommandError) (status : Status) → IsFailed stop → IsStatusOf stop status → status ≡ statuses.Failed
+failed_status : (stop : EarlyEnd) (status : Status) → IsFailed stop → IsStatusOf stop status → status ≡ statuses.Failed
 failed_status stops.Usage status failed is = absurd failed
 failed_status stops.LineRefused status failed is = absurd failed
 failed_status stops.LineFailed status failed is = absurd failed
@@ -146,20 +146,20 @@ failed_status (stops.Refused refusal) status failed is = absurd failed
 failed_status (stops.File fault) status failed is = failed_cause fault.cause status failed is
 
 -- a command that stopped early, with the status of what stopped it
-stopped_end : (words : List Text) (before : Option World) (input : Option Input) (stop : CommandError) (status : Status) (after : Option World)
+stopped_end : (words : List Text) (before : Option World) (input : Option Input) (stop : EarlyEnd) (status : Status) (after : Option World)
     → IsStopped words before input stop after → IsStatusOf stop status → IsEnd words before input status after
 stopped_end words before input stop status after (inl same) is = same_end words before input status after (other stop status is) same
 stopped_end words before input stop status after (inr (failed, done)) is =
     subst (λ s. IsEnd words before input s after) (sym (failed_status stop status failed is)) (inr done)
 
 -- the report of it fails
-stopped_failed : (words : List Text) (before : Option World) (input : Option Input) (stop : CommandError) (after : Option World)
+stopped_failed : (words : List Text) (before : Option World) (input : Option Input) (stop : EarlyEnd) (after : Option World)
     → IsStopped words before input stop after → IsEnd words before input statuses.Failed after
 stopped_failed words before input stop after (inl same) = inl same
 stopped_failed words before input stop after (inr (failed, done)) = inr done
 
 -- whatever the output says at the end
-pub ended : {E : Type 0} (end : Result Status CommandError) (r : Result Status E) (words : List Text) (before : Option World) (input : Option Input) (after : Option World)
+pub ended : {E : Type 0} (end : Result Status EarlyEnd) (r : Result Status E) (words : List Text) (before : Option World) (input : Option Input) (after : Option World)
     → IfOk end (λ status. IsEnd words before input status after) → IfErr end (λ stop. IsStopped words before input stop after)
     → IfOk r (λ status. IsReported end status) → IsEnd words before input (result_unwrap_or r statuses.Failed) after
 ended (Ok status) (Ok reported) words before input after done stopped is = subst (λ s. IsEnd words before input s after) (sym is) done

@@ -22,9 +22,9 @@ use Rattle.kadm.specs.declared.writing.WriteCommand.{WriteCommand}
 use Rattle.kadm.specs.declared.writing.WriteCommand.TheVariants as writes
 use Rattle.command_line.specs.declared.status.Status.{Status}
 use Rattle.command_line.specs.declared.status.Status.TheVariants as statuses
-use Rattle.kadm_changes.specs.declared.stop.CommandError.{CommandError}
-use Rattle.kadm_changes.specs.declared.stop.CommandError.TheVariants.{Usage, LineRefused, LineFailed, NotInBatch}
-use Rattle.kadm_changes.specs.declared.stop.CommandError.TheVariants.{Refused, File}
+use Rattle.kadm_changes.specs.declared.early_end.EarlyEnd.{EarlyEnd}
+use Rattle.kadm_changes.specs.declared.early_end.EarlyEnd.TheVariants.{Usage, LineRefused, LineFailed, NotInBatch}
+use Rattle.kadm_changes.specs.declared.early_end.EarlyEnd.TheVariants.{Refused, File}
 
 -- refused or failed
 abbrev pub IsNotDone : Status → Type 0
@@ -38,7 +38,7 @@ IsFileCauseStatus LongFile status = IsNotDone status
 IsFileCauseStatus ShortSeed status = IsNotDone status
 IsFileCauseStatus (Failed error) status = status ≡ statuses.Failed
 
-abbrev pub IsStatusOf : CommandError → Status → Type 0
+abbrev pub IsStatusOf : EarlyEnd → Status → Type 0
 IsStatusOf Usage status = status ≡ statuses.Usage
 IsStatusOf LineRefused status = status ≡ statuses.Refused
 IsStatusOf LineFailed status = status ≡ statuses.Failed
@@ -47,7 +47,7 @@ IsStatusOf (Refused refusal) status = status ≡ statuses.Refused
 IsStatusOf (File fault) status = IsFileCauseStatus fault.cause status
 
 -- the status that is reported of a command line's end
-abbrev pub IsReported : Result Status CommandError → Status → Type 0
+abbrev pub IsReported : Result Status EarlyEnd → Status → Type 0
 IsReported (Ok status) reported = reported ≡ status
 IsReported (Err stop) reported = IsStatusOf stop reported
 
@@ -87,7 +87,7 @@ IsWriteDone before input target write true after = CommandLeaves before input ta
 IsWriteDone before input target write false after = IsWriteTried before input target write after
 
 -- a write failed, after some of several files
-abbrev pub IsStoppedPart : Option World → Option Input → Target → WriteCommand → CommandError → Option World → Type 0
+abbrev pub IsStoppedPart : Option World → Option Input → Target → WriteCommand → EarlyEnd → Option World → Type 0
 IsStoppedPart before input target write stop after = IsFailed stop × CommandLeaves before input target write after
 
 -- the command is a batch that keeps going, and some of its lines were done
@@ -103,7 +103,7 @@ IsCommandEnd before input command statuses.Usage after = ⊥
 IsCommandEnd before input command statuses.Failed after = IsDone before input command after
     ⊎ IsTried before input command after
 
-abbrev pub IsCommandStopped : Option World → Option Input → Command → CommandError → Option World → Type 0
+abbrev pub IsCommandStopped : Option World → Option Input → Command → EarlyEnd → Option World → Type 0
 IsCommandStopped before input command stop after = (after ≡ before)
     ⊎ (IsFailed stop × IsDone before input command after)
 
@@ -118,7 +118,7 @@ abbrev pub IsSpelledTried : List Text → Option World → Option Input → Opti
 IsSpelledTried words before input after = (command : Command) × Spells words command
     × IsTried before input command after
 
-abbrev pub IsStopped : List Text → Option World → Option Input → CommandError → Option World → Type 0
+abbrev pub IsStopped : List Text → Option World → Option Input → EarlyEnd → Option World → Type 0
 IsStopped words before input stop after =
     (after ≡ before) ⊎ (IsFailed stop
     × (IsSpelledDone words before input after ⊎ IsSpelledTried words before input after))

@@ -20,7 +20,7 @@ use clap::error::Error;
 use command_line::Status;
 use file_store::{FileError, PathError, STANDARD_INPUT, Store};
 use kadm_changes::{
-    CommandError, Context, Draft, FoundPassword, Note, Target, find_password, lock_database,
+    Context, Draft, EarlyEnd, FoundPassword, Note, Target, find_password, lock_database,
     read_database, report_realm, update_in_batch, write_database,
 };
 use std::alloc::{AllocError, Global};
@@ -88,7 +88,7 @@ pub(crate) fn run_batch<'p, T: Store, W: Write, E: Write>(
     store: &mut T,
     target: &Target<'p>,
     keep_going: bool,
-) -> Result<Outcome, CommandError<'p>>
+) -> Result<Outcome, EarlyEnd<'p>>
     // Promise (done, unchanged): `batch`: the same, with the changes of all lines one after another, each the change
     // that its words spell for the database of the batch. If one is not done, the file is as it was.
     // Promise: with `--keep-going` each line of a batch is done, or leaves the database as it was.
@@ -124,7 +124,7 @@ fn read_lines<T: Store, E: Write>(
     alloc: Global,
     store: &mut T,
     errors: &mut E,
-) -> Result<Vec<InputLine>, CommandError<'static>>
+) -> Result<Vec<InputLine>, EarlyEnd<'static>>
     // Promise: the lines of a batch are those of standard input: each of them, once, in their order.
     ensures read { IfOk result (λ lines. AreInput (T.input store.old) (input_texts lines.items)) }
     ensures unchanged { T.world store.new ≡ T.world store.old }
@@ -142,10 +142,7 @@ fn read_lines<T: Store, E: Write>(
 }
 
 /// Reads the next line. `None` if the input has ended.
-fn next_line<T: Store>(
-    alloc: Global,
-    store: &mut T,
-) -> Result<Option<Vec<u8>>, CommandError<'static>>
+fn next_line<T: Store>(alloc: Global, store: &mut T) -> Result<Option<Vec<u8>>, EarlyEnd<'static>>
     ensures line { IfOk result (λ found. IfSome found
         (λ line. TakesLine (T.input store.old) line.items (T.input store.new))) }
     ensures ended { IfOk result (λ found. IfNone found (HasEnded (T.input store.old))) }
@@ -153,12 +150,12 @@ fn next_line<T: Store>(
 {
     match store.ask(alloc, PROMPT, LONGEST_LINE) {
         Ok(Some(line)) => Ok(Some(line)),
-        Ok(None) => Err(CommandError::from(PathError {
+        Ok(None) => Err(EarlyEnd::from(PathError {
             path: STANDARD_INPUT,
             cause: FileError::LongFile,
         })),
         Err(error) if error.kind() == ErrorKind::UnexpectedEof => Ok(None),
-        Err(error) => Err(CommandError::from(PathError::failed(STANDARD_INPUT, error))),
+        Err(error) => Err(EarlyEnd::from(PathError::failed(STANDARD_INPUT, error))),
     }
 }
 
@@ -249,13 +246,9 @@ fn command_password<T: Store>(
 }
 
 /// Reports why a line is no command. Returns how the batch ends. Ignores a failed write.
-fn report_line_fault<E: Write>(
-    errors: &mut E,
-    number: usize,
-    fault: &str,
-) -> CommandError<'static> {
+fn report_line_fault<E: Write>(errors: &mut E, number: usize, fault: &str) -> EarlyEnd<'static> {
     let _ = writeln!(errors, "kadm: line {number}: {fault}");
-    CommandError::Usage
+    EarlyEnd::Usage
 }
 
 /// Runs the commands, and returns whether all were done. Ends with the first that is not, unless the batch keeps going.
@@ -265,7 +258,7 @@ fn run_lines<T: Store, W: Write, E: Write>(
     store: &mut T,
     batch: &Batch<'_>,
     draft: &mut Draft,
-) -> Result<bool, CommandError<'static>>
+) -> Result<bool, EarlyEnd<'static>>
     requires read { All (IsLineRead (T.world store.old)) batch.now.lines.now }
     ensures run { IfOk result (λ whole. IsRun
         (T.world store.old) batch.now.whole_realm batch.now.db.now batch.now.keep_going
@@ -285,7 +278,7 @@ fn run_all<T: Store, W: Write, E: Write>(
     store: &mut T,
     batch: &Batch<'_>,
     draft: &mut Draft,
-) -> Result<(), CommandError<'static>>
+) -> Result<(), EarlyEnd<'static>>
     requires read { All (IsLineRead (T.world store.old)) batch.now.lines.now }
     // Promise (done, unchanged), as run_batch: `batch`: the same, with ..
     ensures done { OnOk result (AreDone (T.world store.old) batch.now.whole_realm batch.now.db.now
@@ -310,11 +303,11 @@ fn run_all<T: Store, W: Write, E: Write>(
 }
 
 /// Returns how a batch ends that ends with this line.
-fn batch_end(status: Status) -> CommandError<'static> {
+fn batch_end(status: Status) -> EarlyEnd<'static> {
     match status {
-        Status::Usage => CommandError::Usage,
-        Status::Failed => CommandError::LineFailed,
-        Status::Done | Status::Refused => CommandError::LineRefused,
+        Status::Usage => EarlyEnd::Usage,
+        Status::Failed => EarlyEnd::LineFailed,
+        Status::Done | Status::Refused => EarlyEnd::LineRefused,
     }
 }
 
@@ -324,7 +317,7 @@ fn run_each<T: Store, W: Write, E: Write>(
     store: &mut T,
     batch: &Batch<'_>,
     draft: &mut Draft,
-) -> Result<bool, CommandError<'static>>
+) -> Result<bool, EarlyEnd<'static>>
     requires read { All (IsLineRead (T.world store.old)) batch.now.lines.now }
     // Promise (run, unchanged), as run_batch: with `--keep-going` each line ..
     ensures run { IfOk result (λ whole. IsRun (T.world store.old) batch.now.whole_realm batch.now.db.now true
@@ -350,7 +343,7 @@ fn try_line<T: Store, W: Write, E: Write>(
     line: &BatchLine,
     whole: bool,
     draft: &mut Draft,
-) -> Result<bool, CommandError<'static>>
+) -> Result<bool, EarlyEnd<'static>>
     requires read { IsLineRead (T.world store.old) line.now }
     ensures turn { IfOk result (λ whole_then. IsTurn (T.world store.old) batch.now.whole_realm batch.now.db.now
         (line_text line.now)
@@ -379,7 +372,7 @@ fn run_line<T: Store, W: Write, E: Write>(
     batch: &Batch<'_>,
     line: &BatchLine,
     draft: &mut Draft,
-) -> Result<Option<Status>, CommandError<'static>>
+) -> Result<Option<Status>, EarlyEnd<'static>>
     requires read { IsLineRead (T.world store.old) line.now }
     ensures done { IfOk result (λ end. IfNone end (IsLineDone (T.world store.old) batch.now.whole_realm batch.now.db.now
         (line_text line.now) draft.old.database draft.new.database)) }
@@ -430,7 +423,7 @@ fn run_words<'a, T: Store, E: Write>(
     draft: &mut Draft,
     whole: bool,
     found: Option<&FoundPassword>,
-) -> Result<Option<Note>, CommandError<'a>>
+) -> Result<Option<Note>, EarlyEnd<'a>>
     requires found { IsFoundIn (T.world store.old) found }
     ensures done { OnOk result (IsSpelledMade (T.world store.old) whole
         (texts subject.now.words.now) draft.old.database draft.new.database) }
@@ -453,7 +446,7 @@ fn check_words<E: Write>(
     errors: &mut E,
     subject: &Subject<'_>,
     matches: &Result<ArgMatches<'_>, Error>,
-) -> Result<(), CommandError<'static>> {
+) -> Result<(), EarlyEnd<'static>> {
     match matches {
         Err(error) => {
             begin_line(errors, subject);
@@ -474,7 +467,7 @@ fn refused_option<E: Write>(
     errors: &mut E,
     subject: &Subject<'_>,
     fault: &'static str,
-) -> CommandError<'static> {
+) -> EarlyEnd<'static> {
     begin_line(errors, subject);
     report_command_fault(errors, UsageError::BadValue(fault))
 }
@@ -486,7 +479,7 @@ fn run_command<'a, T: Store>(
     draft: &mut Draft,
     whole: bool,
     found: Option<&FoundPassword>,
-) -> Result<Option<Note>, CommandError<'a>>
+) -> Result<Option<Note>, EarlyEnd<'a>>
     requires found { IsFoundIn (T.world store.old) found }
     ensures done { OnOk result (IsCommandMade
         (T.world store.old) whole command.now draft.old.database draft.new.database) }
@@ -496,7 +489,7 @@ fn run_command<'a, T: Store>(
         CommandKind::Write(WriteCommand::Update(update)) => {
             update_in_batch(store, draft, &command.target, whole, update, found)
         }
-        _ => Err(CommandError::NotInBatch),
+        _ => Err(EarlyEnd::NotInBatch),
     }
 }
 

@@ -4,7 +4,7 @@ ghost use Rattle.kadm.specs.Printed.{HasDatabase};
 
 use crate::linting::print_findings_of;
 use file_store::{Store, read_at_most};
-use kadm_changes::{CommandError, Context, read_database};
+use kadm_changes::{Context, EarlyEnd, read_database};
 use krb_fields::component_to_text;
 use principals_text::LONGEST_TEXT;
 use serde_json::Value;
@@ -22,7 +22,7 @@ pub(crate) fn print_check<'p, T: Store, W: Write, E: Write>(
     context: &mut Context<W, E>,
     store: &mut T,
     db: &'p str,
-) -> Result<(), CommandError<'p>>
+) -> Result<(), EarlyEnd<'p>>
     ensures read { OnOk result (HasDatabase (T.world store.old) db.now) }
     ensures unchanged { T.world store.new ≡ T.world store.old }
 {

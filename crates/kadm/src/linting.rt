@@ -5,7 +5,7 @@ ghost use Rattle.kadm.specs.Printed.{HasDatabase};
 use crate::json_lines::json_finding;
 use enctypes::Etype;
 use file_store::{FileRights, RIGHTS_OF_OTHERS, Store, file_rights, read_clock};
-use kadm_changes::{CommandError, Context, read_database};
+use kadm_changes::{Context, EarlyEnd, read_database};
 use krb_fields::Name;
 use principal_rows::Row;
 use principals::Database;
@@ -39,7 +39,7 @@ pub(crate) fn print_lint<'p, T: Store, W: Write, E: Write>(
     store: &mut T,
     db: &'p str,
     lint: LintArgs,
-) -> Result<bool, CommandError<'p>>
+) -> Result<bool, EarlyEnd<'p>>
     ensures read { IfOk result (λ found. HasDatabase (T.world store.old) db.now) }
     ensures unchanged { T.world store.new ≡ T.world store.old }
 {
@@ -54,7 +54,7 @@ pub(crate) fn print_findings_of<'p, T: Store, W: Write, E: Write>(
     db: &'p str,
     database: &Database,
     json: bool,
-) -> Result<bool, CommandError<'p>>
+) -> Result<bool, EarlyEnd<'p>>
     ensures unchanged { T.world store.new ≡ T.world store.old }
 {
     let rights = file_rights(store, db)?;
@@ -74,7 +74,7 @@ fn print_findings<'p, W: Write, E: Write>(
     rights: FileRights,
     database: &Database,
     json: bool,
-) -> Result<bool, CommandError<'p>> {
+) -> Result<bool, EarlyEnd<'p>> {
     let of_file = file_findings(place.alloc, place.db, rights)?;
     print_lines(place.alloc, &of_file, json, &mut context.out)?;
     let of_principals = findings(place, database)?;
@@ -87,7 +87,7 @@ fn print_lines<'p, W: Write>(
     lines: &[String],
     json: bool,
     out: &mut W,
-) -> Result<(), CommandError<'p>> {
+) -> Result<(), EarlyEnd<'p>> {
     for line in lines {
         if json {
             out.write_all(&json_finding(alloc, line)?)?;

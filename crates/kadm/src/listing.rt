@@ -4,7 +4,7 @@ ghost use Rattle.kadm.specs.Printed.{HasDatabase};
 
 use crate::json_lines::{behind_name, json_line};
 use file_store::Store;
-use kadm_changes::{CommandError, Context, is_like, read_database};
+use kadm_changes::{Context, EarlyEnd, is_like, read_database};
 use krb_fields::Second;
 use principal_rows::{KeyList, Row};
 use principals::Database;
@@ -31,7 +31,7 @@ pub(crate) fn print_list<'p, T: Store, W: Write, E: Write>(
     store: &mut T,
     db: &'p str,
     list: ListArgs<'_>,
-) -> Result<(), CommandError<'p>>
+) -> Result<(), EarlyEnd<'p>>
     ensures read { OnOk result (HasDatabase (T.world store.old) db.now) }
     ensures unchanged { T.world store.new ≡ T.world store.old }
 {

@@ -16,7 +16,7 @@ use crate::words::is_given;
 use clap::Command as Parser;
 use command_line::{FlagRow, OptionRow, Status, SubcommandRow, Times, with_subcommands};
 use file_store::Store;
-use kadm_changes::{CommandError, Context, Target};
+use kadm_changes::{Context, EarlyEnd, Target};
 use std::alloc::{AllocError, Global};
 use std::convert::AsStr;
 use std::io::Write;
@@ -161,7 +161,7 @@ pub(crate) fn run_print<'a, T: Store, W: Write, E: Write>(
     store: &mut T,
     target: &Target<'a>,
     print: PrintCommand<'a>,
-) -> Result<Status, CommandError<'a>>
+) -> Result<Status, EarlyEnd<'a>>
     // Promise: `list`, `lint`, `show` and `check` print what they found, with status `Done`, only of a database; `show`
     // only if that has each principal that the words name.
     ensures read { IfOk result (λ status. IsPrintedOf

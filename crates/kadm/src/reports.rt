@@ -10,7 +10,7 @@ use crate::subject::{Subject, begin_line};
 use crate::values::{DB, KEYTAB, NAME, option_value};
 use command_line::{Status, print_failure, print_refusal};
 use file_store::FileError;
-use kadm_changes::{CommandError, CommandRefusal, Context, Part, Refusal};
+use kadm_changes::{CommandRefusal, Context, EarlyEnd, Part, Refusal};
 use std::io;
 use std::io::Write;
 use text_fields::{Setting, UtcDate, parse_setting};
@@ -20,24 +20,24 @@ use text_fields::{Setting, UtcDate, parse_setting};
 pub(crate) fn report<W: Write, E: Write>(
     context: &mut Context<W, E>,
     subject: &Subject<'_>,
-    stop: CommandError<'_>,
+    stop: EarlyEnd<'_>,
 ) -> io::Result<Status>
     ensures { IfOk result (λ status. IsStatusOf stop.entry status) }
 {
     match stop {
-        CommandError::Usage => Ok(Status::Usage),
-        CommandError::LineRefused => Ok(Status::Refused),
-        CommandError::LineFailed => Ok(Status::Failed),
-        CommandError::NotInBatch => {
+        EarlyEnd::Usage => Ok(Status::Usage),
+        EarlyEnd::LineRefused => Ok(Status::Refused),
+        EarlyEnd::LineFailed => Ok(Status::Failed),
+        EarlyEnd::NotInBatch => {
             begin_line(&mut context.errors, subject);
             let _ = writeln!(context.errors, "{NOT_IN_BATCH}");
             print_refusal(&mut context.out, &"NotInBatch")
         }
-        CommandError::Refused(refusal) => {
+        EarlyEnd::Refused(refusal) => {
             report_refusal(&mut context.errors, subject, refusal);
             print_refusal(&mut context.out, &reason_word(refusal.reason))
         }
-        CommandError::File(fault) => {
+        EarlyEnd::File(fault) => {
             begin_line(&mut context.errors, subject);
             name_imported(&mut context.errors, subject, fault.path);
             let _ = writeln!(context.errors, "{fault}");

@@ -16,7 +16,7 @@ use crate::words::{asks_help, with_db, with_names, words_as_texts};
 use crate::writing::{write_files, written_path};
 use command_line::Status;
 use file_store::{Store, Written};
-use kadm_changes::{CommandError, Context, Progress};
+use kadm_changes::{Context, EarlyEnd, Progress};
 use std::alloc::{AllocError, Global};
 use std::io;
 use std::io::{BufWriter, Write};
@@ -101,7 +101,7 @@ fn words_with_db<'a>(alloc: Global, line: CommandLine<'a>) -> Result<Vec<&'a str
 fn report_end<W: Write, E: Write>(
     context: &mut Context<W, E>,
     words: &[&str],
-    end: Result<Status, CommandError<'_>>,
+    end: Result<Status, EarlyEnd<'_>>,
 ) -> io::Result<Status>
     ensures { IfOk result (λ status. IsReported end.entry status) }
 {
@@ -124,7 +124,7 @@ fn run_words<'a, T: Store, W: Write, E: Write>(
     context: &mut Context<W, E>,
     store: &mut T,
     words: &'a [&'a str],
-) -> Result<Status, CommandError<'a>>
+) -> Result<Status, EarlyEnd<'a>>
     ensures done { IfOk result (λ status. IsEnd (texts words.entry.now) (T.world store.old) (T.input store.old) status
         (T.world store.new)) }
     ensures stopped { IfErr result (λ stop. IsStopped (texts words.entry.now) (T.world store.old)
@@ -148,7 +148,7 @@ fn run_words<'a, T: Store, W: Write, E: Write>(
 fn asks<'a, W: Write, E: Write>(
     context: &mut Context<W, E>,
     words: &'a [&'a str],
-) -> Result<bool, CommandError<'static>>
+) -> Result<bool, EarlyEnd<'static>>
     ensures { IfOk result (λ asks. asks ≡ true → asks_help (texts words.now) ≡ true) }
 {
     let matches = read_args(context.alloc, words);
@@ -172,7 +172,7 @@ fn run_command<'a, T: Store, W: Write, E: Write>(
     context: &mut Context<W, E>,
     store: &mut T,
     command: &Command<'a>,
-) -> Result<Status, CommandError<'a>>
+) -> Result<Status, EarlyEnd<'a>>
     ensures done { IfOk result (λ status. IsCommandEnd (T.world store.old) (T.input store.old) command.now status
         (T.world store.new)) }
     ensures stopped { IfErr result (λ stop. IsCommandStopped (T.world store.old) (T.input store.old) command.now stop

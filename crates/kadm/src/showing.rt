@@ -10,7 +10,7 @@ use crate::json_lines::json_row;
 use crate::listing::types_of;
 use file_store::Store;
 use kadm_changes::{
-    CommandError, CommandRefusal, Context, Part, Refusal, Target, is_like, read_database,
+    CommandRefusal, Context, EarlyEnd, Part, Refusal, Target, is_like, read_database,
 };
 use krb_fields::{Name, NameFault};
 use principal_rows::Row;
@@ -37,7 +37,7 @@ pub(crate) fn print_rows<'p, T: Store, W: Write, E: Write>(
     store: &mut T,
     target: &Target<'p>,
     show: ShowArgs<'_>,
-) -> Result<(), CommandError<'p>>
+) -> Result<(), EarlyEnd<'p>>
     ensures read { OnOk result ((p : Principals) × HoldsDatabase (T.world store.old) target.now.db.now p
         × AreThere (path_of show.entry.like) (texts target.now.names.items) p) }
     ensures unchanged { T.world store.new ≡ T.world store.old }
@@ -57,19 +57,19 @@ pub(crate) fn print_rows<'p, T: Store, W: Write, E: Write>(
 }
 
 /// Reads the text of a name. A refusal has this text.
-fn read_name(alloc: Global, text: &str) -> Result<Name, CommandError<'_>>
+fn read_name(alloc: Global, text: &str) -> Result<Name, EarlyEnd<'_>>
     ensures { IfOk result (λ name. IsNameText name.components text.now) }
 {
     match Name::from_text(alloc, text) {
         Ok(name) => Ok(name),
         Err(NameFault::BadName) => Err(refused(text, CommandRefusal::BadName)),
-        Err(NameFault::Memory) => Err(CommandError::from(AllocError)),
+        Err(NameFault::Memory) => Err(EarlyEnd::from(AllocError)),
     }
 }
 
 /// Returns the refusal of a name.
-fn refused(name: &str, reason: CommandRefusal) -> CommandError<'_> {
-    CommandError::Refused(Refusal {
+fn refused(name: &str, reason: CommandRefusal) -> EarlyEnd<'_> {
+    EarlyEnd::Refused(Refusal {
         part: Part::Name,
         value: Some(name),
         reason,
@@ -77,11 +77,7 @@ fn refused(name: &str, reason: CommandRefusal) -> CommandError<'_> {
 }
 
 /// Refuses the first of these names that has no row.
-fn check_rows<'p>(
-    alloc: Global,
-    database: &Database,
-    names: &[&'p str],
-) -> Result<(), CommandError<'p>>
+fn check_rows<'p>(alloc: Global, database: &Database, names: &[&'p str]) -> Result<(), EarlyEnd<'p>>
     ensures { OnOk result (All (HasRow database.now) (texts names.now)) }
 {
     for name in names {
@@ -91,7 +87,7 @@ fn check_rows<'p>(
 }
 
 /// Refuses a name that has no row.
-fn check_row<'p>(alloc: Global, database: &Database, name: &'p str) -> Result<(), CommandError<'p>>
+fn check_row<'p>(alloc: Global, database: &Database, name: &'p str) -> Result<(), EarlyEnd<'p>>
     ensures { OnOk result (HasRow database.now name.now) }
 {
     let who = read_name(alloc, name)?;
@@ -108,7 +104,7 @@ fn print_named<'p, W: Write>(
     database: &Database,
     names: &[&'p str],
     json: bool,
-) -> Result<(), CommandError<'p>> {
+) -> Result<(), EarlyEnd<'p>> {
     for name in names {
         let who = read_name(alloc, name)?;
         if let Some(row) = database.get(&who) {
@@ -125,7 +121,7 @@ fn print_like<'p, W: Write>(
     database: &Database,
     pattern: &str,
     json: bool,
-) -> Result<(), CommandError<'p>> {
+) -> Result<(), EarlyEnd<'p>> {
     for text in &texts_like(alloc, database, pattern)? {
         if let Ok(who) = Name::from_text(alloc, text)
             && let Some(row) = database.get(&who)
@@ -163,7 +159,7 @@ fn print_row<'p, W: Write>(
     row: &Row,
     json: bool,
     title: bool,
-) -> Result<(), CommandError<'p>> {
+) -> Result<(), EarlyEnd<'p>> {
     if json {
         out.write_all(&json_row(alloc, name, row)?)?;
         return Ok(writeln!(out)?);
@@ -182,11 +178,7 @@ fn print_policy<W: Write>(row: &Row, out: &mut W) -> io::Result<()> {
     Ok(())
 }
 
-fn print_versions<'p, W: Write>(
-    alloc: Global,
-    row: &Row,
-    out: &mut W,
-) -> Result<(), CommandError<'p>> {
+fn print_versions<'p, W: Write>(alloc: Global, row: &Row, out: &mut W) -> Result<(), EarlyEnd<'p>> {
     for version in row.versions.as_slice() {
         let types = types_of(alloc, &version.keys)?;
         writeln!(out, "version {} {types}", version.number)?;

@@ -8,7 +8,7 @@ use crate::settings::{accepted_by, invalid_setting};
 use crate::values::option_value;
 use clap::error::{Error, ErrorKind};
 use command_line::print_usage_error;
-use kadm_changes::{AskedSetting, CommandError};
+use kadm_changes::{AskedSetting, EarlyEnd};
 use std::alloc::AllocError;
 use std::io::Write;
 
@@ -51,19 +51,19 @@ pub(crate) fn setting_fault<'a>(words: &[&'a str]) -> Option<UsageError<'a>> {
 }
 
 /// Reports what the parser says of a command line. Returns how it ends. Ignores a failed write.
-pub(crate) fn report_fault<E: Write>(errors: &mut E, error: &Error) -> CommandError<'static> {
+pub(crate) fn report_fault<E: Write>(errors: &mut E, error: &Error) -> EarlyEnd<'static> {
     if error.kind() == ErrorKind::OutOfMemory {
-        return CommandError::from(AllocError);
+        return EarlyEnd::from(AllocError);
     }
     let _ = write!(errors, "{error}");
-    CommandError::Usage
+    EarlyEnd::Usage
 }
 
 /// Reports what is wrong with the options of a subcommand. Returns how it ends. Ignores a failed write.
 pub(crate) fn report_command_fault<E: Write>(
     errors: &mut E,
     fault: UsageError<'_>,
-) -> CommandError<'static> {
+) -> EarlyEnd<'static> {
     let _ = match fault {
         UsageError::BadValue(fault) => print_usage_error(errors, &fault),
         UsageError::NoField(setting) => print_usage_error(
@@ -83,7 +83,7 @@ pub(crate) fn report_command_fault<E: Write>(
                 setting.value
             ),
         ),
-        UsageError::Memory => return CommandError::from(AllocError),
+        UsageError::Memory => return EarlyEnd::from(AllocError),
     };
-    CommandError::Usage
+    EarlyEnd::Usage
 }

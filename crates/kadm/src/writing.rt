@@ -18,8 +18,8 @@ use clap::Command as Parser;
 use command_line::{FlagRow, OptionRow, Status, SubcommandRow, Times, with_subcommands};
 use file_store::Store;
 use kadm_changes::{
-    CommandError, Context, DumpArgs, FolderArgs, InitArgs, KeytabArgs, KeytabContent, Target,
-    Update, import_dump, make_realm, make_update, restore, write_keytab, write_keytabs,
+    Context, DumpArgs, EarlyEnd, FolderArgs, InitArgs, KeytabArgs, KeytabContent, Target, Update,
+    import_dump, make_realm, make_update, restore, write_keytab, write_keytabs,
 };
 use std::alloc::{AllocError, Global};
 use std::convert::AsStr;
@@ -273,7 +273,7 @@ pub(crate) fn write_files<'a, T: Store, W: Write, E: Write>(
     store: &mut T,
     target: &Target<'a>,
     write: WriteCommand<'a>,
-) -> Result<Result<Outcome, CommandError<'a>>, CommandError<'a>>
+) -> Result<Result<Outcome, EarlyEnd<'a>>, EarlyEnd<'a>>
     ensures done { IfOk result (λ end. IfOk end (λ end. IsWriteDone (T.world store.old)
         (T.input store.old) target.now write.entry end.whole (T.world store.new))) }
     ensures stopped { IfOk result (λ end. IfErr end (λ stop. IsStoppedPart (T.world store.old)

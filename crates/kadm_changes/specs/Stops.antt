@@ -1,9 +1,9 @@
 -- Which commands that end early failed.
 use Rattle.file_store.specs.declared.faults.FileError.{FileError}
 use Rattle.file_store.specs.declared.faults.FileError.TheVariants.{LongFile, ShortSeed, Failed}
-use Rattle.kadm_changes.specs.declared.stop.CommandError.{CommandError}
-use Rattle.kadm_changes.specs.declared.stop.CommandError.TheVariants.{Usage, LineRefused, LineFailed, NotInBatch}
-use Rattle.kadm_changes.specs.declared.stop.CommandError.TheVariants.{Refused, File}
+use Rattle.kadm_changes.specs.declared.early_end.EarlyEnd.{EarlyEnd}
+use Rattle.kadm_changes.specs.declared.early_end.EarlyEnd.TheVariants.{Usage, LineRefused, LineFailed, NotInBatch}
+use Rattle.kadm_changes.specs.declared.early_end.EarlyEnd.TheVariants.{Refused, File}
 
 abbrev pub IsFailure : FileError → Type 0
 IsFailure LongFile = ⊥
@@ -11,7 +11,7 @@ IsFailure ShortSeed = ⊥
 IsFailure (Failed error) = Unit {0}
 
 -- a file or the output failed
-abbrev pub IsFailed : CommandError → Type 0
+abbrev pub IsFailed : EarlyEnd → Type 0
 IsFailed Usage = ⊥
 IsFailed LineRefused = ⊥
 IsFailed LineFailed = ⊥

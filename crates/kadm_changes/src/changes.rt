@@ -13,9 +13,9 @@ use crate::context::Context;
 use crate::databases::{apply, lock_database, write_database};
 use crate::denying::deny_users;
 use crate::draft::Draft;
+use crate::early_end::{EarlyEnd, of_realm};
 use crate::granting::drop_older;
 use crate::reason::{CommandRefusal, Part};
-use crate::stop::{CommandError, of_realm};
 use crate::target::Target;
 use file_store::{Store, Written, has_file, read_clock, read_or_draw_seed};
 use krb_elements::KerberosString;
@@ -54,7 +54,7 @@ pub fn make_realm<'p, T: Store, W: Write, E: Write>(
     store: &mut T,
     target: &Target<'p>,
     new: InitArgs<'p>,
-) -> Result<Written, CommandError<'p>>
+) -> Result<Written, EarlyEnd<'p>>
     // Promise: `init`: there was no file, and now there is the first database of the realm, with keys of the seed.
     ensures done { OnOk result (MadeRealm (T.world store.old) target.now.db.now target.now.etypes.items
         new.entry.realm.now
@@ -74,7 +74,7 @@ fn make_new_realm<'p, T: Store, W: Write, E: Write>(
     target: &Target<'p>,
     realm: &KerberosString,
     seed: Option<&'p str>,
-) -> Result<Written, CommandError<'p>>
+) -> Result<Written, EarlyEnd<'p>>
     ensures done { OnOk result (MadeNew (T.world store.old) target.now.db.now target.now.etypes.items realm.now
         (path_of seed.entry) (T.world store.new)) }
     ensures unchanged { OnErr result (T.world store.new ≡ T.world store.old) }
@@ -82,7 +82,7 @@ fn make_new_realm<'p, T: Store, W: Write, E: Write>(
     let alloc = context.alloc;
     let locked = lock_database(context, store, target)?;
     if has_file(store, target.db)? {
-        return Err(CommandError::refused(Part::Database, CommandRefusal::FileExists));
+        return Err(EarlyEnd::refused(Part::Database, CommandRefusal::FileExists));
     }
     let keys = random_keys(
         alloc,
@@ -96,10 +96,10 @@ fn make_new_realm<'p, T: Store, W: Write, E: Write>(
 }
 
 /// Fails if one of the texts is not the name of a principal.
-pub(crate) fn check_names<'p>(alloc: Global, names: &[&'p str]) -> Result<(), CommandError<'p>> {
+pub(crate) fn check_names<'p>(alloc: Global, names: &[&'p str]) -> Result<(), EarlyEnd<'p>> {
     for name in names {
         if let Err(fault) = Name::from_text(alloc, name) {
-            return Err(CommandError::from(fault).about(Part::Name, name));
+            return Err(EarlyEnd::from(fault).about(Part::Name, name));
         }
     }
     Ok(())
@@ -111,7 +111,7 @@ pub(crate) fn change_all<'p, T: Store>(
     draft: &mut Draft,
     target: &Target<'p>,
     how: ChangeArgs,
-) -> Result<(), CommandError<'p>>
+) -> Result<(), EarlyEnd<'p>>
     // Promise: `drop`, `policy`, `remove`: of each principal that the command names, in their order, what `principals`
     // makes of the database that was read.
     ensures changed { OnOk result (AreChanged (T.world store.old) (all_asked target.now.settings.items) how
@@ -134,7 +134,7 @@ fn change_named<'p, T: Store>(
     target: &Target<'p>,
     how: ChangeArgs,
     name: &'p str,
-) -> Result<(), CommandError<'p>>
+) -> Result<(), EarlyEnd<'p>>
     ensures changed { OnOk result (IsNamedChanged (T.world store.old)
         (all_asked target.now.settings.items) how name.entry.now
         draft.old.database draft.new.database) }
@@ -153,7 +153,7 @@ fn change_text<'p, T: Store>(
     target: &Target<'p>,
     how: ChangeArgs,
     name: &str,
-) -> Result<(), CommandError<'p>>
+) -> Result<(), EarlyEnd<'p>>
     ensures changed { OnOk result (IsNamedChanged (T.world store.old) (all_asked target.now.settings.items) how name.now
         draft.old.database draft.new.database) }
     ensures unchanged { T.world store.new ≡ T.world store.old }
@@ -169,7 +169,7 @@ fn change<'p, T: Store>(
     who: &Name,
     target: &Target<'p>,
     how: ChangeArgs,
-) -> Result<(), CommandError<'p>>
+) -> Result<(), EarlyEnd<'p>>
     ensures changed { OnOk result (IsChanged (T.world store.old)
         (all_asked target.now.settings.items) how who.now.components
         draft.old.database draft.new.database) }
@@ -189,7 +189,7 @@ pub(crate) fn set_all<'p, T: Store>(
     draft: &mut Draft,
     who: &Name,
     target: &Target<'p>,
-) -> Result<(), CommandError<'p>>
+) -> Result<(), EarlyEnd<'p>>
     // Promise: all settings that a command has are made, in their order, after `add` too; a policy's field has the
     // value that its text spells.
     // Promise: a time span such as `7d` of a time counts from the second that the clock showed.
@@ -209,12 +209,12 @@ pub(crate) fn set_all<'p, T: Store>(
 }
 
 /// Drops the keys of an old version.
-fn drop_keys(draft: &mut Draft, who: &Name, version: u32) -> Result<(), CommandError<'static>>
+fn drop_keys(draft: &mut Draft, who: &Name, version: u32) -> Result<(), EarlyEnd<'static>>
     ensures { OnOk result (Makes draft.old.database who.now.components
         (row_changes.DropKeys version) draft.new.database) }
 {
     if lacks_version(&draft.database, who, version) {
-        return Err(CommandError::refused(Part::Name, CommandRefusal::NoVersion));
+        return Err(EarlyEnd::refused(Part::Name, CommandRefusal::NoVersion));
     }
     Ok(apply(draft, who, RowChange::DropKeys(version))?)
 }
@@ -233,13 +233,13 @@ fn set_policy<'p, T: Store>(
     draft: &mut Draft,
     who: &Name,
     asked: AskedSetting<'p>,
-) -> Result<(), CommandError<'p>>
+) -> Result<(), EarlyEnd<'p>>
     ensures changed { OnOk result (IsPolicySet (T.world store.old) (asked_of asked.entry) who.now.components
         draft.old.database draft.new.database) }
     ensures unchanged { T.world store.new ≡ T.world store.old }
 {
     let Some(row) = draft.database.get(who) else {
-        return Err(CommandError::from(ChangeFault::Absent));
+        return Err(EarlyEnd::from(ChangeFault::Absent));
     };
     let policy = row.policy;
     let setting = setting(store, asked)?;
@@ -249,10 +249,7 @@ fn set_policy<'p, T: Store>(
 }
 
 /// Returns a field with its value. It reads the clock if the value is a time from now.
-fn setting<'p, T: Store>(
-    store: &mut T,
-    asked: AskedSetting<'p>,
-) -> Result<Setting, CommandError<'p>>
+fn setting<'p, T: Store>(store: &mut T, asked: AskedSetting<'p>) -> Result<Setting, EarlyEnd<'p>>
     ensures setting { IfOk result (λ setting. IsValueOf
         (T.world store.old) setting asked.entry.field.now asked.entry.value.now) }
     ensures unchanged { T.world store.new ≡ T.world store.old }
@@ -262,7 +259,7 @@ fn setting<'p, T: Store>(
     }
     match setting_from(asked.field, asked.value, read_clock(store)?) {
         Some(setting) => Ok(setting),
-        None => Err(CommandError::refused_value(
+        None => Err(EarlyEnd::refused_value(
             Part::Setting(asked.form),
             asked.value,
             CommandRefusal::BadTime,
@@ -275,7 +272,7 @@ fn check_time<'p, T: Store>(
     store: &mut T,
     asked: AskedSetting<'p>,
     setting: Setting,
-) -> Result<(), CommandError<'p>>
+) -> Result<(), EarlyEnd<'p>>
     ensures timely { OnOk result (IsTimely asked.entry.ahead (T.world store.old) setting) }
     ensures unchanged { T.world store.new ≡ T.world store.old }
 {
@@ -283,7 +280,7 @@ fn check_time<'p, T: Store>(
         return Ok(());
     }
     if is_before_now(store, expiry(setting))? {
-        return Err(CommandError::refused_value(
+        return Err(EarlyEnd::refused_value(
             Part::Setting(asked.form),
             asked.value,
             CommandRefusal::Past,
@@ -308,7 +305,7 @@ fn expiry(setting: Setting) -> Option<Second>
 fn is_before_now<T: Store>(
     store: &mut T,
     expires: Option<Second>,
-) -> Result<bool, CommandError<'static>>
+) -> Result<bool, EarlyEnd<'static>>
     ensures ahead { IfOk result (λ past. IsFalse past → IfSome (T.world store.old) (λ held. IsFrom held.now expires)) }
     ensures unchanged { T.world store.new ≡ T.world store.old }
 {

@@ -5,8 +5,8 @@ ghost use Rattle.kadm_changes.specs.Worlds.{HoldsDatabase, IsReadBack, with_data
 
 use crate::context::Context;
 use crate::draft::Draft;
+use crate::early_end::EarlyEnd;
 use crate::reason::{CommandRefusal, Part};
-use crate::stop::CommandError;
 use crate::target::Target;
 use file_store::{NewMode, Store, Written, lock_file, read_at_most, update_file};
 use krb_fields::Name;
@@ -44,7 +44,7 @@ pub fn lock_database<'p, T: Store, W: Write, E: Write>(
     context: &mut Context<W, E>,
     store: &mut T,
     target: &Target<'p>,
-) -> Result<Locked<'p>, CommandError<'p>>
+) -> Result<Locked<'p>, EarlyEnd<'p>>
     // Promise: a database is written only by who has locked it: `write_database` takes a `Locked`, and only
     // `lock_database` makes one, after the store has given the lock of that path.
     ensures locked { IfOk result (λ locked. locked ≡ target.now.db.now) }
@@ -67,7 +67,7 @@ pub fn lock_database<'p, T: Store, W: Write, E: Write>(
     if lock_file(context.alloc, store, target.db)? {
         Ok(locked)
     } else {
-        Err(CommandError::refused(Part::Database, CommandRefusal::Locked))
+        Err(EarlyEnd::refused(Part::Database, CommandRefusal::Locked))
     }
 }
 
@@ -82,7 +82,7 @@ pub fn read_database<'p, T: Store, W: Write, E: Write>(
     context: &mut Context<W, E>,
     store: &mut T,
     db: &'p str,
-) -> Result<Database, CommandError<'p>>
+) -> Result<Database, EarlyEnd<'p>>
     ensures read { IfOk result (λ database. HoldsDatabase (T.world store.old) db.now database) }
     // Promise, as lock_database: what a command reads, ..
     ensures unchanged { T.world store.new ≡ T.world store.old }
@@ -93,7 +93,7 @@ pub fn read_database<'p, T: Store, W: Write, E: Write>(
         Ok(database) => Ok(database),
         Err(fault) => {
             report_place(&mut context.errors, db, &fault);
-            Err(CommandError::from(fault.cause))
+            Err(EarlyEnd::from(fault.cause))
         }
     }
 }
@@ -111,7 +111,7 @@ pub fn write_database<'p, T: Store>(
     store: &mut T,
     locked: &Locked<'p>,
     database: &Database,
-) -> Result<Written, CommandError<'p>>
+) -> Result<Written, EarlyEnd<'p>>
     ensures written { OnOk result (T.world store.new ≡ with_database locked.now database.now (T.world store.old)) }
     ensures read_back { OnOk result (IsReadBack database.now) }
     ensures unchanged { OnErr result (T.world store.new ≡ T.world store.old) }

@@ -18,9 +18,9 @@ use crate::databases::{lock_database, write_database};
 use crate::dump_reports::{
     report_fault, report_key_fault, report_losses, report_no_database, report_taken,
 };
+use crate::early_end::EarlyEnd;
 use crate::realm::{realm_end, report_realm, tgs_policy};
 use crate::reason::{CommandRefusal, Part};
-use crate::stop::CommandError;
 use crate::target::Target;
 use cred_files::{CredError, Keytab, KeytabEntry};
 use file_store::{Store, Written, has_file, read_at_most, read_file};
@@ -50,7 +50,7 @@ pub fn import_dump<'p, T: Store, W: Write, E: Write>(
     store: &mut T,
     target: &Target<'p>,
     from: DumpArgs<'p>,
-) -> Result<Written, CommandError<'p>>
+) -> Result<Written, EarlyEnd<'p>>
     // Promise (done, unchanged): `import --dump` makes a database at a path without a file: that of the realm of the
     // dump's `krbtgt/REALM@REALM`.
     // Promise: an imported database has a row for each principal that has a place in it, with all versions of its keys,
@@ -64,7 +64,7 @@ pub fn import_dump<'p, T: Store, W: Write, E: Write>(
 {
     let locked = lock_database(context, store, target)?;
     if has_file(store, target.db)? {
-        return Err(CommandError::refused(Part::Database, CommandRefusal::FileExists));
+        return Err(EarlyEnd::refused(Part::Database, CommandRefusal::FileExists));
     }
     let database = read_realm(context, store, from)?;
     check_new_realm(store, &database, target.whole_realm)?;
@@ -80,7 +80,7 @@ fn check_new_realm<T: Store>(
     store: &mut T,
     database: &Database,
     whole: bool,
-) -> Result<(), CommandError<'static>>
+) -> Result<(), EarlyEnd<'static>>
     ensures kept { OnOk result (KeepsRealm whole (T.world store.old) default_policy (tgs_policy database.now)) }
     ensures unchanged { T.world store.new ≡ T.world store.old }
 {
@@ -89,7 +89,7 @@ fn check_new_realm<T: Store>(
     }
     let end = realm_end(store, Policy::default(), tgs_policy(database))?;
     match end {
-        Some(_) => Err(CommandError::refused(Part::Dump, CommandRefusal::EndedRealm)),
+        Some(_) => Err(EarlyEnd::refused(Part::Dump, CommandRefusal::EndedRealm)),
         None => Ok(()),
     }
 }
@@ -99,7 +99,7 @@ fn read_realm<'p, T: Store, W: Write, E: Write>(
     context: &mut Context<W, E>,
     store: &mut T,
     from: DumpArgs<'p>,
-) -> Result<Database, CommandError<'p>>
+) -> Result<Database, EarlyEnd<'p>>
     ensures read { IfOk result (λ database. HasRealm (T.world store.old) from.entry database) }
     ensures unchanged { T.world store.new ≡ T.world store.old }
 {
@@ -117,15 +117,15 @@ fn read_stash<'p, T: Store>(
     alloc: Global,
     store: &mut T,
     path: &'p str,
-) -> Result<Keytab, CommandError<'p>>
+) -> Result<Keytab, EarlyEnd<'p>>
     ensures read { IfOk result (λ stash. IsStash (T.world store.old) path.now stash) }
     ensures unchanged { T.world store.new ≡ T.world store.old }
 {
     let octets = read_file(alloc, store, path)?;
     match Keytab::read(alloc, &octets) {
         Ok(stash) => Ok(stash),
-        Err(CredError::Memory) => Err(CommandError::from(AllocError)),
-        Err(_) => Err(CommandError::refused(Part::Stash, CommandRefusal::BadStash)),
+        Err(CredError::Memory) => Err(EarlyEnd::from(AllocError)),
+        Err(_) => Err(EarlyEnd::refused(Part::Stash, CommandRefusal::BadStash)),
     }
 }
 
@@ -135,7 +135,7 @@ fn import_database<W, E: Write>(
     found: &[DumpedPrincipal],
     stash: &Keytab,
     skip: bool,
-) -> Result<Database, CommandError<'static>>
+) -> Result<Database, EarlyEnd<'static>>
     ensures { IfOk result (λ database. IsDatabaseOf found.now stash.now skip database) }
 {
     let Some(realm) = dump_realm(found) else {
@@ -143,7 +143,7 @@ fn import_database<W, E: Write>(
     };
     let is_whole = report_losses(context.alloc, &mut context.errors, found, realm)?;
     if !is_whole && !skip {
-        return Err(CommandError::refused(Part::Dump, CommandRefusal::NoPlace));
+        return Err(EarlyEnd::refused(Part::Dump, CommandRefusal::NoPlace));
     }
     let rows = import_rows(context, found, realm, stash)?;
     report_taken(context.alloc, &mut context.errors, found, rows.len())?;
@@ -181,7 +181,7 @@ fn import_rows<W, E: Write>(
     found: &[DumpedPrincipal],
     realm: &[u8],
     stash: &Keytab,
-) -> Result<Vec<Entry<Row>>, CommandError<'static>>
+) -> Result<Vec<Entry<Row>>, EarlyEnd<'static>>
     ensures { IfOk result (λ rows. AreRowsOf realm.now stash.now found.now rows.items) }
 {
     let mut rows = Vec::new(context.alloc);
@@ -198,7 +198,7 @@ fn push_row<W, E: Write>(
     principal: &DumpedPrincipal,
     realm: &[u8],
     stash: &Keytab,
-) -> Result<(), CommandError<'static>>
+) -> Result<(), EarlyEnd<'static>>
     ensures { OnOk result
         (IsPushedRow (has_place realm.now principal.now) stash.now principal.now rows.old.items rows.new.items) }
 {
@@ -213,7 +213,7 @@ fn import_entry<W, E: Write>(
     context: &mut Context<W, E>,
     principal: &DumpedPrincipal,
     stash: &Keytab,
-) -> Result<Entry<Row>, CommandError<'static>>
+) -> Result<Entry<Row>, EarlyEnd<'static>>
     ensures name { IfOk result (λ e. e.name.components ≡ principal.now.name.components) }
     ensures row { IfOk result (λ e. IsRowOf stash.now principal.now e.value) }
 {
@@ -231,7 +231,7 @@ fn import_row(
     alloc: Global,
     principal: &DumpedPrincipal,
     entries: &[KeytabEntry],
-) -> Result<Row, CommandError<'static>>
+) -> Result<Row, EarlyEnd<'static>>
     ensures versions { IfOk result (λ row. AreVersionsOf entries.now
         (principal.now.realm ∷ principal.now.name.components) (preference principal.now.keys.items) row.versions) }
     ensures policy { IfOk result (λ row. row.policy ≡ policy_of principal.now.numbers) }

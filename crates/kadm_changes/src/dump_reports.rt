@@ -2,10 +2,10 @@
 ghost use Rattle.std.specs.Prelude.{◌≡◌, All, IfOk, true};
 ghost use Rattle.kadm_changes.specs.Dumps.{LosesNothing};
 
+use crate::early_end::EarlyEnd;
 use crate::reason::{CommandRefusal, Part};
-use crate::stop::CommandError;
 use krb_fields::component_to_text;
-use mit_dump::{DumpError, DumpedPrincipal, LineError};
+use mit_dump::{DumpError, DumpedPrincipal};
 use std::alloc::{AllocError, Global};
 use std::io::Write;
 
@@ -14,21 +14,21 @@ pub(crate) fn report_fault<E: Write>(
     errors: &mut E,
     dump: &str,
     fault: DumpError,
-) -> CommandError<'static> {
-    if fault.cause == LineError::Memory {
-        return CommandError::from(AllocError);
+) -> EarlyEnd<'static> {
+    if fault.is_memory() {
+        return EarlyEnd::from(AllocError);
     }
-    let _ = writeln!(errors, "kadm: {dump}: line {}: {}", fault.line, fault.cause);
-    CommandError::refused(Part::Dump, CommandRefusal::BadDump)
+    let _ = writeln!(errors, "kadm: {dump}: {fault}");
+    EarlyEnd::refused(Part::Dump, CommandRefusal::BadDump)
 }
 
 /// Reports that the principals of a dump make no database. Returns how the command ends.
-pub(crate) fn report_no_database<E: Write>(errors: &mut E) -> CommandError<'static> {
+pub(crate) fn report_no_database<E: Write>(errors: &mut E) -> EarlyEnd<'static> {
     let _ = writeln!(
         errors,
         "kadm: no principal with a key is krbtgt/REALM@REALM, or one is there twice"
     );
-    CommandError::refused(Part::Dump, CommandRefusal::BadDump)
+    EarlyEnd::refused(Part::Dump, CommandRefusal::BadDump)
 }
 
 /// Reports that the keys of a principal can't be decrypted. Returns how the command ends.
@@ -36,16 +36,16 @@ pub(crate) fn report_key_fault<E: Write>(
     alloc: Global,
     errors: &mut E,
     principal: &DumpedPrincipal,
-    fault: LineError,
-) -> CommandError<'static> {
-    if fault == LineError::Memory {
-        return CommandError::from(AllocError);
+    fault: DumpError,
+) -> EarlyEnd<'static> {
+    if fault.is_memory() {
+        return EarlyEnd::from(AllocError);
     }
     if let Err(error) = begin_principal(alloc, errors, principal) {
-        return CommandError::from(error);
+        return EarlyEnd::from(error);
     }
     let _ = writeln!(errors, "{fault}");
-    CommandError::refused(Part::Stash, CommandRefusal::BadStash)
+    EarlyEnd::refused(Part::Stash, CommandRefusal::BadStash)
 }
 
 /// Reports what has no place in a database of this realm, a line each. Returns whether there is nothing.

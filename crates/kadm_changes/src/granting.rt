@@ -12,7 +12,7 @@ ghost use Rattle.kadm_changes.specs.Texts.{path_of};
 use crate::databases::apply;
 use crate::denying::deny_service;
 use crate::draft::Draft;
-use crate::stop::CommandError;
+use crate::early_end::EarlyEnd;
 use enctypes::Etype;
 use file_store::{Store, read_or_draw_seed};
 use krb_fields::{Name, Second};
@@ -85,7 +85,7 @@ pub(crate) fn give_password<'p, T: Store>(
     draft: &mut Draft,
     to: &Recipient<'_>,
     grant: Grant,
-) -> Result<(), CommandError<'p>>
+) -> Result<(), EarlyEnd<'p>>
     // Promise: `passwd` and `add`: keys of the password and the default salt, given as the words say.
     // Promise: besides, the `password_expires` of the old password is cleared.
     ensures given { OnOk result (GivesPassword
@@ -105,7 +105,7 @@ pub(crate) fn give_random<'p, T: Store>(
     draft: &mut Draft,
     to: &Recipient<'_>,
     random: RandomGrant<'p>,
-) -> Result<(), CommandError<'p>>
+) -> Result<(), EarlyEnd<'p>>
     // Promise: `random` and `add --random`: the same with keys drawn from the seed's 32 bytes, which are the file's
     // first or the store's own.
     ensures given { OnOk result (GivesRandom (T.world store.old) to.now.etypes.now

@@ -4,9 +4,9 @@ ghost use Rattle.kadm_changes.specs.Importing.{HasVersions, Imports};
 ghost use Rattle.kadm_changes.specs.Updates.{IsImported};
 
 use crate::draft::Draft;
+use crate::early_end::EarlyEnd;
 use crate::granting::Recipient;
 use crate::reason::Part;
-use crate::stop::CommandError;
 use cred_files::Keytab;
 use file_store::{Store, read_file};
 use krb_fields::Name;
@@ -20,7 +20,7 @@ pub(crate) fn import<'p, T: Store>(
     draft: &mut Draft,
     to: &Recipient<'_>,
     keytab: &'p str,
-) -> Result<(), CommandError<'p>>
+) -> Result<(), EarlyEnd<'p>>
     // Promise: `import` adds a principal that is not there, with the keys that the keytab has of it in the database's
     // realm, of the types asked for.
     // Promise: an imported principal has every version that has such a key, with its number.
@@ -50,7 +50,7 @@ fn read_versions<'p, T: Store>(
     draft: &Draft,
     to: &Recipient<'_>,
     path: &'p str,
-) -> Result<Versions, CommandError<'p>>
+) -> Result<Versions, EarlyEnd<'p>>
     ensures read { IfOk result (λ versions. HasVersions (T.world store.old) path.now
         (draft.now.database.realm ∷ to.now.who.now.components) to.now.etypes.now versions) }
     ensures unchanged { T.world store.new ≡ T.world store.old }

@@ -11,11 +11,11 @@ ghost use Rattle.kadm_changes.specs.declared.keytab_folder.KeytabFile as folder_
 
 use crate::context::Context;
 use crate::databases::{lock_database, read_database};
+use crate::early_end::EarlyEnd;
 use crate::keytab_text::new_keytab;
 use crate::keytabs::{KeytabContent, check_path};
 use crate::patterns::is_like;
 use crate::reason::{CommandRefusal, Part};
-use crate::stop::CommandError;
 use crate::target::Target;
 use file_store::{PathError, Store, Written};
 use krb_fields::Name;
@@ -50,7 +50,7 @@ pub fn write_keytabs<'p, T: Store, W: Write, E: Write>(
     store: &mut T,
     target: &Target<'p>,
     to: FolderArgs<'p>,
-) -> Result<Result<Written, CommandError<'p>>, CommandError<'p>>
+) -> Result<Result<Written, EarlyEnd<'p>>, EarlyEnd<'p>>
     // Promise (wrote, failed): `keytab --like` writes keytabs into the folder, each of the current keys of a principal
     // whose name fits, at a path of that name, and no other file; in the order of the names, none between left out; none
     // at all if one is refused.
@@ -74,7 +74,7 @@ fn keytab_files<'p, T: Store>(
     store: &mut T,
     database: &Database,
     to: FolderArgs<'p>,
-) -> Result<Vec<KeytabFile>, CommandError<'p>>
+) -> Result<Vec<KeytabFile>, EarlyEnd<'p>>
     ensures made { IfOk result (λ files. All (IsKeytabFile to.entry.folder.now database.now) files.items) }
     ensures fit { IfOk result (λ files. map (λ file. string_bytes file.path) files.items
         ≡ map (path_in to.entry.folder.now) (names_like to.entry.like.now (rows.entries database.now.rows))) }
@@ -82,7 +82,7 @@ fn keytab_files<'p, T: Store>(
 {
     let names = names_like(alloc, database, to.like)?;
     if names.is_empty() {
-        return Err(CommandError::refused_value(
+        return Err(EarlyEnd::refused_value(
             Part::Name,
             to.like,
             CommandRefusal::Change(ChangeFault::Absent),
@@ -116,7 +116,7 @@ fn keytab_file<'p, T: Store>(
     database: &Database,
     name: &Name,
     folder: &'p str,
-) -> Result<KeytabFile, CommandError<'p>>
+) -> Result<KeytabFile, EarlyEnd<'p>>
     ensures made { IfOk result (λ file. IsKeytabFile folder.now database.now file) }
     ensures path { IfOk result (λ file. string_bytes file.path ≡ path_in folder.now name.now.components) }
     ensures unchanged { T.world store.new ≡ T.world store.old }
@@ -127,7 +127,7 @@ fn keytab_file<'p, T: Store>(
 }
 
 /// Returns the path of a principal's keytab.
-fn path_in<'p>(alloc: Global, folder: &'p str, name: &Name) -> Result<String, CommandError<'p>>
+fn path_in<'p>(alloc: Global, folder: &'p str, name: &Name) -> Result<String, EarlyEnd<'p>>
     ensures { IfOk result (λ path. string_bytes path ≡ path_in folder.now name.now.components) }
 {
     let text = name.to_text(alloc)?;
@@ -138,7 +138,7 @@ fn path_in<'p>(alloc: Global, folder: &'p str, name: &Name) -> Result<String, Co
     match String::from_utf8(path) {
         Ok(path) => Ok(path),
         // the text of a name is ASCII
-        Err(_) => Err(CommandError::refused(Part::Name, CommandRefusal::BadName)),
+        Err(_) => Err(EarlyEnd::refused(Part::Name, CommandRefusal::BadName)),
     }
 }
 
@@ -169,7 +169,7 @@ fn check_files<'p, T: Store, W: Write, E: Write>(
     store: &mut T,
     files: &[KeytabFile],
     folder: &'p str,
-) -> Result<(), CommandError<'p>>
+) -> Result<(), EarlyEnd<'p>>
     ensures free { OnOk result (All (λ file. IsFreePath (T.world store.old) (string_bytes file.path)) files.now) }
     ensures unchanged { T.world store.new ≡ T.world store.old }
 {
@@ -193,7 +193,7 @@ fn put_files<'p, T: Store>(
     store: &mut T,
     files: &[KeytabFile],
     folder: &'p str,
-) -> Result<Written, CommandError<'p>>
+) -> Result<Written, EarlyEnd<'p>>
     ensures done { OnOk result (T.world store.new ≡ option_map (with_files files.now) (T.world store.old)) }
     ensures begun { OnErr result ((written : List folder_files.KeytabFile) × (left : List folder_files.KeytabFile)
         × (files.now ≡ written ++ left)
@@ -224,7 +224,7 @@ fn put_file<'p, T: Store>(
     store: &mut T,
     file: &KeytabFile,
     folder: &'p str,
-) -> Result<Written, CommandError<'p>>
+) -> Result<Written, EarlyEnd<'p>>
     ensures written { OnOk result (T.world store.new
         ≡ option_map (with_file (string_bytes file.now.path) file.now.octets.items) (T.world store.old)) }
     ensures unchanged { OnErr result (T.world store.new ≡ T.world store.old) }
@@ -232,6 +232,6 @@ fn put_file<'p, T: Store>(
 {
     match store.write(alloc, &file.path, &file.octets) {
         Ok(written) => Ok(written),
-        Err(error) => Err(CommandError::File(PathError::failed(folder, error))),
+        Err(error) => Err(EarlyEnd::File(PathError::failed(folder, error))),
     }
 }

@@ -6,10 +6,10 @@ ghost use Rattle.principal_rows.specs.declared.row.Row as rows;
 ghost use Rattle.kadm_changes.specs.Keytabs.{AreGivenOut, IsNewKeytab, IsNextVersion, all_entries, entries_of};
 ghost use Rattle.kadm_changes.specs.Texts.{path_of};
 
+use crate::early_end::EarlyEnd;
 use crate::keytabs::KeytabContent;
 use crate::realm::refuse_tgs;
 use crate::reason::RealmEnd;
-use crate::stop::CommandError;
 use cred_files::{Keytab, KeytabEntry};
 use enctypes::Etype;
 use file_store::{Store, read_or_draw_seed};
@@ -27,7 +27,7 @@ pub(crate) fn new_keytab<'p, T: Store>(
     database: &Database,
     name: &Name,
     content: KeytabContent<'p>,
-) -> Result<Vec<u8>, CommandError<'p>>
+) -> Result<Vec<u8>, EarlyEnd<'p>>
     ensures holds { IfOk result (λ octets. IsNewKeytab
         (T.world store.old) content.entry database.now name.now octets.items) }
     ensures unchanged { T.world store.new ≡ T.world store.old }
@@ -44,7 +44,7 @@ fn given_out<'p, T: Store>(
     database: &Database,
     name: &Name,
     content: KeytabContent<'p>,
-) -> Result<Vec<KeyVersion>, CommandError<'p>>
+) -> Result<Vec<KeyVersion>, EarlyEnd<'p>>
     ensures given { IfOk result (λ given. (row : rows.Row)
         × (finite.get database.now.rows name.now.components ≡ Some row)
         × AreGivenOut (T.world store.old) content.entry database.now.realm name.now.components
@@ -52,7 +52,7 @@ fn given_out<'p, T: Store>(
     ensures unchanged { T.world store.new ≡ T.world store.old }
 {
     let Some(row) = database.get(name) else {
-        return Err(CommandError::from(ChangeFault::Absent));
+        return Err(EarlyEnd::from(ChangeFault::Absent));
     };
     let current = row.versions.current();
     let mut versions = Vec::new(alloc);
@@ -70,12 +70,12 @@ fn next_version<'p, T: Store>(
     store: &mut T,
     current: &KeyVersion,
     seed: Option<&'p str>,
-) -> Result<KeyVersion, CommandError<'p>>
+) -> Result<KeyVersion, EarlyEnd<'p>>
     ensures next { IfOk result (λ next. IsNextVersion (T.world store.old) (path_of seed.entry) current.now next) }
     ensures unchanged { T.world store.new ≡ T.world store.old }
 {
     let Some(number) = current.number.checked_add(1) else {
-        return Err(CommandError::from(ChangeFault::LastVersion));
+        return Err(EarlyEnd::from(ChangeFault::LastVersion));
     };
     let etypes = etypes_of(alloc, &current.keys)?;
     let keys = random_keys(alloc, &etypes, read_or_draw_seed(alloc, store, seed)?)?;

@@ -8,10 +8,10 @@ ghost use Rattle.kadm_changes.specs.Worlds.{WroteKeytab};
 
 use crate::context::Context;
 use crate::databases::{lock_database, read_database};
+use crate::early_end::EarlyEnd;
 use crate::joining::{joined, without_end};
 use crate::keytab_text::new_keytab;
 use crate::reason::{CommandRefusal, Part};
-use crate::stop::CommandError;
 use crate::target::Target;
 use cred_files::{CredError, Keytab};
 use file_store::{
@@ -75,7 +75,7 @@ pub fn write_keytab<'p, T: Store, W: Write, E: Write>(
     store: &mut T,
     target: &Target<'p>,
     to: KeytabArgs<'p>,
-) -> Result<Written, CommandError<'p>>
+) -> Result<Written, EarlyEnd<'p>>
     // Promise: `keytab` reads a database that has the principal, and writes one file: its current keys as entries of a
     // keytab.
     // Promise: `keytab --next` writes the current keys, and after them new ones of the same types, drawn from the seed,
@@ -104,19 +104,19 @@ pub(crate) fn check_path<'p, T: Store>(
     alloc: Global,
     store: &mut T,
     path: &'p str,
-) -> Result<(), CommandError<'p>>
+) -> Result<(), EarlyEnd<'p>>
     ensures free { OnOk result (IsFreePath (T.world store.old) path.now) }
     ensures unchanged { T.world store.new ≡ T.world store.old }
 {
     if path.ends_with(LOCK_END) {
-        return Err(CommandError::refused(Part::NewKeytab, CommandRefusal::IsLock));
+        return Err(EarlyEnd::refused(Part::NewKeytab, CommandRefusal::IsLock));
     }
     if has_lock(alloc, store, path)? {
-        return Err(CommandError::refused(Part::NewKeytab, CommandRefusal::IsDatabase));
+        return Err(EarlyEnd::refused(Part::NewKeytab, CommandRefusal::IsDatabase));
     }
     let first = first_octet(alloc, store, path)?;
     if is_other_file(first) {
-        return Err(CommandError::from(CredError::BadMagic));
+        return Err(EarlyEnd::from(CredError::BadMagic));
     }
     Ok(())
 }
@@ -132,18 +132,14 @@ fn is_other_file(first: Option<u8>) -> bool
 }
 
 /// Checks whether there is a lock beside a file.
-fn has_lock<'p, T: Store>(
-    alloc: Global,
-    store: &mut T,
-    path: &'p str,
-) -> Result<bool, CommandError<'p>>
+fn has_lock<'p, T: Store>(alloc: Global, store: &mut T, path: &'p str) -> Result<bool, EarlyEnd<'p>>
     ensures there { IfOk result (λ found. IsThere (T.world store.old) (lock_of path.now) found) }
     ensures unchanged { T.world store.new ≡ T.world store.old }
 {
     let beside = format!(in alloc; "{path}{LOCK_END}")?;
     match store.exists(&beside) {
         Ok(found) => Ok(found),
-        Err(error) => Err(CommandError::from(PathError::failed(path, error))),
+        Err(error) => Err(EarlyEnd::from(PathError::failed(path, error))),
     }
 }
 
@@ -154,7 +150,7 @@ fn new_octets<'p, T: Store>(
     database: &Database,
     name: &Name,
     to: KeytabArgs<'p>,
-) -> Result<Vec<u8>, CommandError<'p>>
+) -> Result<Vec<u8>, EarlyEnd<'p>>
     ensures holds { IfOk result (λ octets. IsKeytabFor
         (T.world store.old) to.entry name.now.components database.now octets.items) }
     ensures unchanged { T.world store.new ≡ T.world store.old }
@@ -171,7 +167,7 @@ fn put_octets<'p, T: Store>(
     target: &Target<'p>,
     to: KeytabArgs<'p>,
     octets: &[u8],
-) -> Result<Written, CommandError<'p>>
+) -> Result<Written, EarlyEnd<'p>>
     ensures written { OnOk result (T.world store.new
         ≡ option_map (with_file to.entry.out.now octets.now) (T.world store.old)) }
     ensures unchanged { OnErr result (T.world store.new ≡ T.world store.old) }
@@ -188,7 +184,7 @@ fn read_old<'p, T: Store>(
     store: &mut T,
     path: &'p str,
     append: bool,
-) -> Result<Option<Vec<u8>>, CommandError<'p>>
+) -> Result<Option<Vec<u8>>, EarlyEnd<'p>>
     ensures old { IfOk result (λ old. IsOldKeytab (T.world store.old) append path.now
         (option_map (λ octets. octets.items) old)) }
     ensures unchanged { T.world store.new ≡ T.world store.old }
@@ -202,7 +198,7 @@ fn read_old<'p, T: Store>(
 }
 
 /// Refuses the keytab of another user, who may have put it there to get the new keys.
-fn check_owner<'p, T: Store>(store: &mut T, path: &'p str) -> Result<(), CommandError<'p>>
+fn check_owner<'p, T: Store>(store: &mut T, path: &'p str) -> Result<(), EarlyEnd<'p>>
     ensures ours { OnOk result (IsOurs (T.world store.old) path.now) }
     ensures unchanged { T.world store.new ≡ T.world store.old }
 {
@@ -212,7 +208,7 @@ fn check_owner<'p, T: Store>(store: &mut T, path: &'p str) -> Result<(), Command
     }
     let folder = match file_rights(store, folder_of(path)) {
         Ok(folder) => folder,
-        Err(fault) => return Err(CommandError::from(PathError {
+        Err(fault) => return Err(EarlyEnd::from(PathError {
             path,
             cause: fault.cause,
         })),
@@ -220,7 +216,7 @@ fn check_owner<'p, T: Store>(store: &mut T, path: &'p str) -> Result<(), Command
     if is_ours(file, folder) {
         return Ok(());
     }
-    Err(CommandError::refused(Part::NewKeytab, CommandRefusal::NotOurs))
+    Err(EarlyEnd::refused(Part::NewKeytab, CommandRefusal::NotOurs))
 }
 
 /// Checks whether the user who runs the program owns a file.
@@ -255,7 +251,7 @@ fn read_judged<'p, T: Store>(
     alloc: Global,
     store: &mut T,
     path: &'p str,
-) -> Result<Vec<u8>, CommandError<'p>>
+) -> Result<Vec<u8>, EarlyEnd<'p>>
     ensures read { IfOk result (λ front. (old : List ℕ) × IsRead (T.world store.old) path.now old
         × IsKept old front.items) }
     ensures unchanged { T.world store.new ≡ T.world store.old }
@@ -266,7 +262,7 @@ fn read_judged<'p, T: Store>(
 }
 
 /// Returns the entries of a new keytab behind those of an old one, if there is one.
-fn behind(old: Option<Vec<u8>>, new: Vec<u8>) -> Result<Vec<u8>, CommandError<'static>>
+fn behind(old: Option<Vec<u8>>, new: Vec<u8>) -> Result<Vec<u8>, EarlyEnd<'static>>
     ensures { IfOk result (λ all. IsBehind (option_map (λ octets. octets.items) old) new.items all.items) }
 {
     match old {

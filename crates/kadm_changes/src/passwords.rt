@@ -8,10 +8,10 @@ ghost use Rattle.file_store.specs.World.{HasFirstLine};
 
 use crate::context::Context;
 use crate::databases::read_database;
+use crate::early_end::EarlyEnd;
 use crate::granting::Grant;
 use crate::realm::is_tgs_text;
 use crate::reason::{CommandRefusal, Part, RealmEnd};
-use crate::stop::CommandError;
 use crate::target::Target;
 use crate::updates::{RowArgs, RowUpdate, Update};
 use file_store::{FileError, PathError, STANDARD_INPUT, Store, ask_password, read_password};
@@ -131,7 +131,7 @@ pub(crate) fn new_password<'p, T: Store, W: Write, E: Write>(
     store: &mut T,
     target: &Target<'p>,
     row: &RowArgs<'p>,
-) -> Result<Vec<u8>, CommandError<'p>>
+) -> Result<Vec<u8>, EarlyEnd<'p>>
     // Promise: the password is the first line of its file, if one is named.
     // Promise: without a file it is the next line of standard input; at a terminal that line is there twice.
     ensures given { IfOk result (λ pass. IsSecretOf (T.world store.old) (T.input store.old) row.now.how pass.items) }
@@ -173,7 +173,7 @@ fn any_password<'p, T: Store, W: Write, E: Write>(
     store: &mut T,
     asked: Asked<'p>,
     args: PasswordArgs<'p>,
-) -> Result<Vec<u8>, CommandError<'p>>
+) -> Result<Vec<u8>, EarlyEnd<'p>>
     ensures given { IfOk result (λ pass. IsPasswordOf (T.world store.old) (T.input store.old)
         (path_of args.entry.file) pass.items) }
     ensures unchanged { T.world store.new ≡ T.world store.old }
@@ -192,7 +192,7 @@ pub(crate) fn batch_password<'p, T: Store>(
     store: &mut T,
     how: &RowUpdate<'p>,
     found: Option<&FoundPassword>,
-) -> Result<Vec<u8>, CommandError<'p>>
+) -> Result<Vec<u8>, EarlyEnd<'p>>
     requires found { IsFoundIn (T.world store.old) found }
     // Promise, as new_password: the password is the ..
     ensures given { IfOk result (λ pass. IsSecretOf (T.world store.old) no_input how.now pass.items) }
@@ -213,14 +213,14 @@ fn file_password<'p, T: Store>(
     store: &mut T,
     args: PasswordArgs<'p>,
     found: Option<&FoundPassword>,
-) -> Result<Vec<u8>, CommandError<'p>>
+) -> Result<Vec<u8>, EarlyEnd<'p>>
     requires found { IsFoundIn (T.world store.old) found }
     ensures given { IfOk result (λ pass. IsPasswordOf (T.world store.old) no_input
         (path_of args.entry.file) pass.items) }
     ensures unchanged { T.world store.new ≡ T.world store.old }
 {
     let Some(path) = args.file else {
-        return Err(CommandError::refused(Part::Name, CommandRefusal::NoPassword));
+        return Err(EarlyEnd::refused(Part::Name, CommandRefusal::NoPassword));
     };
     likely(found_or_read(alloc, store, path, found)?, args.any)
 }
@@ -231,7 +231,7 @@ fn found_or_read<'p, T: Store>(
     store: &mut T,
     path: &'p str,
     found: Option<&FoundPassword>,
-) -> Result<Vec<u8>, CommandError<'p>>
+) -> Result<Vec<u8>, EarlyEnd<'p>>
     requires found { IsFoundIn (T.world store.old) found }
     ensures line { IfOk result (λ pass. HasFirstLine (T.world store.old) path.now pass.items) }
     ensures unchanged { T.world store.new ≡ T.world store.old }
@@ -243,17 +243,13 @@ fn found_or_read<'p, T: Store>(
 }
 
 /// Returns the password that was found in a file.
-fn password_in<'p>(
-    alloc: Global,
-    path: &'p str,
-    line: &FoundLine,
-) -> Result<Vec<u8>, CommandError<'p>>
+fn password_in<'p>(alloc: Global, path: &'p str, line: &FoundLine) -> Result<Vec<u8>, EarlyEnd<'p>>
     ensures { IfOk result (λ pass. HasPassword line.now pass.items) }
 {
     match line {
         FoundLine::Password(pass) => Ok(Vec::from_slice(alloc, pass)?),
         FoundLine::TooLong => Err(too_long(path)),
-        FoundLine::Fault(cause) => Err(CommandError::from(PathError {
+        FoundLine::Fault(cause) => Err(EarlyEnd::from(PathError {
             path,
             cause: *cause,
         })),
@@ -265,7 +261,7 @@ fn read_password_file<'p, T: Store>(
     alloc: Global,
     store: &mut T,
     path: &'p str,
-) -> Result<Vec<u8>, CommandError<'p>>
+) -> Result<Vec<u8>, EarlyEnd<'p>>
     ensures line { IfOk result (λ pass. HasFirstLine (T.world store.old) path.now pass.items) }
     ensures unchanged { T.world store.new ≡ T.world store.old }
 {
@@ -276,16 +272,16 @@ fn read_password_file<'p, T: Store>(
 }
 
 /// Returns the stop for a source with too long a password.
-fn too_long(source: &str) -> CommandError<'_> {
-    CommandError::refused_value(Part::PasswordFile, source, CommandRefusal::LongPassword)
+fn too_long(source: &str) -> EarlyEnd<'_> {
+    EarlyEnd::refused_value(Part::PasswordFile, source, CommandRefusal::LongPassword)
 }
 
 /// Returns the password, unless it is unlikely and only likely ones are accepted.
-fn likely(pass: Vec<u8>, any: bool) -> Result<Vec<u8>, CommandError<'static>>
+fn likely(pass: Vec<u8>, any: bool) -> Result<Vec<u8>, EarlyEnd<'static>>
     ensures { IfOk result (λ likely. likely.items ≡ pass.items) }
 {
     if !any && is_unlikely(&pass) {
-        return Err(CommandError::refused(Part::Name, CommandRefusal::BadPassword));
+        return Err(EarlyEnd::refused(Part::Name, CommandRefusal::BadPassword));
     }
     Ok(pass)
 }
@@ -303,16 +299,13 @@ fn asked_password<'p, T: Store, W: Write, E: Write>(
     context: &mut Context<W, E>,
     store: &mut T,
     asked: Asked<'p>,
-) -> Result<Vec<u8>, CommandError<'p>>
+) -> Result<Vec<u8>, EarlyEnd<'p>>
     ensures typed { IfOk result (λ pass. IsTyped (T.input store.old) pass.items) }
     ensures unchanged { T.world store.new ≡ T.world store.old }
 {
     let database = read_database(context, store, asked.db)?;
     if !asked.may_be_tgs && is_tgs_text(context.alloc, &database, asked.name) {
-        return Err(CommandError::refused(
-            Part::Name,
-            CommandRefusal::EndsRealm(RealmEnd::Guessable),
-        ));
+        return Err(EarlyEnd::refused(Part::Name, CommandRefusal::EndsRealm(RealmEnd::Guessable)));
     }
     let realm = component_to_text(context.alloc, database.realm())?;
     ask_twice(context.alloc, store, asked.name, &realm)
@@ -325,7 +318,7 @@ fn ask_twice<T: Store>(
     store: &mut T,
     name: &str,
     realm: &str,
-) -> Result<Vec<u8>, CommandError<'static>>
+) -> Result<Vec<u8>, EarlyEnd<'static>>
     ensures typed { IfOk result (λ pass. IsTyped (T.input store.old) pass.items) }
     ensures unchanged { T.world store.new ≡ T.world store.old }
 {
@@ -335,7 +328,7 @@ fn ask_twice<T: Store>(
     }
     let again = ask_once(alloc, store, name, realm)?;
     if again != pass {
-        return Err(CommandError::refused(Part::Name, CommandRefusal::Mismatch));
+        return Err(EarlyEnd::refused(Part::Name, CommandRefusal::Mismatch));
     }
     Ok(pass)
 }
@@ -346,7 +339,7 @@ fn ask_once<T: Store>(
     store: &mut T,
     name: &str,
     realm: &str,
-) -> Result<Vec<u8>, CommandError<'static>>
+) -> Result<Vec<u8>, EarlyEnd<'static>>
     ensures line { IfOk result (λ pass. TakesLine (T.input store.old) pass.items (T.input store.new)) }
     ensures unchanged { T.world store.new ≡ T.world store.old }
 {

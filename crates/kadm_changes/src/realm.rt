@@ -4,8 +4,8 @@ ghost use Rattle.krb_fields.specs.Granting.{tgs_principal};
 ghost use Rattle.kadm_changes.specs.Realm.{IsAhead, IsAsOpen, IsGone, IsOther, KeepsRealm, MayHaveKeys};
 ghost use Rattle.kadm_changes.specs.Realm.{MayHavePassword, tgs_policy};
 
+use crate::early_end::EarlyEnd;
 use crate::reason::{CommandRefusal, Part, RealmEnd};
-use crate::stop::CommandError;
 use crate::updates::RowUpdate;
 use file_store::{Store, read_clock};
 use krb_fields::{Name, Second, component_to_text, tgs_name};
@@ -39,7 +39,7 @@ pub(crate) fn check_realm<'p, T: Store>(
     whole: bool,
     before: Policy,
     names: &[&'p str],
-) -> Result<(), CommandError<'p>>
+) -> Result<(), EarlyEnd<'p>>
     ensures kept { OnOk result (KeepsRealm whole (T.world store.old) before (tgs_policy database.now)) }
     ensures unchanged { T.world store.new ≡ T.world store.old }
 {
@@ -59,7 +59,7 @@ pub(crate) fn realm_end<T: Store>(
     store: &mut T,
     old: Policy,
     new: Policy,
-) -> Result<Option<RealmEnd>, CommandError<'static>>
+) -> Result<Option<RealmEnd>, EarlyEnd<'static>>
     ensures open { IfOk result (λ end. IfNone end (IfSome (T.world store.old) (λ held. IsAsOpen held.now old new))) }
     ensures unchanged { T.world store.new ≡ T.world store.old }
 {
@@ -105,7 +105,7 @@ fn has_gone<T: Store>(
     store: &mut T,
     old: Option<Second>,
     new: Option<Second>,
-) -> Result<bool, CommandError<'static>>
+) -> Result<bool, EarlyEnd<'static>>
     ensures lasting { IfOk result (λ gone. IsFalse gone → IfSome (T.world store.old) (λ held.
         IsGone held.now new → IsGone held.now old)) }
     ensures unchanged { T.world store.new ≡ T.world store.old }
@@ -143,7 +143,7 @@ pub(crate) fn check_password(
     whole: bool,
     who: &Name,
     how: &RowUpdate<'_>,
-) -> Result<(), CommandError<'static>>
+) -> Result<(), EarlyEnd<'static>>
     ensures { OnOk result (MayHaveKeys whole database.now.realm who.now.components how.now) }
 {
     match how {
@@ -159,7 +159,7 @@ fn check_guess(
     database: &Database,
     whole: bool,
     who: &Name,
-) -> Result<(), CommandError<'static>>
+) -> Result<(), EarlyEnd<'static>>
     ensures { OnOk result (MayHavePassword whole database.now.realm who.now.components) }
 {
     if whole {
@@ -175,11 +175,11 @@ pub(crate) fn refuse_tgs(
     database: &Database,
     who: &Name,
     end: RealmEnd,
-) -> Result<(), CommandError<'static>>
+) -> Result<(), EarlyEnd<'static>>
     ensures { OnOk result (IsOther database.now.realm who.now.components) }
 {
     if is_tgs(alloc, database, who)? {
-        return Err(CommandError::refused(Part::Name, CommandRefusal::EndsRealm(end)));
+        return Err(EarlyEnd::refused(Part::Name, CommandRefusal::EndsRealm(end)));
     }
     Ok(())
 }
@@ -198,8 +198,8 @@ fn protected<'p>(
     database: &Database,
     names: &[&'p str],
     end: RealmEnd,
-) -> CommandError<'p> {
-    let stop = CommandError::refused(Part::Name, CommandRefusal::EndsRealm(end));
+) -> EarlyEnd<'p> {
+    let stop = EarlyEnd::refused(Part::Name, CommandRefusal::EndsRealm(end));
     match tgs_text(alloc, database, names) {
         Some(name) => stop.about(Part::Name, name),
         None => stop,

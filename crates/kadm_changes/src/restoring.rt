@@ -6,9 +6,9 @@ ghost use Rattle.kadm_changes.specs.Worlds.{HoldsDatabase};
 
 use crate::context::Context;
 use crate::databases::{lock_database, read_database, write_database};
+use crate::early_end::EarlyEnd;
 use crate::realm::{realm_end, report_realm, tgs_policy};
 use crate::reason::{CommandRefusal, Part};
-use crate::stop::CommandError;
 use crate::target::Target;
 use file_store::{Store, Written, has_file, read_at_most};
 use principal_rows::Policy;
@@ -24,7 +24,7 @@ pub fn restore<'p, T: Store, W: Write, E: Write>(
     store: &mut T,
     target: &Target<'p>,
     from: &'p str,
-) -> Result<Written, CommandError<'p>>
+) -> Result<Written, EarlyEnd<'p>>
     // Promise: `restore`: the path then has the database that the other file has, which is of the realm of the one
     // that was there, if there was one.
     // Promise, as kadm_run of kadm: without `--whole-realm` no command ..
@@ -51,7 +51,7 @@ fn read_from<'p, T: Store, W: Write, E: Write>(
     context: &mut Context<W, E>,
     store: &mut T,
     from: &'p str,
-) -> Result<Database, CommandError<'p>>
+) -> Result<Database, EarlyEnd<'p>>
     ensures read { IfOk result (λ database. HoldsDatabase (T.world store.old) from.now database) }
     ensures unchanged { T.world store.new ≡ T.world store.old }
 {
@@ -67,7 +67,7 @@ fn read_replaced<'p, T: Store>(
     alloc: Global,
     store: &mut T,
     db: &'p str,
-) -> Result<Option<Database>, CommandError<'p>>
+) -> Result<Option<Database>, EarlyEnd<'p>>
     ensures there { IfOk result (λ old. HasOrNot (T.world store.old) db.now old) }
     ensures unchanged { T.world store.new ≡ T.world store.old }
 {
@@ -86,11 +86,11 @@ fn read_replaced<'p, T: Store>(
 }
 
 /// Fails if a text was not read because memory ran out.
-fn check_memory(cause: ReadError) -> Result<(), CommandError<'static>>
+fn check_memory(cause: ReadError) -> Result<(), EarlyEnd<'static>>
     ensures { OnOk result (cause ≢ ReadError.Memory) }
 {
     match cause {
-        ReadError::Memory => Err(CommandError::from(AllocError)),
+        ReadError::Memory => Err(EarlyEnd::from(AllocError)),
         ReadError::NotJson => Ok(()),
         ReadError::BadVersion => Ok(()),
         ReadError::BadRow => Ok(()),
@@ -103,7 +103,7 @@ fn check_same_realm<'p>(
     old: &Option<Database>,
     new: &Database,
     from: &'p str,
-) -> Result<(), CommandError<'p>>
+) -> Result<(), EarlyEnd<'p>>
     ensures { OnOk result (IsOfRealm old.now new.now) }
 {
     match old {
@@ -112,13 +112,13 @@ fn check_same_realm<'p>(
     }
 }
 
-fn check_realm_of<'p>(old: &Database, new: &Database, from: &'p str) -> Result<(), CommandError<'p>>
+fn check_realm_of<'p>(old: &Database, new: &Database, from: &'p str) -> Result<(), EarlyEnd<'p>>
     ensures { OnOk result (bytes_eq new.now.realm old.now.realm ≡ true) }
 {
     if has_realm(new, old.realm()) {
         return Ok(());
     }
-    Err(CommandError::refused_value(Part::Database, from, CommandRefusal::OtherRealm))
+    Err(EarlyEnd::refused_value(Part::Database, from, CommandRefusal::OtherRealm))
 }
 
 /// Checks whether a database is of this realm.
@@ -135,7 +135,7 @@ fn check_open<'p, T: Store>(
     new: &Database,
     from: &'p str,
     whole: bool,
-) -> Result<(), CommandError<'p>>
+) -> Result<(), EarlyEnd<'p>>
     ensures kept { OnOk result (KeepsRealm whole (T.world store.old) (replaced_policy old.now) (tgs_policy new.now)) }
     ensures unchanged { T.world store.new ≡ T.world store.old }
 {
@@ -144,11 +144,7 @@ fn check_open<'p, T: Store>(
     }
     let end = realm_end(store, policy_of(old), tgs_policy(new))?;
     match end {
-        Some(_) => Err(CommandError::refused_value(
-            Part::Database,
-            from,
-            CommandRefusal::EndedRealm,
-        )),
+        Some(_) => Err(EarlyEnd::refused_value(Part::Database, from, CommandRefusal::EndedRealm)),
         None => Ok(()),
     }
 }

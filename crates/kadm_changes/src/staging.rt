@@ -10,9 +10,9 @@ ghost use Rattle.kadm_changes.specs.Staging.{HasNextKeys, IsNext, IsStaged, is_s
 
 use crate::databases::apply;
 use crate::draft::Draft;
+use crate::early_end::EarlyEnd;
 use crate::realm::refuse_tgs;
 use crate::reason::{CommandRefusal, Part, RealmEnd};
-use crate::stop::CommandError;
 use cred_files::{Keytab, KeytabEntry};
 use enctypes::Key;
 use file_store::{Store, read_file};
@@ -38,7 +38,7 @@ pub(crate) fn give_staged<'p, T: Store>(
     draft: &mut Draft,
     who: &Name,
     keytab: &'p str,
-) -> Result<(), CommandError<'p>>
+) -> Result<(), EarlyEnd<'p>>
     // Promise: `random --from` gives a principal the keys that the keytab has with the version after the current one,
     // in its order, and changes nothing else.
     // Promise: the keytab of `random --from` is for the principal alone: it has its current keys and those, and no
@@ -59,7 +59,7 @@ fn staged_keys<'p, T: Store>(
     draft: &Draft,
     who: &Name,
     path: &'p str,
-) -> Result<KeyList, CommandError<'p>>
+) -> Result<KeyList, EarlyEnd<'p>>
     ensures next { IfOk result (λ keys. (row : rows.Row)
         × (finite.get draft.now.database.rows who.now.components ≡ Some row)
         × HasNextKeys (T.world store.old) path.now (draft.now.database.realm ∷ who.now.components)
@@ -67,7 +67,7 @@ fn staged_keys<'p, T: Store>(
     ensures unchanged { T.world store.new ≡ T.world store.old }
 {
     let Some(row) = draft.database.get(who) else {
-        return Err(CommandError::from(ChangeFault::Absent));
+        return Err(EarlyEnd::from(ChangeFault::Absent));
     };
     let service = Service {
         realm: draft.database.realm(),
@@ -83,7 +83,7 @@ fn read_staged<'p, T: Store>(
     alloc: Global,
     store: &mut T,
     path: &'p str,
-) -> Result<Keytab, CommandError<'p>>
+) -> Result<Keytab, EarlyEnd<'p>>
     ensures read { IfOk result (λ keytab. (octets : List ℕ) × IsRead (T.world store.old) path.now octets
         × IsKeytab keytab octets) }
     ensures unchanged { T.world store.new ≡ T.world store.old }
@@ -91,7 +91,7 @@ fn read_staged<'p, T: Store>(
     let octets = read_file(alloc, store, path)?;
     match Keytab::read(alloc, &octets) {
         Ok(keytab) => Ok(keytab),
-        Err(fault) => Err(CommandError::from(fault).about(Part::Keytab, path)),
+        Err(fault) => Err(EarlyEnd::from(fault).about(Part::Keytab, path)),
     }
 }
 
@@ -101,13 +101,13 @@ fn next_keys<'p>(
     service: &Service<'_>,
     entries: &[KeytabEntry],
     path: &'p str,
-) -> Result<KeyList, CommandError<'p>>
+) -> Result<KeyList, EarlyEnd<'p>>
     ensures { IfOk result (λ keys. IsNext (service.now.realm.now ∷ service.now.who.now.components)
         service.now.current.now entries.now keys) }
 {
     let current = service.current;
     let Some(next) = current.number.checked_add(1) else {
-        return Err(CommandError::from(ChangeFault::LastVersion));
+        return Err(EarlyEnd::from(ChangeFault::LastVersion));
     };
     let held = keys_numbered(alloc, entries, current.number)?;
     if !are_staged(entries, service, next) || !are_same(&held, current.keys.keys()) {
@@ -116,14 +116,14 @@ fn next_keys<'p>(
     let keys = keys_numbered(alloc, entries, next)?;
     match KeyList::new(alloc, &keys) {
         Ok(keys) => Ok(keys),
-        Err(KeyListError::Memory) => Err(CommandError::from(AllocError)),
+        Err(KeyListError::Memory) => Err(EarlyEnd::from(AllocError)),
         Err(KeyListError::Empty | KeyListError::Doubled) => Err(not_next(path)),
     }
 }
 
 /// Returns the refusal of a keytab that doesn't have the next version and the current one alone.
-fn not_next(path: &str) -> CommandError<'_> {
-    CommandError::refused_value(Part::Keytab, path, CommandRefusal::NotNext)
+fn not_next(path: &str) -> EarlyEnd<'_> {
+    EarlyEnd::refused_value(Part::Keytab, path, CommandRefusal::NotNext)
 }
 
 /// Checks whether all entries are the principal's, with its current version or this next one.

@@ -13,6 +13,7 @@ use crate::context::Context;
 use crate::databases::{lock_database, read_database, write_database};
 use crate::denying::is_user;
 use crate::draft::Draft;
+use crate::early_end::EarlyEnd;
 use crate::granting::{Grant, RandomGrant, Recipient, expiring, give_password, give_random};
 use crate::importing::import;
 use crate::note::{Note, OldExpiry};
@@ -20,7 +21,6 @@ use crate::passwords::{FoundPassword, PasswordGrant, batch_password, new_passwor
 use crate::realm::{check_password, check_realm, report_realm, tgs_policy};
 use crate::set_times::report_times;
 use crate::staging::give_staged;
-use crate::stop::CommandError;
 use crate::target::Target;
 use file_store::{Store, Written, read_clock};
 use krb_fields::Name;
@@ -68,7 +68,7 @@ pub fn make_update<'p, T: Store, W: Write, E: Write>(
     store: &mut T,
     target: &Target<'p>,
     update: Update<'p>,
-) -> Result<Written, CommandError<'p>>
+) -> Result<Written, EarlyEnd<'p>>
     // Promise: who changes a database reads it once and writes it once: the path then has the text of what the change
     // made of the database that was read.
     // Promise, as kadm_run of kadm: without `--whole-realm` no command ..
@@ -94,7 +94,7 @@ fn update_row<'p, T: Store, W: Write, E: Write>(
     store: &mut T,
     target: &Target<'p>,
     to: &RowArgs<'p>,
-) -> Result<Written, CommandError<'p>>
+) -> Result<Written, EarlyEnd<'p>>
     ensures done { OnOk result (Rewritten (T.world store.old) target.now.db.now
         (IsRowUpdated (T.world store.old) (T.input store.old) target.now.whole_realm target.now to.now)
         (T.world store.new)) }
@@ -144,7 +144,7 @@ fn update_rows<'p, T: Store, W: Write, E: Write>(
     store: &mut T,
     target: &Target<'p>,
     how: ChangeArgs,
-) -> Result<Written, CommandError<'p>>
+) -> Result<Written, EarlyEnd<'p>>
     ensures done { OnOk result (Rewritten (T.world store.old) target.now.db.now
         (AreKept (T.world store.old) target.now.whole_realm target.now how) (T.world store.new)) }
     // Promise, as make_update: a command that ends ..
@@ -170,7 +170,7 @@ fn migrate<'p, T: Store, W: Write, E: Write>(
     store: &mut T,
     target: &Target<'p>,
     users_are_no_services: bool,
-) -> Result<Written, CommandError<'p>>
+) -> Result<Written, EarlyEnd<'p>>
     ensures done { OnOk result (Rewritten (T.world store.old) target.now.db.now
         (IsMigrated (T.world store.old) target.now.whole_realm users_are_no_services) (T.world store.new)) }
     // Promise, as make_update: a command that ends ..
@@ -194,7 +194,7 @@ pub fn update_in_batch<'p, T: Store>(
     whole: bool,
     update: Update<'p>,
     found: Option<&FoundPassword>,
-) -> Result<Option<Note>, CommandError<'p>>
+) -> Result<Option<Note>, EarlyEnd<'p>>
     requires found { IsFoundIn (T.world store.old) found }
     // Promise, as kadm_run of kadm: without `--whole-realm` no command ..
     // Promise, as kadm_run of kadm: without it, `krbtgt/R` is ..
@@ -227,7 +227,7 @@ fn row_in_batch<'p, T: Store>(
     whole: bool,
     to: &RowArgs<'p>,
     found: Option<&FoundPassword>,
-) -> Result<Option<Note>, CommandError<'p>>
+) -> Result<Option<Note>, EarlyEnd<'p>>
     requires found { IsFoundIn (T.world store.old) found }
     ensures done { OnOk result (IsRowUpdated
         (T.world store.old) no_input whole target.now to.now draft.old.database draft.new.database) }
@@ -254,7 +254,7 @@ fn keep_row<'p, T: Store>(
     how: &RowUpdate<'p>,
     target: &Target<'p>,
     whole: bool,
-) -> Result<(), CommandError<'p>>
+) -> Result<(), EarlyEnd<'p>>
     ensures changed { OnOk result (IsRowKept (T.world store.old) whole recipient.now.etypes.now
         (all_asked target.now.settings.items) recipient.now.pass.now how.now recipient.now.who.now.components
         draft.old.database draft.new.database) }
@@ -280,7 +280,7 @@ fn keep_all<'p, T: Store>(
     target: &Target<'p>,
     how: ChangeArgs,
     whole: bool,
-) -> Result<(), CommandError<'p>>
+) -> Result<(), EarlyEnd<'p>>
     ensures changed { OnOk result (AreKept (T.world store.old) whole target.now how
         draft.old.database draft.new.database) }
     ensures unchanged { T.world store.new ≡ T.world store.old }
@@ -303,7 +303,7 @@ fn keep_migrated<T: Store>(
     draft: &mut Draft,
     users_are_no_services: bool,
     whole: bool,
-) -> Result<(), CommandError<'static>>
+) -> Result<(), EarlyEnd<'static>>
     ensures migrated { OnOk result (IsMigrated
         (T.world store.old) whole users_are_no_services draft.old.database draft.new.database) }
     ensures unchanged { T.world store.new ≡ T.world store.old }
@@ -321,7 +321,7 @@ fn change_row<'p, T: Store>(
     recipient: &Recipient<'_>,
     how: &RowUpdate<'p>,
     target: &Target<'p>,
-) -> Result<(), CommandError<'p>>
+) -> Result<(), EarlyEnd<'p>>
     ensures changed { OnOk result (IsRowChanged (T.world store.old) recipient.now.etypes.now
         (all_asked target.now.settings.items) recipient.now.pass.now how.now recipient.now.who.now.components
         draft.old.database draft.new.database) }
@@ -337,7 +337,7 @@ fn give_row<'p, T: Store>(
     draft: &mut Draft,
     recipient: &Recipient<'_>,
     how: &RowUpdate<'p>,
-) -> Result<(), CommandError<'p>>
+) -> Result<(), EarlyEnd<'p>>
     ensures given { OnOk result (IsRowGiven (T.world store.old) recipient.now.etypes.now recipient.now.pass.now how.now
         recipient.now.who.now.components
         draft.old.database draft.new.database) }

@@ -18,8 +18,8 @@ use Rattle.ap_accept.specs.declared.state.State.{State}
 use Rattle.krb_joined.specs.Credential.{IsCredentialOf}
 use Rattle.krb_joined.specs.Joined.{IsBefore, IsEnded, IsJoined, IsLater, IsPresented, IsRead, MayBeAccepted}
 use Rattle.krb_joined.specs.Reading.{IsReader, reads_reply}
-use Rattle.krb_joined.specs.declared.fault.JoinedError.{JoinedError}
-use Rattle.krb_joined.specs.declared.fault.JoinedError.TheVariants.{NoReply, NotTaken, NotPresentable, NotAccepted, NotAnswered, Memory}
+use Rattle.krb_joined.specs.declared.path_end.PathEnd.{PathEnd}
+use Rattle.krb_joined.specs.declared.path_end.PathEnd.TheVariants.{NoReply, NotTaken, NotPresentable, NotAccepted, NotAnswered, Memory}
 use Rattle.krb_joined.specs.declared.reading.Reader.{Reader}
 
 -- the credential that was read is the one in the reply
@@ -29,13 +29,13 @@ taken_is own asked None credential read = absurd read
 
 module _ (own : Reader) (state : State) (now : ℤ) (wanted : ServiceAsked) (sent : Moment) where
   -- the obtained credential is accepted
-  pub carried : (o : Option Issue) (credential : Credential) (result : Result Accepted JoinedError) → IfSome o (λ issue. IsReader own issue → IsCredentialOf issue credential)
+  pub carried : (o : Option Issue) (credential : Credential) (result : Result Accepted PathEnd) → IfSome o (λ issue. IsReader own issue → IsCredentialOf issue credential)
       → ((issue : Issue) → IsCredentialOf issue credential → MayBeAccepted issue state now sent → IsJoined issue wanted sent result)
       → IfSome o (λ issue. IsReader own issue → MayBeAccepted issue state now sent → IsJoined issue wanted sent result)
   carried (Some issue) credential result obtained presented = λ reader may. presented issue (obtained reader) may
   carried None credential result obtained presented = tt
 
-  ended : (issue : Issue) (asked : Asked) (reply : Option (List ℕ)) (fault : JoinedError) → (reply ≡ None → Some issue ≡ None) → IsBefore fault → IsEnded reply asked own fault → IsJoined issue wanted sent (Err fault)
+  ended : (issue : Issue) (asked : Asked) (reply : Option (List ℕ)) (end : PathEnd) → (reply ≡ None → Some issue ≡ None) → IsBefore end → IsEnded reply asked own end → IsJoined issue wanted sent (Err end)
   ended issue asked reply NoReply silent is none = let k = silent none in absurd cc
   ended issue asked reply (NotTaken fault) silent is e = tt
   ended issue asked reply NotPresentable silent is e = absurd is
@@ -44,18 +44,18 @@ module _ (own : Reader) (state : State) (now : ℤ) (wanted : ServiceAsked) (sen
   ended issue asked reply Memory silent is e = tt
 
   -- without a credential, no service is asked; and there was a reply
-  pub stopped : (o : Option Issue) (asked : Asked) (reply : Option (List ℕ)) (fault : JoinedError) → (reply ≡ None → o ≡ None) → IsBefore fault → IsEnded reply asked own fault
-      → IfSome o (λ issue. IsReader own issue → MayBeAccepted issue state now sent → IsJoined issue wanted sent (Err fault))
-  stopped (Some issue) asked reply fault silent is e = λ reader may. ended issue asked reply fault silent is e
-  stopped None asked reply fault silent is e = tt
+  pub stopped : (o : Option Issue) (asked : Asked) (reply : Option (List ℕ)) (end : PathEnd) → (reply ≡ None → o ≡ None) → IsBefore end → IsEnded reply asked own end
+      → IfSome o (λ issue. IsReader own issue → MayBeAccepted issue state now sent → IsJoined issue wanted sent (Err end))
+  stopped (Some issue) asked reply end silent is e = λ reader may. ended issue asked reply end silent is e
+  stopped None asked reply end silent is e = tt
 
   -- the client presents the credential that it got
-  pub presented_so : (asked : Asked) (reply : Option (List ℕ)) (credential : Credential) (result : Result Accepted JoinedError) → IsRead reply asked own credential → IsPresented credential sent result
+  pub presented_so : (asked : Asked) (reply : Option (List ℕ)) (credential : Credential) (result : Result Accepted PathEnd) → IsRead reply asked own credential → IsPresented credential sent result
       → IfSome reply (λ octets. IfOk (reads_reply own asked octets) (λ c. IsPresented c sent result))
   presented_so asked (Some octets) credential result read is = subst (λ (r : Result Credential ReplyError). IfOk r (λ c. IsPresented c sent result)) (sym read) is
   presented_so asked None credential result read is = tt
 
-  before : (credential : Credential) (fault : JoinedError) → IsBefore fault → IsPresented credential sent (Err fault)
+  before : (credential : Credential) (end : PathEnd) → IsBefore end → IsPresented credential sent (Err end)
   before credential NoReply is = tt
   before credential (NotTaken fault) is = tt
   before credential NotPresentable is = absurd is
@@ -63,16 +63,16 @@ module _ (own : Reader) (state : State) (now : ℤ) (wanted : ServiceAsked) (sen
   before credential (NotAnswered fault) is = absurd is
   before credential Memory is = tt
 
-  pub not_presented : (asked : Asked) (reply : Option (List ℕ)) (fault : JoinedError) → IsBefore fault → IfSome reply (λ octets. IfOk (reads_reply own asked octets) (λ c. IsPresented c sent (Err fault)))
-  not_presented asked (Some octets) fault is = by (reads_reply own asked octets)
+  pub not_presented : (asked : Asked) (reply : Option (List ℕ)) (end : PathEnd) → IsBefore end → IfSome reply (λ octets. IfOk (reads_reply own asked octets) (λ c. IsPresented c sent (Err end)))
+  not_presented asked (Some octets) end is = by (reads_reply own asked octets)
     where
-      by : (r : Result Credential ReplyError) → IfOk r (λ c. IsPresented c sent (Err fault))
-      by (Ok c) = before c fault is
+      by : (r : Result Credential ReplyError) → IfOk r (λ c. IsPresented c sent (Err end))
+      by (Ok c) = before c end is
       by (Err e) = tt
-  not_presented asked None fault is = tt
+  not_presented asked None end is = tt
 
   -- a later error is not the KDC's, and not of reading its reply
-  pub later_ended : (asked : Asked) (reply : Option (List ℕ)) (credential : Credential) → IsRead reply asked own credential → (result : Result Accepted JoinedError) → IsPresented credential sent result → IfErr result IsLater
+  pub later_ended : (asked : Asked) (reply : Option (List ℕ)) (credential : Credential) → IsRead reply asked own credential → (result : Result Accepted PathEnd) → IsPresented credential sent result → IfErr result IsLater
       → IfErr result (IsEnded reply asked own)
   later_ended asked reply credential read (Ok accepted) presented is = tt
   later_ended asked reply credential read (Err NoReply) presented is = absurd is
@@ -84,8 +84,8 @@ module _ (own : Reader) (state : State) (now : ℤ) (wanted : ServiceAsked) (sen
 
   -- ---- a kept reply
 
-  pub stopped_again : (issue : Issue) (octets : List ℕ) (asked : Asked) (reply : Option (List ℕ)) (fault : JoinedError) → reply ≡ Some octets → IsBefore fault → IsEnded reply asked own fault → IsJoined issue wanted sent (Err fault)
-  stopped_again issue octets asked reply fault again is e = ended issue asked reply fault (λ none. absurd (let k : None ≡ Some octets = sym none ∙ again in cc)) is e
+  pub stopped_again : (issue : Issue) (octets : List ℕ) (asked : Asked) (reply : Option (List ℕ)) (end : PathEnd) → reply ≡ Some octets → IsBefore end → IsEnded reply asked own end → IsJoined issue wanted sent (Err end)
+  stopped_again issue octets asked reply end again is e = ended issue asked reply end (λ none. absurd (let k : None ≡ Some octets = sym none ∙ again in cc)) is e
 
 -- ---- the service's part
 
@@ -93,7 +93,7 @@ module _ (own : Reader) (asked : Asked) (reply : Option (List ℕ)) (state : Sta
   abbrev ruling : Option Answer
   ruling = ruled state wanted presenting accepting (taken_of reply asked own)
 
-  module _ (credential : Credential) (read : IsRead reply asked own credential) (result : Result Accepted JoinedError) where
+  module _ (credential : Credential) (read : IsRead reply asked own credential) (result : Result Accepted PathEnd) where
     pub ruled_so : IsRuled (key_of (Some credential)) presenting.at (ruled state wanted presenting accepting (Some credential)) result → IsRuled (key_of (taken_of reply asked own)) presenting.at ruling result
     ruled_so is = subst (λ (o : Option Credential). IsRuled (key_of o) presenting.at (ruled state wanted presenting accepting o) result) (sym (taken_is own asked reply credential read)) is
 
@@ -102,7 +102,7 @@ module _ (own : Reader) (asked : Asked) (reply : Option (List ℕ)) (state : Sta
 
 -- without a credential, the service is not asked
 module _ (key : Option Key) (sent : Moment) (state : State) (ruling : Option Answer) where
-  pub not_ruled : (fault : JoinedError) → IsBefore fault → IsRuled key sent ruling (Err fault)
+  pub not_ruled : (end : PathEnd) → IsBefore end → IsRuled key sent ruling (Err end)
   not_ruled NoReply is = tt
   not_ruled (NotTaken fault) is = tt
   not_ruled NotPresentable is = tt
@@ -110,7 +110,7 @@ module _ (key : Option Key) (sent : Moment) (state : State) (ruling : Option Ans
   not_ruled (NotAnswered fault) is = absurd is
   not_ruled Memory is = tt
 
-  pub not_served : (fault : JoinedError) → IsBefore fault → IsServed state state ruling (Err fault)
+  pub not_served : (end : PathEnd) → IsBefore end → IsServed state state ruling (Err end)
   not_served NoReply is = refl
   not_served (NotTaken fault) is = refl
   not_served NotPresentable is = refl
@@ -121,7 +121,7 @@ module _ (key : Option Key) (sent : Moment) (state : State) (ruling : Option Ans
 -- ---- the KDC's state
 
 module _ (old new ruling : kdc_states.State) where
-  pub kept_on : (credential : Credential) (result : Result Accepted JoinedError) → IsNextState old new ruling (Ok credential) → IsNextStateOn old new ruling result
+  pub kept_on : (credential : Credential) (result : Result Accepted PathEnd) → IsNextState old new ruling (Ok credential) → IsNextStateOn old new ruling result
   kept_on credential (Ok accepted) is = is
   kept_on credential (Err NoReply) is = is
   kept_on credential (Err (NotTaken fault)) is = is
@@ -130,7 +130,7 @@ module _ (old new ruling : kdc_states.State) where
   kept_on credential (Err (NotAnswered fault)) is = is
   kept_on credential (Err Memory) is = inr is
 
-  pub kept_before : (fault : JoinedError) → IsNextState old new ruling (Err fault) → IsNextStateOn old new ruling (Err fault)
+  pub kept_before : (end : PathEnd) → IsNextState old new ruling (Err end) → IsNextStateOn old new ruling (Err end)
   kept_before NoReply is = is
   kept_before (NotTaken fault) is = is
   kept_before NotPresentable is = is

@@ -15,8 +15,8 @@ use Rattle.ap_accept.specs.declared.accepted.Accepted.{Accepted}
 use Rattle.ap_accept.specs.declared.fault.ApFault.{ApFault}
 use Rattle.ap_accept.specs.declared.state.State.{State}
 use Rattle.krb_joined.specs.Joined.{IsHeard, IsRefused, IsRefusedAfter, IsRuled, IsServed, IsUnheardBy, ruled}
-use Rattle.krb_joined.specs.declared.fault.JoinedError.{JoinedError}
-use Rattle.krb_joined.specs.declared.fault.JoinedError.TheVariants.{NoReply, NotTaken, NotPresentable, NotAccepted, NotAnswered, Memory}
+use Rattle.krb_joined.specs.declared.path_end.PathEnd.{PathEnd}
+use Rattle.krb_joined.specs.declared.path_end.PathEnd.TheVariants.{NoReply, NotTaken, NotPresentable, NotAccepted, NotAnswered, Memory}
 use Rattle.krb_joined.specs.declared.presenting.Sealing.{Sealing}
 
 -- a credential that can be presented yields a session
@@ -55,7 +55,7 @@ module _ (state : State) (wanted : ServiceAsked) (presenting accepting : Sealing
 
     -- ---- accepted
 
-    heard_as : (key : Key) (a : Accepted) (heard : Result Accepted JoinedError) → ruling.answer ≡ Ok a → IsHeard key presenting.at a heard → IsRuled (Some key) presenting.at (Some ruling) heard
+    heard_as : (key : Key) (a : Accepted) (heard : Result Accepted PathEnd) → ruling.answer ≡ Ok a → IsHeard key presenting.at a heard → IsRuled (Some key) presenting.at (Some ruling) heard
     heard_as key a (Ok b) e h = ap Some (e ∙ ap Ok (sym h.0))
     heard_as key a (Err (NotAnswered fault)) e h = subst (λ (r : Result Accepted ApFault). IsUnheardBy (Some key) presenting.at fault (Some r)) (sym e) h
     heard_as key a (Err NoReply) e h = tt
@@ -64,13 +64,13 @@ module _ (state : State) (wanted : ServiceAsked) (presenting accepting : Sealing
     heard_as key a (Err (NotAccepted fault)) e h = absurd h
     heard_as key a (Err Memory) e h = tt
 
-    pub accepted_as : (key : Key) (a : Accepted) (heard : Result Accepted JoinedError) → session_key credential ≡ Some key → ruling.answer ≡ Ok a → IsHeard key presenting.at a heard
+    pub accepted_as : (key : Key) (a : Accepted) (heard : Result Accepted PathEnd) → session_key credential ≡ Some key → ruling.answer ≡ Ok a → IsHeard key presenting.at a heard
         → IsRuled (session_key credential) presenting.at (ruled state wanted presenting accepting (Some credential)) heard
     accepted_as key a heard held e h =
         subst (λ (k : Option Key). IsRuled k presenting.at (ruled state wanted presenting accepting (Some credential)) heard) (sym held)
         (subst (λ (o : Option Answer). IsRuled (Some key) presenting.at o heard) (sym (is_ruled may is)) (heard_as key a heard e h))
 
-    heard_after : (after : State) (key : Key) (a : Accepted) (heard : Result Accepted JoinedError) → after ≡ ruling.state → IsHeard key presenting.at a heard → IsServed state after (Some ruling) heard
+    heard_after : (after : State) (key : Key) (a : Accepted) (heard : Result Accepted PathEnd) → after ≡ ruling.state → IsHeard key presenting.at a heard → IsServed state after (Some ruling) heard
     heard_after after key a (Ok b) e h = ap Some (sym e)
     heard_after after key a (Err (NotAnswered fault)) e h = ap Some (sym e)
     heard_after after key a (Err NoReply) e h = absurd h
@@ -79,6 +79,6 @@ module _ (state : State) (wanted : ServiceAsked) (presenting accepting : Sealing
     heard_after after key a (Err (NotAccepted fault)) e h = absurd h
     heard_after after key a (Err Memory) e h = absurd h
 
-    pub accepted_after : (after : State) (key : Key) (a : Accepted) (heard : Result Accepted JoinedError) → after ≡ ruling.state → IsHeard key presenting.at a heard
+    pub accepted_after : (after : State) (key : Key) (a : Accepted) (heard : Result Accepted PathEnd) → after ≡ ruling.state → IsHeard key presenting.at a heard
         → IsServed state after (ruled state wanted presenting accepting (Some credential)) heard
     accepted_after after key a heard e h = subst (λ (o : Option Answer). IsServed state after o heard) (sym (is_ruled may is)) (heard_after after key a heard e h)

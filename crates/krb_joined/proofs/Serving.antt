@@ -32,8 +32,8 @@ use Rattle.ap_accept.specs.declared.presented.Presented.{Presented}
 use Rattle.ap_accept.specs.declared.state.State.{State}
 use Rattle.krb_joined.specs.Credential.{IsCredentialOf, issued_credential, issued_session}
 use Rattle.krb_joined.specs.Joined.{IsAccepted, IsHeard, IsJoined, IsUnheard, MayBeAccepted, moment_part}
-use Rattle.krb_joined.specs.declared.fault.JoinedError.{JoinedError}
-use Rattle.krb_joined.specs.declared.fault.JoinedError.TheVariants.{NoReply, NotTaken, NotPresentable, NotAccepted, NotAnswered, Memory}
+use Rattle.krb_joined.specs.declared.path_end.PathEnd.{PathEnd}
+use Rattle.krb_joined.specs.declared.path_end.PathEnd.TheVariants.{NoReply, NotTaken, NotPresentable, NotAccepted, NotAnswered, Memory}
 use Rattle.krb_joined.proofs.Accepted.{answer_is, auth, p, presented_is, recorded_is}
 use Rattle.krb_joined.proofs.Answered.{answer_taken}
 
@@ -125,7 +125,7 @@ module _ (issue : Issue) (state : State) (credential : Credential) (sent at : Mo
       }
 
   -- and the client accepts its reply
-  pub accepted_so : (a : Accepted) (heard : Result Accepted JoinedError) (key : Key) → session_key credential ≡ Some key → IsAnswer (Ok a) (accepts state at own octets).answer
+  pub accepted_so : (a : Accepted) (heard : Result Accepted PathEnd) (key : Key) → session_key credential ≡ Some key → IsAnswer (Ok a) (accepts state at own octets).answer
       → IfSome (recorded_by state at.sec octets) (λ p. IfSome a.ap_rep (λ reply. IsApReply p.session_key own p.authenticator reply)) → IsHeard key sent a heard → IsJoined issue asked sent heard
   accepted_so a (Ok b) key e h reply heard = subst (λ (x : Accepted). IsAccepted issue asked sent x) (sym heard.0) (joined a h (answers a reply))
   accepted_so a (Err (NotAnswered fault)) key e h reply heard =

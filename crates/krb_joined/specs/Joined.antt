@@ -35,11 +35,11 @@ use Rattle.enctypes.specs.declared.key.Key.{Key}
 use Rattle.krb_types.specs.EncApRepPart.{EncApRepPart}
 use Rattle.krb_joined.specs.Credential.{issued_credential}
 use Rattle.krb_joined.specs.Reading.{reads_reply}
-use Rattle.krb_joined.specs.declared.fault.JoinedError.{JoinedError}
+use Rattle.krb_joined.specs.declared.path_end.PathEnd.{PathEnd}
 use Rattle.krb_joined.specs.declared.presenting.Sealing.{Sealing}
 use Rattle.krb_joined.specs.declared.reading.Reader.{Reader}
-use Rattle.krb_joined.specs.declared.fault.JoinedError.TheVariants.{NoReply, NotTaken, NotPresentable, NotAccepted}
-use Rattle.krb_joined.specs.declared.fault.JoinedError.TheVariants.{NotAnswered, Memory}
+use Rattle.krb_joined.specs.declared.path_end.PathEnd.TheVariants.{NoReply, NotTaken, NotPresentable, NotAccepted}
+use Rattle.krb_joined.specs.declared.path_end.PathEnd.TheVariants.{NotAnswered, Memory}
 
 -- What must hold at the service, at the second `now`, for an AP-REQ sent at the moment `sent`. The keytab entry that
 -- the acceptor picks holds the key that encrypted the ticket. The ticket is valid by flag and times. The
@@ -71,7 +71,7 @@ pub record IsAccepted (issue : Issue) (wanted : ServiceAsked) (sent : Moment) (a
 -- If the service is asked, it doesn't refuse the client, and the client doesn't reject its reply, unless memory runs
 -- out. If it is not asked, memory ran out, the client rejected the KDC's reply (see `IsEnded`), or the credential in it
 -- can't be presented.
-abbrev pub IsJoined : Issue → ServiceAsked → Moment → Result Accepted JoinedError → Type 0
+abbrev pub IsJoined : Issue → ServiceAsked → Moment → Result Accepted PathEnd → Type 0
 IsJoined issue wanted sent (Ok accepted) = IsAccepted issue wanted sent accepted
 IsJoined issue wanted sent (Err (NotAccepted fault)) = fault ≡ ap_faults.Memory
 IsJoined issue wanted sent (Err (NotAnswered fault)) = fault ≡ client_faults.Memory
@@ -97,7 +97,7 @@ IsUnpresentable None = ⊥
 
 -- If the path ends before the service is asked, the KDC sent no reply, or one that the client rejects, or one whose
 -- credential can't be presented.
-abbrev pub IsEnded : Option (List ℕ) → Asked → Reader → JoinedError → Type 0
+abbrev pub IsEnded : Option (List ℕ) → Asked → Reader → PathEnd → Type 0
 IsEnded reply asked reader NoReply = reply ≡ None
 IsEnded reply asked reader (NotTaken fault) = IsUntaken reply asked reader fault
 IsEnded reply asked reader NotPresentable = IsUnpresentable (taken_of reply asked reader)
@@ -105,8 +105,8 @@ IsEnded reply asked reader (NotAccepted fault) = ⊤
 IsEnded reply asked reader (NotAnswered fault) = ⊤
 IsEnded reply asked reader Memory = ⊤
 
--- an error of the KDC, or of the client as it reads the KDC's reply
-abbrev pub IsBefore : JoinedError → Type 0
+-- an end at the KDC, or at the client as it reads the KDC's reply
+abbrev pub IsBefore : PathEnd → Type 0
 IsBefore (NotAccepted fault) = ⊥
 IsBefore (NotAnswered fault) = ⊥
 IsBefore NoReply = ⊤
@@ -114,8 +114,8 @@ IsBefore (NotTaken fault) = ⊤
 IsBefore NotPresentable = ⊥
 IsBefore Memory = ⊤
 
--- an error after that
-abbrev pub IsLater : JoinedError → Type 0
+-- an end after that
+abbrev pub IsLater : PathEnd → Type 0
 IsLater (NotAccepted fault) = ⊤
 IsLater (NotAnswered fault) = ⊤
 IsLater NoReply = ⊥
@@ -130,7 +130,7 @@ IsAnswered key sent None = ⊤
 
 -- For any credential, no matter who issued it: it can't be presented, or the client accepted the AP-REP before anything
 -- counts as accepted.
-abbrev pub IsPresented : Credential → Moment → Result Accepted JoinedError → Type 0
+abbrev pub IsPresented : Credential → Moment → Result Accepted PathEnd → Type 0
 IsPresented credential sent (Ok accepted) = IfSome (session_key credential) (λ key. IsAnswered key sent accepted.ap_rep)
 IsPresented credential sent (Err NotPresentable) = is_presentable credential ≡ false
 IsPresented credential sent (Err (NotAccepted fault)) = ⊤
@@ -149,7 +149,7 @@ abbrev pub IsUnheard : Key → Moment → Option (List ℕ) → ReplyError → T
 IsUnheard key sent (Some octets) fault = Fails fault (reads_ap key sent octets)
 IsUnheard key sent None fault = ⊥
 
-abbrev pub IsHeard : Key → Moment → Accepted → Result Accepted JoinedError → Type 0
+abbrev pub IsHeard : Key → Moment → Accepted → Result Accepted PathEnd → Type 0
 IsHeard key sent accepted (Ok heard) = (heard ≡ accepted) × IsAnswered key sent accepted.ap_rep
 IsHeard key sent accepted (Err (NotAnswered fault)) = IsUnheard key sent accepted.ap_rep fault
 IsHeard key sent accepted (Err fault) = ⊥
@@ -178,7 +178,7 @@ IsUnheardBy (Some key) sent fault (Some (Ok accepted)) = IsUnheard key sent acce
 IsUnheardBy _ _ _ _ = ⊥
 
 -- The result is the one that the service's rules prescribe. The key is the session key that the client holds.
-abbrev pub IsRuled : Option Key → Moment → Option Answer → Result Accepted JoinedError → Type 0
+abbrev pub IsRuled : Option Key → Moment → Option Answer → Result Accepted PathEnd → Type 0
 IsRuled key sent ruling (Ok accepted) = option_map (λ r. r.answer) ruling ≡ Some (Ok accepted)
 IsRuled key sent ruling (Err (NotAccepted fault)) = IsRefused fault ruling
 IsRuled key sent ruling (Err (NotAnswered fault)) = IsUnheardBy key sent fault (option_map (λ r. r.answer) ruling)
@@ -193,7 +193,7 @@ IsRefusedAfter fault old new None = ⊥
 
 -- The service's state afterwards is the one that its rules prescribe if it was asked, and otherwise the old one. It
 -- records an accepted authenticator even if the client rejects its reply.
-abbrev pub IsServed : State → State → Option Answer → Result Accepted JoinedError → Type 0
+abbrev pub IsServed : State → State → Option Answer → Result Accepted PathEnd → Type 0
 IsServed old new ruling (Ok accepted) = option_map (λ r. r.state) ruling ≡ Some new
 IsServed old new ruling (Err (NotAccepted fault)) = IsRefusedAfter fault old new ruling
 IsServed old new ruling (Err (NotAnswered fault)) = option_map (λ r. r.state) ruling ≡ Some new
@@ -205,7 +205,7 @@ IsServed old new ruling (Err Memory) = new ≡ old
 -- ---- the KDC's state
 
 -- it is the one that the KDC's rules prescribe, or the old one if memory ran out
-abbrev pub IsNextState : kdc_states.State → kdc_states.State → kdc_states.State → Result Credential JoinedError → Type 0
+abbrev pub IsNextState : kdc_states.State → kdc_states.State → kdc_states.State → Result Credential PathEnd → Type 0
 IsNextState old new ruling (Ok credential) = new ≡ ruling
 IsNextState old new ruling (Err NoReply) = new ≡ ruling
 IsNextState old new ruling (Err (NotTaken fault)) = new ≡ ruling
@@ -215,7 +215,7 @@ IsNextState old new ruling (Err (NotAnswered fault)) = new ≡ ruling
 IsNextState old new ruling (Err Memory) = new ≡ old
 
 -- the same for a whole path, on which the client may have run out of memory
-abbrev pub IsNextStateOn : kdc_states.State → kdc_states.State → kdc_states.State → Result Accepted JoinedError → Type 0
+abbrev pub IsNextStateOn : kdc_states.State → kdc_states.State → kdc_states.State → Result Accepted PathEnd → Type 0
 IsNextStateOn old new ruling (Ok accepted) = new ≡ ruling
 IsNextStateOn old new ruling (Err NoReply) = new ≡ ruling
 IsNextStateOn old new ruling (Err (NotTaken fault)) = new ≡ ruling

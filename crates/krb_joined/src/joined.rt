@@ -9,8 +9,8 @@ ghost use Rattle.krb_joined.specs.Obtaining.{issue_for, reply_to, state_after};
 ghost use Rattle.krb_joined.specs.Reading.{IsReader, reads_reply};
 
 use crate::client::Client;
-use crate::fault::JoinedError;
 use crate::obtaining::{Issuing, obtain};
+use crate::path_end::PathEnd;
 use crate::presenting::{Sealing, present};
 use ap_accept::{Accepted, Acceptor};
 use kdc_core::Kdc;
@@ -39,7 +39,7 @@ pub fn end_to_end(
     answering: &Answering,
     request: &[u8],
     client: &Client,
-) -> Result<Accepted, JoinedError>
+) -> Result<Accepted, PathEnd>
     requires { IsShortChecksum client.now.wanted.checksum }
     // Promise (value, repeated): from any request through all five calls, a ticket that was issued, now or with a
     // stored reply, and that the client took is accepted by such a service, if its conditions hold and memory doesn't
@@ -83,6 +83,6 @@ pub fn end_to_end(
 {
     match obtain(alloc, kdc, &answering.issuing, request, client) {
         Ok(credential) => present(alloc, &credential, client, acceptor, &answering.accepting),
-        Err(fault) => Err(fault),
+        Err(end) => Err(end),
     }
 }

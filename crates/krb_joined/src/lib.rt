@@ -17,15 +17,15 @@
 #![tactic(auto)]
 
 mod client;
-mod fault;
 mod joined;
 mod obtaining;
+mod path_end;
 mod presenting;
 mod reading;
 
 pub use client::Client;
-pub use fault::JoinedError;
 pub use joined::{Answering, end_to_end};
 pub use obtaining::{Issuing, obtain};
+pub use path_end::PathEnd;
 pub use presenting::Sealing;
 pub use reading::Reader;

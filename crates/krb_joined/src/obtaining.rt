@@ -11,7 +11,7 @@ ghost use Rattle.krb_joined.specs.Obtaining.{issue_for, reply_to, state_after};
 ghost use Rattle.krb_joined.specs.Reading.{IsReader};
 
 use crate::client::Client;
-use crate::fault::JoinedError;
+use crate::path_end::PathEnd;
 use crate::reading::read_reply;
 use cred_files::Credential;
 use kdc_core::Kdc;
@@ -36,7 +36,7 @@ pub fn obtain(
     issuing: &Issuing,
     request: &[u8],
     client: &Client,
-) -> Result<Credential, JoinedError>
+) -> Result<Credential, PathEnd>
     // If the KDC issues a ticket and the client reads the reply with its key, it gets the credential of that ticket.
     // Promise (obtained, repeated): if the KDC issues a ticket, and the client reads the reply with the reply key, it
     // gets the credential of that ticket; if a stored reply is sent again, it gets that of the ticket that was issued
@@ -63,12 +63,12 @@ pub fn obtain(
 {
     let reply = replied(alloc, kdc, issuing, request)?;
     let Some(octets) = reply else {
-        return Err(JoinedError::NoReply);
+        return Err(PathEnd::NoReply);
     };
     look(&issuing.random, &octets);
     match read_reply(alloc, &client.asked, &client.reader, &octets) {
         Ok(credential) => Ok(credential),
-        Err(fault) => Err(JoinedError::NotTaken(fault)),
+        Err(fault) => Err(PathEnd::NotTaken(fault)),
     }
 }
 

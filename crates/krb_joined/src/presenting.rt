@@ -9,7 +9,7 @@ ghost use Rattle.krb_joined.specs.Joined.{IsHeard, IsJoined, IsLater, IsPresente
 ghost use Rattle.krb_joined.specs.Joined.{ruled};
 
 use crate::client::Client;
-use crate::fault::JoinedError;
+use crate::path_end::PathEnd;
 use ap_accept::{Accepted, Acceptor};
 use client_core::{ap_request, is_presentable, read_ap_reply, session_key};
 use cred_files::Credential;
@@ -33,7 +33,7 @@ pub fn present(
     client: &Client,
     acceptor: &mut Acceptor,
     accepting: &Sealing,
-) -> Result<Accepted, JoinedError>
+) -> Result<Accepted, PathEnd>
     requires { IsShortChecksum client.now.wanted.checksum }
     // A service accepts the credential of an issued ticket.
     // Promise: the credential of an issued ticket is accepted, if it is valid then, by a service that has the key that
@@ -58,13 +58,13 @@ pub fn present(
         (ruled acceptor.old client.now.wanted client.now.presenting accepting.now (Some credential.now)) result }
     ensures served { IsServed acceptor.old acceptor.new
         (ruled acceptor.old client.now.wanted client.now.presenting accepting.now (Some credential.now)) result }
-    // Promise: the client accepts the AP-REP before anything counts as accepted; if it rejects the AP-REP, that is the
-    // error, and no error of the KDC is returned.
+    // Promise: the client accepts the AP-REP before anything counts as accepted; if it rejects the AP-REP, the path ends
+    // there, and no end at the KDC is returned.
     ensures later { IfErr result IsLater }
 {
     look(client.wanted.subkey);
     if !is_presentable(credential) {
-        return Err(JoinedError::NotPresentable);
+        return Err(PathEnd::NotPresentable);
     }
     let key = session_key(credential).unwrap();
     let octets = ap_request(
@@ -76,7 +76,7 @@ pub fn present(
     )?;
     match acceptor.accept(alloc, accepting.at, &accepting.confounder, &octets) {
         Ok(accepted) => check_ap_rep(alloc, &key, client.presenting.at, accepted),
-        Err(fault) => Err(JoinedError::NotAccepted(fault)),
+        Err(fault) => Err(PathEnd::NotAccepted(fault)),
     }
 }
 
@@ -95,12 +95,12 @@ fn check_ap_rep(
     key: &Key,
     sent: Moment,
     accepted: Accepted,
-) -> Result<Accepted, JoinedError>
+) -> Result<Accepted, PathEnd>
     ensures { IsHeard key.now sent accepted result }
 {
     if let Some(octets) = &accepted.ap_rep {
         if let Err(fault) = read_ap_reply(alloc, key, sent, octets.as_slice()) {
-            return Err(JoinedError::NotAnswered(fault));
+            return Err(PathEnd::NotAnswered(fault));
         }
     }
     Ok(accepted)

@@ -2,6 +2,7 @@ pub mod Chain
 pub mod Attribute
 pub mod Dump
 pub mod Entries
+pub mod Fault
 pub mod Fields
 pub mod Losses
 pub mod Master

@@ -3,10 +3,10 @@ ghost use Rattle.std.specs.Prelude.{◌≡◌, IfOk, OnOk};
 ghost use Rattle.mit_dump.specs.Dump.{AddsLine, AreFound, AreLines, IsDump, is_header};
 ghost use Rattle.mit_dump.specs.Fields.{texts};
 
+use crate::fault::{Cause, DumpError};
 use crate::fields::split_lines;
 use crate::line::read_line;
 use crate::principal::DumpedPrincipal;
-use crate::{DumpError, LineError};
 use std::alloc::Global;
 
 /// Reads the principals of a dump, in the order of their lines. Versions 5 to 8 of the format are read, and policies
@@ -17,13 +17,13 @@ pub fn read_dump(alloc: Global, text: &[u8]) -> Result<Vec<DumpedPrincipal>, Dum
 {
     let lines = match split_lines(alloc, text) {
         Ok(lines) => lines,
-        Err(error) => return Err(at_line(1, LineError::from(error))),
+        Err(error) => return Err(DumpError::at_line(1, Cause::from(error))),
     };
     let [header, rest @ ..] = lines.as_slice() else {
-        return Err(at_line(1, LineError::Header));
+        return Err(DumpError::at_line(1, Cause::Header));
     };
     if !is_header(header) {
-        return Err(at_line(1, LineError::Header));
+        return Err(DumpError::at_line(1, Cause::Header));
     }
     read_lines(alloc, rest)
 }
@@ -44,7 +44,7 @@ fn read_lines(alloc: Global, lines: &[&[u8]]) -> Result<Vec<DumpedPrincipal>, Du
 {
     match lines.split_last() {
         Some((last, body)) if last.is_empty() => read_body(alloc, body),
-        _ => Err(at_line(lines.len().saturating_add(1), LineError::Cut)),
+        _ => Err(DumpError::at_line(lines.len().saturating_add(1), Cause::Cut)),
     }
 }
 
@@ -72,20 +72,16 @@ fn push_numbered(
 {
     match push_line(alloc, found, line) {
         Ok(()) => Ok(()),
-        Err(cause) => Err(at_line(number, cause)),
+        Err(cause) => Err(DumpError::at_line(number, cause)),
     }
 }
 
 /// Adds the principal of a line, if it has one.
-fn push_line(alloc: Global, found: &mut Vec<DumpedPrincipal>, line: &[u8]) -> Result<(), LineError>
+fn push_line(alloc: Global, found: &mut Vec<DumpedPrincipal>, line: &[u8]) -> Result<(), Cause>
     ensures { OnOk result (AddsLine line.now found.old.items found.new.items) }
 {
     if let Some(principal) = read_line(alloc, line)? {
         found.push(principal)?;
     }
     Ok(())
-}
-
-fn at_line(line: usize, cause: LineError) -> DumpError {
-    DumpError { line, cause }
 }

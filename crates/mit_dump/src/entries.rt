@@ -4,7 +4,7 @@ ghost use Rattle.enctypes.specs.Numbered.{type_numbered};
 ghost use Rattle.mit_dump.specs.Entries.{AreEntries, ArePushed, IsPushed, key_from, key_within, place_of, preference};
 ghost use Rattle.mit_dump.specs.Entries.{with_first};
 
-use crate::LineError;
+use crate::fault::{Cause, DumpError};
 use crate::master::master_key;
 use crate::principal::DumpedPrincipal;
 use crate::stored_key::StoredKey;
@@ -28,12 +28,12 @@ impl StoredKey {
 impl DumpedPrincipal {
     /// Returns the keys that have a place in a row as entries of a keytab, the last key first, decrypted with a master
     /// key of MIT's stash file.
-    pub fn entries(&self, alloc: Global, stash: &Keytab) -> Result<Vec<KeytabEntry>, LineError>
+    pub fn entries(&self, alloc: Global, stash: &Keytab) -> Result<Vec<KeytabEntry>, DumpError>
         // Promise, as import_dump of kadm_changes: an imported database has ..
         ensures { IfOk result (λ entries. AreEntries stash.now self.now entries.items) }
     {
         let Some(master) = master_key(alloc, self, stash)? else {
-            return Err(LineError::NoMaster);
+            return Err(DumpError::of_keys(Cause::NoMaster));
         };
         open_entries(alloc, self, master, &self.keys)
     }
@@ -69,7 +69,7 @@ fn open_entries(
     principal: &DumpedPrincipal,
     master: &Key,
     keys: &[StoredKey],
-) -> Result<Vec<KeytabEntry>, LineError>
+) -> Result<Vec<KeytabEntry>, DumpError>
     ensures { IfOk result (λ entries. ArePushed principal.now master.now keys.now entries.items) }
 {
     let mut entries = Vec::new(alloc);
@@ -97,14 +97,14 @@ fn push_entry(
     principal: &DumpedPrincipal,
     master: &Key,
     stored: &StoredKey,
-) -> Result<(), LineError>
+) -> Result<(), DumpError>
     ensures { OnOk result (IsPushed principal.now master.now stored.now entries.old.items entries.new.items) }
 {
     let Some(etype) = stored.etype() else {
         return Ok(());
     };
     let Some(key) = decrypted(alloc, master, etype, stored.key.octets.as_slice())? else {
-        return Err(LineError::NotOpened);
+        return Err(DumpError::of_keys(Cause::NotOpened));
     };
     entries.push(KeytabEntry {
         realm: principal.realm.copy(alloc)?,

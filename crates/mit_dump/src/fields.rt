@@ -5,7 +5,7 @@ ghost use Rattle.hex.specs.Hex.{decode_of};
 ghost use Rattle.std.specs.Prelude.{◌∷◌, [], IsTrue, ◌↔◌};
 ghost use Rattle.mit_dump.specs.Fields.{IsHex, IsNumber, IsOctets, TakesNumber, TakesOctets, texts};
 
-use crate::LineError;
+use crate::fault::Cause;
 use hex::FromHexError;
 use krb_elements::Octets;
 use std::alloc::{AllocError, Global};
@@ -31,15 +31,15 @@ pub(crate) fn split_fields<'a>(alloc: Global, line: &'a [u8]) -> Result<Vec<&'a 
 }
 
 /// Reads a number from 0 to 4294967295, in decimal.
-fn number(field: &[u8]) -> Result<u32, LineError>
+fn number(field: &[u8]) -> Result<u32, Cause>
     ensures { IfOk result (λ n. IsNumber field.now n) }
 {
     let Ok(text) = str::from_utf8(field) else {
-        return Err(LineError::Number);
+        return Err(Cause::Number);
     };
     match number_u32(text) {
         Some(number) => Ok(number),
-        None => Err(LineError::Number),
+        None => Err(Cause::Number),
     }
 }
 
@@ -73,26 +73,26 @@ impl<'f, 'a> Fields<'f, 'a> {
     }
 
     /// Reads the next field.
-    pub(crate) fn next(&mut self) -> Result<&'a [u8], LineError>
+    pub(crate) fn next(&mut self) -> Result<&'a [u8], Cause>
         ensures { IfOk result (λ field. self.old ≡ field.now ∷ self.new) }
     {
         let fields = self.rest;
         let [field, rest @ ..] = fields else {
-            return Err(LineError::Count);
+            return Err(Cause::Count);
         };
         self.rest = rest;
         Ok(*field)
     }
 
     /// Reads a number from 0 to 4294967295.
-    pub(crate) fn number(&mut self) -> Result<u32, LineError>
+    pub(crate) fn number(&mut self) -> Result<u32, Cause>
         ensures { IfOk result (λ n. TakesNumber self.old n self.new) }
     {
         number(self.next()?)
     }
 
     /// Reads this many bytes.
-    pub(crate) fn octets(&mut self, alloc: Global, len: u32) -> Result<Octets, LineError>
+    pub(crate) fn octets(&mut self, alloc: Global, len: u32) -> Result<Octets, Cause>
         ensures { IfOk result (λ octets. TakesOctets self.old len octets self.new) }
     {
         octets(alloc, len, self.next()?)
@@ -101,7 +101,7 @@ impl<'f, 'a> Fields<'f, 'a> {
 
 /// Reads this many bytes in hexadecimal, or the text that stands for none.
 #[tactic(auto, using(crate::proofs::Hex::some_hex))]
-pub(crate) fn octets(alloc: Global, len: u32, field: &[u8]) -> Result<Octets, LineError>
+pub(crate) fn octets(alloc: Global, len: u32, field: &[u8]) -> Result<Octets, Cause>
     ensures { IfOk result (λ octets. IsOctets len field.now octets) }
 {
     if len == 0 {
@@ -109,29 +109,29 @@ pub(crate) fn octets(alloc: Global, len: u32, field: &[u8]) -> Result<Octets, Li
     }
     let octets = decoded(alloc, field)?;
     if octets.len() != len as usize {
-        return Err(LineError::Octets);
+        return Err(Cause::Octets);
     }
     Ok(Octets::new(octets))
 }
 
 /// Reads the text that stands for no bytes.
-fn no_octets(alloc: Global, field: &[u8]) -> Result<Octets, LineError>
+fn no_octets(alloc: Global, field: &[u8]) -> Result<Octets, Cause>
     ensures { IfOk result (λ octets. IsOctets 0 field.now octets) }
 {
     if field == NO_OCTETS {
         Ok(Octets::new(Vec::new(alloc)))
     } else {
-        Err(LineError::Octets)
+        Err(Cause::Octets)
     }
 }
 
 /// Reads bytes in hexadecimal.
-fn decoded(alloc: Global, field: &[u8]) -> Result<Vec<u8>, LineError>
+fn decoded(alloc: Global, field: &[u8]) -> Result<Vec<u8>, Cause>
     ensures { IfOk result (λ octets. decode_of field.now ≡ Ok octets.items) }
 {
     match hex::decode(alloc, field) {
         Ok(octets) => Ok(octets),
-        Err(FromHexError::OutOfMemory) => Err(LineError::Memory),
-        Err(_) => Err(LineError::Octets),
+        Err(FromHexError::OutOfMemory) => Err(Cause::Memory),
+        Err(_) => Err(Cause::Octets),
     }
 }

@@ -36,7 +36,7 @@ mod stored_key;
 
 pub use attribute::Attribute;
 pub use dump::read_dump;
-pub use fault::{DumpError, LineError};
+pub use fault::DumpError;
 pub use losses::Loss;
 pub use part::Part;
 pub use place::dump_realm;

@@ -2,7 +2,7 @@
 ghost use Rattle.std.specs.Prelude.{◌≡◌, IfOk};
 ghost use Rattle.mit_dump.specs.Dump.{IsLine};
 
-use crate::LineError;
+use crate::fault::Cause;
 use crate::fields::{Fields, split_fields};
 use crate::principal::{DumpedPrincipal, read_principal};
 use std::alloc::Global;
@@ -14,7 +14,7 @@ const PRINCIPAL: &[u8] = b"princ";
 const POLICY: &[u8] = b"policy";
 
 /// Reads a line: a principal, or `None` if it is that of a policy.
-pub(crate) fn read_line(alloc: Global, line: &[u8]) -> Result<Option<DumpedPrincipal>, LineError>
+pub(crate) fn read_line(alloc: Global, line: &[u8]) -> Result<Option<DumpedPrincipal>, Cause>
     ensures { IfOk result (λ found. IsLine line.now found) }
 {
     let fields = split_fields(alloc, line)?;
@@ -26,5 +26,5 @@ pub(crate) fn read_line(alloc: Global, line: &[u8]) -> Result<Option<DumpedPrinc
     if word == POLICY {
         return Ok(None);
     }
-    Err(LineError::Word)
+    Err(Cause::Word)
 }

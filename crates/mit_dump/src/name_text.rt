@@ -5,7 +5,7 @@ ghost use Rattle.std.specs.List.{flat_map};
 ghost use Rattle.mit_dump.specs.NameText.{component_part, component_text, components_text, full_text, letter_of};
 ghost use Rattle.mit_dump.specs.NameText.{octet_text};
 
-use crate::LineError;
+use crate::fault::Cause;
 use krb_elements::{KerberosString, Seq};
 use krb_fields::Name;
 use krb_fields::numbers::NT_PRINCIPAL;
@@ -37,7 +37,7 @@ struct SplitComponent<'a> {
 }
 
 /// Reads a name that is written exactly as MIT writes it.
-pub(crate) fn read_full_name(alloc: Global, text: &[u8]) -> Result<FullName, LineError>
+pub(crate) fn read_full_name(alloc: Global, text: &[u8]) -> Result<FullName, Cause>
     ensures { IfOk result (λ full. full_text full.name.components full.realm ≡ text.now) }
 {
     let full = split_name(alloc, text)?;
@@ -45,12 +45,12 @@ pub(crate) fn read_full_name(alloc: Global, text: &[u8]) -> Result<FullName, Lin
     if written.as_slice() == text {
         Ok(full)
     } else {
-        Err(LineError::Name)
+        Err(Cause::Name)
     }
 }
 
 /// Splits a text into components and realm.
-fn split_name(alloc: Global, text: &[u8]) -> Result<FullName, LineError> {
+fn split_name(alloc: Global, text: &[u8]) -> Result<FullName, Cause> {
     let mut components = Seq::new(alloc);
     let mut rest = text;
     for _ in 0..text.len() {
@@ -63,10 +63,10 @@ fn split_name(alloc: Global, text: &[u8]) -> Result<FullName, LineError> {
         match separator {
             Separator::Component => rest = behind,
             Separator::Realm => return with_realm(alloc, components, behind),
-            Separator::End => return Err(LineError::Name),
+            Separator::End => return Err(Cause::Name),
         }
     }
-    Err(LineError::Name)
+    Err(Cause::Name)
 }
 
 /// Returns the name with the realm in the rest of a text.
@@ -74,14 +74,14 @@ fn with_realm(
     alloc: Global,
     components: Seq<KerberosString>,
     text: &[u8],
-) -> Result<FullName, LineError> {
+) -> Result<FullName, Cause> {
     let SplitComponent {
         octets,
         separator,
         ..
     } = split_component(alloc, text)?;
     if separator != Separator::End {
-        return Err(LineError::Name);
+        return Err(Cause::Name);
     }
     Ok(FullName {
         name: Name {
@@ -93,7 +93,7 @@ fn with_realm(
 }
 
 /// Splits the first component off a text.
-fn split_component(alloc: Global, text: &[u8]) -> Result<SplitComponent<'_>, LineError> {
+fn split_component(alloc: Global, text: &[u8]) -> Result<SplitComponent<'_>, Cause> {
     let mut octets = Vec::new(alloc);
     let mut rest = text;
     while let [first, behind @ ..] = rest {
@@ -111,7 +111,7 @@ fn split_component(alloc: Global, text: &[u8]) -> Result<SplitComponent<'_>, Lin
             continue;
         }
         let [letter, behind @ ..] = rest else {
-            return Err(LineError::Name);
+            return Err(Cause::Name);
         };
         octets.push(octet_of(*letter))?;
         rest = behind;

@@ -2,7 +2,7 @@
 ghost use Rattle.std.specs.Prelude.{◌≡◌, IfOk};
 ghost use Rattle.mit_dump.specs.Part.{TakesPart, TakesParts};
 
-use crate::LineError;
+use crate::fault::Cause;
 use crate::fields::Fields;
 use krb_elements::Octets;
 use std::alloc::Global;
@@ -23,7 +23,7 @@ pub(crate) fn read_parts(
     alloc: Global,
     fields: &mut Fields<'_, '_>,
     count: u32,
-) -> Result<Vec<Part>, LineError>
+) -> Result<Vec<Part>, Cause>
     ensures { IfOk result (λ parts. TakesParts fields.old count parts.items fields.new) }
 {
     let mut parts = Vec::new(alloc);
@@ -34,7 +34,7 @@ pub(crate) fn read_parts(
 }
 
 /// Reads a part.
-pub(crate) fn read_part(alloc: Global, fields: &mut Fields<'_, '_>) -> Result<Part, LineError>
+pub(crate) fn read_part(alloc: Global, fields: &mut Fields<'_, '_>) -> Result<Part, Cause>
     ensures { IfOk result (λ part. TakesPart fields.old part fields.new) }
 {
     let tag = fields.number()?;

@@ -2,7 +2,7 @@
 ghost use Rattle.std.specs.Prelude.{◌≡◌, IfOk, OnOk};
 ghost use Rattle.mit_dump.specs.Principal.{IsEnd, IsPrincipal, TakesCounts, TakesLogins, TakesName, TakesNumbers};
 
-use crate::LineError;
+use crate::fault::Cause;
 use crate::fields::{Fields, octets};
 use crate::name_text::{FullName, read_full_name};
 use crate::part::{Part, read_parts};
@@ -57,7 +57,7 @@ struct Counts {
 pub(crate) fn read_principal(
     alloc: Global,
     fields: &mut Fields<'_, '_>,
-) -> Result<DumpedPrincipal, LineError>
+) -> Result<DumpedPrincipal, Cause>
     ensures { IfOk result (λ principal. IsPrincipal fields.old principal) }
 {
     let counts = read_counts(fields)?;
@@ -77,11 +77,11 @@ pub(crate) fn read_principal(
     })
 }
 
-fn read_counts(fields: &mut Fields<'_, '_>) -> Result<Counts, LineError>
+fn read_counts(fields: &mut Fields<'_, '_>) -> Result<Counts, Cause>
     ensures { IfOk result (λ counts. TakesCounts fields.old counts fields.new) }
 {
     if fields.number()? != BASE_LENGTH {
-        return Err(LineError::Number);
+        return Err(Cause::Number);
     }
     Ok(Counts {
         name: fields.number()?,
@@ -92,17 +92,17 @@ fn read_counts(fields: &mut Fields<'_, '_>) -> Result<Counts, LineError>
 }
 
 /// Reads a name that has this many bytes.
-fn read_name(alloc: Global, fields: &mut Fields<'_, '_>, len: u32) -> Result<FullName, LineError>
+fn read_name(alloc: Global, fields: &mut Fields<'_, '_>, len: u32) -> Result<FullName, Cause>
     ensures { IfOk result (λ full. TakesName fields.old len full.name.components full.realm fields.new) }
 {
     let text = fields.next()?;
     if text.len() != len as usize {
-        return Err(LineError::Name);
+        return Err(Cause::Name);
     }
     read_full_name(alloc, text)
 }
 
-fn read_numbers(fields: &mut Fields<'_, '_>) -> Result<Numbers, LineError>
+fn read_numbers(fields: &mut Fields<'_, '_>) -> Result<Numbers, Cause>
     ensures { IfOk result (λ numbers. TakesNumbers fields.old numbers fields.new) }
 {
     Ok(Numbers {
@@ -115,7 +115,7 @@ fn read_numbers(fields: &mut Fields<'_, '_>) -> Result<Numbers, LineError>
 }
 
 /// Skips the last successful login, the last failed one, and the number of failed ones.
-fn skip_logins(fields: &mut Fields<'_, '_>) -> Result<(), LineError>
+fn skip_logins(fields: &mut Fields<'_, '_>) -> Result<(), Cause>
     ensures { OnOk result (TakesLogins fields.old fields.new) }
 {
     let _succeeded = fields.number()?;
@@ -125,18 +125,18 @@ fn skip_logins(fields: &mut Fields<'_, '_>) -> Result<(), LineError>
 }
 
 /// Checks that the last field has this many bytes, and a semicolon after them.
-fn check_end(alloc: Global, fields: &mut Fields<'_, '_>, len: u32) -> Result<(), LineError>
+fn check_end(alloc: Global, fields: &mut Fields<'_, '_>, len: u32) -> Result<(), Cause>
     ensures { OnOk result (IsEnd fields.old len) }
 {
     let last = fields.next()?;
     if !fields.is_empty() {
-        return Err(LineError::Count);
+        return Err(Cause::Count);
     }
     match last.split_last() {
         Some((b';', field)) => {
             let _extra = octets(alloc, len, field)?;
             Ok(())
         }
-        _ => Err(LineError::Octets),
+        _ => Err(Cause::Octets),
     }
 }

@@ -2,7 +2,7 @@
 ghost use Rattle.std.specs.Prelude.{◌≡◌, IfOk};
 ghost use Rattle.mit_dump.specs.StoredKey.{TakesKey, TakesKeys, TakesSalt};
 
-use crate::LineError;
+use crate::fault::Cause;
 use crate::fields::Fields;
 use crate::part::{Part, read_part};
 use std::alloc::Global;
@@ -24,7 +24,7 @@ pub(crate) fn read_keys(
     alloc: Global,
     fields: &mut Fields<'_, '_>,
     count: u32,
-) -> Result<Vec<StoredKey>, LineError>
+) -> Result<Vec<StoredKey>, Cause>
     ensures { IfOk result (λ keys. TakesKeys fields.old count keys.items fields.new) }
 {
     let mut keys = Vec::new(alloc);
@@ -35,7 +35,7 @@ pub(crate) fn read_keys(
 }
 
 /// Reads a key.
-fn read_key(alloc: Global, fields: &mut Fields<'_, '_>) -> Result<StoredKey, LineError>
+fn read_key(alloc: Global, fields: &mut Fields<'_, '_>) -> Result<StoredKey, Cause>
     ensures { IfOk result (λ key. TakesKey fields.old key fields.new) }
 {
     let parts = fields.number()?;
@@ -46,16 +46,12 @@ fn read_key(alloc: Global, fields: &mut Fields<'_, '_>) -> Result<StoredKey, Lin
 }
 
 /// Reads the salt of a key that has this many parts: one without a salt, two with one.
-fn read_salt(
-    alloc: Global,
-    fields: &mut Fields<'_, '_>,
-    parts: u32,
-) -> Result<Option<Part>, LineError>
+fn read_salt(alloc: Global, fields: &mut Fields<'_, '_>, parts: u32) -> Result<Option<Part>, Cause>
     ensures { IfOk result (λ salt. TakesSalt fields.old parts salt fields.new) }
 {
     match parts {
         1 => Ok(None),
         2 => Ok(Some(read_part(alloc, fields)?)),
-        _ => Err(LineError::Count),
+        _ => Err(Cause::Count),
     }
 }

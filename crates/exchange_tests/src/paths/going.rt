@@ -14,7 +14,7 @@ use cred_files::Credential;
 use enctypes::Key;
 use kdc_core::Kdc;
 use krb_fields::Moment;
-use krb_joined::{Answering, Client, Issuing, JoinedError, Reader, Sealing, end_to_end, obtain};
+use krb_joined::{Answering, Client, Issuing, PathEnd, Reader, Sealing, end_to_end, obtain};
 use std::alloc::{AllocError, Global};
 use std::test::Fail;
 
@@ -55,17 +55,17 @@ pub enum End {
     Memory,
 }
 
-fn end_by(fault: &JoinedError) -> End {
-    match fault {
-        JoinedError::NoReply => End::NoReply,
-        JoinedError::NotTaken(ReplyError::Memory) => End::Memory,
-        JoinedError::NotTaken(fault) => End::NotTaken(outcome_by(fault)),
-        JoinedError::NotPresentable => End::NotPresentable,
-        JoinedError::NotAccepted(ApFault::Memory) => End::Memory,
-        JoinedError::NotAccepted(fault) => End::NotAccepted(*fault),
-        JoinedError::NotAnswered(ReplyError::Memory) => End::Unheard,
-        JoinedError::NotAnswered(_) => End::NotAnswered,
-        JoinedError::Memory => End::Memory,
+fn end_by(end: &PathEnd) -> End {
+    match end {
+        PathEnd::NoReply => End::NoReply,
+        PathEnd::NotTaken(ReplyError::Memory) => End::Memory,
+        PathEnd::NotTaken(fault) => End::NotTaken(outcome_by(fault)),
+        PathEnd::NotPresentable => End::NotPresentable,
+        PathEnd::NotAccepted(ApFault::Memory) => End::Memory,
+        PathEnd::NotAccepted(fault) => End::NotAccepted(*fault),
+        PathEnd::NotAnswered(ReplyError::Memory) => End::Unheard,
+        PathEnd::NotAnswered(_) => End::NotAnswered,
+        PathEnd::Memory => End::Memory,
     }
 }
 
@@ -280,7 +280,7 @@ fn arrive(alloc: Global, realm: &mut Realm, step: Step<'_>, asking: &Asking, req
                 End::Other
             }
         }
-        Err(fault) => end_by(&fault),
+        Err(end) => end_by(&end),
     }
 }
 
@@ -292,7 +292,7 @@ fn take(alloc: Global, realm: &mut Realm, asking: &Asking, request: &[u8]) -> Re
             realm.found.push(credential)?;
             Ok(End::Accepted)
         }
-        Err(fault) => Ok(end_by(&fault)),
+        Err(end) => Ok(end_by(&end)),
     }
 }
 

@@ -22,7 +22,7 @@ returns-in-Err-clause-value c =
     let at = c.args.answering.now.issuing.at in
     let random = c.args.answering.now.issuing.random in
     let room = c.args.answering.now.issuing.room in
-    stopped client.reader c.args.acceptor.now c.args.answering.now.accepting.at.sec client.wanted client.presenting.at (issued v at random (request_of request)) client.asked (answer v at random room request).reply c.in-Err.fault
+    stopped client.reader c.args.acceptor.now c.args.answering.now.accepting.at.sec client.wanted client.presenting.at (issued v at random (request_of request)) client.asked (answer v at random room request).reply c.in-Err.end
     (none_issued v at random room request (request_of request)) c.in-Err.ensures.before c.in-Err.ensures.ended
 
 pub returns-in-Ok-clause-presented : goal.returns-in-Ok-clause-presented
@@ -36,7 +36,7 @@ pub returns-in-Err-clause-presented : goal.returns-in-Err-clause-presented
 returns-in-Err-clause-presented c =
     let client = c.args.client.now in
     let request = c.args.request.now in
-    not_presented client.reader c.args.acceptor.now c.args.answering.now.accepting.at.sec client.wanted client.presenting.at client.asked (answer (view c.args.kdc.now request) c.args.answering.now.issuing.at c.args.answering.now.issuing.random c.args.answering.now.issuing.room request).reply c.in-Err.fault
+    not_presented client.reader c.args.acceptor.now c.args.answering.now.accepting.at.sec client.wanted client.presenting.at client.asked (answer (view c.args.kdc.now request) c.args.answering.now.issuing.at c.args.answering.now.issuing.random c.args.answering.now.issuing.room request).reply c.in-Err.end
     c.in-Err.ensures.before
 
 pub returns-in-Ok-clause-ended : goal.returns-in-Ok-clause-ended
@@ -53,7 +53,7 @@ pub returns-in-Err-clause-repeated : goal.returns-in-Err-clause-repeated
 returns-in-Err-clause-repeated c issue octets again is reader may =
     let client = c.args.client.now in
     let request = c.args.request.now in
-    stopped_again client.reader c.args.acceptor.now c.args.answering.now.accepting.at.sec client.wanted client.presenting.at issue octets client.asked (answer (view c.args.kdc.now request) c.args.answering.now.issuing.at c.args.answering.now.issuing.random c.args.answering.now.issuing.room request).reply c.in-Err.fault
+    stopped_again client.reader c.args.acceptor.now c.args.answering.now.accepting.at.sec client.wanted client.presenting.at issue octets client.asked (answer (view c.args.kdc.now request) c.args.answering.now.issuing.at c.args.answering.now.issuing.random c.args.answering.now.issuing.room request).reply c.in-Err.end
     again c.in-Err.ensures.before c.in-Err.ensures.ended
 
 pub returns-in-Ok-clause-ruled : goal.returns-in-Ok-clause-ruled
@@ -68,7 +68,7 @@ returns-in-Err-clause-ruled c =
     let client = c.args.client.now in
     let request = c.args.request.now in
     let taken = taken_of (answer (view c.args.kdc.now request) c.args.answering.now.issuing.at c.args.answering.now.issuing.random c.args.answering.now.issuing.room request).reply client.asked client.reader in
-    not_ruled (key_of taken) client.presenting.at c.args.acceptor.now (ruled c.args.acceptor.now client.wanted client.presenting c.args.answering.now.accepting taken) c.in-Err.fault c.in-Err.ensures.before
+    not_ruled (key_of taken) client.presenting.at c.args.acceptor.now (ruled c.args.acceptor.now client.wanted client.presenting c.args.answering.now.accepting taken) c.in-Err.end c.in-Err.ensures.before
 
 pub returns-in-Ok-clause-served : goal.returns-in-Ok-clause-served
 returns-in-Ok-clause-served c =
@@ -82,10 +82,10 @@ returns-in-Err-clause-served c =
     let client = c.args.client.now in
     let request = c.args.request.now in
     let taken = taken_of (answer (view c.args.kdc.now request) c.args.answering.now.issuing.at c.args.answering.now.issuing.random c.args.answering.now.issuing.room request).reply client.asked client.reader in
-    not_served (key_of taken) client.presenting.at c.args.acceptor.now (ruled c.args.acceptor.now client.wanted client.presenting c.args.answering.now.accepting taken) c.in-Err.fault c.in-Err.ensures.before
+    not_served (key_of taken) client.presenting.at c.args.acceptor.now (ruled c.args.acceptor.now client.wanted client.presenting c.args.answering.now.accepting taken) c.in-Err.end c.in-Err.ensures.before
 
 pub returns-in-Ok-clause-kept : goal.returns-in-Ok-clause-kept
 returns-in-Ok-clause-kept c = kept_on c.args.kdc.now _ (after_request c.args.kdc.now c.args.answering.now.issuing.at c.args.answering.now.issuing.random c.args.answering.now.issuing.room c.args.request.now) c.in-Ok.credential c.present.result c.in-Ok.ensures.kept
 
 pub returns-in-Err-clause-kept : goal.returns-in-Err-clause-kept
-returns-in-Err-clause-kept c = kept_before c.args.kdc.now _ (after_request c.args.kdc.now c.args.answering.now.issuing.at c.args.answering.now.issuing.random c.args.answering.now.issuing.room c.args.request.now) c.in-Err.fault c.in-Err.ensures.kept
+returns-in-Err-clause-kept c = kept_before c.args.kdc.now _ (after_request c.args.kdc.now c.args.answering.now.issuing.at c.args.answering.now.issuing.random c.args.answering.now.issuing.room c.args.request.now) c.in-Err.end c.in-Err.ensures.kept

@@ -1,11 +1,11 @@
-//! Where a ticket's path can end early.
+//! Where a ticket's path ends early.
 use ap_accept::ApFault;
 use client_core::ReplyError;
 use std::alloc::AllocError;
 
-/// Who stopped a ticket on its path, and why.
+/// Where a ticket's path ends before the service has accepted the client and the client the service, and why.
 #[derive(Debug, Drop)]
-pub enum JoinedError {
+pub enum PathEnd {
     /// The KDC gave no reply.
     NoReply,
     /// The client rejected the KDC's reply.
@@ -20,13 +20,13 @@ pub enum JoinedError {
     Memory,
 }
 
-impl From<AllocError> for JoinedError {
+impl From<AllocError> for PathEnd {
     ghost use Rattle.std.specs.Prelude.{◌≡◌};
-    ghost use Rattle.krb_joined.specs.declared.fault.JoinedError.TheVariants.{Memory};
+    ghost use Rattle.krb_joined.specs.declared.path_end.PathEnd.TheVariants.{Memory};
 
-    ghost from_gives = { λ _ fault. fault ≡ Memory };
+    ghost from_gives = { λ _ end. end ≡ Memory };
 
-    fn from(_error: AllocError) -> JoinedError {
-        JoinedError::Memory
+    fn from(_error: AllocError) -> PathEnd {
+        PathEnd::Memory
     }
 }

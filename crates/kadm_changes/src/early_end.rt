@@ -1,4 +1,4 @@
-//! Why a command ends early.
+//! How a command ends early.
 ghost use Rattle.kadm_changes.specs.Stops.{IsFailed};
 
 use crate::reason::{CommandRefusal, Part, Refusal};
@@ -17,9 +17,9 @@ const MEMORY: &str = "memory";
 /// The name in place of a path if standard output can't be written.
 const STANDARD_OUTPUT: &str = "standard output";
 
-/// Why a command ends early.
+/// How a command ends early: refused, failed, or after it has printed why.
 #[derive(Clone, Copy)]
-pub enum CommandError<'p> {
+pub enum EarlyEnd<'p> {
     /// The command line is wrong, and the error has been printed.
     Usage,
     /// A line of a batch is refused, and the reason has been printed.
@@ -34,31 +34,31 @@ pub enum CommandError<'p> {
     File(PathError<'p>),
 }
 
-impl CommandError<'_> {
+impl EarlyEnd<'_> {
     /// Returns the refusal of what the command has for a part.
-    pub(crate) fn refused(part: Part, reason: CommandRefusal) -> CommandError<'static> {
-        CommandError::Refused(Refusal {
+    pub(crate) fn refused(part: Part, reason: CommandRefusal) -> EarlyEnd<'static> {
+        EarlyEnd::Refused(Refusal {
             part,
             value: None,
             reason,
         })
     }
 
-    fn failed(path: &'static str, error: io::Error) -> CommandError<'static>
+    fn failed(path: &'static str, error: io::Error) -> EarlyEnd<'static>
         ensures { IsFailed result }
     {
-        CommandError::File(PathError::failed(path, error))
+        EarlyEnd::File(PathError::failed(path, error))
     }
 }
 
-impl<'p> CommandError<'p> {
+impl<'p> EarlyEnd<'p> {
     /// Returns the refusal of this text of a part.
     pub(crate) fn refused_value(
         part: Part,
         value: &'p str,
         reason: CommandRefusal,
-    ) -> CommandError<'p> {
-        CommandError::Refused(Refusal {
+    ) -> EarlyEnd<'p> {
+        EarlyEnd::Refused(Refusal {
             part,
             value: Some(value),
             reason,
@@ -66,121 +66,121 @@ impl<'p> CommandError<'p> {
     }
 
     /// Returns the same about another path.
-    pub(crate) fn at<'a>(self, path: &'a str) -> CommandError<'a> {
+    pub(crate) fn at<'a>(self, path: &'a str) -> EarlyEnd<'a> {
         match self {
-            CommandError::Refused(refusal) => {
-                CommandError::refused_value(refusal.part, path, refusal.reason)
+            EarlyEnd::Refused(refusal) => {
+                EarlyEnd::refused_value(refusal.part, path, refusal.reason)
             }
-            CommandError::File(fault) => CommandError::File(PathError {
+            EarlyEnd::File(fault) => EarlyEnd::File(PathError {
                 path,
                 cause: fault.cause,
             }),
-            CommandError::Usage => CommandError::Usage,
-            CommandError::LineRefused => CommandError::LineRefused,
-            CommandError::LineFailed => CommandError::LineFailed,
-            CommandError::NotInBatch => CommandError::NotInBatch,
+            EarlyEnd::Usage => EarlyEnd::Usage,
+            EarlyEnd::LineRefused => EarlyEnd::LineRefused,
+            EarlyEnd::LineFailed => EarlyEnd::LineFailed,
+            EarlyEnd::NotInBatch => EarlyEnd::NotInBatch,
         }
     }
 
     /// Returns the same; a refusal without a text now has this text of this part.
-    pub(crate) fn about(self, part: Part, value: &'p str) -> CommandError<'p> {
+    pub(crate) fn about(self, part: Part, value: &'p str) -> EarlyEnd<'p> {
         match self {
-            CommandError::Refused(refusal) if refusal.value.is_none() => {
-                CommandError::refused_value(part, value, refusal.reason)
+            EarlyEnd::Refused(refusal) if refusal.value.is_none() => {
+                EarlyEnd::refused_value(part, value, refusal.reason)
             }
             stop => stop,
         }
     }
 }
 
-impl From<AllocError> for CommandError<'_> {
+impl From<AllocError> for EarlyEnd<'_> {
     fn from(error: AllocError) -> Self {
-        CommandError::failed(MEMORY, io::Error::from(error))
+        EarlyEnd::failed(MEMORY, io::Error::from(error))
     }
 }
 
-impl<T: Drop> From<AllocFailed<T>> for CommandError<'_> {
+impl<T: Drop> From<AllocFailed<T>> for EarlyEnd<'_> {
     fn from(_: AllocFailed<T>) -> Self {
-        CommandError::from(AllocError)
+        EarlyEnd::from(AllocError)
     }
 }
 
 /// Converts an error on standard output.
-impl From<io::Error> for CommandError<'_> {
+impl From<io::Error> for EarlyEnd<'_> {
     ghost use Rattle.kadm_changes.specs.Stops.{IsFailed};
 
     ghost from_gives = { λ _ stop. IsFailed stop };
 
     fn from(error: io::Error) -> Self {
-        CommandError::failed(STANDARD_OUTPUT, error)
+        EarlyEnd::failed(STANDARD_OUTPUT, error)
     }
 }
 
 /// Converts a fault in a principal's name.
-impl From<NameFault> for CommandError<'_> {
+impl From<NameFault> for EarlyEnd<'_> {
     fn from(fault: NameFault) -> Self {
         match fault {
-            NameFault::BadName => CommandError::refused(Part::Name, CommandRefusal::BadName),
-            NameFault::Memory => CommandError::from(AllocError),
+            NameFault::BadName => EarlyEnd::refused(Part::Name, CommandRefusal::BadName),
+            NameFault::Memory => EarlyEnd::from(AllocError),
         }
     }
 }
 
-impl From<ReadError> for CommandError<'_> {
+impl From<ReadError> for EarlyEnd<'_> {
     fn from(fault: ReadError) -> Self {
         match fault {
-            ReadError::Memory => CommandError::from(AllocError),
-            fault => CommandError::refused(Part::Database, CommandRefusal::Database(fault)),
+            ReadError::Memory => EarlyEnd::from(AllocError),
+            fault => EarlyEnd::refused(Part::Database, CommandRefusal::Database(fault)),
         }
     }
 }
 
-impl From<ChangeFault> for CommandError<'_> {
+impl From<ChangeFault> for EarlyEnd<'_> {
     fn from(fault: ChangeFault) -> Self {
         match fault {
-            ChangeFault::Memory => CommandError::from(AllocError),
-            ChangeFault::BadName => CommandError::refused(Part::Name, CommandRefusal::BadName),
-            fault => CommandError::refused(Part::Name, CommandRefusal::Change(fault)),
+            ChangeFault::Memory => EarlyEnd::from(AllocError),
+            ChangeFault::BadName => EarlyEnd::refused(Part::Name, CommandRefusal::BadName),
+            fault => EarlyEnd::refused(Part::Name, CommandRefusal::Change(fault)),
         }
     }
 }
 
 /// Converts what is wrong with the keytab that a command writes. An import names its own.
-impl From<CredError> for CommandError<'_> {
+impl From<CredError> for EarlyEnd<'_> {
     fn from(fault: CredError) -> Self {
         match fault {
             CredError::BadMagic | CredError::Truncated | CredError::BadEntry => {
-                CommandError::refused(Part::NewKeytab, CommandRefusal::Keytab(fault))
+                EarlyEnd::refused(Part::NewKeytab, CommandRefusal::Keytab(fault))
             }
             // the others concern caches
-            _ => CommandError::from(AllocError),
+            _ => EarlyEnd::from(AllocError),
         }
     }
 }
 
 /// Converts a fault in a principal's keys from a keytab.
-impl From<KeyListError> for CommandError<'_> {
+impl From<KeyListError> for EarlyEnd<'_> {
     fn from(fault: KeyListError) -> Self {
         match fault {
-            KeyListError::Empty | KeyListError::Doubled => CommandError::refused(
+            KeyListError::Empty | KeyListError::Doubled => EarlyEnd::refused(
                 Part::Keytab,
                 CommandRefusal::NoKeys,
             ),
-            KeyListError::Memory => CommandError::from(AllocError),
+            KeyListError::Memory => EarlyEnd::from(AllocError),
         }
     }
 }
 
-impl<'p> From<PathError<'p>> for CommandError<'p> {
-    fn from(fault: PathError<'p>) -> CommandError<'p> {
-        CommandError::File(fault)
+impl<'p> From<PathError<'p>> for EarlyEnd<'p> {
+    fn from(fault: PathError<'p>) -> EarlyEnd<'p> {
+        EarlyEnd::File(fault)
     }
 }
 
 /// Returns what is wrong with a realm.
-pub(crate) fn of_realm(fault: NameFault) -> CommandError<'static> {
+pub(crate) fn of_realm(fault: NameFault) -> EarlyEnd<'static> {
     match fault {
-        NameFault::BadName => CommandError::refused(Part::Realm, CommandRefusal::BadRealm),
-        NameFault::Memory => CommandError::from(AllocError),
+        NameFault::BadName => EarlyEnd::refused(Part::Realm, CommandRefusal::BadRealm),
+        NameFault::Memory => EarlyEnd::from(AllocError),
     }
 }
