@@ -1,7 +1,7 @@
 """What the pages say of the code is so, as far as sources show it: the tables of rules with their order and codes, the
 rules that lines of the log name, the crates of MAP.md, the numbers of COUNTS, the names of items and files, the
-sections that a link names in words, the names of refusals in the manual pages, and the commands and options of command
-lines."""
+sections that a link names in words, the number of exported errors, the names of refusals in the manual pages, and the
+commands and options of command lines."""
 
 import collections
 import re
@@ -31,6 +31,8 @@ REFUSALS = {
 }
 # Names there that the program never prints: those of a program over `client_files`, of caches, of memory.
 NEVER = {"kclient.1": {"NoLogin", "NotValid"}, "kadm.8": {"Memory", "TooLate"}}
+# How many exported enums are an `Error` or a `Refusal` at most.
+MOST_ERRORS = 14
 # The manual page of each program, and the options that are plain words in its synopsis.
 MANUALS = {"kadm": ("kadm.8", set()), "kclient": ("kclient.1", {"--name"}), "kdcd": ("kdcd.8", set())}
 # Pages whose names of items and files are those of this repository, and names there of other ones.
@@ -282,6 +284,24 @@ def items(trial):
         paths = {path for span in plain for path in re.findall(r"[\w.-]+\.(?:antt|rt|py|c|h|edits|session)\b", span)}
         lacking |= paths - there - OF_OTHERS
         trial.note(f"{page}: its names of items and files, {len(named) + len(paths)}", ", ".join(sorted(lacking)))
+
+
+def error_enums():
+    """The enums that crates export as errors, by names in `Error` and `Refusal`."""
+    found = set()
+    for library in CRATES.glob("*/src/lib.rt"):
+        exported = set(re.findall(r"\w+", " ".join(re.findall(r"pub use ([^;]*);", library.read_text()))))
+        texts = [file.read_text() for file in library.parent.rglob("*.rt")]
+        found |= exported & {name for text in texts for name in re.findall(r"pub enum (\w+(?:Error|Refusal))\b", text)}
+    return found
+
+
+@test()
+def errors(trial):
+    """Few exported enums are errors: a caller learns few."""
+    found = error_enums()
+    fault = ", ".join(sorted(found)) if not 0 < len(found) <= MOST_ERRORS else ""
+    trial.note(f"exported enums of errors and refusals, {len(found)}: at most {MOST_ERRORS}", fault)
 
 
 @test()

@@ -1,5 +1,6 @@
 //! The command that writes a keytab for each of several principals.
-ghost use Rattle.std.specs.Prelude.{◌≡◌, ◌++◌, List, All, IfErr, IfOk, OnErr, OnOk, flat_map, map, option_map, string_bytes};
+ghost use Rattle.std.specs.Prelude.{◌≡◌, ◌++◌, List, All, IfErr, IfOk, OnErr, OnOk, flat_map, map, option_map};
+ghost use Rattle.std.specs.Prelude.{string_bytes};
 ghost use Rattle.std.specs.FinMap as rows;
 ghost use Rattle.file_store.specs.World.{with_file};
 ghost use Rattle.kadm_changes.specs.KeytabFolders.{AreKeytabs, IsKeytabFile, WroteKeytabs, file_octet, path_in};
@@ -51,9 +52,9 @@ pub fn write_keytabs<'p, T: Store, W: Write, E: Write>(
     target: &Target<'p>,
     to: FolderArgs<'p>,
 ) -> Result<Result<Written, EarlyEnd<'p>>, EarlyEnd<'p>>
-    // Promise (wrote, failed): `keytab --like` writes keytabs into the folder, each of a principal's current keys and at
-    // a path of its name, of the names that fit and in their order, none between left out; no other file, and none if
-    // one is refused.
+    // Promise (wrote, failed): `keytab --like` writes keytabs into the folder, each of a principal's current keys and
+    // at a path of its name, of the names that fit and in their order, none between left out; no other file, and none
+    // if one is refused.
     ensures wrote { OnOk result (WroteKeytabs
         (T.world store.old) target.now.db.now to.entry (T.world store.new)) }
     ensures failed { IfOk result (λ end. IfErr end IsFailed) }

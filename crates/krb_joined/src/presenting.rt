@@ -58,8 +58,8 @@ pub fn present(
         (ruled acceptor.old client.now.wanted client.now.presenting accepting.now (Some credential.now)) result }
     ensures served { IsServed acceptor.old acceptor.new
         (ruled acceptor.old client.now.wanted client.now.presenting accepting.now (Some credential.now)) result }
-    // Promise: the client accepts the AP-REP before anything counts as accepted; if it rejects the AP-REP, the path ends
-    // there, and no end at the KDC is returned.
+    // Promise: the client accepts the AP-REP before anything counts as accepted; if it rejects the AP-REP, the path
+    // ends there, and no end at the KDC is returned.
     ensures later { IfErr result IsLater }
 {
     look(client.wanted.subkey);
