@@ -195,11 +195,12 @@ fn is_number(
 #[test]
 fn numbers_are_read_and_written_within_their_bounds(rt: HostRuntime) {
     let alloc = rt.alloc();
-    for (digits, number, [int32, uint32, microseconds]) in NUMBERS {
+    for (digits, number, fits) in NUMBERS {
         let given = (*digits, *number);
-        is_number(&rt, alloc, Kind::Int32, given, *int32);
-        is_number(&rt, alloc, Kind::UInt32, given, *uint32);
-        is_number(&rt, alloc, Kind::Microseconds, given, *microseconds);
+        let [int32, uint32, microseconds] = *fits;
+        is_number(&rt, alloc, Kind::Int32, given, int32);
+        is_number(&rt, alloc, Kind::UInt32, given, uint32);
+        is_number(&rt, alloc, Kind::Microseconds, given, microseconds);
     }
 }
 
