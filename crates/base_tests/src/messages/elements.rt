@@ -34,18 +34,18 @@ const BAD: &str = "Err(BadInteger)";
 
 /// Numbers in digits, and which of the types i32, UInt32 and Microseconds have them. They are the bounds of RFC 4120,
 /// section 5.2.4, encoded by X.690, section 8.3. A UInt32 may be sent as a signed number.
-const NUMBERS: &[(&str, &str, [bool; 3])] = &[
-    ("020480000000", "-2147483648", [true, true, false]),
-    ("0201ff", "-1", [true, true, false]),
-    ("020100", "0", [true, true, true]),
-    ("02020080", "128", [true, true, true]),
-    ("02030f423f", "999999", [true, true, true]),
-    ("02030f4240", "1000000", [true, true, false]),
-    ("02047fffffff", "2147483647", [true, true, false]),
-    ("02050080000000", "2147483648", [false, true, false]),
-    ("020500ffffffff", "4294967295", [false, true, false]),
-    ("0205ff7fffffff", "-2147483649", [false, false, false]),
-    ("02050100000000", "4294967296", [false, false, false]),
+const NUMBERS: &[(&str, &str, bool, bool, bool)] = &[
+    ("020480000000", "-2147483648", true, true, false),
+    ("0201ff", "-1", true, true, false),
+    ("020100", "0", true, true, true),
+    ("02020080", "128", true, true, true),
+    ("02030f423f", "999999", true, true, true),
+    ("02030f4240", "1000000", true, true, false),
+    ("02047fffffff", "2147483647", true, true, false),
+    ("02050080000000", "2147483648", false, true, false),
+    ("020500ffffffff", "4294967295", false, true, false),
+    ("0205ff7fffffff", "-2147483649", false, false, false),
+    ("02050100000000", "4294967296", false, false, false),
 ];
 
 /// Values in digits, and what is read.
@@ -195,12 +195,11 @@ fn is_number(
 #[test]
 fn numbers_are_read_and_written_within_their_bounds(rt: HostRuntime) {
     let alloc = rt.alloc();
-    for (digits, number, fits) in NUMBERS {
+    for (digits, number, int32, uint32, microseconds) in NUMBERS {
         let given = (*digits, *number);
-        let [int32, uint32, microseconds] = *fits;
-        is_number(&rt, alloc, Kind::Int32, given, int32);
-        is_number(&rt, alloc, Kind::UInt32, given, uint32);
-        is_number(&rt, alloc, Kind::Microseconds, given, microseconds);
+        is_number(&rt, alloc, Kind::Int32, given, *int32);
+        is_number(&rt, alloc, Kind::UInt32, given, *uint32);
+        is_number(&rt, alloc, Kind::Microseconds, given, *microseconds);
     }
 }
 
