@@ -5,3 +5,4 @@ pub mod DateTimeLemmas
 pub mod DigitsLemmas
 pub mod TimeLaws
 pub mod TimeSpellings
+mod TlvLengths

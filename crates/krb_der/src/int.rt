@@ -26,7 +26,18 @@ pub fn int_value(octets: &[u8]) -> i64
     ensures { result ≡ int_value octets.now }
 {
     let sign = if octets[0] < 0x80 { 0 } else { 0xff };
-    i64::from_be_bytes(extended(octets, sign))
+    i64::from_be_bytes(widened(octets, sign))
+}
+
+/// Extends the bytes to eight, with `sign` in front. Most numbers of messages have one byte.
+fn widened(octets: &[u8], sign: u8) -> [u8; 8]
+    requires { length octets.now ≤ 8 }
+    ensures { result ≡ replicate (8 - length octets.now) sign ++ octets.now }
+{
+    match octets {
+        [octet] => [sign, sign, sign, sign, sign, sign, sign, *octet],
+        _ => extended(octets, sign),
+    }
 }
 
 /// Extends the bytes to eight, with `sign` in front.
@@ -45,6 +56,12 @@ fn extended(octets: &[u8], sign: u8) -> [u8; 8]
 pub fn shortest(octets: &[u8]) -> &[u8]
     ensures { result.now ≡ shortest octets.now }
 {
+    // Most numbers of messages are small.
+    if let [0, 0, 0, 0, 0, 0, 0, last] = octets {
+        if *last < 0x80 {
+            return &octets[7..];
+        }
+    }
     let mut rest = octets;
     while let [a, b, ..] = rest {
         if !((*a == 0 && *b < 0x80) || (*a == 0xff && *b >= 0x80)) {

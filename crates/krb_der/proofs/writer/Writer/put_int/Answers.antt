@@ -8,5 +8,8 @@ put_tlv-requires c =
     let written : c.shortest.result.now ≡ int_octets c.args.value = search rules in
     omega (arith, ap length written, int_short c.args.value)
 
-pub returns-clause-spelled : goal.returns-clause-spelled
-returns-clause-spelled c = int_spelled c.args.value c.ranges.value
+pub returns-in-len1-clause-spelled : goal.returns-in-len1-clause-spelled
+returns-in-len1-clause-spelled c = int_spelled c.args.value c.ranges.value
+
+pub returns-in_default-clause-spelled : goal.returns-in_default-clause-spelled
+returns-in_default-clause-spelled c = int_spelled c.args.value c.ranges.value
