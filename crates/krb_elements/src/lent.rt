@@ -36,4 +36,8 @@ impl<'a, T: Encode> Encode for Lent<'a, T> {
     fn put(&self, out: &mut Writer) -> Result<(), AllocError> {
         self.value.put(out)
     }
+
+    fn put_inside(&self, tag: u8, out: &mut Writer) -> Result<(), AllocError> {
+        self.value.put_inside(tag, out)
+    }
 }

@@ -31,6 +31,10 @@ impl Encode for i32 {
     fn put(&self, out: &mut Writer) -> Result<(), AllocError> {
         out.put_int(i64::from(*self))
     }
+
+    fn put_inside(&self, tag: u8, out: &mut Writer) -> Result<(), AllocError> {
+        out.put_int_in(tag, i64::from(*self))
+    }
 }
 
 impl MakeOwned for i32 {
@@ -58,6 +62,10 @@ impl Encode for UInt32 {
     fn put(&self, out: &mut Writer) -> Result<(), AllocError> {
         out.put_int(self.get())
     }
+
+    fn put_inside(&self, tag: u8, out: &mut Writer) -> Result<(), AllocError> {
+        out.put_int_in(tag, self.get())
+    }
 }
 
 impl Coded for Microseconds {
@@ -78,6 +86,10 @@ impl Encode for Microseconds {
     fn put(&self, out: &mut Writer) -> Result<(), AllocError> {
         out.put_int(i64::from(self.get()))
     }
+
+    fn put_inside(&self, tag: u8, out: &mut Writer) -> Result<(), AllocError> {
+        out.put_int_in(tag, i64::from(self.get()))
+    }
 }
 
 impl<'a, const TAG: u8> Coded for ByteStringRef<'a, TAG> {
@@ -94,6 +106,11 @@ impl<'a, const TAG: u8> Decode<'a> for ByteStringRef<'a, TAG> {
 impl<'a, const TAG: u8> Encode for ByteStringRef<'a, TAG> {
     fn put(&self, out: &mut Writer) -> Result<(), AllocError> {
         out.put_tlv(TAG, self.as_slice())
+    }
+
+    #[tactic(auto, using(crate::specs::WrittenLaws::tlv_longer))]
+    fn put_inside(&self, tag: u8, out: &mut Writer) -> Result<(), AllocError> {
+        out.put_tlv_in(tag, TAG, self.as_slice())
     }
 }
 
@@ -116,6 +133,11 @@ impl<const TAG: u8> Encode for ByteString<TAG> {
         let lent: ByteStringRef<'_, TAG> = ByteStringRef::new(self.as_slice());
         lent.put(out)
     }
+
+    fn put_inside(&self, tag: u8, out: &mut Writer) -> Result<(), AllocError> {
+        let lent: ByteStringRef<'_, TAG> = ByteStringRef::new(self.as_slice());
+        lent.put_inside(tag, out)
+    }
 }
 
 impl Coded for KTime {
@@ -132,5 +154,10 @@ impl Encode for KTime {
     fn put(&self, out: &mut Writer) -> Result<(), AllocError> {
         let _seconds = self.seconds();
         out.put_time(*self)
+    }
+
+    fn put_inside(&self, tag: u8, out: &mut Writer) -> Result<(), AllocError> {
+        let _seconds = self.seconds();
+        out.put_time_in(tag, *self)
     }
 }

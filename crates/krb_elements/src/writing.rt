@@ -24,6 +24,23 @@ pub trait Encode: Coded {
         ensures fits { OnOk result (Self.codec.Fits self.now) }
         // What was written before stays, also after an `Err`.
         ensures kept { Continues out.old out.new };
+
+    /// Appends the value inside this tag. After an `Err` a part of it may follow what was written before.
+    ///
+    /// A type whose encoding is short and has a known length writes both tags and lengths at once.
+    #[tactic(auto, using(crate::specs::WrittenLaws::tlv_longer))]
+    fn put_inside(&self, tag: u8, out: &mut Writer) -> Result<(), AllocError>
+        requires { length (field_text tag Self.codec.tag (Self.codec.text self.now)) < 2 ^ 32 }
+        // Promise (ok, fits, kept), as write_field: a value, a field ..
+        ensures ok { OnOk result (out.new ≡ out.old ++ field_text tag Self.codec.tag (Self.codec.text self.now)) }
+        ensures fits { OnOk result (Self.codec.Fits self.now) }
+        ensures kept { Continues out.old out.new }
+    {
+        let start = out.len();
+        out.begin(tag)?;
+        self.put(out)?;
+        out.end(start)
+    }
 }
 
 /// A type that consists of fields, and whose values can be written.
@@ -71,7 +88,6 @@ pub fn write_inside<T: Encode>(alloc: Global, tag: u8, value: &T) -> Result<Vec<
 }
 
 /// Appends the field.
-#[tactic(auto, using(crate::specs::WrittenLaws::tlv_longer))]
 pub fn write_field<T: Encode>(out: &mut Writer, n: u8, value: &T) -> Result<(), AllocError>
     requires tag { n < 31 }
     requires short { length (field_text (160 + n) T.codec.tag (T.codec.text value.now)) < 2 ^ 32 }
@@ -81,10 +97,7 @@ pub fn write_field<T: Encode>(out: &mut Writer, n: u8, value: &T) -> Result<(), 
     ensures fits { OnOk result (T.codec.Fits value.now) }
     ensures kept { Continues out.old out.new }
 {
-    let start = out.len();
-    out.begin(0xa0 + n)?;
-    value.put(out)?;
-    out.end(start)
+    value.put_inside(0xa0 + n, out)
 }
 
 /// Appends the field, if it is there.

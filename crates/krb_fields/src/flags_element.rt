@@ -23,4 +23,8 @@ impl Encode for Flags {
     fn put(&self, out: &mut Writer) -> Result<(), AllocError> {
         out.put_bits(self.bits())
     }
+
+    fn put_inside(&self, tag: u8, out: &mut Writer) -> Result<(), AllocError> {
+        out.put_bits_in(tag, self.bits())
+    }
 }

@@ -1,0 +1,5 @@
+use Rattle.krb_elements.specs.Continues.{appended_whole}
+use Rattle.krb_elements.proofs.simple.MicrosecondsEncode.put_inside.Goals as goal
+
+pub returns-clause-kept : goal.returns-clause-kept
+returns-clause-kept c = appended_whole c.put_int_in.result c.args.out.now _ _ c.put_int_in.ensures.ok c.put_int_in.ensures.err
