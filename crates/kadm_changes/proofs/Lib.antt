@@ -1,3 +1,5 @@
+mod AuditChains
+mod AuditLines
 mod Doing
 mod KeytabParts
 mod Making

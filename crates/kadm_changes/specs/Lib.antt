@@ -1,4 +1,12 @@
 pub mod Asking
+pub mod AuditAdding
+pub mod AuditChain
+pub mod AuditEnds
+pub mod AuditEntries
+pub mod AuditHash
+pub mod AuditHashes
+pub mod AuditLines
+pub mod AuditTold
 pub mod Changing
 pub mod Denying
 pub mod Dumps

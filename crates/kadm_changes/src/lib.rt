@@ -22,6 +22,7 @@
 #![tactic(auto)]
 
 mod asking;
+mod audit;
 mod changes;
 mod context;
 mod databases;
@@ -48,6 +49,9 @@ mod target;
 mod updates;
 
 pub use asking::{AskedSetting, SettingForm};
+pub use audit::{AuditCommand, AuditEntry, AuditFault, FULL_RECORD, FileHash, LineFault, LineHashes};
+pub use audit::{RecordEnd, VersionChange, added_lines, judge_record, last_line, needs_undone};
+pub use audit::{record_end, whole_len};
 pub use changes::{ChangeArgs, InitArgs, make_realm};
 pub use context::{Context, Progress};
 pub use databases::{Locked, lock_database, read_database, write_database};

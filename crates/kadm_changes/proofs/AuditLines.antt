@@ -1,0 +1,69 @@
+-- The first whole line of a record, and those that follow it.
+use Rattle.std.proofs.Common.{◌≡◌, ◌∙◌, ◌<◌, ◌≤◌, ◌+◌, ℕ, Bool, true, false, cond, eqb, ltb, not, suc, List, [], ◌∷◌, Option, Some, None, arith, ap, drop, length, sym, take, refl}
+use Rattle.std.proofs.lemmas.Bool.Decides.{nat_tests}
+use Rattle.std.specs.List.{position, position_or_len}
+use Rattle.kadm_changes.specs.AuditLines.{whole_lines, with_front}
+
+
+past_first : (n octet : ℕ) (rest : List ℕ) → (take (1 + n + 1) (octet ∷ rest) ≡ octet ∷ take (n + 1) rest) × (drop (1 + n + 1) (octet ∷ rest) ≡ drop (n + 1) rest)
+past_first n octet rest =
+    let two : 1 + n + 1 ≡ suc (n + 1) = omega arith in
+    (ap (λ m. take m (octet ∷ rest)) two, ap (λ m. drop m (octet ∷ rest)) two)
+
+found_at : (text : List ℕ) → position_or_len (λ b. eqb b 10) text < length text
+    → whole_lines text ≡ take (position_or_len (λ b. eqb b 10) text + 1) text ∷ whole_lines (drop (position_or_len (λ b. eqb b 10) text + 1) text)
+found_at [] some = absurd (omega (arith, some))
+found_at (octet ∷ octets) some = step (eqb octet 10) some (found_at octets)
+  where
+    place : ℕ
+    place = position_or_len (λ b. eqb b 10) octets
+
+    step : (b : Bool) → cond (not b) (1 + place) 0 < suc (length octets)
+        → (place < length octets → whole_lines octets ≡ take (place + 1) octets ∷ whole_lines (drop (place + 1) octets))
+        → cond b ((octet ∷ []) ∷ whole_lines octets) (with_front octet (whole_lines octets))
+        ≡ take (cond (not b) (1 + place) 0 + 1) (octet ∷ octets) ∷ whole_lines (drop (cond (not b) (1 + place) 0 + 1) (octet ∷ octets))
+    step true some later = refl
+    step false some later =
+        let past = past_first place octet octets in
+        ap (with_front octet) (later (omega (arith, some)))
+        ∙ ap (λ front. front ∷ whole_lines (drop (place + 1) octets)) (sym past.0)
+        ∙ ap (λ back. take (1 + place + 1) (octet ∷ octets) ∷ whole_lines back) (sym past.1)
+
+none_past : (text : List ℕ) → length text ≤ position_or_len (λ b. eqb b 10) text → whole_lines text ≡ []
+none_past [] none = refl
+none_past (octet ∷ octets) none = step (eqb octet 10) none (none_past octets)
+  where
+    place : ℕ
+    place = position_or_len (λ b. eqb b 10) octets
+
+    step : (b : Bool) → suc (length octets) ≤ cond (not b) (1 + place) 0 → (length octets ≤ place → whole_lines octets ≡ [])
+        → cond b ((octet ∷ []) ∷ whole_lines octets) (with_front octet (whole_lines octets)) ≡ []
+    step true none later = absurd (omega (arith, none))
+    step false none later = ap (with_front octet) (later (omega (arith, none)))
+
+-- a line feed was found
+pub first_whole : (text : List ℕ) (n : ℕ) → position (λ b. eqb b 10) text ≡ Some n
+    → (whole_lines text ≡ take (n + 1) text ∷ whole_lines (drop (n + 1) text)) × (n < length text)
+first_whole text n is = by_cases (ltb place (length text)) refl is
+  where
+    place : ℕ
+    place = position_or_len (λ b. eqb b 10) text
+
+    by_cases : (b : Bool) → ltb place (length text) ≡ b → cond b (Some place) None ≡ Some n
+        → (whole_lines text ≡ take (n + 1) text ∷ whole_lines (drop (n + 1) text)) × (n < length text)
+    by_cases true e is =
+        let some : place < length text = grind (arith, nat_tests) in
+        let same : place ≡ n = cc in
+        rw (← same) (found_at text some, some)
+    by_cases false e is = absurd (let no : None ≡ Some n = is in cc)
+
+-- no line feed was found
+pub no_whole : (text : List ℕ) → position (λ b. eqb b 10) text ≡ None → whole_lines text ≡ []
+no_whole text is = by_cases (ltb place (length text)) refl is
+  where
+    place : ℕ
+    place = position_or_len (λ b. eqb b 10) text
+
+    by_cases : (b : Bool) → ltb place (length text) ≡ b → cond b (Some place) None ≡ None → whole_lines text ≡ []
+    by_cases true e is = absurd (let no : Some place ≡ None = is in cc)
+    by_cases false e is = none_past text (let past : length text ≤ place = grind (arith, nat_tests) in past)
