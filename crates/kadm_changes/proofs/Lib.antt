@@ -1,5 +1,7 @@
 mod AuditChains
+mod AuditEnding
 mod AuditLines
+mod AuditSame
 mod Doing
 mod KeytabParts
 mod Making

@@ -1,9 +1,9 @@
 -- Whether a record of changes is whole: each line tells of the line above it, and the last one of the database.
-use Rattle.std.specs.Prelude.{◌≡◌, ◌++◌, ◌+◌, ℕ, ⊤, Bool, true, false, List, [], ◌∷◌, Option, Some, None, bytes_eq}
+use Rattle.std.specs.Prelude.{◌≡◌, ◌⊎◌, ◌++◌, ◌+◌, ℕ, ⊤, length, Bool, true, false, List, [], ◌∷◌, Option, Some, None, bytes_eq}
 use Rattle.std.specs.Prelude.{if◌then◌else◌}
 use Rattle.kadm_changes.specs.AuditEnds.{Hashes, hashes_of}
 use Rattle.kadm_changes.specs.AuditHash.{hash_text}
-use Rattle.kadm_changes.specs.AuditLines.{last_line, whole_lines}
+use Rattle.kadm_changes.specs.AuditLines.{last_line, last_of, whole_lines}
 use Rattle.kadm_changes.specs.declared.audit.chain.AuditFault.{AuditFault}
 use Rattle.kadm_changes.specs.declared.audit.chain.LineFault.{LineFault}
 use Rattle.kadm_changes.specs.declared.audit.chain.LineFault.TheVariants.{Chain, Gap, NoEntry}
@@ -69,3 +69,14 @@ is_not_made ends.NotMade = true
 is_not_made ends.Current = false
 is_not_made ends.Changed = false
 is_not_made ends.Unknown = false
+
+-- ---- what a last line tells of all lines above it
+
+-- two different texts have one hash
+abbrev pub SameHash : Type 0
+SameHash = (a : List ℕ) × (b : List ℕ) × (hash_text a ≡ hash_text b) × (a ≡ b → ⊥)
+
+-- two chains of equally many lines that end with the same line are the same, unless somebody found such texts
+abbrev pub LastTellsAll : Type 0
+LastTellsAll = (a b : List ℕ) (xs ys : List (List ℕ)) → IsChain a xs → IsChain b ys → length xs ≡ length ys
+    → last_of a xs ≡ last_of b ys → ((a ≡ b) × (xs ≡ ys)) ⊎ SameHash

@@ -5,6 +5,7 @@ mod chain;
 mod entries;
 mod hash;
 mod hashes;
+mod laws;
 mod line_texts;
 mod lines;
 mod members;
@@ -13,6 +14,7 @@ pub use chain::{AuditFault, LineFault, RecordEnd, judge_record, needs_undone, re
 pub use entries::{AuditCommand, AuditEntry, VersionChange};
 pub use hash::FileHash;
 pub use hashes::LineHashes;
+pub use laws::every_record;
 pub use line_texts::added_lines;
 pub use lines::{last_line, whole_len};
 

@@ -1,7 +1,7 @@
 //! Whether a record is whole.
-ghost use Rattle.std.specs.Prelude.{◌≡◌, ◌↔◌, [], IfOk, Some};
+ghost use Rattle.std.specs.Prelude.{◌≡◌, ◌↔◌, ◌++◌, [], IfOk, OnOk, Some};
 ghost use Rattle.kadm_changes.specs.AuditChain.{IsChain, end_in, faults, follows_on, is_not_made};
-ghost use Rattle.kadm_changes.specs.AuditChain.{line_fault, record_end};
+ghost use Rattle.kadm_changes.specs.AuditChain.{line_fault, numbered, record_end};
 ghost use Rattle.kadm_changes.specs.AuditHashes.{in_line};
 ghost use Rattle.kadm_changes.specs.AuditLines.{whole_lines};
 
@@ -59,17 +59,26 @@ pub fn judge_record(
     let mut rest = text;
     let mut number = 1;
     while let Some((line, after)) = next_line(rest) {
-        if let Some(fault) = line_fault(above, line) {
-            found.push(AuditFault {
-                line: number,
-                fault,
-            })?;
-        }
+        push_fault(&mut found, number, line_fault(above, line))?;
         above = line;
         rest = after;
         number += 1;
     }
     Ok(found)
+}
+
+/// Adds the fault of the line with this number, if there is one.
+fn push_fault(
+    found: &mut Vec<AuditFault>,
+    line: u64,
+    fault: Option<LineFault>,
+) -> Result<(), AllocError>
+    ensures { OnOk result (found.new.items ≡ found.old.items ++ numbered line fault) }
+{
+    match fault {
+        Some(fault) => found.push(AuditFault { line, fault }),
+        None => Ok(()),
+    }
 }
 
 /// Returns what is wrong with a line behind the line above.

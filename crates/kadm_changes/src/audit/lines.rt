@@ -1,5 +1,5 @@
 //! The lines of a record.
-ghost use Rattle.std.specs.Prelude.{◌≡◌, ◌==◌, ◌<◌, ◌++◌, ◌∷◌, [], IfNone, IfSome, length};
+ghost use Rattle.std.specs.Prelude.{◌≡◌, ◌==◌, ◌<◌, ◌≤◌, ◌++◌, ◌∷◌, [], IfNone, IfSome, drop, length, take};
 ghost use Rattle.std.specs.List.{position};
 ghost use Rattle.kadm_changes.specs.AuditLines.{last_line, whole_len, whole_lines};
 
@@ -10,12 +10,26 @@ pub(crate) fn next_line(rest: &[u8]) -> Option<(&[u8], &[u8])>
     ensures some { IfSome result (λ split. 0 < length split.0.now) }
     ensures none { IfNone result (whole_lines rest.now ≡ []) }
 {
-    let end = line_end(rest)?;
-    Some(rest.split_at(end + 1))
+    match line_len(rest) {
+        Some(len) => Some(rest.split_at(len)),
+        None => None,
+    }
+}
+
+/// Returns how many bytes the first whole line has.
+fn line_len(rest: &[u8]) -> Option<usize>
+    ensures found { IfSome result (λ len. whole_lines rest.now ≡ take len rest.now ∷ whole_lines (drop len rest.now)) }
+    ensures within { IfSome result (λ len. (0 < len) × (len ≤ length rest.now)) }
+    ensures none { IfNone result (whole_lines rest.now ≡ []) }
+{
+    match feed_place(rest) {
+        Some(place) => Some(place + 1),
+        None => None,
+    }
 }
 
 /// Returns the index of the first line feed.
-fn line_end(rest: &[u8]) -> Option<usize>
+fn feed_place(rest: &[u8]) -> Option<usize>
     ensures { result ≡ position (λ b. b == 0x0A) rest.now }
 {
     rest.iter().position(|octet| *octet == b'\n')
