@@ -76,7 +76,10 @@ fn push_fault(
     ensures { OnOk result (found.new.items ≡ found.old.items ++ numbered line fault) }
 {
     match fault {
-        Some(fault) => found.push(AuditFault { line, fault }),
+        Some(fault) => {
+            found.push(AuditFault { line, fault })?;
+            Ok(())
+        }
         None => Ok(()),
     }
 }
