@@ -1,10 +1,12 @@
 -- A record without a fault is a chain, and a chain has no fault.
-use Rattle.std.proofs.Common.{◌≡◌, ◌∙◌, ◌+◌, ℕ, Bool, true, false, cond, List, [], ◌∷◌, ◌++◌, Option, Some, None, ap, sym, subst, refl}
+use Rattle.std.proofs.Common.{◌≡◌, ◌∙◌, ◌+◌, ℕ, Bool, true, false, cond, List, [], ◌∷◌, ◌++◌, Option, Some, None, ap, append_assoc, sym, subst, refl}
 use Rattle.std.specs.Prelude.{◌↔◌, bytes_eq}
+use Rattle.std.proofs.lemmas.List.{append-nil}
 use Rattle.std.proofs.lemmas.Slice.Eq.{bytes_eq-Decides}
 use Rattle.kadm_changes.specs.AuditChain.{FollowsOn, IsChain, IsNext, fault_in, faults, follows_on, line_fault, numbered}
 use Rattle.kadm_changes.specs.AuditEnds.{Hashes, hashes_of}
 use Rattle.kadm_changes.specs.AuditHash.{hash_text}
+use Rattle.kadm_changes.specs.AuditLines.{whole_lines}
 use Rattle.kadm_changes.specs.declared.audit.chain.AuditFault.{AuditFault}
 use Rattle.kadm_changes.specs.declared.audit.chain.LineFault.{LineFault}
 use Rattle.kadm_changes.specs.declared.audit.chain.LineFault.TheVariants.{Chain, Gap, NoEntry}
@@ -73,3 +75,22 @@ no_faults n above (line ∷ lines) chain =
 
 pub whole_law : (n : ℕ) (above : List ℕ) (lines : List (List ℕ)) → (faults n above lines ≡ []) ↔ IsChain above lines
 whole_law n above lines = (chain_if n above lines, no_faults n above lines)
+
+-- ---- one line after another
+
+pub judged_on : (n : ℕ) (above rest line after : List ℕ) (found next all : List AuditFault)
+    → whole_lines rest ≡ line ∷ whole_lines after → next ≡ found ++ numbered n (line_fault above line)
+    → found ++ faults n above (whole_lines rest) ≡ all → next ++ faults (n + 1) line (whole_lines after) ≡ all
+judged_on n above rest line after found next all is pushed so_far =
+    ap (λ f. f ++ faults (n + 1) line (whole_lines after)) pushed
+    ∙ append_assoc found (numbered n (line_fault above line)) (faults (n + 1) line (whole_lines after))
+    ∙ sym (ap (λ lines. found ++ faults n above lines) is) ∙ so_far
+
+pub judged_end : (n : ℕ) (above rest : List ℕ) (found all : List AuditFault) → whole_lines rest ≡ []
+    → found ++ faults n above (whole_lines rest) ≡ all → found ≡ all
+judged_end n above rest found all is so_far =
+    sym (append-nil found) ∙ sym (ap (λ lines. found ++ faults n above lines) is) ∙ so_far
+
+pub judged_whole : (above : List ℕ) (lines : List (List ℕ)) (found : List AuditFault) → found ≡ faults 1 above lines
+    → (found ≡ []) ↔ IsChain above lines
+judged_whole above lines found is = subst (λ f. (f ≡ []) ↔ IsChain above lines) (sym is) (whole_law 1 above lines)

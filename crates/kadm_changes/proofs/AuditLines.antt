@@ -1,8 +1,8 @@
 -- The first whole line of a record, and those that follow it.
-use Rattle.std.proofs.Common.{◌≡◌, ◌∙◌, ◌<◌, ◌≤◌, ◌+◌, ℕ, Bool, true, false, cond, eqb, ltb, not, suc, List, [], ◌∷◌, Option, Some, None, arith, ap, drop, length, sym, take, refl}
+use Rattle.std.proofs.Common.{◌≡◌, ◌∙◌, ◌<◌, ◌≤◌, ◌+◌, ◌++◌, ℕ, Bool, true, false, cond, eqb, ltb, not, suc, List, [], ◌∷◌, Option, Some, None, arith, ap, drop, length, length-append, subst, sym, take, refl}
 use Rattle.std.proofs.lemmas.Bool.Decides.{nat_tests}
 use Rattle.std.specs.List.{position, position_or_len}
-use Rattle.kadm_changes.specs.AuditLines.{whole_lines, with_front}
+use Rattle.kadm_changes.specs.AuditLines.{last_of, lines_text, whole_len, whole_lines, with_front}
 
 
 past_first : (n octet : ℕ) (rest : List ℕ) → (take (1 + n + 1) (octet ∷ rest) ≡ octet ∷ take (n + 1) rest) × (drop (1 + n + 1) (octet ∷ rest) ≡ drop (n + 1) rest)
@@ -42,9 +42,9 @@ none_past (octet ∷ octets) none = step (eqb octet 10) none (none_past octets)
     step false none later = ap (with_front octet) (later (omega (arith, none)))
 
 -- a line feed was found
-pub first_whole : (text : List ℕ) (n : ℕ) → position (λ b. eqb b 10) text ≡ Some n
+pub first_whole : (text : List ℕ) (n : ℕ) → Some n ≡ position (λ b. eqb b 10) text
     → (whole_lines text ≡ take (n + 1) text ∷ whole_lines (drop (n + 1) text)) × (n < length text)
-first_whole text n is = by_cases (ltb place (length text)) refl is
+first_whole text n is = by_cases (ltb place (length text)) refl (sym is)
   where
     place : ℕ
     place = position_or_len (λ b. eqb b 10) text
@@ -58,8 +58,8 @@ first_whole text n is = by_cases (ltb place (length text)) refl is
     by_cases false e is = absurd (let no : None ≡ Some n = is in cc)
 
 -- no line feed was found
-pub no_whole : (text : List ℕ) → position (λ b. eqb b 10) text ≡ None → whole_lines text ≡ []
-no_whole text is = by_cases (ltb place (length text)) refl is
+pub no_whole : (text : List ℕ) → None ≡ position (λ b. eqb b 10) text → whole_lines text ≡ []
+no_whole text is = by_cases (ltb place (length text)) refl (sym is)
   where
     place : ℕ
     place = position_or_len (λ b. eqb b 10) text
@@ -67,3 +67,25 @@ no_whole text is = by_cases (ltb place (length text)) refl is
     by_cases : (b : Bool) → ltb place (length text) ≡ b → cond b (Some place) None ≡ None → whole_lines text ≡ []
     by_cases true e is = absurd (let no : Some place ≡ None = is in cc)
     by_cases false e is = none_past text (let past : length text ≤ place = grind (arith, nat_tests) in past)
+
+-- ---- one line after another
+
+pub counted_on : (len : ℕ) (rest line after : List ℕ) (whole : ℕ) → whole_lines rest ≡ line ∷ whole_lines after
+    → len + whole_len rest ≡ whole → len + length line + whole_len after ≡ whole
+counted_on len rest line after whole is so_far =
+    let first : whole_len rest ≡ length line + whole_len after =
+        ap (λ lines. length (lines_text lines)) is ∙ length-append line (lines_text (whole_lines after)) in
+    omega (arith, first, so_far)
+
+pub counted_end : (len : ℕ) (rest : List ℕ) (whole : ℕ) → whole_lines rest ≡ [] → len + whole_len rest ≡ whole → len ≡ whole
+counted_end len rest whole is so_far =
+    let none : whole_len rest ≡ 0 = ap (λ lines. length (lines_text lines)) is in
+    omega (arith, none, so_far)
+
+pub last_on : (last rest line after : List ℕ) (whole : List ℕ) → whole_lines rest ≡ line ∷ whole_lines after
+    → last_of last (whole_lines rest) ≡ whole → last_of line (whole_lines after) ≡ whole
+last_on last rest line after whole is so_far = sym (ap (last_of last) is) ∙ so_far
+
+pub last_end : (last rest : List ℕ) (whole : List ℕ) → whole_lines rest ≡ [] → last_of last (whole_lines rest) ≡ whole
+    → last ≡ whole
+last_end last rest whole is so_far = sym (ap (last_of last) is) ∙ so_far

@@ -44,6 +44,7 @@ pub enum RecordEnd {
 }
 
 /// Returns all faults of the whole lines of a record, behind the line above them. `above` is no bytes if there is none.
+#[tactic(auto, using(crate::proofs::AuditChains::judged_on, crate::proofs::AuditChains::judged_end, crate::proofs::AuditChains::judged_whole))]
 pub fn judge_record(
     alloc: Global,
     above: &[u8],

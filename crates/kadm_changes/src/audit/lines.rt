@@ -17,6 +17,7 @@ pub(crate) fn next_line(rest: &[u8]) -> Option<(&[u8], &[u8])>
 }
 
 /// Returns how many bytes the first whole line has.
+#[tactic(auto, using(crate::proofs::AuditLines::first_whole, crate::proofs::AuditLines::no_whole))]
 fn line_len(rest: &[u8]) -> Option<usize>
     ensures found { IfSome result (λ len. whole_lines rest.now ≡ take len rest.now ∷ whole_lines (drop len rest.now)) }
     ensures within { IfSome result (λ len. (0 < len) × (len ≤ length rest.now)) }
@@ -36,6 +37,7 @@ fn feed_place(rest: &[u8]) -> Option<usize>
 }
 
 /// Returns how many bytes of a record are whole lines. A part of a line at the end is of a command that did not end.
+#[tactic(auto, using(crate::proofs::AuditLines::counted_on, crate::proofs::AuditLines::counted_end))]
 pub fn whole_len(text: &[u8]) -> usize
     // Promise: a record is read up to the last line feed: what a command wrote that did not end is left out.
     ensures { result ≡ whole_len text.now }
@@ -50,6 +52,7 @@ pub fn whole_len(text: &[u8]) -> usize
 }
 
 /// Returns the last whole line of a record, with its line feed. Without a line, returns no bytes.
+#[tactic(auto, using(crate::proofs::AuditLines::last_on, crate::proofs::AuditLines::last_end))]
 pub fn last_line(text: &[u8]) -> &[u8]
     ensures { result.now ≡ last_line text.now }
 {
