@@ -56,10 +56,13 @@ no_fault above line next =
 
 -- ---- all lines
 
+never_none : (fault : AuditFault) (others : List AuditFault) → fault ∷ others ≡ [] → ⊥
+never_none fault others e = cc
+
 none_numbered : (n : ℕ) (fault : Option LineFault) (others : List AuditFault) → numbered n fault ++ others ≡ []
     → (fault ≡ None) × (others ≡ [])
 none_numbered n None others e = (refl, e)
-none_numbered n (Some fault) others e = absurd (cc)
+none_numbered n (Some fault) others e = absurd (never_none (record { line = n; fault = fault }) others e)
 
 pub chain_if : (n : ℕ) (above : List ℕ) (lines : List (List ℕ)) → faults n above lines ≡ [] → IsChain above lines
 chain_if n above [] e = tt

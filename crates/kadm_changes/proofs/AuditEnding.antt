@@ -42,34 +42,52 @@ module _ (m1 b m2 a m3 c m4 : List ℕ) (l1 : length m1 ≡ 11) (lb : length b �
 
   at_1 : take 11 (drop 0 (m1 ++ b ++ m2 ++ a ++ m3 ++ c ++ m4)) ≡ m1
   at_1 =
-      more _ m4 m1 0 11 (omega (arith, to_c)) (more _ c m1 0 11 (omega (arith, to_3)) (more _ m3 m1 0 11 (omega (arith, to_a))
-      (more _ a m1 0 11 (omega (arith, to_2)) (more _ m2 m1 0 11 (omega (arith, to_b)) (more m1 b m1 0 11 (omega (arith, l1))
+      more (m1 ++ b ++ m2 ++ a ++ m3 ++ c) m4 m1 0 11 (omega (arith, to_c))
+      (more (m1 ++ b ++ m2 ++ a ++ m3) c m1 0 11 (omega (arith, to_3))
+      (more (m1 ++ b ++ m2 ++ a) m3 m1 0 11 (omega (arith, to_a))
+      (more (m1 ++ b ++ m2) a m1 0 11 (omega (arith, to_2))
+      (more (m1 ++ b) m2 m1 0 11 (omega (arith, to_b))
+      (more m1 b m1 0 11 (omega (arith, l1))
       (subst (λ m. take m m1 ≡ m1) l1 (take-length m1)))))))
 
   at_b : take 64 (drop 11 (m1 ++ b ++ m2 ++ a ++ m3 ++ c ++ m4)) ≡ b
   at_b =
-      more _ m4 b 11 64 (omega (arith, to_c)) (more _ c b 11 64 (omega (arith, to_3)) (more _ m3 b 11 64 (omega (arith, to_a))
-      (more _ a b 11 64 (omega (arith, to_2)) (more _ m2 b 11 64 (omega (arith, to_b)) (here m1 b 11 64 l1 lb)))))
+      more (m1 ++ b ++ m2 ++ a ++ m3 ++ c) m4 b 11 64 (omega (arith, to_c))
+      (more (m1 ++ b ++ m2 ++ a ++ m3) c b 11 64 (omega (arith, to_3))
+      (more (m1 ++ b ++ m2 ++ a) m3 b 11 64 (omega (arith, to_a))
+      (more (m1 ++ b ++ m2) a b 11 64 (omega (arith, to_2))
+      (more (m1 ++ b) m2 b 11 64 (omega (arith, to_b))
+      (here m1 b 11 64 l1 lb)))))
 
   at_2 : take 11 (drop 75 (m1 ++ b ++ m2 ++ a ++ m3 ++ c ++ m4)) ≡ m2
   at_2 =
-      more _ m4 m2 75 11 (omega (arith, to_c)) (more _ c m2 75 11 (omega (arith, to_3)) (more _ m3 m2 75 11 (omega (arith, to_a))
-      (more _ a m2 75 11 (omega (arith, to_2)) (here (m1 ++ b) m2 75 11 to_b l2))))
+      more (m1 ++ b ++ m2 ++ a ++ m3 ++ c) m4 m2 75 11 (omega (arith, to_c))
+      (more (m1 ++ b ++ m2 ++ a ++ m3) c m2 75 11 (omega (arith, to_3))
+      (more (m1 ++ b ++ m2 ++ a) m3 m2 75 11 (omega (arith, to_a))
+      (more (m1 ++ b ++ m2) a m2 75 11 (omega (arith, to_2))
+      (here (m1 ++ b) m2 75 11 to_b l2))))
 
   at_a : take 64 (drop 86 (m1 ++ b ++ m2 ++ a ++ m3 ++ c ++ m4)) ≡ a
   at_a =
-      more _ m4 a 86 64 (omega (arith, to_c)) (more _ c a 86 64 (omega (arith, to_3)) (more _ m3 a 86 64 (omega (arith, to_a))
+      more (m1 ++ b ++ m2 ++ a ++ m3 ++ c) m4 a 86 64 (omega (arith, to_c))
+      (more (m1 ++ b ++ m2 ++ a ++ m3) c a 86 64 (omega (arith, to_3))
+      (more (m1 ++ b ++ m2 ++ a) m3 a 86 64 (omega (arith, to_a))
       (here (m1 ++ b ++ m2) a 86 64 to_2 la)))
 
   at_3 : take 11 (drop 150 (m1 ++ b ++ m2 ++ a ++ m3 ++ c ++ m4)) ≡ m3
   at_3 =
-      more _ m4 m3 150 11 (omega (arith, to_c)) (more _ c m3 150 11 (omega (arith, to_3)) (here (m1 ++ b ++ m2 ++ a) m3 150 11 to_a l3))
+      more (m1 ++ b ++ m2 ++ a ++ m3 ++ c) m4 m3 150 11 (omega (arith, to_c))
+      (more (m1 ++ b ++ m2 ++ a ++ m3) c m3 150 11 (omega (arith, to_3))
+      (here (m1 ++ b ++ m2 ++ a) m3 150 11 to_a l3))
 
   at_c : take 64 (drop 161 (m1 ++ b ++ m2 ++ a ++ m3 ++ c ++ m4)) ≡ c
-  at_c = more _ m4 c 161 64 (omega (arith, to_c)) (here (m1 ++ b ++ m2 ++ a ++ m3) c 161 64 to_3 lc)
+  at_c =
+      more (m1 ++ b ++ m2 ++ a ++ m3 ++ c) m4 c 161 64 (omega (arith, to_c))
+      (here (m1 ++ b ++ m2 ++ a ++ m3) c 161 64 to_3 lc)
 
   at_4 : take 3 (drop 225 (m1 ++ b ++ m2 ++ a ++ m3 ++ c ++ m4)) ≡ m4
-  at_4 = here (m1 ++ b ++ m2 ++ a ++ m3 ++ c) m4 225 3 to_c l4
+  at_4 =
+      here (m1 ++ b ++ m2 ++ a ++ m3 ++ c) m4 225 3 to_c l4
 
   all_at : (front : List ℕ) → front ++ m1 ++ b ++ m2 ++ a ++ m3 ++ c ++ m4 ≡ front ++ (m1 ++ b ++ m2 ++ a ++ m3 ++ c ++ m4)
   all_at front = simp append_assoc refl

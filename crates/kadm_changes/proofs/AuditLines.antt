@@ -25,7 +25,8 @@ found_at (octet ∷ octets) some = step (eqb octet 10) some (found_at octets)
     step true some later = refl
     step false some later =
         let past = past_first place octet octets in
-        ap (with_front octet) (later (omega (arith, some)))
+        let behind : 1 + place < suc (length octets) = some in
+        ap (with_front octet) (later (omega (arith, behind)))
         ∙ ap (λ front. front ∷ whole_lines (drop (place + 1) octets)) (sym past.0)
         ∙ ap (λ back. take (1 + place + 1) (octet ∷ octets) ∷ whole_lines back) (sym past.1)
 
@@ -38,8 +39,10 @@ none_past (octet ∷ octets) none = step (eqb octet 10) none (none_past octets)
 
     step : (b : Bool) → suc (length octets) ≤ cond (not b) (1 + place) 0 → (length octets ≤ place → whole_lines octets ≡ [])
         → cond b ((octet ∷ []) ∷ whole_lines octets) (with_front octet (whole_lines octets)) ≡ []
-    step true none later = absurd (omega (arith, none))
-    step false none later = ap (with_front octet) (later (omega (arith, none)))
+    step true none later = absurd (let first : suc (length octets) ≤ 0 = none in omega (arith, first))
+    step false none later =
+        let behind : suc (length octets) ≤ 1 + place = none in
+        ap (with_front octet) (later (omega (arith, behind)))
 
 -- a line feed was found
 pub first_whole : (text : List ℕ) (n : ℕ) → Some n ≡ position (λ b. eqb b 10) text
@@ -53,8 +56,10 @@ first_whole text n is = by_cases (ltb place (length text)) refl (sym is)
         → (whole_lines text ≡ take (n + 1) text ∷ whole_lines (drop (n + 1) text)) × (n < length text)
     by_cases true e is =
         let some : place < length text = grind (arith, nat_tests) in
+        let found : Some place ≡ Some n = is in
         let same : place ≡ n = cc in
-        rw (← same) (found_at text some, some)
+        subst (λ m. (whole_lines text ≡ take (m + 1) text ∷ whole_lines (drop (m + 1) text)) × (m < length text)) same
+        (found_at text some, some)
     by_cases false e is = absurd (let no : None ≡ Some n = is in cc)
 
 -- no line feed was found

@@ -1,5 +1,5 @@
 -- Chains of equally many lines that end with the same line are the same, unless two texts have one hash.
-use Rattle.std.proofs.Common.{◌≡◌, ◌∙◌, ◌⊎◌, ℕ, Bool, true, false, suc, List, [], ◌∷◌, Option, Some, None, ap, sym, subst, refl, inl, inr, length}
+use Rattle.std.proofs.Common.{◌≡◌, ◌∙◌, ◌⊎◌, ℕ, Bool, true, false, suc, List, [], ◌∷◌, Option, Some, None, ap, sym, subst, refl, inl, inr, length, arith}
 use Rattle.std.specs.Prelude.{bytes_eq}
 use Rattle.std.proofs.lemmas.Bool.{true≢false}
 use Rattle.std.proofs.lemmas.Slice.Eq.{bytes_eq-Decides}
@@ -28,10 +28,10 @@ or_same a b e = by_cases (bytes_eq a b) refl
 pub same_lines : (a b : List ℕ) (xs ys : List (List ℕ)) → IsChain a xs → IsChain b ys → length xs ≡ length ys
     → last_of a xs ≡ last_of b ys → ((a ≡ b) × (xs ≡ ys)) ⊎ SameHash
 same_lines a b [] [] first second len last = inl (last, refl)
-same_lines a b [] (y ∷ ys) first second len last = absurd cc
-same_lines a b (x ∷ xs) [] first second len last = absurd cc
+same_lines a b [] (y ∷ ys) first second len last = absurd (omega (arith, len))
+same_lines a b (x ∷ xs) [] first second len last = absurd (omega (arith, len))
 same_lines a b (x ∷ xs) (y ∷ ys) first second len last =
-    elim (same_lines x y xs ys first.1 second.1 (let same : length xs ≡ length ys = cc in same) last) as (λ _. ((a ≡ b) × (x ∷ xs ≡ y ∷ ys)) ⊎ SameHash) [
+    elim (same_lines x y xs ys first.1 second.1 (omega (arith, len)) last) as (λ _. ((a ≡ b) × (x ∷ xs ≡ y ∷ ys)) ⊎ SameHash) [
       inl both ↦ with_above both.0 both.1 (or_same a b (above_same a b x first.0 (subst (λ line. IsNext b line) (sym both.0) second.0)))
       | inr found ↦ inr found
     ]
