@@ -107,16 +107,16 @@ in_end : (h : Hashes) → length h.before ≡ 64 → length h.after ≡ 64 → l
 unfolding end_of
 in_end h lb la lc =
     let marks : is_end (end_of h) ≡ true =
-        all_true _ _ _ _
-        (same _ _ (at_1 before_mark h.before after_mark h.after chain_mark h.chain end_mark refl lb refl la refl lc refl))
-        (same _ _ (at_2 before_mark h.before after_mark h.after chain_mark h.chain end_mark refl lb refl la refl lc refl))
-        (same _ _ (at_3 before_mark h.before after_mark h.after chain_mark h.chain end_mark refl lb refl la refl lc refl))
-        (same _ _ (at_4 before_mark h.before after_mark h.after chain_mark h.chain end_mark refl lb refl la refl lc refl)) in
+    all_true _ _ _ _
+    (same _ _ (at_1 before_mark h.before after_mark h.after chain_mark h.chain end_mark refl lb refl la refl lc refl))
+    (same _ _ (at_2 before_mark h.before after_mark h.after chain_mark h.chain end_mark refl lb refl la refl lc refl))
+    (same _ _ (at_3 before_mark h.before after_mark h.after chain_mark h.chain end_mark refl lb refl la refl lc refl))
+    (same _ _ (at_4 before_mark h.before after_mark h.after chain_mark h.chain end_mark refl lb refl la refl lc refl)) in
     ap (λ b. cond b (Some (between (end_of h))) None) marks
     ∙ ap Some (λ i. record {
-        before = at_b before_mark h.before after_mark h.after chain_mark h.chain end_mark refl lb refl la refl lc refl i;
-        after = at_a before_mark h.before after_mark h.after chain_mark h.chain end_mark refl lb refl la refl lc refl i;
-        chain = at_c before_mark h.before after_mark h.after chain_mark h.chain end_mark refl lb refl la refl lc refl i;
+      before = at_b before_mark h.before after_mark h.after chain_mark h.chain end_mark refl lb refl la refl lc refl i;
+      after = at_a before_mark h.before after_mark h.after chain_mark h.chain end_mark refl lb refl la refl lc refl i;
+      chain = at_c before_mark h.before after_mark h.after chain_mark h.chain end_mark refl lb refl la refl lc refl i;
     })
 
 pub found_again : (front : List ℕ) (h : Hashes) → length h.before ≡ 64 → length h.after ≡ 64 → length h.chain ≡ 64
@@ -124,13 +124,13 @@ pub found_again : (front : List ℕ) (h : Hashes) → length h.before ≡ 64 →
 unfolding end_of
 found_again front h lb la lc =
     let parts : ended front h ≡ front ++ end_of h =
-        all_at before_mark h.before after_mark h.after chain_mark h.chain end_mark refl lb refl la refl lc refl front in
+    all_at before_mark h.before after_mark h.after chain_mark h.chain end_mark refl lb refl la refl lc refl front in
     let long : length (end_of h) ≡ 228 =
-        to_4 before_mark h.before after_mark h.after chain_mark h.chain end_mark refl lb refl la refl lc refl in
+    to_4 before_mark h.before after_mark h.after chain_mark h.chain end_mark refl lb refl la refl lc refl in
     let whole : length (front ++ end_of h) ≡ length front + 228 = length-append front (end_of h) ∙ ap (λ n. length front + n) long in
     let enough : leb 228 (length (front ++ end_of h)) ≡ true = le-leb 228 (length (front ++ end_of h)) (omega (arith, whole)) in
     let start : length (front ++ end_of h) - 228 ≡ length front = omega (arith, whole) in
     let cut : drop (length (front ++ end_of h) - 228) (front ++ end_of h) ≡ end_of h =
-        ap (λ n. drop n (front ++ end_of h)) start ∙ drop-append_seam front (end_of h) in
+    ap (λ n. drop n (front ++ end_of h)) start ∙ drop-append_seam front (end_of h) in
     ap hashes_of parts ∙ ap (λ b. cond b (hashes_in (drop (length (front ++ end_of h) - 228) (front ++ end_of h))) None) enough
     ∙ ap hashes_in cut ∙ in_end h lb la lc

@@ -4,7 +4,6 @@ use Rattle.std.proofs.lemmas.Bool.Decides.{nat_tests}
 use Rattle.std.specs.List.{position, position_or_len}
 use Rattle.kadm_changes.specs.AuditLines.{last_of, lines_text, whole_len, whole_lines, with_front}
 
-
 past_first : (n octet : ℕ) (rest : List ℕ) → (take (1 + n + 1) (octet ∷ rest) ≡ octet ∷ take (n + 1) rest) × (drop (1 + n + 1) (octet ∷ rest) ≡ drop (n + 1) rest)
 past_first n octet rest =
     let two : 1 + n + 1 ≡ suc (n + 1) = omega arith in
@@ -79,7 +78,7 @@ pub counted_on : (len : ℕ) (rest line after : List ℕ) (whole : ℕ) → whol
     → len + whole_len rest ≡ whole → len + length line + whole_len after ≡ whole
 counted_on len rest line after whole is so_far =
     let first : whole_len rest ≡ length line + whole_len after =
-        ap (λ lines. length (lines_text lines)) is ∙ length-append line (lines_text (whole_lines after)) in
+    ap (λ lines. length (lines_text lines)) is ∙ length-append line (lines_text (whole_lines after)) in
     omega (arith, first, so_far)
 
 pub counted_end : (len : ℕ) (rest : List ℕ) (whole : ℕ) → whole_lines rest ≡ [] → len + whole_len rest ≡ whole → len ≡ whole

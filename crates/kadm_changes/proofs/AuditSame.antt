@@ -32,7 +32,7 @@ same_lines a b [] (y ∷ ys) first second len last = absurd (omega (arith, len))
 same_lines a b (x ∷ xs) [] first second len last = absurd (omega (arith, len))
 same_lines a b (x ∷ xs) (y ∷ ys) first second len last =
     elim (same_lines x y xs ys first.1 second.1 (omega (arith, len)) last) as (λ _. ((a ≡ b) × (x ∷ xs ≡ y ∷ ys)) ⊎ SameHash) [
-      inl both ↦ with_above both.0 both.1 (or_same a b (above_same a b x first.0 (subst (λ line. IsNext b line) (sym both.0) second.0)))
+      | inl both ↦ with_above both.0 both.1 (or_same a b (above_same a b x first.0 (subst (λ line. IsNext b line) (sym both.0) second.0)))
       | inr found ↦ inr found
     ]
   where

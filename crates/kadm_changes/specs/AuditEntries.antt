@@ -64,7 +64,7 @@ with_texts tokens texts = fold with_string (tokens ++ begin_array ∷ []) texts 
 abbrev pub with_versions : List Token → Versions → List Token
 with_versions tokens v =
     with_count (with_key (with_count (with_key (with_string (with_key (tokens ++ begin_object ∷ [])
-        (codes "name")) v.name) (codes "before")) v.before) (codes "after")) v.after ++ end_object ∷ []
+    (codes "name")) v.name) (codes "before")) v.before) (codes "after")) v.after ++ end_object ∷ []
 
 abbrev pub with_all_versions : List Token → List Versions → List Token
 with_all_versions tokens vs = fold with_versions (tokens ++ begin_array ∷ []) vs ++ end_array ∷ []
@@ -73,8 +73,8 @@ with_all_versions tokens vs = fold with_versions (tokens ++ begin_array ∷ []) 
 abbrev pub with_members : List Token → Command → List Token
 with_members tokens c =
     with_all_versions (with_key (with_texts (with_key (with_texts (with_key (with_string (with_key tokens
-        (codes "command")) c.word) (codes "names")) c.names) (codes "settings")) c.settings) (codes "versions"))
-        c.versions
+    (codes "command")) c.word) (codes "names")) c.names) (codes "settings")) c.settings) (codes "versions"))
+    c.versions
 
 -- a command of a batch is an object of its own
 abbrev pub with_command : List Token → Command → List Token
@@ -86,14 +86,14 @@ with_batch tokens cs = fold with_command (tokens ++ begin_array ∷ []) cs ++ en
 abbrev pub with_user : List Token → User → List Token
 with_user tokens u =
     with_text (with_key (with_text (with_key (with_text (with_key (with_count (with_key (tokens ++ begin_object ∷ [])
-        (codes "uid")) u.uid) (codes "name")) u.name) (codes "sudo_uid")) u.sudo_uid) (codes "sudo_user")) u.sudo_user
+    (codes "uid")) u.uid) (codes "name")) u.name) (codes "sudo_uid")) u.sudo_uid) (codes "sudo_user")) u.sudo_user
     ++ end_object ∷ []
 
 -- the members of an entry between its time and its hashes
 abbrev pub entry_tokens : Entry → List Token
 entry_tokens e =
     with_number (with_key (with_batch (with_key (with_members (with_user (with_key [] (codes "user")) e.user) e.command)
-        (codes "commands")) e.batch) (codes "rows")) e.rows
+    (codes "commands")) e.batch) (codes "rows")) e.rows
 
 -- an object of JSON up to its user: {"time":"2027-01-01T12:00:00Z",
 abbrev pub time_front : ℤ → List ℕ

@@ -49,9 +49,11 @@ mod target;
 mod updates;
 
 pub use asking::{AskedSetting, SettingForm};
-pub use audit::{AuditCommand, AuditEntry, AuditFault, FULL_RECORD, FileHash, LineFault, LineHashes};
-pub use audit::{RecordEnd, VersionChange, added_lines, every_record, judge_record, last_line};
-pub use audit::{needs_undone, record_end, whole_len};
+pub use audit::{
+    AuditCommand, AuditEntry, AuditFault, FULL_RECORD, FileHash, LineFault, LineHashes, RecordEnd,
+    VersionChange, added_lines, every_record, judge_record, last_line, needs_undone, record_end,
+    whole_len,
+};
 pub use changes::{ChangeArgs, InitArgs, make_realm};
 pub use context::{Context, Progress};
 pub use databases::{Locked, lock_database, read_database, write_database};

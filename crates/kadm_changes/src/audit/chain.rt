@@ -45,11 +45,7 @@ pub enum RecordEnd {
 
 /// Returns all faults of the whole lines of a record, behind the line above them. `above` is no bytes if there is none.
 #[tactic(auto, using(crate::proofs::AuditChains::judged_on, crate::proofs::AuditChains::judged_end, crate::proofs::AuditChains::judged_whole))]
-pub fn judge_record(
-    alloc: Global,
-    above: &[u8],
-    text: &[u8],
-) -> Result<Vec<AuditFault>, AllocError>
+pub fn judge_record(alloc: Global, above: &[u8], text: &[u8]) -> Result<Vec<AuditFault>, AllocError>
     ensures found { IfOk result (λ found. found.items ≡ faults 1 above.now (whole_lines text.now)) }
     // Promise: a record has no fault exactly if each line has the hash of the line above, and begins with the database
     // that the line above ends with.
