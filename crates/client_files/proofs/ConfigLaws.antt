@@ -4,7 +4,7 @@ use Rattle.std.proofs.lemmas.List.{take_more, get_or-map, length-map}
 use Rattle.client_files.specs.Configs.{ArePlaces, IsPlace}
 use Rattle.client_login.specs.declared.kdc_places.KdcPlace.{KdcPlace}
 
-taken : {A : Type 0} (f : A → List ℕ) (xs : List A) (i : ℕ) (d : A) → i < length xs
+pub taken : {A : Type 0} (f : A → List ℕ) (xs : List A) (i : ℕ) (d : A) → i < length xs
     → take (i + 1) (map f xs) ≡ take i (map f xs) ++ f (get_or xs i d) ∷ []
 taken f xs i d lt =
     take_more (map f xs) i (f d) (omega (arith, length-map xs f))

@@ -1,6 +1,9 @@
 pub mod CachePaths
 pub mod Caches
 pub mod Clocks
+pub mod Computers
+pub mod ConfigTexts
 pub mod Configs
 pub mod Holding
 pub mod Hosts
+pub mod IncludedTexts

@@ -1,13 +1,16 @@
 //! The store of a client. Beyond a [`Store`] it knows who owns a file and what a folder contains, removes files, and
 //! has a clock.
-ghost use Rattle.std.specs.Prelude.{◌≡◌, IfOk, OnErr, OnOk, option_map};
+ghost use Rattle.std.specs.Prelude.{◌≡◌, ◌==◌, IfOk, OnErr, OnOk, map, option_map, string_bytes};
+ghost use Rattle.std.specs.List.{slice_split};
 ghost use Rattle.client_files.specs.Clocks.{IsShown};
-ghost use Rattle.file_store.specs.World.{without_file};
+ghost use Rattle.client_files.specs.Computers.{AreNames, Computer, IsKind, IsNoFile, IsUserIn};
+ghost use Rattle.client_files.specs.Computers.{memory_computer};
+ghost use Rattle.file_store.specs.World.{World, without_file};
 
 use file_store::{FileStore, MemoryStore, Store, is_own, now, own_user};
 use krb_fields::Moment;
 use std::alloc::{AllocError, Global};
-use std::fs::File;
+use std::fs::{File, Metadata};
 use std::io::{Error, ErrorKind, IsTerminal};
 use std::random::RandomSource;
 use std::rt::{Clock, Env, Files};
@@ -28,13 +31,27 @@ pub enum PathKind {
 
 /// A store that knows who owns its files.
 pub trait ClientStore: Store {
+    // What the store knows of its computer, in a world, besides the bytes of files.
+    ghost computer: { World → Computer };
+
     /// Checks what a path has, without opening it.
     fn path_kind(&mut self, path: &str) -> io::Result<PathKind>
+        // Promise, as Config::read: the `krb5.conf` of ..
+        ensures kind { IfOk result (λ kind. IsKind computer (Self.world self.old) path.now kind) }
         // Promise: asking a store what a path is, who the user is, and which names a folder has changes no file.
+        ensures unchanged { Self.world self.new ≡ Self.world self.old };
+
+    /// Checks whether a path has a folder, a device, a FIFO or a socket, without opening it.
+    fn is_no_file(&mut self, path: &str) -> io::Result<bool>
+        // Promise, as Config::read: the `krb5.conf` of ..
+        ensures found { IfOk result (λ found. IsNoFile computer (Self.world self.old) path.now found) }
+        // Promise, as ClientStore::path_kind: asking a store what ..
         ensures unchanged { Self.world self.new ≡ Self.world self.old };
 
     /// Returns the number of the user whose rights the program has.
     fn user(&mut self) -> io::Result<u32>
+        // Promise, as Host::cache_path: **the default cache is ..
+        ensures user { IfOk result (λ user. IsUserIn computer (Self.world self.old) user) }
         // Promise, as ClientStore::path_kind: asking a store what ..
         ensures unchanged { Self.world self.new ≡ Self.world self.old };
 
@@ -52,6 +69,9 @@ pub trait ClientStore: Store {
 
     /// Returns the names of the files in a folder, in rising order.
     fn names_in(&mut self, alloc: Global, path: &str) -> io::Result<Vec<String>>
+        // Promise, as Config::read: the `krb5.conf` of ..
+        ensures names { IfOk result (λ names.
+            AreNames computer (Self.world self.old) path.now (map string_bytes names.items)) }
         // Promise, as ClientStore::path_kind: asking a store what ..
         ensures unchanged { Self.world self.new ≡ Self.world self.old };
 }
@@ -71,8 +91,18 @@ impl<
 where
     R::Reader: IsTerminal,
 {
+    // Nothing is stated by it: the store has no record of its files.
+    ghost computer = { memory_computer };
+
     fn path_kind(&mut self, path: &str) -> io::Result<PathKind> {
         find_path_kind(self.files(), path)
+    }
+
+    fn is_no_file(&mut self, path: &str) -> io::Result<bool> {
+        match find_file(self.files(), path)? {
+            Some(there) => Ok(!there.is_file()),
+            None => Ok(false),
+        }
     }
 
     fn user(&mut self) -> io::Result<u32> {
@@ -110,11 +140,18 @@ fn push_name(alloc: Global, names: &mut Vec<String>, name: &str) -> Result<(), A
     Ok(names.push(String::from_str(alloc, name)?)?)
 }
 
+/// Returns what is at a path, if anything is.
+fn find_file(files: &impl Files, path: &str) -> io::Result<Option<Metadata>> {
+    match fs::metadata(files, path) {
+        Ok(there) => Ok(Some(there)),
+        Err(error) if error.kind() == ErrorKind::NotFound => Ok(None),
+        Err(error) => Err(error),
+    }
+}
+
 fn find_path_kind(files: &impl Files, path: &str) -> io::Result<PathKind> {
-    let there = match fs::metadata(files, path) {
-        Ok(there) => there,
-        Err(error) if error.kind() == ErrorKind::NotFound => return Ok(PathKind::Free),
-        Err(error) => return Err(error),
+    let Some(there) = find_file(files, path)? else {
+        return Ok(PathKind::Free);
     };
     if !there.is_file() {
         return Ok(PathKind::NoFile);
@@ -129,11 +166,17 @@ fn find_path_kind(files: &impl Files, path: &str) -> io::Result<PathKind> {
 const MEMORY_USER: u32 = 1000;
 
 impl ClientStore for MemoryStore {
+    ghost computer = { memory_computer };
+
     fn path_kind(&mut self, path: &str) -> io::Result<PathKind> {
         match self.get(path) {
             Some(_) => Ok(PathKind::Ours),
             None => Ok(PathKind::Free),
         }
+    }
+
+    fn is_no_file(&mut self, _path: &str) -> io::Result<bool> {
+        Ok(false)
     }
 
     fn user(&mut self) -> io::Result<u32> {
@@ -159,16 +202,32 @@ impl ClientStore for MemoryStore {
         Ok(())
     }
 
-    /// A folder in memory is a file of names, one on each line.
+    /// A folder in memory is a file of names, with a line feed between two.
     fn names_in(&mut self, alloc: Global, path: &str) -> io::Result<Vec<String>> {
-        let text = match self.get(path) {
-            Some(octets) => str::from_utf8(octets).unwrap_or(""),
-            None => return Err(Error::from(ErrorKind::NotFound)),
+        let Some(octets) = self.get(path) else {
+            return Err(Error::from(ErrorKind::NotFound));
         };
-        let mut names = Vec::new(alloc);
-        for name in text.lines() {
-            push_name(alloc, &mut names, name)?;
-        }
-        Ok(names)
+        let Ok(text) = str::from_utf8(octets) else {
+            return Err(Error::from(ErrorKind::InvalidData));
+        };
+        let lines = split_lines(alloc, text)?;
+        Ok(copies(alloc, &lines)?)
     }
+}
+
+/// Returns the texts between the line feeds.
+fn split_lines(alloc: Global, text: &str) -> Result<Vec<&str>, AllocError>
+    ensures { IfOk result (λ lines. map (λ line. line.now) lines.items ≡ slice_split (λ o. o == 0x0A) text.now) }
+{
+    text.split('\n').collect(alloc)
+}
+
+fn copies(alloc: Global, lines: &[&str]) -> Result<Vec<String>, AllocError>
+    ensures { IfOk result (λ copies. map string_bytes copies.items ≡ map (λ line. line.now) lines.now) }
+{
+    let mut copies = Vec::new(alloc);
+    for line in lines {
+        copies.push(String::from_str(alloc, line)?)?;
+    }
+    Ok(copies)
 }

@@ -1,6 +1,7 @@
-//! A `krb5.conf`: its text with the files that it includes, its default realm, and the KDCs of a realm.
+//! A `krb5.conf`: its default realm, and the KDCs of a realm.
 ghost use Rattle.std.specs.Prelude.{◌≡◌, ◌==◌, ◌<◌, ◌^◌, ◌↔◌, IfOk, IfSome, IsSome, map, option_map, slice_get};
 ghost use Rattle.std.specs.Str.Parse.{IsNumeral, digits_value};
+ghost use Rattle.client_files.specs.ConfigTexts.{IsConfig};
 ghost use Rattle.client_files.specs.Configs.{ArePlaces, ArePlacesOf, IsDefaultRealm, IsHostPlace, IsHostText, IsNamed};
 ghost use Rattle.client_files.specs.Configs.{IsPlace};
 ghost use Rattle.client_files.specs.Configs.{HasPort, IsShownAs};
@@ -8,16 +9,16 @@ ghost use Rattle.krb_fields.specs.NameText.{component_text};
 ghost use Rattle.krb5_conf.specs.Values.{library_values};
 ghost use Rattle.std.specs.List.{after_first, before_first};
 
-use crate::client_store::{ClientStore, PathKind};
+use crate::client_store::ClientStore;
+use crate::config_texts::{ConfigText, read_text};
 use crate::environment::Defaults;
-use crate::faults::{ClientError, StepError, at_file};
+use crate::faults::{ClientError, StepError};
 use crate::principals::{make_principal, parse_name};
 use client_login::KdcPlace;
 use cred_files::Principal;
-use file_store::{FileError, LONGEST_FILE, read_file};
 use krb_elements::KerberosString;
 use krb_fields::{component_to_text, is_component};
-use krb5_conf::{Included, default_realm, kdc_address, kdcs, library_settings};
+use krb5_conf::{default_realm, kdc_address, kdcs, library_settings};
 use std::alloc::{AllocError, Global};
 use std::marker::Model;
 use text_fields::number_u32;
@@ -39,44 +40,26 @@ impl Model for Config {
     ghost view = { λ c. c.text.items };
 }
 
-/// What is wrong with a path that is included and is not UTF-8.
-const PATH_NOT_UTF8: &str = "a krb5.conf includes this path, which is not UTF-8";
-
-/// How deep files may include each other.
-const MOST_DEEP: usize = 3;
-
-/// The text of a `krb5.conf`, as it is read.
-#[derive(Drop)]
-struct Reading {
-    text: Vec<u8>,
-    notes: String,
-}
-
 impl Config {
     /// Reads the file that the environment names, or else the system's, with the files that it includes. It passes over
     /// what is not a plain file, and files that are included more than three deep; `notes` lists both.
+    #[tactic(auto, using(crate::proofs::Founds::text_at))]
     pub fn read<T: ClientStore>(
         alloc: Global,
         store: &mut T,
         defaults: &Defaults<'_>,
     ) -> Result<Config, ClientError>
+        // Promise: **the `krb5.conf` of a client is the file that `KRB5_CONFIG` names, or else the system's**: a line
+        // that includes a file or a folder stands for their text, three deep.
+        ensures read { IfOk result (λ config. IsConfig T.computer (T.world store.old) defaults.now.config config) }
         // Promise, as read_cache: reading a cache, a ..
         ensures unchanged { T.world store.new ≡ T.world store.old }
     {
         let path = defaults.config_path()?;
-        let mut reading = Reading {
-            text: Vec::new(alloc),
-            notes: String::new(alloc),
-        };
-        push_file(alloc, store, &mut reading, path)?;
-        for _ in 0..MOST_DEEP {
-            reading = with_included(alloc, store, reading)?;
-        }
-        note_deeper(alloc, &mut reading)?;
-        let Reading { text, notes } = reading;
+        let ConfigText { octets, notes } = read_text(alloc, store, path)?;
         Ok(Config {
             path: String::from_str(alloc, path)?,
-            text,
+            text: octets,
             notes,
         })
     }
@@ -139,148 +122,6 @@ impl Config {
         let subject = format!(in alloc; "{path}: {realm}")?;
         Err(ClientError::of(subject, StepError::NoKdc))
     }
-}
-
-fn with_included<T: ClientStore>(
-    alloc: Global,
-    store: &mut T,
-    reading: Reading,
-) -> Result<Reading, ClientError>
-    ensures unchanged { T.world store.new ≡ T.world store.old }
-{
-    let Reading { text, notes } = reading;
-    let mut whole = Reading {
-        text: Vec::new(alloc),
-        notes,
-    };
-    let lines = lines(alloc, &text)?;
-    for line in &lines {
-        push_line(alloc, store, &mut whole, line)?;
-    }
-    Ok(whole)
-}
-
-/// Splits a text at its line feeds.
-fn lines(alloc: Global, text: &[u8]) -> Result<Vec<&[u8]>, AllocError> {
-    text.split(|octet| *octet == b'\n').collect(alloc)
-}
-
-fn push_line<T: ClientStore>(
-    alloc: Global,
-    store: &mut T,
-    whole: &mut Reading,
-    line: &[u8],
-) -> Result<(), ClientError>
-    ensures unchanged { T.world store.new ≡ T.world store.old }
-{
-    match Included::read(line) {
-        Some(Included::Folder(folder)) => {
-            push_folder(alloc, store, whole, included_path(alloc, folder)?)
-        }
-        Some(Included::File(path)) => push_file(alloc, store, whole, included_path(alloc, path)?),
-        None => push_text(alloc, whole, line),
-    }
-}
-
-/// Returns the path that a line includes.
-fn included_path(alloc: Global, path: &[u8]) -> Result<&str, ClientError> {
-    match str::from_utf8(path) {
-        Ok(path) => Ok(path),
-        Err(_) => {
-            let shown = component_to_text(alloc, path)?;
-            Err(ClientError::of(shown, StepError::BadSetting(PATH_NOT_UTF8)))
-        }
-    }
-}
-
-/// Notes the lines that are included too deep. A file that includes itself ends in such a line.
-fn note_deeper(alloc: Global, reading: &mut Reading) -> Result<(), AllocError> {
-    for line in reading.text.split(|octet| *octet == b'\n') {
-        if let Some(Included::File(path) | Included::Folder(path)) = Included::read(line) {
-            let path = component_to_text(alloc, path)?;
-            writeln!(
-                reading.notes,
-                "{path}: it is included more than {MOST_DEEP} deep, as by a file that includes itself, so it is passed over"
-            )?;
-        }
-    }
-    Ok(())
-}
-
-/// Appends a text and a line feed.
-fn push_text(alloc: Global, whole: &mut Reading, text: &[u8]) -> Result<(), ClientError> {
-    if whole.text.len() > LONGEST_FILE {
-        let cause = StepError::File(FileError::LongFile);
-        return Err(ClientError::new(alloc, "the krb5.conf with all that it includes", cause));
-    }
-    whole.text.extend_from_slice(text)?;
-    Ok(whole.text.push(b'\n')?)
-}
-
-fn push_folder<T: ClientStore>(
-    alloc: Global,
-    store: &mut T,
-    whole: &mut Reading,
-    folder: &str,
-) -> Result<(), ClientError>
-    ensures unchanged { T.world store.new ≡ T.world store.old }
-{
-    match store.names_in(alloc, folder) {
-        Ok(names) => push_files(alloc, store, whole, folder, &names),
-        Err(error) => Err(ClientError::new(
-            alloc,
-            folder,
-            StepError::File(FileError::Failed(error)),
-        )),
-    }
-}
-
-fn push_files<T: ClientStore>(
-    alloc: Global,
-    store: &mut T,
-    whole: &mut Reading,
-    folder: &str,
-    names: &[String],
-) -> Result<(), ClientError>
-    ensures unchanged { T.world store.new ≡ T.world store.old }
-{
-    for name in names {
-        if is_config_name(name.as_str()) {
-            let path = format!(in alloc; "{folder}/{name}")?;
-            push_file(alloc, store, whole, path.as_str())?;
-        }
-    }
-    Ok(())
-}
-
-/// Checks whether MIT's library reads a file with this name in an included folder.
-fn is_config_name(name: &str) -> bool {
-    !name.starts_with('.') && (name.ends_with(".conf") || has_plain_name(name))
-}
-
-fn has_plain_name(name: &str) -> bool {
-    name.bytes().all(|octet| octet.is_ascii_alphanumeric() || octet == b'-' || octet == b'_')
-}
-
-/// Appends the text of a file. It passes over what is not a plain file: opening that may wait forever.
-fn push_file<T: ClientStore>(
-    alloc: Global,
-    store: &mut T,
-    whole: &mut Reading,
-    path: &str,
-) -> Result<(), ClientError>
-    ensures unchanged { T.world store.new ≡ T.world store.old }
-{
-    if let Ok(PathKind::NoFile) = store.path_kind(path) {
-        let notes = &mut whole.notes;
-        writeln!(
-            notes,
-            "{path}: it is not a file, but a folder, a device or a pipe, so it is passed over"
-        )?;
-        return Ok(());
-    }
-    let text = at_file(alloc, read_file(alloc, store, path))?;
-    push_text(alloc, whole, &text)
 }
 
 /// The port of a KDC (RFC 4120, section 7.2.1).

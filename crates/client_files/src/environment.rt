@@ -1,4 +1,7 @@
 //! Where a client's files are, by the environment.
+ghost use Rattle.std.specs.Prelude.{◌≡◌, IfErr, IfOk, None, Some};
+ghost use Rattle.client_files.specs.ConfigTexts.{config_path};
+
 use crate::faults::ClientError;
 use file_store::Variable;
 
@@ -24,7 +27,11 @@ const CONFIG_NOT_UTF8: &str = "KRB5_CONFIG, which names the krb5.conf to be read
 
 impl<'a> Defaults<'a> {
     /// Returns the path of the `krb5.conf`: that of `KRB5_CONFIG`, or else the system's.
-    pub fn config_path(&self) -> Result<&'a str, ClientError> {
+    pub fn config_path(&self) -> Result<&'a str, ClientError>
+        // Promise (named, none), as Config::read: the `krb5.conf` of ..
+        ensures named { IfOk result (λ path. config_path self.now.config ≡ Some path.now) }
+        ensures none { IfErr result (λ fault. config_path self.now.config ≡ None) }
+    {
         match self.config {
             Variable::Absent => Ok(CONFIG),
             Variable::NotUtf8 => Err(ClientError::usage(CONFIG_NOT_UTF8)),

@@ -1,7 +1,8 @@
 //! What a client knows of its computer. It is read once.
-ghost use Rattle.std.specs.Prelude.{◌≡◌, ◌++◌, IfOk, codes, decimal, string_bytes};
+ghost use Rattle.std.specs.Prelude.{◌≡◌, IfOk, string_bytes, true};
 ghost use Rattle.client_files.specs.CachePaths.{IsDefaultCache, IsOwnCache, own_path};
 ghost use Rattle.client_files.specs.declared.host.FoundConfig.TheVariants.{Read};
+ghost use Rattle.client_files.specs.ConfigTexts.{IsFound, IsHostOf, IsNoConfig, IsNotRead};
 ghost use Rattle.client_files.specs.Hosts.{HasConfig};
 
 use crate::client_store::{ClientStore, PathKind};
@@ -41,6 +42,8 @@ impl<'a> Host<'a> {
     pub fn read<T: ClientStore>(alloc: Global, store: &mut T, defaults: Defaults<'a>) -> Host<'a>
         // Promise, as Host::cache_path: **the default cache is ..
         ensures defaults { result.defaults ≡ defaults.entry }
+        // Promise, as Config::read: the `krb5.conf` of ..
+        ensures host { IsHostOf T.computer (T.world store.old) defaults.entry result }
         // Promise, as read_cache: reading a cache, a ..
         ensures unchanged { T.world store.new ≡ T.world store.old }
     {
@@ -118,11 +121,13 @@ pub(crate) fn path_of_user(alloc: Global, user: u32) -> Result<String, AllocErro
     format!(in alloc; "/tmp/krb5cc_{user}")
 }
 
+#[tactic(auto, using(crate::proofs::Founds::found_not_read, crate::proofs::Founds::found_there))]
 fn found_config<T: ClientStore>(
     alloc: Global,
     store: &mut T,
     defaults: &Defaults<'_>,
 ) -> FoundConfig
+    ensures found { IsFound T.computer (T.world store.old) defaults.now.config result }
     ensures unchanged { T.world store.new ≡ T.world store.old }
 {
     let is_absent = is_absent(store, defaults);
@@ -132,7 +137,9 @@ fn found_config<T: ClientStore>(
     }
 }
 
-fn not_read(fault: ClientError, is_absent: bool) -> FoundConfig {
+fn not_read(fault: ClientError, is_absent: bool) -> FoundConfig
+    ensures { IsNotRead is_absent result }
+{
     if is_absent {
         FoundConfig::Absent(fault)
     } else {
@@ -141,7 +148,9 @@ fn not_read(fault: ClientError, is_absent: bool) -> FoundConfig {
 }
 
 /// Checks whether the environment names no `krb5.conf` that can be, or nothing is at its path.
+#[tactic(auto, using(crate::proofs::Founds::nowhere, crate::proofs::Founds::free_there))]
 fn is_absent<T: ClientStore>(store: &mut T, defaults: &Defaults<'_>) -> bool
+    ensures absent { result ≡ true → IsNoConfig T.computer (T.world store.old) defaults.now.config }
     ensures unchanged { T.world store.new ≡ T.world store.old }
 {
     let Ok(path) = defaults.config_path() else {

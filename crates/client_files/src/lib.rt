@@ -32,6 +32,7 @@
 
 mod cache_files;
 mod client_store;
+mod config_texts;
 mod configs;
 mod environment;
 mod faults;

@@ -33,6 +33,10 @@ takes_value word =
 abbrev pub is_value_next : Bool → Text → Bool
 is_value_next is_value word = not is_value && takes_value word
 
+-- behind the word `--`, unless it is a value, there is no option
+abbrev pub is_end : Bool → Text → Bool
+is_end is_value word = not is_value && bytes_eq word (codes "--")
+
 -- a flag is among the words; the first may be the value of an option before it, which is no flag
 abbrev pub flag_in : Bool → List Text → Text → Bool
 flag_in is_value [] flag = false

@@ -12,7 +12,7 @@ use Rattle.kadm_changes.specs.declared.keytabs.KeytabContent.{KeytabContent}
 use Rattle.kadm_changes.specs.declared.keytabs.KeytabContent.TheVariants.{Current, Appended, Next}
 use Rattle.kadm.specs.Assigning.{settings_of}
 use Rattle.kadm.specs.Types.{AreTypesAsked}
-use Rattle.kadm.specs.Values.{has_flag, is_value_next, value_of, values_of}
+use Rattle.kadm.specs.Values.{has_flag, is_end, is_value_next, value_of, values_of}
 use Rattle.kadm.specs.declared.commands.Command.{Command}
 use Rattle.kadm.specs.declared.printing.PrintCommand.{PrintCommand}
 use Rattle.kadm.specs.declared.printing.PrintCommand.TheVariants as prints
@@ -70,9 +70,17 @@ is_name is_value word = not is_value && not (is_option word)
 abbrev pub spelled : Bool → Text → List Text
 spelled is_value word = if is_name is_value word then codes "--name" ∷ word ∷ [] else word ∷ []
 
+-- each of these words is a name
+abbrev pub all_named : List Text → List Text
+all_named [] = []
+all_named (word ∷ others) = codes "--name" ∷ word ∷ all_named others
+
+-- behind the word `--` each word is one
 abbrev pub named : Bool → List Text → List Text
 named is_value [] = []
-named is_value (word ∷ others) = spelled is_value word ++ named (is_value_next is_value word) others
+named is_value (word ∷ others) =
+    if is_end is_value word then all_named others
+    else spelled is_value word ++ named (is_value_next is_value word) others
 
 -- `kadm check FILE` is `kadm check --db FILE`
 abbrev pub with_file : List Text → List Text

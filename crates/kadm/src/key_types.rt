@@ -1,6 +1,5 @@
 //! The encryption types of new keys, as the words of a command line ask for them.
 ghost use Rattle.std.specs.Prelude.{◌≡◌, IfOk, IfSome, codes, map};
-ghost use Rattle.text_fields.specs.Etypes.{IsEtypeText};
 ghost use Rattle.kadm_changes.specs.Texts.{texts};
 ghost use Rattle.kadm.specs.Types.{AreTypesAsked, AreTypesIn, parts_of};
 ghost use Rattle.kadm.specs.Values.{value_of};
@@ -9,7 +8,7 @@ use crate::usage::UsageError;
 use crate::values::option_value;
 use enctypes::Etype;
 use std::alloc::{AllocError, Global};
-use text_fields::{number, offered};
+use text_fields::{offered, read_etype};
 
 /// What follows `error:` if `--types` is no list of types.
 const NO_TYPES: &str = "\
@@ -54,7 +53,7 @@ fn types_in(alloc: Global, parts: &[&str]) -> Result<Option<Vec<Etype>>, AllocEr
     let mut etypes = Vec::new(alloc);
     let mut rest = parts;
     while let [part, others @ ..] = rest {
-        let Some(etype) = read_type(part) else {
+        let Some(etype) = read_etype(part) else {
             return Ok(None);
         };
         if etypes.contains(&etype) {
@@ -71,11 +70,4 @@ fn parts_of(alloc: Global, text: &str) -> Result<Vec<&str>, AllocError>
     ensures { IfOk result (λ parts. texts parts.items ≡ parts_of text.now) }
 {
     text.split(',').collect(alloc)
-}
-
-/// Reads the number of an encryption type.
-fn read_type(text: &str) -> Option<Etype>
-    ensures { IfSome result (λ etype. IsEtypeText etype text.now) }
-{
-    Etype::from_number(i32::try_from(number(text)?).ok()?)
 }

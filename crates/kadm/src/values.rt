@@ -1,7 +1,7 @@
 //! The values of options among the words of a command line.
 ghost use Rattle.std.specs.Prelude.{◌≡◌, ◌++◌, IfOk, OnOk, option_map};
 ghost use Rattle.kadm_changes.specs.Texts.{path_of, texts};
-ghost use Rattle.kadm.specs.Values.{has_flag, is_value_next, listed, takes_path, takes_setting, takes_value};
+ghost use Rattle.kadm.specs.Values.{has_flag, is_end, is_value_next, listed, takes_path, takes_setting, takes_value};
 ghost use Rattle.kadm.specs.Values.{value_of, values_of};
 
 use command_line::value_at;
@@ -12,6 +12,9 @@ pub(crate) const DB: &str = "--db";
 
 /// The option that names a keytab to read.
 pub(crate) const KEYTAB: &str = "--keytab";
+
+/// The word behind which there is no option.
+const END: &str = "--";
 
 /// The option that names a principal.
 pub(crate) const NAME: &str = "--name";
@@ -50,6 +53,13 @@ pub(crate) fn has_flag(words: &[&str], flag: &str) -> bool
         rest = others;
     }
     false
+}
+
+/// Checks whether no option follows a word.
+pub(crate) fn is_end(word: &str, is_value: bool) -> bool
+    ensures { result ≡ is_end is_value word.now }
+{
+    !is_value && word == END
 }
 
 /// Checks whether the word after this one is the value of an option.

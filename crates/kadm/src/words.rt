@@ -4,9 +4,9 @@ ghost use Rattle.kadm_changes.specs.Texts.{path_of, texts};
 ghost use Rattle.kadm.specs.Values.{value_of};
 ghost use Rattle.kadm.specs.Words.{asks_help, batch_words, begins_help, behind_check, behind_command, behind_names};
 ghost use Rattle.kadm.specs.Words.{command_of, in_batch, is_name, with_file};
-ghost use Rattle.kadm.specs.Words.{is_option, lacks_db, named, spelled, takes_names, with_db, with_names};
+ghost use Rattle.kadm.specs.Words.{all_named, is_option, lacks_db, named, spelled, takes_names, with_db, with_names};
 
-use crate::values::{DB, has_flag, is_value_next, option_value};
+use crate::values::{DB, NAME, has_flag, is_end, is_value_next, option_value};
 use std::alloc::{AllocError, Global};
 
 /// The word that asks for the help of the command after it.
@@ -94,15 +94,31 @@ fn takes_names(command: &str) -> bool
         || command == "show"
 }
 
-/// Adds the words, with `--name` before each that is neither an option nor its value.
+/// Adds the words, with `--name` before each that is neither an option nor its value. Behind `--` each word is a name.
 fn push_named<'a>(all: &mut Vec<&'a str>, words: &[&'a str]) -> Result<(), AllocError>
     ensures { OnOk result (texts all.new.items ≡ texts all.old.items ++ named false (texts words.now)) }
 {
     let mut rest = words;
     let mut is_value = false;
     while let [word, others @ ..] = rest {
+        if is_end(word, is_value) {
+            return push_all_named(all, others);
+        }
         push_word(all, word, is_value)?;
         is_value = is_value_next(word, is_value);
+        rest = others;
+    }
+    Ok(())
+}
+
+/// Adds the words, with `--name` before each.
+fn push_all_named<'a>(all: &mut Vec<&'a str>, words: &[&'a str]) -> Result<(), AllocError>
+    ensures { OnOk result (texts all.new.items ≡ texts all.old.items ++ all_named (texts words.now)) }
+{
+    let mut rest = words;
+    while let [word, others @ ..] = rest {
+        all.push(NAME)?;
+        all.push(word)?;
         rest = others;
     }
     Ok(())
@@ -113,7 +129,7 @@ fn push_word<'a>(all: &mut Vec<&'a str>, word: &'a str, is_value: bool) -> Resul
     ensures { OnOk result (texts all.new.items ≡ texts all.old.items ++ spelled is_value word.now) }
 {
     if is_name(word, is_value) {
-        all.push("--name")?;
+        all.push(NAME)?;
         all.push(word)?;
         return Ok(());
     }

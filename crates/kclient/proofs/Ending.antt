@@ -1,5 +1,5 @@
 -- How a command line ends, from how its command ends.
-use Rattle.std.proofs.Common.{◌≡◌, ℤ, List, Option, Result, Ok, Err, true, refl, subst, sym, inl, inr}
+use Rattle.std.proofs.Common.{◌≡◌, ◌∙◌, ℤ, List, Option, Result, Ok, Err, true, refl, subst, sym, inl, inr}
 use Rattle.std.specs.Prelude.{◌⊎◌, IfErr, IfOk}
 use Rattle.client_files.specs.declared.faults.ClientError.{ClientError}
 use Rattle.command_line.specs.declared.status.Status.{Status}
@@ -7,7 +7,7 @@ use Rattle.command_line.specs.declared.status.Status.TheVariants.{Done, Refused,
 use Rattle.cred_files.specs.declared.credential.Credential.{Credential}
 use Rattle.file_store.specs.World.{World}
 use Rattle.client_files.specs.declared.host.Host.{Host}
-use Rattle.kclient.specs.Ends.{Came, CameBy, IsCommandEnd, IsEnd, IsOther, IsReported, IsStopped, IsTried}
+use Rattle.kclient.specs.Ends.{Came, CameBy, Ended, IsCommandEnd, IsEnd, IsOther, IsReported, IsStopped, IsTried}
 use Rattle.command_line.specs.Values.{Text}
 use Rattle.kclient.specs.Words.{Spells, asks_help}
 use Rattle.kclient.specs.declared.commands.Command.{Command}
@@ -108,6 +108,27 @@ pub ended_at : (First : Came) (Further : CameBy) (now then : ℤ) (words : List 
 ended_at First Further now then words host end status first before after last is stopped reports begun kept same =
     subst (λ t. IsEnd First Further t words host first status last) same
     (ended First Further then words host end status first before after last is stopped reports begun kept)
+
+-- ---- a run
+
+-- by what was read of the computer, of the store as it was then
+module _ (First : Came) (Further : CameBy) (now : ℤ) (words : List Text) (IsHost : Host → Type 0) (host : Host) where
+  pub run_failed : (first read last : Option World) → IsHost host → read ≡ first → last ≡ read
+      → Ended First Further now words IsHost first Failed last
+  run_failed first read last is kept same =
+      record { host = host; read = is; end = failed_first First Further now words host first last (same ∙ kept) }
+
+  pub run_ended : (then : ℤ) (end : Result Printed ClientError) (status : Status)
+      (first read before after last : Option World) → IsHost host
+      → IfOk end (λ p. IsEnd First Further then words host before p.status after)
+      → IfErr end (λ fault. IsStopped Further words host before after) → IsReported end status
+      → before ≡ read → read ≡ first → last ≡ after → then ≡ now → Ended First Further now words IsHost first status last
+  run_ended then end status first read before after last is done stopped reports begun kept stays same = record {
+    host = host;
+    read = is;
+    end = ended_at First Further now then words host end status first before after last done stopped reports
+        (begun ∙ kept) stays same;
+  }
 
 pub reported_failed : (P : Type 0) (status : Status) → status ≡ Failed → P ⊎ (status ≡ Failed)
 reported_failed P status is = inr is

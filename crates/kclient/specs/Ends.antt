@@ -91,6 +91,15 @@ IsEnd IsFirst IsFurther now words host before Usage after = IsStopped IsFurther 
 IsEnd IsFirst IsFurther now words host before Failed after =
     IsStopped IsFurther words host before after ⊎ IsSpelledDone IsFirst IsFurther now words host before after
 
+-- ---- a run
+
+-- it ended in this way by what was read of the computer when it began: `IsHost` says what that is
+pub record Ended (IsFirst : Came) (IsFurther : CameBy) (now : ℤ) (words : List Text) (IsHost : Host → Type 0)
+    (before : Option World) (status : Status) (after : Option World) : Type 0 where
+  pub host : Host
+  pub read : IsHost host
+  pub end : IsEnd IsFirst IsFurther now words host before status after
+
 -- ---- what is reported
 
 -- every status but `Done`

@@ -20,7 +20,7 @@ mod words;
 use crate::context::Context;
 use crate::run::kclient_run;
 use crate::values::words_of;
-use client_files::{Defaults, Host};
+use client_files::Defaults;
 use client_login::{KdcClient, Kdcs, Transports};
 use client_sockets::SocketNetwork;
 use command_line::{GivenError, Status, UsageStream, open_missing_streams, read_words};
@@ -75,11 +75,10 @@ fn run_given(rt: &HostRuntime) -> Result<Status, GivenError> {
     let environment = Environment::read(rt);
     let defaults = environment.defaults()?;
     let words = words_of(rt.alloc(), &args)?;
-    let mut store = FileStore::new(rt);
-    let host = Host::read(rt.alloc(), &mut store, defaults);
+    let store = FileStore::new(rt);
     let network = SocketNetwork::for_command(rt);
     let kdcs = Kdcs::new(network, Vec::new(rt.alloc()), Transports::UdpFirst);
     let client = KdcClient::new(rt.alloc(), kdcs, at);
     let mut context = Context::new(rt.alloc(), store, client);
-    Ok(kclient_run(&mut context, &words, &host, rt.stdout(), rt.stderr()))
+    Ok(kclient_run(&mut context, &words, defaults, rt.stdout(), rt.stderr()))
 }

@@ -1,7 +1,8 @@
 //! Running one command line: from its words to what is printed.
 ghost use Rattle.std.specs.Prelude.{◌≡◌, ◌⊎◌, IfErr, IfOk, true};
 ghost use Rattle.command_line.specs.declared.status.Status.TheVariants.{Done};
-ghost use Rattle.kclient.specs.Ends.{IsCommandEnd, IsEnd, IsStopped, IsTried};
+ghost use Rattle.client_files.specs.ConfigTexts.{IsHostOf};
+ghost use Rattle.kclient.specs.Ends.{Ended, IsCommandEnd, IsEnd, IsStopped, IsTried};
 ghost use Rattle.command_line.specs.Values.{texts};
 ghost use Rattle.kclient.specs.Words.{asks_help};
 ghost use Rattle.kclient.specs.Worlds.{CameFirst, CameFurther};
@@ -18,7 +19,7 @@ use crate::values::asks_help;
 use crate::words::check_renewal;
 use clap::ArgMatches;
 use clap::error::{Error, ErrorKind};
-use client_files::{ClientError, ClientStore, Host, StepError};
+use client_files::{ClientError, ClientStore, Defaults, Host, StepError};
 use client_login::AnyMessage;
 use command_line::{Status, parse_status};
 use std::alloc::{AllocError, Global};
@@ -55,17 +56,17 @@ impl Printed {
     }
 }
 
-/// Runs a command line, whose first word is the program's name, at the context's moment. It writes the result to
-/// `writer`, and explains failures on `errors`. `Done` means that what the words ask for was done, or that they ask for
-/// help. The status is `Refused` because of a word, a file, the KDC or the client, and `Failed` because of a file,
-/// because no KDC replied, or because memory ran out. Unless it is `Done`, the cache is unchanged, with two exceptions:
-/// if only the printing failed, the status is `Failed` and the cache is written; and of several names, one that fails
-/// keeps the tickets of those before it.
-#[tactic(auto, using(crate::proofs::Ending::failed_first))]
+/// Runs a command line, whose first word is the program's name, at the context's moment. It reads once what it needs of
+/// the computer. It writes the result to `writer`, and explains failures on `errors`. `Done` means that what the words
+/// ask for was done, or that they ask for help. The status is `Refused` because of a word, a file, the KDC or the
+/// client, and `Failed` because of a file, because no KDC replied, or because memory ran out. Unless it is `Done`, the
+/// cache is unchanged, with two exceptions: if only the printing failed, the status is `Failed` and the cache is
+/// written; and of several names, one that fails keeps the tickets of those before it.
+#[tactic(auto, using(crate::proofs::Ending::run_failed))]
 pub fn kclient_run<T: ClientStore, X: AnyMessage, W: Write + Drop, E: Write + Drop>(
     context: &mut Context<T, X>,
     words: &[&str],
-    host: &Host<'_>,
+    defaults: Defaults<'_>,
     writer: W,
     errors: E,
 ) -> Status
@@ -77,10 +78,14 @@ pub fn kclient_run<T: ClientStore, X: AnyMessage, W: Write + Drop, E: Write + Dr
     // each name of the words: one that came, or one that can still be used.
     // Promise: what is done leaves a new cache of the one ticket; or the cache that the path had, with the tickets that
     // came, each in place of the first one of its service, else at the end; or no file. No other path changes.
-    ensures ended { IsEnd (CameFirst X.finds X.carries X.answers) (CameFurther X.finds X.carries X.answers)
-        context.old.client.at.sec (texts words.now) host.now
+    // Promise: **a run goes by one reading of the `krb5.conf`**: the default realm and the default cache are what the
+    // text of the file that `KRB5_CONFIG` names, or else of the system's, says with what it includes.
+    ensures ended { Ended (CameFirst X.finds X.carries X.answers) (CameFurther X.finds X.carries X.answers)
+        context.old.client.at.sec (texts words.now)
+        (λ host. IsHostOf T.computer (T.world context.old.store) defaults.entry host)
         (T.world context.old.store) result (T.world context.new.store) }
 {
+    let host = Host::read(context.alloc, &mut context.store, defaults);
     let Ok(mut errors) = BufWriter::new(context.alloc, errors) else {
         return Status::Failed;
     };
@@ -92,7 +97,7 @@ pub fn kclient_run<T: ClientStore, X: AnyMessage, W: Write + Drop, E: Write + Dr
         }
     };
     context.begin();
-    let end = run_words(context, words, host);
+    let end = run_words(context, words, &host);
     note_hosts(context, &end);
     report(&mut out, &mut errors, context.notes(), &end)
 }

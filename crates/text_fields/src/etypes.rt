@@ -1,8 +1,7 @@
-//! The encryption types of new keys, in order of preference.
+//! The encryption types of new keys, in order of preference, and the number of one.
 ghost use Rattle.std.specs.Prelude.{◌≡◌, ℕ, pos, IfOk, IfSome, IfNone};
 ghost use Rattle.enctypes.specs.declared.etype.Etype as types;
-ghost use Rattle.text_fields.specs.Etypes.{offered};
-ghost use Rattle.text_fields.specs.Etypes.{IsEtypeText};
+ghost use Rattle.text_fields.specs.Etypes.{IsEtypeText, offered};
 
 use crate::numbers::number;
 use enctypes::Etype;
@@ -24,24 +23,9 @@ pub fn offered(alloc: Global) -> Result<Vec<Etype>, AllocError>
     )
 }
 
-/// Reads a list of encryption types by their numbers: at least one, and each at most once. Returns `None` if the text
-/// is no such list.
-pub fn read_etypes(alloc: Global, text: &str) -> Result<Option<Vec<Etype>>, AllocError> {
-    let mut etypes = Vec::new(alloc);
-    for part in text.split(',') {
-        let Some(etype) = read_etype(part) else {
-            return Ok(None);
-        };
-        if etypes.contains(&etype) {
-            return Ok(None);
-        }
-        etypes.push(etype)?;
-    }
-    Ok(Some(etypes))
-}
-
-/// Reads the number of an encryption type.
-fn read_etype(text: &str) -> Option<Etype>
+/// Reads the number of an encryption type, with leading zeros allowed. `None` if it is not one of the four.
+pub fn read_etype(text: &str) -> Option<Etype>
+    // Promise (read, none): a text is read as an encryption type exactly if it has the number of one.
     ensures read { IfSome result (λ etype. IsEtypeText etype text.now) }
     ensures none { IfNone result ((etype : types.Etype) → ¬ IsEtypeText etype text.now) }
 {

@@ -23,7 +23,7 @@ mod spans;
 mod values;
 
 pub use dates::UtcDate;
-pub use etypes::{offered, read_etypes};
+pub use etypes::{offered, read_etype};
 pub use lines::line_words;
 pub use numbers::{number, number_u32};
 pub use settings::{
