@@ -1,5 +1,5 @@
 -- Texts that are appended one after another.
-use Rattle.std.proofs.Common.{◌≡◌, ◌∙◌, ◌+◌, ◌<◌, ◌++◌, ◌∷◌, [], ℕ, suc, Bool, true, false, List, Option, Some, None}
+use Rattle.std.proofs.Common.{◌≡◌, ◌∙◌, ◌+◌, ◌<◌, ◌++◌, ◌∷◌, [], ℕ, suc, Bool, true, false, List, Option, Some, None, Result, Ok, Err, OnOk}
 use Rattle.std.proofs.Common.{ap, get_or, length, map, option_map, refl, subst, sym, take, codes}
 use Rattle.std.specs.Prelude.{IfSome, option_and_then, if◌then◌else◌}
 use Rattle.std.proofs.lemmas.List.{append-nil, append_assoc, map-append}
@@ -114,6 +114,24 @@ folder_pushed computer None middle folder before after names are kept pushed = t
 folder_pushed computer (Some held) middle folder before after names are kept pushed =
     ap (λ all. both (Some before) (in_a_row (map (named_text computer folder held) all))) are
     ∙ subst (λ (world : Option World). ArePushed (named_text computer folder) world names before after) kept pushed
+
+-- ---- if there was memory
+
+pub name_pushed_if : {A E : Type 0} (result : Result A E) (computer : World → Computer) (world : Option World)
+    (folder name path before after : List ℕ) → is_config_name name ≡ true → path ≡ folder ++ codes "/" ++ name
+    → OnOk result (IsPushed (file_text computer path) world before after)
+    → OnOk result (IsPushed (λ held. named_text computer folder held name) world before after)
+name_pushed_if (Ok x) computer world folder name path before after is at pushed =
+    name_pushed computer world folder name path before after is at pushed
+name_pushed_if (Err fault) computer world folder name path before after is at pushed = tt
+
+pub folder_pushed_if : {A E : Type 0} (result : Result A E) (computer : World → Computer) (world middle : Option World)
+    (folder before after : List ℕ) (names : List (List ℕ)) → AreNames computer world folder names → middle ≡ world
+    → OnOk result (ArePushed (named_text computer folder) middle names before after)
+    → OnOk result (IsPushed (folder_text computer folder) world before after)
+folder_pushed_if (Ok x) computer world middle folder before after names are kept pushed =
+    folder_pushed computer world middle folder before after names are kept pushed
+folder_pushed_if (Err fault) computer world middle folder before after names are kept pushed = tt
 
 -- what a line says that it includes was appended
 pub included_pushed : (computer : World → Computer) (world : Option World) (line before after : List ℕ)

@@ -36,14 +36,14 @@ pub trait ClientStore: Store {
 
     /// Checks what a path has, without opening it.
     fn path_kind(&mut self, path: &str) -> io::Result<PathKind>
-        // Promise, as Config::read: the `krb5.conf` of ..
+        // Promise, as Config::read: **the `krb5.conf` of ..
         ensures kind { IfOk result (λ kind. IsKind computer (Self.world self.old) path.now kind) }
         // Promise: asking a store what a path is, who the user is, and which names a folder has changes no file.
         ensures unchanged { Self.world self.new ≡ Self.world self.old };
 
     /// Checks whether a path has a folder, a device, a FIFO or a socket, without opening it.
     fn is_no_file(&mut self, path: &str) -> io::Result<bool>
-        // Promise, as Config::read: the `krb5.conf` of ..
+        // Promise, as Config::read: **the `krb5.conf` of ..
         ensures found { IfOk result (λ found. IsNoFile computer (Self.world self.old) path.now found) }
         // Promise, as ClientStore::path_kind: asking a store what ..
         ensures unchanged { Self.world self.new ≡ Self.world self.old };
@@ -69,7 +69,7 @@ pub trait ClientStore: Store {
 
     /// Returns the names of the files in a folder, in rising order.
     fn names_in(&mut self, alloc: Global, path: &str) -> io::Result<Vec<String>>
-        // Promise, as Config::read: the `krb5.conf` of ..
+        // Promise, as Config::read: **the `krb5.conf` of ..
         ensures names { IfOk result (λ names.
             AreNames computer (Self.world self.old) path.now (map string_bytes names.items)) }
         // Promise, as ClientStore::path_kind: asking a store what ..

@@ -1,5 +1,5 @@
 //! The text of a `krb5.conf`, with the files that it includes.
-ghost use Rattle.std.specs.Prelude.{◌≡◌, ◌++◌, IfOk, OnOk, Some, map, option_map, string_bytes};
+ghost use Rattle.std.specs.Prelude.{◌≡◌, ◌++◌, IfOk, OnOk, Some, codes, map, option_map, string_bytes};
 ghost use Rattle.std.specs.List.{list_all};
 ghost use Rattle.client_files.specs.ConfigTexts.{IsTextAt, ended, file_text, folder_text, is_config_name};
 ghost use Rattle.client_files.specs.ConfigTexts.{is_plain, line_text, named_text};
@@ -50,7 +50,6 @@ pub(crate) fn read_text<T: ClientStore>(
 }
 
 /// Returns the text with what its lines include in place of them.
-#[tactic(auto, using(crate::proofs::Pushing::whole_included))]
 fn with_included<T: ClientStore>(
     alloc: Global,
     store: &mut T,
@@ -77,7 +76,7 @@ fn lines(alloc: Global, text: &[u8]) -> Result<Vec<&[u8]>, AllocError>
 }
 
 /// Appends lines, or what they include.
-#[tactic(auto, using(crate::proofs::Pushing::none_pushed, crate::proofs::Pushing::more_pushed))]
+#[tactic(auto, using(crate::proofs::Pushing::none_pushed))]
 fn push_lines<T: ClientStore>(
     alloc: Global,
     store: &mut T,
@@ -154,7 +153,6 @@ fn push_text(alloc: Global, whole: &mut ConfigText, text: &[u8]) -> Result<(), C
     Ok(whole.octets.push(b'\n')?)
 }
 
-#[tactic(auto, using(crate::proofs::Pushing::folder_pushed))]
 fn push_folder<T: ClientStore>(
     alloc: Global,
     store: &mut T,
@@ -175,7 +173,7 @@ fn push_folder<T: ClientStore>(
     }
 }
 
-#[tactic(auto, using(crate::proofs::Pushing::none_pushed, crate::proofs::Pushing::more_pushed))]
+#[tactic(auto, using(crate::proofs::Pushing::none_pushed))]
 fn push_files<T: ClientStore>(
     alloc: Global,
     store: &mut T,
@@ -194,7 +192,7 @@ fn push_files<T: ClientStore>(
 }
 
 /// Appends the text of a file in an included folder. It passes over a name that MIT's library passes over.
-#[tactic(auto, using(crate::proofs::Pushing::name_passed, crate::proofs::Pushing::name_pushed))]
+#[tactic(auto, using(crate::proofs::Pushing::name_passed))]
 fn push_named<T: ClientStore>(
     alloc: Global,
     store: &mut T,
@@ -209,8 +207,18 @@ fn push_named<T: ClientStore>(
     if !is_config_name(name) {
         return Ok(());
     }
-    let path = format!(in alloc; "{folder}/{name}")?;
+    let path = path_in(alloc, folder, name)?;
     push_file(alloc, store, whole, path.as_str())
+}
+
+/// Returns the path of a file in a folder.
+fn path_in(alloc: Global, folder: &str, name: &str) -> Result<String, AllocError>
+    ensures { IfOk result (λ path. string_bytes path ≡ folder.now ++ codes "/" ++ name.now) }
+{
+    let mut path = String::from_str(alloc, folder)?;
+    path.push_str("/")?;
+    path.push_str(name)?;
+    Ok(path)
 }
 
 /// Checks whether MIT's library reads a file with this name in an included folder.

@@ -28,7 +28,7 @@ const CONFIG_NOT_UTF8: &str = "KRB5_CONFIG, which names the krb5.conf to be read
 impl<'a> Defaults<'a> {
     /// Returns the path of the `krb5.conf`: that of `KRB5_CONFIG`, or else the system's.
     pub fn config_path(&self) -> Result<&'a str, ClientError>
-        // Promise (named, none), as Config::read: the `krb5.conf` of ..
+        // Promise (named, none), as Config::read: **the `krb5.conf` of ..
         ensures named { IfOk result (λ path. config_path self.now.config ≡ Some path.now) }
         ensures none { IfErr result (λ fault. config_path self.now.config ≡ None) }
     {

@@ -42,7 +42,7 @@ impl<'a> Host<'a> {
     pub fn read<T: ClientStore>(alloc: Global, store: &mut T, defaults: Defaults<'a>) -> Host<'a>
         // Promise, as Host::cache_path: **the default cache is ..
         ensures defaults { result.defaults ≡ defaults.entry }
-        // Promise, as Config::read: the `krb5.conf` of ..
+        // Promise, as Config::read: **the `krb5.conf` of ..
         ensures host { IsHostOf T.computer (T.world store.old) defaults.entry result }
         // Promise, as read_cache: reading a cache, a ..
         ensures unchanged { T.world store.new ≡ T.world store.old }

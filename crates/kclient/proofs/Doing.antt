@@ -11,11 +11,10 @@ use Rattle.file_store.specs.World.{World, with_file, without_file}
 use Rattle.client_core.specs.declared.asked.Asked.{Asked}
 use Rattle.client_files.specs.Caches.{HasCache, new_cache}
 use Rattle.client_files.specs.Holding.{granting_credential}
-use Rattle.client_login.specs.Logins.{IsFirst, IsFurther}
+use Rattle.client_login.specs.Logins.{IsFurther}
 use Rattle.client_login.specs.Replies.{IsExchanged}
 use Rattle.client_login.specs.declared.faults.TicketError.{TicketError}
 use Rattle.client_login.specs.declared.kdc_places.KdcPlace.{KdcPlace}
-use Rattle.client_login.specs.declared.secrets.Secret.{Secret}
 use Rattle.kclient.specs.CacheSessions.{Collected}
 use Rattle.client_login.specs.declared.ticket_requests.Renewal.{Renewal}
 use Rattle.command_line.specs.declared.status.Status.{Status}
@@ -25,7 +24,7 @@ use Rattle.kclient.specs.Ends.{Came, CameBy, IsCommandEnd, IsKindDone, IsKindTri
 use Rattle.kclient.specs.Principals.{IsFirstOf}
 use Rattle.command_line.specs.Values.{texts}
 use Rattle.kclient.specs.Words.{IsCacheOf, text_of}
-use Rattle.kclient.specs.Worlds.{Added, CameFirst, CameFurther, Filled, IsGranted, IsRenewed, Made, Removed, Served}
+use Rattle.kclient.specs.Worlds.{Added, CameFurther, Filled, IsGranted, IsRenewed, Made, Removed, Served}
 use Rattle.kclient.specs.Worlds.{with_tickets}
 use Rattle.kclient.specs.declared.commands.Command.{Command}
 use Rattle.kclient.specs.declared.commands.CommandKind.{CommandKind}
@@ -37,13 +36,6 @@ use Rattle.kclient.specs.declared.run.Printed.{Printed}
 
 module _ (finds : List ℕ → ℕ → SocketAddr → Type 0) (places : List KdcPlace) (carries : List ℕ → Type 0)
     (answers : SocketAddr → List ℕ → List ℕ → Type 0) where
-  pub came_first : (secret : Secret) (asked : Asked) (now : ℤ) (result : Result Credential TicketError)
-      → IfOk result (λ ticket. IsFirst (IsExchanged finds places carries answers) secret asked now ticket)
-      → IfOk result (λ ticket. CameFirst finds carries answers ticket)
-  came_first secret asked now (Ok ticket) is =
-      record { places = places; secret = secret; asked = asked; now = now; first = is }
-  came_first secret asked now (Err fault) is = tt
-
   pub came_further : (granting : Credential) (asked : Asked) (now : ℤ) (result : Result Credential TicketError)
       → IfOk result (λ ticket. IsFurther (IsExchanged finds places carries answers) granting asked now ticket)
       → IfOk result (λ ticket. CameFurther finds carries answers granting ticket)

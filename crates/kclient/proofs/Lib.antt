@@ -3,3 +3,4 @@ mod Ending
 mod Giving
 mod Making
 mod Serving
+mod Spelled

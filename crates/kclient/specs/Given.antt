@@ -1,7 +1,9 @@
 -- The client that words give, as it is read.
 use Rattle.std.specs.Prelude.{◌≡◌, ◌⊎◌, ℕ, List, [], ◌∷◌, Option, Some, None}
+use Rattle.client_core.specs.Taken.{AreSame}
 use Rattle.client_files.specs.Configs.{IsDefaultRealm}
 use Rattle.client_files.specs.declared.host.Host.{Host}
+use Rattle.cred_files.specs.declared.credential.Credential.{Credential}
 use Rattle.cred_files.specs.declared.principal.Principal.{Principal}
 use Rattle.file_store.specs.World.{World}
 use Rattle.krb_fields.specs.NameText.{IsComponentText, IsNameText}
@@ -52,3 +54,10 @@ IsClientFound None host before path client = IsCached before path client ⊎ IsU
 abbrev pub IsClientOf : Option ClientWords → Host → Option World → List ℕ → Principal → Type 0
 IsClientOf (Some words) host before path client = IsPrincipal words.name.now (text_of words.realm) host client
 IsClientOf None host before path client = IsCached before path client ⊎ IsUser host client
+
+-- ---- its ticket
+
+-- a first ticket of this client
+abbrev pub IsOwnFirst : (Credential → Type 0) → Principal → Credential → Type 0
+IsOwnFirst IsFirst client ticket =
+    IsFirst ticket × AreSame ticket.client.realm ticket.client.name client.realm client.name

@@ -4,8 +4,7 @@ ghost use Rattle.command_line.specs.declared.status.Status.TheVariants.{Done};
 ghost use Rattle.cred_files.specs.Cache.{cache_text};
 ghost use Rattle.client_files.specs.Caches.{new_cache};
 ghost use Rattle.file_store.specs.World.{with_file};
-ghost use Rattle.client_core.specs.Taken.{AreSame};
-ghost use Rattle.kclient.specs.Given.{IsClientFound, IsClientOf, IsGiven, IsRealmRead};
+ghost use Rattle.kclient.specs.Given.{IsClientFound, IsClientOf, IsGiven, IsOwnFirst, IsRealmRead};
 ghost use Rattle.kclient.specs.Principals.{IsCached, IsFirstOf, IsUser};
 ghost use Rattle.command_line.specs.Values.{texts};
 ghost use Rattle.kclient.specs.Words.{IsCacheNamed, text_of};
@@ -24,7 +23,7 @@ use client_files::{
     ClientError, ClientStore, Host, StepError, at_file, at_password, read_cache, read_keytab,
     write_new_cache,
 };
-use client_login::{AnyMessage, Login, Password, Secret, TicketRequest};
+use client_login::{AnyMessage, Login, Password, Secret, TicketError, TicketRequest};
 use cred_files::{Credential, Principal};
 use file_store::{STANDARD_INPUT, Variable, ask_password, read_or_draw_seed, read_password};
 use krb_elements::{KerberosString, Octets};
@@ -43,7 +42,7 @@ struct First {
 }
 
 /// Gets a first ticket, and writes a cache with it. After an `Err` no file is changed.
-#[tactic(auto, using(crate::proofs::Making::made_first))]
+#[tactic(auto, using(crate::proofs::Making::made_at_once, crate::proofs::Making::made_again))]
 pub(crate) fn get_first<T: ClientStore, X: AnyMessage>(
     context: &mut Context<T, X>,
     command: &Command<'_>,
@@ -64,35 +63,39 @@ pub(crate) fn get_first<T: ClientStore, X: AnyMessage>(
     let words = first_words(options)?;
     let path = cache_path(context.alloc, command.cache, host)?;
     let mut first = prepare(context, path, options, host, client, &words)?;
-    let credential = match log_in(context, words.secret.source(), &mut first) {
-        Ok(credential) => credential,
-        Err(fault) => return Err(words.secret.explained(fault)),
-    };
-    write_new(context, first.path.as_str(), &credential)
+    match context
+        .client
+        .log_in(&mut first.rng, &first.login, &first.secret)
+    {
+        Ok(credential) => write_new(context, first.path.as_str(), &credential),
+        Err(fault) => get_again(context, &mut first, words.secret, fault),
+    }
 }
 
-/// Logs in, once more if the KDC's time is taken.
-#[tactic(auto, using(crate::proofs::Doing::came_first))]
-fn log_in<T, X: AnyMessage>(
+/// Logs in once more if the KDC's time is to be taken, and writes a cache with the ticket. Otherwise returns the error.
+#[tactic(auto, using(crate::proofs::Making::made_own))]
+fn get_again<T: ClientStore, X: AnyMessage>(
     context: &mut Context<T, X>,
-    source: &str,
     first: &mut First,
-) -> Result<Credential, ClientError>
-    ensures came { IfOk result (λ ticket. CameFirst X.finds X.carries X.answers ticket) }
-    ensures client { IfOk result (λ ticket. AreSame ticket.client.realm ticket.client.name
-        first.old.login.client.realm first.old.login.client.name) }
-    ensures path { first.new.path ≡ first.old.path }
-    ensures store { context.new.store ≡ context.old.store }
+    secret: SecretWords<'_>,
+    fault: TicketError,
+) -> Result<Printed, ClientError>
+    ensures made { OnOk result (Made
+        (λ path. IsOwnFirst (CameFirst X.finds X.carries X.answers) first.old.login.client)
+        (λ path. path ≡ string_bytes first.old.path)
+        (T.world context.old.store) (T.world context.new.store)) }
+    ensures status { IfOk result (λ printed. printed.status ≡ Done) }
+    ensures unchanged { OnErr result (T.world context.new.store ≡ T.world context.old.store) }
 {
-    let client = &mut context.client;
-    match client.log_in(&mut first.rng, &first.login, &first.secret) {
-        Ok(credential) => return Ok(credential),
-        Err(fault) => context.take_clock(source, fault)?,
+    if let Err(fault) = context.take_clock(secret.source(), fault) {
+        return Err(secret.explained(fault));
     }
-    let client = &mut context.client;
-    match client.log_in(&mut first.rng, &first.login, &first.secret) {
-        Ok(credential) => Ok(credential),
-        Err(fault) => Err(context.fault(source, fault)),
+    match context
+        .client
+        .log_in(&mut first.rng, &first.login, &first.secret)
+    {
+        Ok(credential) => write_new(context, first.path.as_str(), &credential),
+        Err(fault) => Err(secret.explained(context.fault(secret.source(), fault))),
     }
 }
 

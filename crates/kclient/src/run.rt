@@ -1,13 +1,13 @@
 //! Running one command line: from its words to what is printed.
-ghost use Rattle.std.specs.Prelude.{◌≡◌, ◌⊎◌, IfErr, IfOk, true};
+ghost use Rattle.std.specs.Prelude.{◌≡◌, IfErr, IfOk, true};
 ghost use Rattle.command_line.specs.declared.status.Status.TheVariants.{Done};
 ghost use Rattle.client_files.specs.ConfigTexts.{IsHostOf};
-ghost use Rattle.kclient.specs.Ends.{Ended, IsCommandEnd, IsEnd, IsStopped, IsTried};
+ghost use Rattle.kclient.specs.Ends.{Ended, IsEnd, IsStopped};
 ghost use Rattle.command_line.specs.Values.{texts};
 ghost use Rattle.kclient.specs.Words.{asks_help};
 ghost use Rattle.kclient.specs.Worlds.{CameFirst, CameFurther};
 
-use crate::commands::{Command, CommandKind, NO_COMMAND, read_command};
+use crate::commands::{CommandKind, NO_COMMAND, read_command};
 use crate::context::Context;
 use crate::kinit::get_first;
 use crate::klist::{destroy, list};
@@ -17,7 +17,6 @@ use crate::renewing::renew_ticket;
 use crate::reports::{report, report_unwritten};
 use crate::values::asks_help;
 use crate::words::check_renewal;
-use clap::ArgMatches;
 use clap::error::{Error, ErrorKind};
 use client_files::{ClientError, ClientStore, Defaults, Host, StepError};
 use client_login::AnyMessage;
@@ -121,7 +120,7 @@ fn note_hosts<T, X>(context: &mut Context<T, X>, end: &Result<Printed, ClientErr
 }
 
 /// Runs the command that the words spell, or returns the help that they ask for.
-#[tactic(auto, using(crate::proofs::Ending::help_end, crate::proofs::Ending::spelled_end, crate::proofs::Ending::spelled_stop, crate::proofs::Ending::stopped_same))]
+#[tactic(auto, using(crate::proofs::Ending::help_end, crate::proofs::Ending::stopped_same, crate::proofs::Spelled::made_by_first, crate::proofs::Spelled::made_by_further, crate::proofs::Spelled::served_by, crate::proofs::Spelled::removed_by, crate::proofs::Spelled::listed_by, crate::proofs::Spelled::stopped_kept, crate::proofs::Spelled::stopped_filling))]
 fn run_words<T: ClientStore, X: AnyMessage>(
     context: &mut Context<T, X>,
     words: &[&str],
@@ -141,34 +140,15 @@ fn run_words<T: ClientStore, X: AnyMessage>(
         return Err(ClientError::usage(NO_COMMAND));
     };
     let command = read_command(context.alloc, words)?;
-    run_command(context, &command, options, host)
-}
-
-/// Runs a command that was read.
-#[tactic(auto, using(crate::proofs::Doing::did_make_first, crate::proofs::Doing::did_make_further, crate::proofs::Doing::did_serve, crate::proofs::Doing::did_remove, crate::proofs::Doing::did_list, crate::proofs::Doing::did_stop, crate::proofs::Doing::did_stop_filling))]
-fn run_command<T: ClientStore, X: AnyMessage>(
-    context: &mut Context<T, X>,
-    command: &Command<'_>,
-    options: &ArgMatches<'_>,
-    host: &Host<'_>,
-) -> Result<Printed, ClientError>
-    ensures done { IfOk result (λ printed. IsCommandEnd (CameFirst X.finds X.carries X.answers)
-        (CameFurther X.finds X.carries X.answers) context.old.client.at.sec command.now host.now
-        (T.world context.old.store) printed.status (T.world context.new.store)) }
-    ensures stopped { IfErr result (λ fault. (T.world context.new.store ≡ T.world context.old.store)
-        ⊎ IsTried (CameFurther X.finds X.carries X.answers) command.now host.now
-        (T.world context.old.store) (T.world context.new.store)) }
-{
-    let cache = command.cache;
     match command.kind {
-        CommandKind::Kinit => get_first(context, command, options, host),
+        CommandKind::Kinit => get_first(context, &command, options, host),
         CommandKind::Renew(renewal) => {
             check_renewal(options)?;
-            renew_ticket(context, cache, options, host, renewal)
+            renew_ticket(context, command.cache, options, host, renewal)
         }
-        CommandKind::Kvno => get_tickets(context, command, options, host),
-        CommandKind::Klist => list(context, cache, options, host),
-        CommandKind::Kdestroy => destroy(context, cache, host),
+        CommandKind::Kvno => get_tickets(context, &command, options, host),
+        CommandKind::Klist => list(context, command.cache, options, host),
+        CommandKind::Kdestroy => destroy(context, command.cache, host),
     }
 }
 
