@@ -257,11 +257,7 @@ fn push_file<T: ClientStore>(
     match store.is_no_file(path) {
         Ok(true) => Ok(note_passed(&mut whole.notes, path)?),
         Ok(false) => push_plain(alloc, store, whole, path),
-        Err(error) => Err(ClientError::new(
-            alloc,
-            path,
-            StepError::File(FileError::Failed(error)),
-        )),
+        Err(error) => Err(ClientError::new(alloc, path, StepError::File(FileError::Failed(error)))),
     }
 }
 
