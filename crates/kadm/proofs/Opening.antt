@@ -18,6 +18,7 @@ use Rattle.file_store.specs.World.{IsThere, World, with_file}
 use Rattle.command_line.specs.declared.status.Status.{Status}
 use Rattle.command_line.specs.declared.status.Status.TheVariants as statuses
 use Rattle.principal_keys.specs.Keys.{drawn_keys, seeded}
+use Rattle.kadm_changes.specs.DumpReports.{Reported, with_report}
 use Rattle.kadm_changes.specs.KeytabFolders.{WroteKeytabs}
 use Rattle.kadm_changes.specs.WorldLaws.{keytabs_beside}
 use Rattle.kadm_changes.specs.declared.keytab_folder.FolderArgs.{FolderArgs}
@@ -30,7 +31,7 @@ use Rattle.kadm_changes.specs.declared.keytabs.KeytabArgs.{KeytabArgs}
 use Rattle.kadm_changes.specs.declared.target.Target.{Target}
 use Rattle.kadm_changes.specs.declared.updates.Update.{Update}
 use Rattle.kadm_changes.specs.declared.updates.Update.TheVariants as updates
-use Rattle.kadm.specs.Ends.{CommandLeaves, IsEnd, IsKindDone, IsSpelledDone, IsSpelledTried, KeepsOpen}
+use Rattle.kadm.specs.Ends.{CommandLeaves, IsEnd, IsKindDone, IsSpelledDone, IsSpelledReport, IsSpelledTried, KeepsOpen}
 use Rattle.kadm.specs.Lines.{AreDone, AreTried, IsLineDone, Tried}
 use Rattle.kadm.specs.declared.commands.CommandKind.{CommandKind}
 use Rattle.kadm.specs.declared.commands.CommandKind.TheVariants as kinds
@@ -147,6 +148,33 @@ new_open (Some held) db p after free keeps back written =
     (open_at db held (with_file db (compact_text (database_value p)) held) default_policy (tgs_policy p)
     (ap text_policy (absent (held.files db) free)) (put_policy db held p back) (keeps refl))
 
+none_open : (db : List ℕ) (after : Option World) → StaysOpen db None after
+none_open db None = tt
+none_open db (Some held) = tt
+
+-- beside the report of what was left out
+beside_open : (before beside : Option World) (db : List ℕ) (report : Option (List ℕ)) (octets : List ℕ) (p : Principals) (after : Option World)
+    → IsThere before db false → KeepsRealm false before default_policy (tgs_policy p) → beside ≡ with_report report octets before
+    → IsReadBack p → after ≡ with_database db p beside → StaysOpen db before after
+beside_open None beside db report octets p after free keeps written back put = none_open db after
+beside_open (Some held) beside db None octets p after free keeps written back put =
+    new_open (Some held) db p after free keeps back (put ∙ ap (with_database db p) written)
+beside_open (Some held) beside db (Some path) octets p after free keeps written back put =
+    let next = with_file path octets held in
+    subst (StaysOpen db (Some held)) (sym (put ∙ ap (with_database db p) written))
+    (open_at db held (with_file db (compact_text (database_value p)) next) default_policy (tgs_policy p)
+    (ap text_policy (absent (held.files db) free)) (put_policy db next p back) (keeps refl))
+
+-- the report alone
+report_open : (before : Option World) (db : List ℕ) (report : Option (List ℕ)) (after : Option World) → Reported before db report after
+    → StaysOpen db before after
+report_open before db None after (may, (octets, written)) = same_open db before after written
+report_open None db (Some path) after (may, (octets, written)) = none_open db after
+report_open (Some held) db (Some path) after (may, (octets, written)) =
+    subst (StaysOpen db (Some held)) (sym written)
+    (open_at db held (with_file path octets held) (text_policy (held.files db)) (text_policy (held.files db)) refl
+    (ap text_policy (elsewhere path db octets held may.other)) (as_open held.now (text_policy (held.files db))))
+
 first_policy : (realm : List ℕ) (keys : List Key) → tgs_policy (first_database realm keys) ≡ default_policy
 first_policy realm keys =
     ap (λ found. unwrap_or (option_map (λ row. row.policy) found) default_policy)
@@ -221,8 +249,8 @@ command_open before input target (writes.Batch keep_going) after without (lines,
 command_open before input target (writes.Keytab to) after without is = keytab_open before target.db.now to after is
 command_open before input target (writes.Keytabs to) after without is = keytabs_open before target.db.now to after is
 command_open before input target (writes.Dump from) after without is =
-    new_open before target.db.now is.new after is.free
-    (subst (λ whole. KeepsRealm whole before default_policy (tgs_policy is.new)) without is.kept) is.read_back is.written
+    beside_open before is.beside target.db.now (path_of from.report) is.reported.1.0 is.new after is.free
+    (subst (λ whole. KeepsRealm whole before default_policy (tgs_policy is.new)) without is.kept) is.reported.1.1 is.read_back is.written
 command_open before input target (writes.Restore from) after without is =
     restored_open before target.db.now from.now after
     (subst (λ whole. Restored before whole target.db.now from.now after) without is)
@@ -251,6 +279,11 @@ spelled_tried_open words before input after (command, spelled, (kind, tried)) = 
     subst (λ path. StaysOpen path before after) (some_same command.target.db.now db (sym spelled.db ∙ is))
     (tried_open before input command.target.db.now command.target.whole_realm after (spelled.whole_realm ∙ without) tried)
 
+pub spelled_report_open : (words : List Text) (before after : Option World) → IsSpelledReport words before after → KeepsOpen words before after
+spelled_report_open words before after (command, spelled, (from, kind, left)) = λ without db is.
+    subst (λ path. StaysOpen path before after) (some_same command.target.db.now db (sym spelled.db ∙ is))
+    (report_open before command.target.db.now (path_of from.report) after left)
+
 pub unchanged_open : (words : List Text) (before after : Option World) → after ≡ before → KeepsOpen words before after
 unchanged_open words before after same = λ without db is. same_open db before after same
 
@@ -260,8 +293,10 @@ pub end_open : (words : List Text) (before : Option World) (input : Option Input
 end_open words before input statuses.Done after (inl (asks, same)) = unchanged_open words before after same
 end_open words before input statuses.Done after (inr done) = spelled_open words before input after done
 end_open words before input statuses.Refused after (inl same) = unchanged_open words before after same
-end_open words before input statuses.Refused after (inr tried) = spelled_tried_open words before input after tried
+end_open words before input statuses.Refused after (inr (inl tried)) = spelled_tried_open words before input after tried
+end_open words before input statuses.Refused after (inr (inr left)) = spelled_report_open words before after left
 end_open words before input statuses.Usage after same = unchanged_open words before after same
 end_open words before input statuses.Failed after (inl same) = unchanged_open words before after same
 end_open words before input statuses.Failed after (inr (inl done)) = spelled_open words before input after done
-end_open words before input statuses.Failed after (inr (inr tried)) = spelled_tried_open words before input after tried
+end_open words before input statuses.Failed after (inr (inr (inl tried))) = spelled_tried_open words before input after tried
+end_open words before input statuses.Failed after (inr (inr (inr left))) = spelled_report_open words before after left

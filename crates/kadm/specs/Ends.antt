@@ -4,7 +4,8 @@ use Rattle.file_store.specs.Input.{Input}
 use Rattle.file_store.specs.World.{World}
 use Rattle.file_store.specs.declared.faults.FileError.{FileError}
 use Rattle.file_store.specs.declared.faults.FileError.TheVariants.{LongFile, ShortSeed, Failed}
-use Rattle.kadm_changes.specs.Stops.{IsFailed}
+use Rattle.kadm_changes.specs.DumpReports.{Reported}
+use Rattle.kadm_changes.specs.Stops.{IsFailed, IsNoUsage}
 use Rattle.kadm_changes.specs.Realm.{StaysOpen}
 use Rattle.kadm_changes.specs.KeytabFolders.{WroteKeytabs}
 use Rattle.kadm_changes.specs.Restoring.{Restored}
@@ -14,6 +15,7 @@ use Rattle.kadm.specs.Words.{Spells, asks_help}
 use Rattle.kadm_changes.specs.Worlds.{MadeFromDump, MadeRealm, Updated, WroteKeytab}
 use Rattle.kadm.specs.Lines.{Batched, Tried}
 use Rattle.kadm.specs.Printed.{IsPrintedOf}
+use Rattle.kadm_changes.specs.declared.dump_import.DumpArgs.{DumpArgs}
 use Rattle.kadm_changes.specs.declared.target.Target.{Target}
 use Rattle.kadm.specs.declared.commands.Command.{Command}
 use Rattle.kadm.specs.declared.commands.CommandKind.{CommandKind}
@@ -86,15 +88,26 @@ abbrev pub IsWriteDone : Option World → Option Input → Target → WriteComma
 IsWriteDone before input target write true after = CommandLeaves before input target write after
 IsWriteDone before input target write false after = IsWriteTried before input target write after
 
--- a write failed, after some of several files
+-- the command is the import of a dump, and has left the report, if there was to be one
+abbrev pub IsWriteReported : Option World → Target → WriteCommand → Option World → Type 0
+IsWriteReported before target write after = (from : DumpArgs) × (write ≡ writes.Dump from)
+    × Reported before target.db.now (path_of from.report) after
+
+-- a write failed, after some of several files; or an import has left its report
 abbrev pub IsStoppedPart : Option World → Option Input → Target → WriteCommand → EarlyEnd → Option World → Type 0
-IsStoppedPart before input target write stop after = IsFailed stop × CommandLeaves before input target write after
+IsStoppedPart before input target write stop after = (IsFailed stop × CommandLeaves before input target write after)
+    ⊎ (IsNoUsage stop × IsWriteReported before target write after)
 
 -- the command is a batch that keeps going, and some of its lines were done
 abbrev pub IsTried : Option World → Option Input → Command → Option World → Type 0
 IsTried before input command after =
     (command.kind ≡ Write (writes.Batch true))
     × Tried before input command.target.whole_realm command.target.db.now after
+
+-- the command is the import of a dump, and has left the report, if there was to be one
+abbrev pub IsReportLeft : Option World → Command → Option World → Type 0
+IsReportLeft before command after = (from : DumpArgs) × (command.kind ≡ Write (writes.Dump from))
+    × Reported before command.target.db.now (path_of from.report) after
 
 abbrev pub IsCommandEnd : Option World → Option Input → Command → Status → Option World → Type 0
 IsCommandEnd before input command statuses.Done after = IsDone before input command after
@@ -105,7 +118,7 @@ IsCommandEnd before input command statuses.Failed after = IsDone before input co
 
 abbrev pub IsCommandStopped : Option World → Option Input → Command → EarlyEnd → Option World → Type 0
 IsCommandStopped before input command stop after = (after ≡ before)
-    ⊎ (IsFailed stop × IsDone before input command after)
+    ⊎ ((IsFailed stop × IsDone before input command after) ⊎ (IsNoUsage stop × IsReportLeft before command after))
 
 -- ---- the words of a command line
 
@@ -118,21 +131,29 @@ abbrev pub IsSpelledTried : List Text → Option World → Option Input → Opti
 IsSpelledTried words before input after = (command : Command) × Spells words command
     × IsTried before input command after
 
+-- the words ask for the import of a dump, whose report is left, and nothing else
+abbrev pub IsSpelledReport : List Text → Option World → Option World → Type 0
+IsSpelledReport words before after = (command : Command) × Spells words command × IsReportLeft before command after
+
 abbrev pub IsStopped : List Text → Option World → Option Input → EarlyEnd → Option World → Type 0
 IsStopped words before input stop after =
-    (after ≡ before) ⊎ (IsFailed stop
+    (after ≡ before) ⊎ ((IsFailed stop
     × (IsSpelledDone words before input after ⊎ IsSpelledTried words before input after))
+    ⊎ (IsNoUsage stop × IsSpelledReport words before after))
 
 -- `Done`: what the words ask for was done, or they ask for help. `Refused` and `Usage`: the files are unchanged, unless
--- the words ask for a batch that keeps going. `Failed`: they are unchanged; or they have what was asked for, and then
--- at most the output failed, or the sync of a folder, or the write of a further keytab
+-- the words ask for a batch that keeps going, or for an import whose report is left. `Failed`: they are unchanged; or
+-- they have what was asked for, and then at most the output failed, or the sync of a folder, or the write of a further
+-- keytab; or the write of a database after its report
 abbrev pub IsEnd : List Text → Option World → Option Input → Status → Option World → Type 0
 IsEnd words before input statuses.Done after =
     ((asks_help words ≡ true) × (after ≡ before)) ⊎ IsSpelledDone words before input after
-IsEnd words before input statuses.Refused after = (after ≡ before) ⊎ IsSpelledTried words before input after
+IsEnd words before input statuses.Refused after =
+    (after ≡ before) ⊎ (IsSpelledTried words before input after ⊎ IsSpelledReport words before after)
 IsEnd words before input statuses.Usage after = after ≡ before
 IsEnd words before input statuses.Failed after =
-    (after ≡ before) ⊎ (IsSpelledDone words before input after ⊎ IsSpelledTried words before input after)
+    (after ≡ before) ⊎ (IsSpelledDone words before input after
+    ⊎ (IsSpelledTried words before input after ⊎ IsSpelledReport words before after))
 
 -- without `--whole-realm` nobody is kept out of the realm who was let in: whatever the status, krbtgt/REALM in the
 -- database is disabled, denied, expired or limited to tickets of less than five minutes only if it was before

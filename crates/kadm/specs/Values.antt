@@ -14,7 +14,8 @@ abbrev pub takes_path : Text → Bool
 takes_path word =
     bytes_eq word (codes "--db") || (bytes_eq word (codes "--password-file") || (bytes_eq word (codes "--seed")
     || (bytes_eq word (codes "--out") || (bytes_eq word (codes "--keytab") || (bytes_eq word (codes "--from")
-    || (bytes_eq word (codes "--folder") || (bytes_eq word (codes "--dump") || bytes_eq word (codes "--stash"))))))))
+    || (bytes_eq word (codes "--folder") || (bytes_eq word (codes "--dump") || (bytes_eq word (codes "--stash")
+    || bytes_eq word (codes "--report")))))))))
 
 -- the options of a policy whose value is the next word
 abbrev pub takes_setting : Text → Bool

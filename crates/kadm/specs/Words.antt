@@ -202,6 +202,7 @@ IsWriteSpelled words (writes.Restore from) =
 IsWriteSpelled words (writes.Dump from) =
     (command_of words ≡ Some (codes "import")) × (value_of words (codes "--dump") ≡ Some from.dump.now)
     × (value_of words (codes "--stash") ≡ Some from.stash.now) × (from.skip ≡ has_flag words (codes "--skip"))
+    × (path_of from.report ≡ value_of words (codes "--report"))
 
 abbrev pub IsPrintSpelled : List Text → PrintCommand → Type 0
 IsPrintSpelled words (prints.List list) =

@@ -52,7 +52,15 @@ pub(crate) const CHANGES: &[SubcommandRow] = &[
     SubcommandRow {
         name: "import",
         about: "Adds a principal with its keys from a keytab, in all their versions; or makes the database of a realm from a dump of MIT's",
-        options: &[DATABASE, IMPORTED_NAME, IMPORTED_KEYTAB, TYPES, DUMP, STASH],
+        options: &[
+            DATABASE,
+            IMPORTED_NAME,
+            IMPORTED_KEYTAB,
+            TYPES,
+            DUMP,
+            STASH,
+            REPORT,
+        ],
         flags: &[SKIPS, WHOLE_REALM, KEEPS_MODE],
     },
     SubcommandRow {
@@ -159,6 +167,13 @@ const STASH: OptionRow = OptionRow {
     times: Times::AtMostOnce,
 };
 
+const REPORT: OptionRow = OptionRow {
+    name: "report",
+    shape: "FILE",
+    help: "A new file for the report: each principal with what of it is left out, or would be",
+    times: Times::AtMostOnce,
+};
+
 const SKIPS: FlagRow = FlagRow {
     name: "skip",
     help: "Leaves out what has no place here: policies, other encryption types, salts",
@@ -215,7 +230,7 @@ const NO_STAGED: &str =
 
 const NO_IMPORT: &str = "\
 give either --name and --keytab, for one principal, or --dump and --stash, for a whole realm; --types goes with the \
-first, --skip with the second";
+first, --skip and --report with the second";
 
 const NO_VERSION: &str =
     "give either --version with a number from 0 to 4294967295, or --older for all versions but the current one";
@@ -375,6 +390,7 @@ fn import_args<'a>(words: &'a [&'a str]) -> Result<WriteCommand<'a>, UsageError<
         dump,
         stash: required(words, "--stash", NO_IMPORT)?,
         skip: has_flag(words, "--skip"),
+        report: option_value(words, "--report"),
     }))
 }
 
@@ -383,7 +399,7 @@ fn import_row<'a>(words: &'a [&'a str]) -> Result<WriteCommand<'a>, UsageError<'
     ensures { command_of (texts words.now) ≡ Some (codes "import")
         → IfOk result (λ write. IsWriteSpelled (texts words.now) write) }
 {
-    if has_flag(words, "--skip") || is_given(words, "--stash") {
+    if has_flag(words, "--skip") || is_given(words, "--stash") || is_given(words, "--report") {
         return Err(UsageError::BadValue(NO_IMPORT));
     }
     Ok(WriteCommand::Update(Update::Row(RowArgs {

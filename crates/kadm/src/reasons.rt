@@ -85,7 +85,7 @@ pub(crate) fn reason_text(reason: CommandRefusal) -> &'static str {
             "this is not a dump that MIT's kdb5_util writes, of version 5 to 8",
         CommandRefusal::BadStash => "this is not MIT's stash file with the master key of the dump",
         CommandRefusal::NoPlace =>
-            "what is listed has no place in a database; `--skip` leaves it out",
+            "what is counted has no place in a database; `--skip` leaves it out",
     }
 }
 

@@ -77,6 +77,7 @@ fn option_of(part: Part) -> &'static str {
         Part::NewKeytab => "--out",
         Part::Dump => "--dump",
         Part::Stash => "--stash",
+        Part::Report => "--report",
         Part::Setting(form) => value_option(form),
     }
 }

@@ -34,8 +34,9 @@ pub(crate) struct CommandLine<'a> {
 
 /// Runs a command line. Prints the outcome to `writer`, and the reason of a refusal or failure and what is wrong with
 /// the words to `errors`. `Done` means that what the words ask for was done, or that they ask for help. Otherwise the
-/// files are unchanged, but for three cases: the words ask for a batch that keeps going (`Refused`); all was done, and
-/// then only the printing or the sync of a folder failed (`Failed`); or a write of several keytabs failed (`Failed`).
+/// files are unchanged, but for four cases: the words ask for a batch that keeps going (`Refused`); all was done, and
+/// then only the printing or the sync of a folder failed (`Failed`); a write of several keytabs failed (`Failed`); or
+/// an import has written its report, and no database (`Refused`, `Failed`).
 #[tactic(auto, using(crate::proofs::Opening::unchanged_open))]
 pub(crate) fn kadm_run<T: Store, W: Write + Drop, E: Write + Drop>(
     alloc: Global,
@@ -46,8 +47,9 @@ pub(crate) fn kadm_run<T: Store, W: Write + Drop, E: Write + Drop>(
 ) -> Status
     // Promise: `Done` means that what the words ask for was done, on the path that `--db` names, or without it the
     // environment, or that they ask for the help or the version and no path has changed.
-    // Promise: with `Refused`, `Usage` and `Failed` all paths have what they had, but for three cases.
+    // Promise: with `Refused`, `Usage` and `Failed` all paths have what they had, but for four cases.
     // Promise: with `Refused` some lines of a batch may be done, if the words ask for a batch that keeps going.
+    // Promise: with `Refused` and `Failed` the report of `import --dump` may be written, and no other file.
     // Promise: with `Failed` all may be done, or what such a batch does, if only the printing or the sync of a folder
     // failed.
     // Promise: with `Failed` some of the keytabs of `keytab --like` may be written, if a write failed.

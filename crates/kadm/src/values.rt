@@ -90,6 +90,7 @@ fn takes_path(word: &str) -> bool
         || word == "--folder"
         || word == "--dump"
         || word == "--stash"
+        || word == "--report"
 }
 
 /// Returns the values of an option, in their order.

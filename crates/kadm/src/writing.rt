@@ -265,9 +265,9 @@ pub(crate) fn written_path<'a>(command: &Command<'a>, write: WriteCommand<'a>) -
     }
 }
 
-/// Runs a command that writes files. The inner `Err` says why it stopped after some of several; after the outer one no
-/// file has changed.
-#[tactic(auto, using(crate::proofs::Ending::batch_write))]
+/// Runs a command that writes files. The inner `Err` says why it stopped after some of several keytabs, or after the
+/// report of an import; after the outer one no file has changed.
+#[tactic(auto, using(crate::proofs::Ending::batch_write, crate::proofs::Ending::keytabs_stopped, crate::proofs::Ending::import_stopped))]
 pub(crate) fn write_files<'a, T: Store, W: Write, E: Write>(
     context: &mut Context<W, E>,
     store: &mut T,
@@ -302,10 +302,10 @@ pub(crate) fn write_files<'a, T: Store, W: Write, E: Write>(
             Ok(written) => Ok(Ok(Outcome::whole(written))),
             Err(stop) => Ok(Err(stop)),
         },
-        WriteCommand::Dump(from) => {
-            let written = import_dump(context, store, target, from)?;
-            Ok(Ok(Outcome::whole(written)))
-        }
+        WriteCommand::Dump(from) => match import_dump(context, store, target, from)? {
+            Ok(written) => Ok(Ok(Outcome::whole(written))),
+            Err(stop) => Ok(Err(stop)),
+        },
         WriteCommand::Restore { from } => {
             let written = restore(context, store, target, from)?;
             Ok(Ok(Outcome::whole(written)))

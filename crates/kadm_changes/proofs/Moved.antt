@@ -1,5 +1,5 @@
 -- The rows of a dump: each is a row, and its name is within the limits.
-use Rattle.std.proofs.Common.{◌≡◌, ◌∙◌, ◌⊎◌, ◌&&◌, ◌+◌, ◌<◌, ◌≤◌, ◌++◌, ◌∷◌, [], ℕ, zero, suc, arith, Bool, true, false, List, All, IsTrue, OnOk, Option, Result, Ok, Err, drop, drop-cons, get_or, length, take, sym, ap, subst, refl, is_some}
+use Rattle.std.proofs.Common.{◌≡◌, ◌∙◌, ◌⊎◌, ◌&&◌, ◌+◌, ◌<◌, ◌≤◌, ◌++◌, ◌∷◌, [], ℕ, zero, suc, arith, Bool, true, false, List, All, IsTrue, IfSome, OnErr, OnOk, Option, Some, None, Result, Ok, Err, drop, drop-cons, get_or, length, take, sym, ap, subst, refl, is_some}
 use Rattle.std.proofs.lemmas.List.{take_all, take_more}
 use Rattle.std.proofs.lemmas.List.Elements.{All-head, All-nil, All-push, All-tail}
 use Rattle.std.specs.FinMap.{contains_key, empty, from_entries, get-empty}
@@ -16,9 +16,11 @@ use Rattle.principal_rows.specs.declared.name_map.Entry.{Entry}
 use Rattle.principal_rows.specs.declared.row.Row.{Row}
 use Rattle.principals.specs.Database.{Principals}
 use Rattle.principals.specs.NamesLaws.{AllNamesFit, names_fit-insert}
+use Rattle.kadm_changes.specs.DumpReports.{MayReport, Reported, with_report}
 use Rattle.kadm_changes.specs.Dumps.{AreRowsOf, HasRealm, IsDatabaseOf, LosesNothing, IsPushedRow}
 use Rattle.kadm_changes.specs.Realm.{KeepsRealm, tgs_policy}
-use Rattle.kadm_changes.specs.Worlds.{IsReadBack, MadeFromDump, with_database}
+use Rattle.kadm_changes.specs.Texts.{path_of}
+use Rattle.kadm_changes.specs.Worlds.{IsPut, MadeFromDump, with_database}
 use Rattle.kadm_changes.specs.declared.dump_import.DumpArgs.{DumpArgs}
 
 abbrev HasRow : Entry Row → Type 0
@@ -95,16 +97,42 @@ pub database_made : (realm : List ℕ) (stash : List KeytabEntry) (found : List 
 database_made realm stash found skip made new of kept rows is =
     subst (IsDatabaseOf found stash skip) (sym is) (record { realm = of; kept = kept; entries = made; rows = rows; mapped = refl })
 
--- the database that is written at a path without a file
-pub made_from_dump : (before locked asked read after : Option World) (whole : Bool) (db path : List ℕ) (from : DumpArgs) (p : Principals)
-    → locked ≡ before → asked ≡ locked → read ≡ asked → path ≡ db → IsThere locked db false → HasRealm asked from p
-    → KeepsRealm whole read default_policy (tgs_policy p) → IsReadBack p → after ≡ with_database path p read
-    → MadeFromDump before whole db from after
-made_from_dump before locked asked read after whole db path from p first same still at free made kept reads written = record {
-  free = subst (λ world. IsThere world db false) first free;
+-- the report that is written
+pub reported : (before asked judged read after : Option World) (db : List ℕ) (report : Option (List ℕ)) (octets : List ℕ)
+    → asked ≡ before → judged ≡ asked → read ≡ judged → MayReport asked db report → after ≡ with_report report octets read
+    → Reported before db report after
+reported before asked judged read after db report octets first same still may written = (
+  subst (λ world. MayReport world db report) first may,
+  (octets, written ∙ ap (with_report report octets) (still ∙ same ∙ first)),
+)
+
+-- the database that is written at a path without a file, and its report
+pub made_from_dump : (before judged beside after : Option World) (whole : Bool) (db path : List ℕ) (from : DumpArgs) (o : Option Principals)
+    → judged ≡ before → path ≡ db → IsThere before db false → IfSome o (λ p. HasRealm judged from p)
+    → IfSome o (λ p. KeepsRealm whole judged default_policy (tgs_policy p)) → Reported before db (path_of from.report) beside
+    → IsPut path o beside after → MadeFromDump before whole db from after
+made_from_dump before judged beside after whole db path from None first at free made kept report put = absurd put
+made_from_dump before judged beside after whole db path from (Some p) first at free made kept report (reads, written) = record {
+  free = free;
   new = p;
-  made = subst (λ world. HasRealm world from p) (same ∙ first) made;
-  kept = subst (λ world. KeepsRealm whole world default_policy (tgs_policy p)) (still ∙ same ∙ first) kept;
+  made = subst (λ world. HasRealm world from p) first made;
+  kept = subst (λ world. KeepsRealm whole world default_policy (tgs_policy p)) first kept;
+  beside = beside;
+  reported = report;
   read_back = reads;
-  written = written ∙ ap (λ world. with_database path p world) (still ∙ same ∙ first) ∙ ap (λ named. with_database named p before) at;
+  written = written ∙ ap (λ named. with_database named p beside) at;
 }
+
+-- if it is written, and if not
+pub made_or_not : {A E : Type 0} (r : Result A E) (before judged beside after : Option World) (whole : Bool) (db path : List ℕ) (from : DumpArgs) (o : Option Principals)
+    → judged ≡ before → path ≡ db → IsThere before db false → IfSome o (λ p. HasRealm judged from p)
+    → IfSome o (λ p. KeepsRealm whole judged default_policy (tgs_policy p)) → Reported before db (path_of from.report) beside
+    → OnOk r (IsPut path o beside after) → OnOk r (MadeFromDump before whole db from after)
+made_or_not (Ok x) before judged beside after whole db path from o first at free made kept report put =
+    made_from_dump before judged beside after whole db path from o first at free made kept report put
+made_or_not (Err e) before judged beside after whole db path from o first at free made kept report put = tt
+
+pub left_or_not : {A E : Type 0} (r : Result A E) (before beside after : Option World) (db : List ℕ) (report : Option (List ℕ))
+    → Reported before db report beside → OnErr r (after ≡ beside) → OnErr r (Reported before db report after)
+left_or_not (Ok x) before beside after db report is same = tt
+left_or_not (Err e) before beside after db report is same = subst (Reported before db report) (sym same) is

@@ -1,6 +1,7 @@
 pub mod Asking
 pub mod Changing
 pub mod Denying
+pub mod DumpReports
 pub mod Dumps
 pub mod Found
 pub mod Granting

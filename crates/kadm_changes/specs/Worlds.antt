@@ -1,5 +1,5 @@
 -- The effect of a command on the files.
-use Rattle.std.specs.Prelude.{◌≡◌, ℕ, Bool, false, List, Option, option_map, Ok}
+use Rattle.std.specs.Prelude.{◌≡◌, ℕ, Bool, false, List, Option, Some, None, option_map, Ok}
 use Rattle.serde_json.specs.Written.{compact_text}
 use Rattle.enctypes.specs.declared.etype.Etype.{Etype}
 use Rattle.krb_fields.specs.Name.{Components}
@@ -11,6 +11,7 @@ use Rattle.principals_text.specs.Value.{text_database}
 use Rattle.principals_text.specs.Written.{database_value}
 use Rattle.file_store.specs.Input.{Input}
 use Rattle.file_store.specs.World.{World, with_file, HasSeed, IsRead, IsThere}
+use Rattle.kadm_changes.specs.DumpReports.{Reported}
 use Rattle.kadm_changes.specs.Dumps.{HasRealm}
 use Rattle.kadm_changes.specs.Keytabs.{IsFreePath, IsKeytabFor}
 use Rattle.kadm_changes.specs.Realm.{KeepsRealm, tgs_policy}
@@ -32,6 +33,11 @@ with_database db p world = option_map (with_file db (compact_text (database_valu
 -- the text that is written for a database is read back as this database
 abbrev pub IsReadBack : Principals → Type 0
 IsReadBack p = text_database (compact_text (database_value p)) ≡ Ok p
+
+-- a database, if there is one, is written at a path, and no other file
+abbrev pub IsPut : List ℕ → Option Principals → Option World → Option World → Type 0
+IsPut db None before after = ⊥
+IsPut db (Some p) before after = IsReadBack p × (after ≡ with_database db p before)
 
 -- ---- the effect of each command, from the world before it to the one after it
 
@@ -74,12 +80,15 @@ pub record WroteKeytab (before : Option World) (db : List ℕ) (to : KeytabArgs)
   pub holds : IsKeytabFor before to who old octets
   pub written : after ≡ option_map (with_file to.out.now octets) before
 
--- the database of the realm of a dump, at a path without a file; its krbtgt/REALM is as open as that of a new realm
+-- the database of the realm of a dump, at a path without a file, and the report of what is left out, if there is to be
+-- one; its krbtgt/REALM is as open as that of a new realm
 pub record MadeFromDump (before : Option World) (whole : Bool) (db : List ℕ) (from : DumpArgs)
     (after : Option World) : Type 0 where
   pub free : IsThere before db false
   pub new : Principals
   pub made : HasRealm before from new
   pub kept : KeepsRealm whole before default_policy (tgs_policy new)
+  pub beside : Option World
+  pub reported : Reported before db (path_of from.report) beside
   pub read_back : IsReadBack new
-  pub written : after ≡ with_database db new before
+  pub written : after ≡ with_database db new beside

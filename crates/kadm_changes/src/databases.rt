@@ -1,6 +1,7 @@
 //! The database and its file.
-ghost use Rattle.std.specs.Prelude.{◌≡◌, IfOk, OnOk, OnErr};
+ghost use Rattle.std.specs.Prelude.{◌≡◌, IfErr, IfOk, OnOk, OnErr};
 ghost use Rattle.kadm_changes.specs.Granting.{Makes};
+ghost use Rattle.kadm_changes.specs.Stops.{IsNoUsage};
 ghost use Rattle.kadm_changes.specs.Worlds.{HoldsDatabase, IsReadBack, with_database};
 
 use crate::context::Context;
@@ -115,6 +116,7 @@ pub fn write_database<'p, T: Store>(
     ensures written { OnOk result (T.world store.new ≡ with_database locked.now database.now (T.world store.old)) }
     ensures read_back { OnOk result (IsReadBack database.now) }
     ensures unchanged { OnErr result (T.world store.new ≡ T.world store.old) }
+    ensures no_usage { IfErr result IsNoUsage }
 {
     let text = principals_text::write(alloc, database)?;
     let written = update_file(alloc, store, locked.path, text.as_bytes(), locked.mode)?;

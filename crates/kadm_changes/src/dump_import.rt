@@ -1,5 +1,5 @@
 //! The command that makes the database of a realm from a dump of MIT's database.
-ghost use Rattle.std.specs.Prelude.{◌≡◌, ◌∷◌, All, IfOk, IfSome, OnErr, OnOk};
+ghost use Rattle.std.specs.Prelude.{◌≡◌, ◌∷◌, All, IfErr, IfOk, IfSome, OnErr, OnOk};
 ghost use Rattle.std.specs.FinMap.{from_entries};
 ghost use Rattle.krb_fields.specs.NameLimits.{IsComponent, IsWithinLimits};
 ghost use Rattle.mit_dump.specs.Entries.{preference};
@@ -8,19 +8,24 @@ ghost use Rattle.mit_dump.specs.Policy.{policy_of};
 ghost use Rattle.principal_rows.specs.NameMap.{pairs};
 ghost use Rattle.principal_rows.specs.Row.{IsRow};
 ghost use Rattle.principal_keys.specs.Keytabs.{AreVersionsOf};
+ghost use Rattle.kadm_changes.specs.DumpReports.{Reported};
 ghost use Rattle.kadm_changes.specs.Dumps.{AreRowsOf, HasRealm, IsDatabaseOf, IsPushedRow, IsRowOf, IsStash};
 ghost use Rattle.principal_rows.specs.Policy.{default_policy};
 ghost use Rattle.kadm_changes.specs.Realm.{KeepsRealm, tgs_policy};
-ghost use Rattle.kadm_changes.specs.Worlds.{MadeFromDump};
+ghost use Rattle.kadm_changes.specs.Stops.{IsNoUsage};
+ghost use Rattle.kadm_changes.specs.Texts.{path_of};
+ghost use Rattle.kadm_changes.specs.Worlds.{IsPut, MadeFromDump};
 
 use crate::context::Context;
-use crate::databases::{lock_database, write_database};
+use crate::databases::{Locked, lock_database, write_database};
 use crate::dump_reports::{
-    report_fault, report_key_fault, report_losses, report_no_database, report_taken,
+    report_fault, report_hint, report_key_fault, report_no_database, report_taken,
 };
 use crate::early_end::EarlyEnd;
+use crate::left_out::{find_left_out, report_counts, report_text};
 use crate::realm::{realm_end, report_realm, tgs_policy};
 use crate::reason::{CommandRefusal, Part};
+use crate::report_file::{check_report, write_report};
 use crate::target::Target;
 use cred_files::{CredError, Keytab, KeytabEntry};
 use file_store::{Store, Written, has_file, read_at_most, read_file};
@@ -42,23 +47,40 @@ pub struct DumpArgs<'a> {
     pub stash: &'a str,
     /// Whether to leave out what has no place in a database. If not, and there is any, the import is refused.
     pub skip: bool,
+    /// The path of the report to write: what is left out, or keeps the import from being done.
+    pub report: Option<&'a str>,
 }
 
-/// Makes the database of a realm from the dump of MIT's database.
+/// What a dump becomes.
+#[derive(Drop)]
+struct Imported {
+    /// The database; `None` if something has no place in one, and is not to be left out.
+    database: Option<Database>,
+    /// The text of the report.
+    report: String,
+}
+
+/// Makes the database of a realm from the dump of MIT's database. The inner `Err` says why it stopped after it had
+/// written the report; after the outer one no file has changed.
 pub fn import_dump<'p, T: Store, W: Write, E: Write>(
     context: &mut Context<W, E>,
     store: &mut T,
     target: &Target<'p>,
     from: DumpArgs<'p>,
-) -> Result<Written, EarlyEnd<'p>>
+) -> Result<Result<Written, EarlyEnd<'p>>, EarlyEnd<'p>>
     // Promise (done, unchanged): `import --dump` makes a database at a path without a file: that of the realm of the
     // dump's `krbtgt/REALM@REALM`.
     // Promise: an imported database has a row for each principal that has a place in it, with all versions of its keys,
     // decrypted with the master key in the stash file, and the policy that its numbers say.
     // Promise: without `--skip` nothing of a principal is lost, but for `K/M`, `kadmin/..` and `kiprop/..` (that each
     // dump is read, and which fault a refused one gets, is tested).
-    ensures done { OnOk result (MadeFromDump (T.world store.old) target.now.whole_realm target.now.db.now from.entry
-        (T.world store.new)) }
+    ensures done { IfOk result (λ end. OnOk end (MadeFromDump (T.world store.old) target.now.whole_realm
+        target.now.db.now from.entry (T.world store.new))) }
+    // Promise (reported, done): the report of `import --dump` is a new file, and no other file than it and the database
+    // changes; it stays if the import is refused (what it says is tested).
+    ensures reported { IfOk result (λ end. OnErr end (Reported (T.world store.old) target.now.db.now
+        (path_of from.entry.report) (T.world store.new))) }
+    ensures no_usage { IfOk result (λ end. IfErr end IsNoUsage) }
     // Promise, as make_update: a command that ends ..
     ensures unchanged { OnErr result (T.world store.new ≡ T.world store.old) }
 {
@@ -66,9 +88,29 @@ pub fn import_dump<'p, T: Store, W: Write, E: Write>(
     if has_file(store, target.db)? {
         return Err(EarlyEnd::refused(Part::Database, CommandRefusal::FileExists));
     }
-    let database = read_realm(context, store, from)?;
-    check_new_realm(store, &database, target.whole_realm)?;
-    let written = write_database(context.alloc, store, &locked, &database)?;
+    check_report(context.alloc, store, target.db, from.report)?;
+    let made = read_realm(context, store, from, target.whole_realm)?;
+    let Imported { database, report } = made;
+    write_report(context.alloc, store, from.report, report.as_bytes())?;
+    Ok(put_database(context, store, target, &locked, database))
+}
+
+/// Writes the database of a dump. Refuses it if something has no place.
+fn put_database<'p, T: Store, W: Write, E: Write>(
+    context: &mut Context<W, E>,
+    store: &mut T,
+    target: &Target<'p>,
+    locked: &Locked<'p>,
+    database: Option<Database>,
+) -> Result<Written, EarlyEnd<'p>>
+    ensures put { OnOk result (IsPut locked.now database.entry (T.world store.old) (T.world store.new)) }
+    ensures unchanged { OnErr result (T.world store.new ≡ T.world store.old) }
+    ensures no_usage { IfErr result IsNoUsage }
+{
+    let Some(database) = database else {
+        return Err(EarlyEnd::refused(Part::Dump, CommandRefusal::NoPlace));
+    };
+    let written = write_database(context.alloc, store, locked, &database)?;
     if target.whole_realm {
         report_realm(context.alloc, &mut context.errors, &database);
     }
@@ -77,6 +119,21 @@ pub fn import_dump<'p, T: Store, W: Write, E: Write>(
 
 /// Refuses the database of a dump in which nobody could log in, unless `whole` allows it.
 fn check_new_realm<T: Store>(
+    store: &mut T,
+    database: &Option<Database>,
+    whole: bool,
+) -> Result<(), EarlyEnd<'static>>
+    ensures kept { OnOk result (IfSome database.now (λ p.
+        KeepsRealm whole (T.world store.old) default_policy (tgs_policy p))) }
+    ensures unchanged { T.world store.new ≡ T.world store.old }
+{
+    match database {
+        Some(database) => check_open(store, database, whole),
+        None => Ok(()),
+    }
+}
+
+fn check_open<T: Store>(
     store: &mut T,
     database: &Database,
     whole: bool,
@@ -99,8 +156,11 @@ fn read_realm<'p, T: Store, W: Write, E: Write>(
     context: &mut Context<W, E>,
     store: &mut T,
     from: DumpArgs<'p>,
-) -> Result<Database, EarlyEnd<'p>>
-    ensures read { IfOk result (λ database. HasRealm (T.world store.old) from.entry database) }
+    whole: bool,
+) -> Result<Imported, EarlyEnd<'p>>
+    ensures read { IfOk result (λ made. IfSome made.database (λ p. HasRealm (T.world store.old) from.entry p)) }
+    ensures kept { IfOk result (λ made. IfSome made.database (λ p.
+        KeepsRealm whole (T.world store.old) default_policy (tgs_policy p))) }
     ensures unchanged { T.world store.new ≡ T.world store.old }
 {
     let text = read_at_most(context.alloc, store, from.dump, LONGEST_TEXT)?;
@@ -109,7 +169,9 @@ fn read_realm<'p, T: Store, W: Write, E: Write>(
         Ok(found) => found,
         Err(fault) => return Err(report_fault(&mut context.errors, from.dump, fault)),
     };
-    import_database(context, &found, &stash, from.skip)
+    let made = import_database(context, &found, &stash, from)?;
+    check_new_realm(store, &made.database, whole)?;
+    Ok(made)
 }
 
 /// Reads MIT's stash file, which is a keytab.
@@ -129,26 +191,34 @@ fn read_stash<'p, T: Store>(
     }
 }
 
-/// Returns the database with the principals of a dump that have a place in it.
-fn import_database<W, E: Write>(
+/// Returns the database with the principals of a dump that have a place in it, and the report.
+fn import_database<'p, W, E: Write>(
     context: &mut Context<W, E>,
     found: &[DumpedPrincipal],
     stash: &Keytab,
-    skip: bool,
-) -> Result<Database, EarlyEnd<'static>>
-    ensures { IfOk result (λ database. IsDatabaseOf found.now stash.now skip database) }
+    from: DumpArgs<'p>,
+) -> Result<Imported, EarlyEnd<'static>>
+    ensures { IfOk result (λ made. IfSome made.database (λ p. IsDatabaseOf found.now stash.now from.entry.skip p)) }
 {
     let Some(realm) = dump_realm(found) else {
         return Err(report_no_database(&mut context.errors));
     };
-    let is_whole = report_losses(context.alloc, &mut context.errors, found, realm)?;
-    if !is_whole && !skip {
-        return Err(EarlyEnd::refused(Part::Dump, CommandRefusal::NoPlace));
+    let mut left_out = Vec::new(context.alloc);
+    let is_whole = find_left_out(context.alloc, &mut left_out, found, realm)?;
+    report_counts(context.alloc, &mut context.errors, &left_out)?;
+    report_hint(&mut context.errors, is_whole, from.report);
+    let report = report_text(context.alloc, &left_out)?;
+    if !is_whole && !from.skip {
+        let database = None;
+        return Ok(Imported { database, report });
     }
     let rows = import_rows(context, found, realm, stash)?;
-    report_taken(context.alloc, &mut context.errors, found, rows.len())?;
+    report_taken(&mut context.errors, rows.len());
     match with_rows(context.alloc, realm, rows)? {
-        Some(database) => Ok(database),
+        Some(database) => Ok(Imported {
+            database: Some(database),
+            report,
+        }),
         None => Err(report_no_database(&mut context.errors)),
     }
 }

@@ -1,5 +1,5 @@
 //! How a command ends early.
-ghost use Rattle.kadm_changes.specs.Stops.{IsFailed};
+ghost use Rattle.kadm_changes.specs.Stops.{IsFailed, IsNoUsage};
 
 use crate::reason::{CommandRefusal, Part, Refusal};
 use cred_files::CredError;
@@ -36,7 +36,9 @@ pub enum EarlyEnd<'p> {
 
 impl EarlyEnd<'_> {
     /// Returns the refusal of what the command has for a part.
-    pub(crate) fn refused(part: Part, reason: CommandRefusal) -> EarlyEnd<'static> {
+    pub(crate) fn refused(part: Part, reason: CommandRefusal) -> EarlyEnd<'static>
+        ensures { IsNoUsage result }
+    {
         EarlyEnd::Refused(Refusal {
             part,
             value: None,
@@ -45,7 +47,8 @@ impl EarlyEnd<'_> {
     }
 
     fn failed(path: &'static str, error: io::Error) -> EarlyEnd<'static>
-        ensures { IsFailed result }
+        ensures failed { IsFailed result }
+        ensures no_usage { IsNoUsage result }
     {
         EarlyEnd::File(PathError::failed(path, error))
     }
@@ -94,6 +97,10 @@ impl<'p> EarlyEnd<'p> {
 }
 
 impl From<AllocError> for EarlyEnd<'_> {
+    ghost use Rattle.kadm_changes.specs.Stops.{IsNoUsage};
+
+    ghost from_gives = { λ _ stop. IsNoUsage stop };
+
     fn from(error: AllocError) -> Self {
         EarlyEnd::failed(MEMORY, io::Error::from(error))
     }
@@ -172,6 +179,10 @@ impl From<KeyListError> for EarlyEnd<'_> {
 }
 
 impl<'p> From<PathError<'p>> for EarlyEnd<'p> {
+    ghost use Rattle.kadm_changes.specs.Stops.{IsNoUsage};
+
+    ghost from_gives = { λ _ stop. IsNoUsage stop };
+
     fn from(fault: PathError<'p>) -> EarlyEnd<'p> {
         EarlyEnd::File(fault)
     }

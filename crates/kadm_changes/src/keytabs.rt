@@ -132,7 +132,11 @@ fn is_other_file(first: Option<u8>) -> bool
 }
 
 /// Checks whether there is a lock beside a file.
-fn has_lock<'p, T: Store>(alloc: Global, store: &mut T, path: &'p str) -> Result<bool, EarlyEnd<'p>>
+pub(crate) fn has_lock<'p, T: Store>(
+    alloc: Global,
+    store: &mut T,
+    path: &'p str,
+) -> Result<bool, EarlyEnd<'p>>
     ensures there { IfOk result (λ found. IsThere (T.world store.old) (lock_of path.now) found) }
     ensures unchanged { T.world store.new ≡ T.world store.old }
 {

@@ -23,6 +23,8 @@ pub enum Part {
     Dump,
     /// The stash file of a dump.
     Stash,
+    /// The report of what an import leaves out.
+    Report,
     /// A setting of a policy.
     Setting(SettingForm),
 }

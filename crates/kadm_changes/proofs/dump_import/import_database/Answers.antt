@@ -14,11 +14,11 @@ with_rows-requires-clause-names g c =
 
 pub returns-in-Some-2 : goal.returns-in-Some-2
 returns-in-Some-2 g c =
-    let kept : (c.args.skip ≡ true) ⊎ All (LosesNothing c.in-Some.realm.now) c.args.found.now =
+    let kept : (c.args.from.skip ≡ true) ⊎ All (LosesNothing c.in-Some.realm.now) c.args.found.now =
     elim c.else-not-is_whole.branch [
-      | else-not-is_whole-via-then-not-is_whole+else-not-skip w ↦ let skips : c.args.skip ≡ true = search rules in inl skips
+      | else-not-is_whole-via-then-not-is_whole+else-not-skip w ↦ let skips : c.args.from.skip ≡ true = search rules in inl skips
       | else-not-is_whole-via-else-not-is_whole w ↦
           let whole : c.in_ok-is_whole.is_whole ≡ true = search rules in inr (c.in_ok-is_whole.ensures whole)
     ] in
-    database_made c.in-Some.realm.now c.args.stash.now c.args.found.now c.args.skip c.in_ok-rows.rows.items c.in-Some-2.database
+    database_made c.in-Some.realm.now c.args.stash.now c.args.found.now c.args.from.skip c.in_ok-rows.rows.items c.in-Some-2.database
     c.in-Some.ensures.realm kept c.in_ok-rows.ensures (search rules)

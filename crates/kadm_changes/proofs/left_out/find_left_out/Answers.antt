@@ -1,7 +1,7 @@
 use Rattle.std.proofs.Common.{◌∙◌, ◌≤◌, arith, length, sym}
 use Rattle.kadm_changes.proofs.Moved.{clash, kept_all, kept_here}
-use Rattle.kadm_changes.proofs.dump_reports.report_losses.Goals as goal
-use Rattle.kadm_changes.proofs.dump_reports.report_losses.Goals.{then-is_whole, else-is_whole}
+use Rattle.kadm_changes.proofs.left_out.find_left_out.Goals as goal
+use Rattle.kadm_changes.proofs.left_out.find_left_out.Goals.{then-is_whole, else-is_whole}
 
 pub loop-principal-preserved : goal.loop-principal-preserved
 loop-principal-preserved g c whole =
