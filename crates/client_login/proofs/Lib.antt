@@ -1,6 +1,7 @@
 mod Carried
 mod Clients
 mod InfoCopies
+mod Leading
 mod Moving
 mod OwnKeys
 mod Steps

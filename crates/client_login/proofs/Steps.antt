@@ -5,14 +5,11 @@ use Rattle.client_login.proofs.Clients.{first_client}
 use Rattle.client_login.proofs.Moving.{drawn_none, drawn_once, drawn_twice, moved_none, moved_once, moved_twice}
 use Rattle.client_login.proofs.Takings.{counted_unheard, first_blamed, first_taken, first_unheard}
 use Rattle.client_login.proofs.Takings.{further_blamed, further_taken, further_unheard}
-use Rattle.client_login.proofs.Wider.{first_fault_wider, first_wider, reply, reply_wider, unheard, unheard_wider}
+use Rattle.client_login.proofs.Wider.{first_fault_wider, first_wider, reply, reply_wider, unheard, unheard_wider, unsent_fault}
 use Rattle.client_login.proofs.Within.{further_within, same_places}
 
--- a first ticket, before anything is sent
-pub ruleset log_in = (moved_none, drawn_none, first_client, same_places)
-
--- a request without a timestamp, and one with it
-pub ruleset plain = (first_blamed, first_taken, first_unheard, moved_none, drawn_none, same_places, further_within, first_wider, first_fault_wider)
+-- a first ticket, by a request without a timestamp, and one with it
+pub ruleset log_in = (first_blamed, first_taken, first_unheard, moved_none, drawn_none, first_client, same_places, further_within, first_wider, first_fault_wider, unsent_fault)
 
 pub ruleset stamped = (first_blamed, first_taken, first_unheard, carries_stamped)
 

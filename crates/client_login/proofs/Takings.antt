@@ -2,7 +2,8 @@
 -- and each message that is sent is one that a network takes.
 use Rattle.std.proofs.Common.{◌≡◌, ℕ, ℤ, List, Option, Some, None, Result, Ok, Err, Bool, true, false, refl, sym, subst}
 use Rattle.std.proofs.Common.{ap, ◌∙◌}
-use Rattle.std.specs.Prelude.{◌&&◌, IfErr, IfOk, IfSome, if◌then◌else◌, is_some}
+use Rattle.std.specs.Prelude.{◌&&◌, IfErr, IfOk, IfSome, Vec, if◌then◌else◌, is_some}
+use Rattle.std.specs.Global.{Global}
 use Rattle.std.specs.declared.net.socket_addr.SocketAddr.{SocketAddr}
 use Rattle.client_core.specs.Replies.{if_reply, judged, reads, refusal_in, ticket_reply_in}
 use Rattle.client_core.specs.Sessions.{IsPresentable, session, session_by, session_key, ticket_in}
@@ -462,10 +463,13 @@ module _ (answers : SocketAddr → List ℕ → List ℕ → Type 0) where
 -- ---- what a KDC answers with
 
 pub exchanged : (finds : List ℕ → ℕ → SocketAddr → Type 0) (places : List KdcPlace) (carries : List ℕ → Type 0)
-    (answers : SocketAddr → List ℕ → List ℕ → Type 0) (kdc : SocketAddr) (request octets : List ℕ) → IsKdc finds places kdc
-    → carries request → answers kdc request octets → IsAnswer (IsExchanged finds places carries answers) kdc octets
-exchanged finds places carries answers kdc request octets asked carried is =
+    (answers : SocketAddr → List ℕ → List ℕ → Type 0) (kdc : SocketAddr) (request : List ℕ) {E : Type 0}
+    (answer : Result (Vec ℕ Global) E) → IsKdc finds places kdc → carries request
+    → IfOk answer (λ octets. answers kdc request octets.items)
+    → IfOk answer (λ octets. IsAnswer (IsExchanged finds places carries answers) kdc octets.items)
+exchanged finds places carries answers kdc request {E} (Ok octets) asked carried is =
     record { request = request; answered = record { asked = asked; carried = carried; answered = is } }
+exchanged finds places carries answers kdc request {E} (Err error) asked carried is = tt
 
 -- ---- a credential that can be presented has a session
 

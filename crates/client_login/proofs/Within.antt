@@ -1,17 +1,14 @@
 -- The KDCs at the places of a realm, after a host's name was looked up.
-use Rattle.std.proofs.Common.{◌≡◌, ℕ, Bool, true, false, List, [], ◌∷◌, ◌++◌, refl, subst, sym, get_or, set, length, ◌<◌}
+use Rattle.std.proofs.Common.{◌≡◌, ℕ, Bool, true, false, List, [], ◌∷◌, refl, subst, sym, get_or, set, length, ◌<◌}
 use Rattle.std.specs.List.{All, Contains}
 use Rattle.std.specs.String.{string_bytes}
 use Rattle.std.specs.declared.net.socket_addr.SocketAddr.{SocketAddr}
-use Rattle.std.proofs.lemmas.List.Elements.{All-contains, All-contains_itself, All-nil, All-push, All-set, All-weaker, Contains-get_or}
+use Rattle.std.proofs.lemmas.List.Elements.{All-contains, All-contains_itself, All-nil, All-set, All-weaker, Contains-get_or}
 use Rattle.client_login.specs.Places.{AreWithin, IsAt, IsKdc, IsWithin, is_at}
 use Rattle.client_login.specs.declared.kdc_places.KdcPlace.{KdcPlace}
 
 pub contained : {X : Type 0} (xs : List X) (i : ℕ) (d : X) → i < length xs → Contains xs (get_or xs i d)
 contained xs i d below = Contains-get_or xs i d below
-
-pub one_more : {X : Type 0} (P : X → Type 0) (xs ys : List X) (x : X) → All P xs → P x → ys ≡ xs ++ x ∷ [] → All P ys
-one_more P xs ys x all is same = subst (All P) (sym same) (All-push P xs x all is)
 
 module _ (finds : List ℕ → ℕ → SocketAddr → Type 0) where
   -- ---- one place
@@ -57,12 +54,6 @@ module _ (finds : List ℕ → ℕ → SocketAddr → Type 0) where
     listed = listed;
     at = subst (λ (b : Bool). is_at finds b place kdc) (sym known) is;
   }
-
-  pub others_at : (places : List KdcPlace) (addresses others : List SocketAddr) → All (IsKdc finds places) addresses
-      → All (Contains addresses) others → All (IsKdc finds places) others
-  others_at places addresses others all few =
-      All-weaker (Contains addresses) (IsKdc finds places)
-      (λ kdc is. All-contains (IsKdc finds places) addresses kdc all is) others few
 
   -- what was found at one of them
   pub at_place : (places : List KdcPlace) (place : KdcPlace) (found : List SocketAddr) → Contains places place

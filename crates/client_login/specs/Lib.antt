@@ -9,5 +9,6 @@ pub mod Logins
 pub mod Moments
 pub mod Places
 pub mod Replies
+pub mod Routes
 pub mod Sending
 pub mod Verifying

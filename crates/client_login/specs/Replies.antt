@@ -20,6 +20,10 @@ pub record IsExchanged (finds : List ℕ → ℕ → SocketAddr → Type 0) (pla
   pub carried : carries request
   pub answered : answers kdc request reply
 
+-- No KDC answered anything.
+abbrev pub unanswered : SocketAddr → List ℕ → List ℕ → Type 0
+unanswered kdc request reply = ⊥
+
 -- A KDC answered a request with bytes that satisfy this.
 pub record IsAnswered (answers : SocketAddr → List ℕ → List ℕ → Type 0) (kdc : SocketAddr) (Says : List ℕ → Type 0)
     : Type 0 where

@@ -1,20 +1,22 @@
 //! Sends a request to the KDCs of a realm, and takes the first useful reply (RFC 4120, section 7.2).
 ghost use Rattle.std.specs.Prelude.{◌≡◌, IfErr, IfOk, IfSome, None};
-ghost use Rattle.std.specs.List.{All, Contains};
 ghost use Rattle.client_core.specs.Replies as replies;
 ghost use Rattle.krb_fields.specs.Code.{number_of};
 ghost use Rattle.client_login.specs.Places.{AreWithin, IsKdc};
 ghost use Rattle.client_login.specs.Replies.{IsAnswer, IsExchanged, IsReply, counted, is_error, is_passed_over};
 ghost use Rattle.client_login.specs.Replies.{said_of};
+ghost use Rattle.client_login.specs.Routes.{LeadTo};
 ghost use Rattle.client_login.specs.Faults.{IsUnheard};
 ghost use Rattle.client_login.specs.declared.faults.LoginError.TheVariants.{Memory};
 
 use crate::faults::{LoginError, TicketError};
 use crate::kdc_places::KdcPlace;
 use crate::network::{Network, Route, Transport};
+use crate::routes::{is_fallback, routes_at};
 use client_core::{Refusal, ReplyError, refusal_in};
 use krb_fields::Code;
 use std::alloc::{AllocError, Global};
+use std::io;
 use std::io::{Error, ErrorKind};
 use std::net::SocketAddr;
 
@@ -122,14 +124,11 @@ pub(crate) fn ask<X: Network>(
     ensures within { AreWithin X.finds kdcs.old.places.items kdcs.new.places.items }
 {
     let first = known_first(kdcs);
-    let mut end = match ask_first(alloc, kdcs, first, request) {
-        Ok(reply) => return Ok(reply),
-        Err(fault) => unless_memory(fault)?,
-    };
-    for place in 0..kdcs.places.len() {
-        let addresses = further_at(alloc, kdcs, place, first)?;
-        if !addresses.is_empty() {
-            match ask_each(alloc, kdcs, &addresses, request) {
+    let mut end = TicketError::new(LoginError::Silence(no_reply()));
+    for turn in 0..=kdcs.places.len() {
+        let routes = routes_at(alloc, kdcs, turn, first)?;
+        if !routes.is_empty() {
+            match try_each(alloc, kdcs, &routes, request) {
                 Ok(reply) => return Ok(reply),
                 Err(fault) => end = passed_over(end, fault)?,
             }
@@ -141,7 +140,7 @@ pub(crate) fn ask<X: Network>(
 
 /// Returns the KDC that replied last, if it is one of these.
 #[tactic(auto, using(crate::proofs::Within::known_kdc, crate::proofs::Within::contained))]
-fn known_first<X: Network>(kdcs: &Kdcs<X>) -> Option<SocketAddr>
+pub(crate) fn known_first<X: Network>(kdcs: &Kdcs<X>) -> Option<SocketAddr>
     ensures { IfSome result (λ kdc. IsKdc X.finds kdcs.now.places.items kdc) }
 {
     let Some(last) = kdcs.answered else {
@@ -155,112 +154,36 @@ fn known_first<X: Network>(kdcs: &Kdcs<X>) -> Option<SocketAddr>
     None
 }
 
-/// Sends a request to the KDC that replied last, if there is one.
-fn ask_first<X: Network>(
-    alloc: Global,
-    kdcs: &mut Kdcs<X>,
-    first: Option<SocketAddr>,
-    request: &[u8],
-) -> Result<Reply, TicketError>
-    requires carried { X.carries request.now }
-    requires kdc { IfSome first (λ kdc. IsKdc X.finds kdcs.old.places.items kdc) }
-    ensures ok { IfOk result (λ reply.
-        IsReply (IsExchanged X.finds kdcs.old.places.items X.carries X.answers) reply) }
-    ensures err { IfErr result (λ fault.
-        IsUnheard (IsExchanged X.finds kdcs.old.places.items X.carries X.answers) fault.why fault.kdc) }
-    ensures places { kdcs.new.places ≡ kdcs.old.places }
-{
-    match first {
-        Some(kdc) => ask_kdc(alloc, kdcs, kdc, request),
-        None => Err(TicketError::new(LoginError::Silence(Error::from(ErrorKind::TimedOut)))),
-    }
-}
-
-/// Returns the fault. Fails with it if memory ran out: then no further KDC is tried.
-fn unless_memory(fault: TicketError) -> Result<TicketError, TicketError>
-    ensures ok { IfOk result (λ counts. counts ≡ fault) }
-    ensures err { IfErr result (λ counts. counts ≡ fault) }
-{
-    match fault.why {
-        LoginError::Memory => Err(fault),
-        _ => Ok(fault),
-    }
-}
-
-/// Returns the addresses of a place, but for the KDC that was asked first. A host's name is looked up now, unless that
-/// was done before.
-#[tactic(auto, using(crate::proofs::Within::others_at))]
-fn further_at<X: Network>(
-    alloc: Global,
-    kdcs: &mut Kdcs<X>,
-    place: usize,
-    first: Option<SocketAddr>,
-) -> Result<Vec<SocketAddr>, AllocError>
-    ensures kdcs { IfOk result (λ further. All (IsKdc X.finds kdcs.new.places.items) further.items) }
-    ensures within { AreWithin X.finds kdcs.old.places.items kdcs.new.places.items }
-{
-    let addresses = kdc_addresses(alloc, kdcs, place)?;
-    let further = other_than(alloc, first, &addresses)?;
-    Ok(further)
-}
-
-/// Returns the addresses of a place. A host's name is looked up now, unless that was done before.
-/// It is a function apart from `further_at` only for the sake of the proof.
-#[tactic(auto, using(crate::proofs::Within::each_place))]
-fn kdc_addresses<X: Network>(
-    alloc: Global,
-    kdcs: &mut Kdcs<X>,
-    place: usize,
-) -> Result<Vec<SocketAddr>, AllocError>
-    ensures kdcs { IfOk result (λ found. All (IsKdc X.finds kdcs.new.places.items) found.items) }
-    ensures within { AreWithin X.finds kdcs.old.places.items kdcs.new.places.items }
-{
-    if place >= kdcs.places.len() {
-        return Ok(Vec::new(alloc));
-    }
-    let found = kdcs.places[place].look_up(alloc, &mut kdcs.network)?;
-    Ok(found)
-}
-
-/// Returns these addresses without one.
-#[tactic(auto, using(crate::proofs::Within::contained))]
-fn other_than(
-    alloc: Global,
-    first: Option<SocketAddr>,
-    addresses: &[SocketAddr],
-) -> Result<Vec<SocketAddr>, AllocError>
-    ensures { IfOk result (λ others. All (Contains addresses.now) others.items) }
-{
-    let mut others = Vec::new(alloc);
-    for address in addresses {
-        if first != Some(*address) {
-            others.push(*address)?;
-        }
-    }
-    Ok(others)
-}
-
-/// Sends a request to each of these addresses until a useful reply comes. If none does, returns the fault that counts.
+/// Sends a request by each of these routes until a useful reply comes. If none does, returns the fault that counts. A
+/// KDC that answers by UDP isn't asked by TCP too, unless the reply is too big for a datagram.
 #[tactic(auto, using(crate::proofs::Takings::counted_unheard))]
-fn ask_each<X: Network>(
+fn try_each<X: Network>(
     alloc: Global,
     kdcs: &mut Kdcs<X>,
-    addresses: &[SocketAddr],
+    routes: &[Route],
     request: &[u8],
 ) -> Result<Reply, TicketError>
     requires carried { X.carries request.now }
-    requires kdcs { All (IsKdc X.finds kdcs.old.places.items) addresses.now }
+    requires kdcs { LeadTo (IsKdc X.finds kdcs.old.places.items) routes.now }
     ensures ok { IfOk result (λ reply.
         IsReply (IsExchanged X.finds kdcs.old.places.items X.carries X.answers) reply) }
     ensures err { IfErr result (λ fault.
         IsUnheard (IsExchanged X.finds kdcs.old.places.items X.carries X.answers) fault.why fault.kdc) }
     ensures places { kdcs.new.places ≡ kdcs.old.places }
 {
-    let mut end = TicketError::new(LoginError::Silence(Error::from(ErrorKind::TimedOut)));
-    for kdc in addresses {
-        match ask_kdc(alloc, kdcs, *kdc, request) {
+    let mut end = TicketError::new(LoginError::Silence(no_reply()));
+    let mut is_heard = false;
+    for route in routes {
+        if is_heard && is_fallback(kdcs.transports, *route) {
+            continue;
+        }
+        let answer = kdcs.network.exchange(alloc, *route, request);
+        match judge(alloc, kdcs, *route, answer) {
             Ok(reply) => return Ok(reply),
-            Err(fault) => end = passed_over(end, fault)?,
+            Err(fault) => {
+                is_heard = fault.kdc.is_some();
+                end = passed_over(end, fault)?;
+            }
         }
     }
     Err(end)
@@ -279,45 +202,28 @@ fn passed_over(before: TicketError, fault: TicketError) -> Result<TicketError, T
     }
 }
 
-/// Returns the reply of one KDC. The request goes by UDP, and by TCP if no reply comes or the reply is too big for a
-/// datagram.
-#[tactic(auto, using(crate::proofs::Takings::exchanged))]
-fn ask_kdc<X: Network>(
+/// Returns the reply that came by a route, or why there is none.
+#[tactic(auto, using(crate::proofs::Takings::refused_reply))]
+fn judge<X: Network>(
     alloc: Global,
     kdcs: &mut Kdcs<X>,
-    kdc: SocketAddr,
-    request: &[u8],
+    route: Route,
+    answer: io::Result<Vec<u8>>,
 ) -> Result<Reply, TicketError>
-    requires carried { X.carries request.now }
-    requires kdc { IsKdc X.finds kdcs.old.places.items kdc }
+    requires { IfOk answer (λ octets.
+        IsAnswer (IsExchanged X.finds kdcs.old.places.items X.carries X.answers) route.to octets.items) }
     ensures ok { IfOk result (λ reply.
         IsReply (IsExchanged X.finds kdcs.old.places.items X.carries X.answers) reply) }
     ensures err { IfErr result (λ fault.
         IsUnheard (IsExchanged X.finds kdcs.old.places.items X.carries X.answers) fault.why fault.kdc) }
     ensures places { kdcs.new.places ≡ kdcs.old.places }
 {
-    if kdcs.transports == Transports::UdpFirst {
-        let route = Route {
-            to: kdc,
-            by: Transport::Udp,
-        };
-        match kdcs.network.exchange(alloc, route, request) {
-            Ok(octets) => {
-                let reply = read_reply(alloc, kdcs, kdc, octets)?;
-                if !reply.is_error(Code::KrbErrResponseTooBig) {
-                    return useful(kdcs, reply);
-                }
-            }
-            Err(error) => count_failure(kdcs, error)?,
-        }
-    }
-    let route = Route {
-        to: kdc,
-        by: Transport::Tcp,
-    };
-    match kdcs.network.exchange(alloc, route, request) {
+    match answer {
         Ok(octets) => {
-            let reply = read_reply(alloc, kdcs, kdc, octets)?;
+            let reply = read_reply(alloc, kdcs, route.to, octets)?;
+            if route.by == Transport::Udp && reply.is_error(Code::KrbErrResponseTooBig) {
+                return Err(TicketError::new(LoginError::Silence(no_reply())));
+            }
             useful(kdcs, reply)
         }
         Err(error) => {
@@ -325,6 +231,11 @@ fn ask_kdc<X: Network>(
             Err(TicketError::new(LoginError::Silence(error)))
         }
     }
+}
+
+/// Returns the error for no reply.
+fn no_reply() -> Error {
+    Error::from(ErrorKind::TimedOut)
 }
 
 /// Returns a reply, unless another KDC may do better: if this one says that it is not available or that the clocks

@@ -12,7 +12,7 @@ ghost use Rattle.client_login.specs.Keys.{IsOwnKey};
 ghost use Rattle.client_login.specs.Logins.{CarriesFirst, IsFirst, TakesFirst, logs_in};
 ghost use Rattle.client_login.specs.Moments.{IsMoved};
 ghost use Rattle.client_login.specs.Places.{AreWithin};
-ghost use Rattle.client_login.specs.Replies.{IsExchanged, said_of};
+ghost use Rattle.client_login.specs.Replies.{IsExchanged, said_of, unanswered};
 
 use crate::asking::{Reply, ask};
 use crate::client::KdcClient;
@@ -111,54 +111,49 @@ impl<X: Network> KdcClient<X> {
         let alloc = self.alloc;
         self.kdcs.network.begin();
         let nonce = draw_nonce(rng);
-        let etypes = etypes_for(alloc, secret, &login.client)?;
-        if etypes.is_empty() {
-            return Err(TicketError::new(LoginError::NoClientKey));
-        }
-        let asked = first_asked(alloc, login, etypes, self.at, nonce)?;
+        let asked = make_first(alloc, login, secret, self.at, nonce)?;
+        let request = as_request(alloc, &asked)?;
+        let reply = ask(alloc, &mut self.kdcs, &request)?;
         let first = FirstRequest {
             asked: &asked,
             secret,
         };
-        ask_plainly(self, rng, &first)
+        let Some(refusal) = &reply.refusal else {
+            return said_by(reply.kdc, take_plain(alloc, &first, self.at, &reply));
+        };
+        let key = said_by(reply.kdc, key_for_timestamp(alloc, &first, refusal))?;
+        let stamped = StampedRequest {
+            asked: &asked,
+            secret,
+            key: &key,
+        };
+        ask_with_timestamp(self, rng, &stamped)
     }
 }
 
-/// Sends the request without a timestamp.
-#[tactic(auto, using(crate::proofs::Steps::plain))]
-fn ask_plainly<X: Network, R: Rng>(
-    client: &mut KdcClient<X>,
-    rng: &mut R,
-    first: &FirstRequest<'_>,
-) -> Result<Credential, TicketError>
-    requires { CarriesFirst X.carries first.now.secret.now first.now.asked.now client.old.at (R.stream rng.old) }
-    ensures ok { IfOk result (λ credential.
-        IsFirst (IsExchanged X.finds client.old.kdcs.places.items X.carries X.answers)
-        first.now.secret.now first.now.asked.now client.old.at.sec credential) }
-    ensures err { IfErr result (λ fault.
-        IsFirstFault (IsExchanged X.finds client.old.kdcs.places.items X.carries X.answers)
-        first.now.secret.now first.now.asked.now client.old.at.sec fault.why fault.kdc) }
-    ensures moved { IsMoved client.old.at client.new.at }
-    ensures within { AreWithin X.finds client.old.kdcs.places.items client.new.kdcs.places.items }
-    ensures clock { client.new.is_by_kdc ≡ client.old.is_by_kdc }
-    ensures drawn { HasDrawn (R.stream rng.old) (R.stream rng.new) }
+/// Returns the request of a login, or why it has none.
+fn make_first(
+    alloc: Global,
+    login: &Login,
+    secret: &Secret,
+    at: Moment,
+    nonce: u32,
+) -> Result<Asked, TicketError>
+    ensures ok { IfOk result (λ asked. asked ≡ logs_in login.now secret.now at.sec nonce) }
+    ensures askable { IfOk result (λ asked. IsAskable asked) }
+    // No KDC gave the reason.
+    ensures err { IfErr result (λ fault. IsFirstFault unanswered secret.now
+        (logs_in login.now secret.now at.sec nonce) at.sec fault.why fault.kdc) }
 {
-    if !first.asked.is_askable() {
+    let etypes = etypes_for(alloc, secret, &login.client)?;
+    if etypes.is_empty() {
+        return Err(TicketError::new(LoginError::NoClientKey));
+    }
+    let asked = first_asked(alloc, login, etypes, at, nonce)?;
+    if !asked.is_askable() {
         return Err(TicketError::new(LoginError::NotAskable));
     }
-    let alloc = client.alloc;
-    let request = as_request(alloc, first.asked)?;
-    let reply = ask(alloc, &mut client.kdcs, &request)?;
-    let Some(refusal) = &reply.refusal else {
-        return said_by(reply.kdc, take_plain(alloc, first, client.at, &reply));
-    };
-    let key = said_by(reply.kdc, key_for_timestamp(alloc, first, refusal))?;
-    let stamped = StampedRequest {
-        asked: first.asked,
-        secret: first.secret,
-        key: &key,
-    };
-    ask_with_timestamp(client, rng, &stamped)
+    Ok(asked)
 }
 
 /// Returns the key for preauthentication, or why there is no ticket.

@@ -38,6 +38,7 @@ mod kdc_places;
 mod moments;
 mod network;
 mod replies;
+mod routes;
 mod secrets;
 mod sending;
 mod ticket_requests;

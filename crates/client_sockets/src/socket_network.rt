@@ -92,7 +92,10 @@ impl<'a, R: Net + Clock> Network for SocketNetwork<'a, R> {
             end: self.end()?,
         };
         match route.by {
-            Transport::Udp => by_datagrams(alloc, &to, message),
+            Transport::Udp => {
+                let socket = UdpSocket::bind(self.system, any_address(route.to))?;
+                by_datagrams(alloc, &socket, &to, message)
+            }
             Transport::Tcp => by_connection(alloc, &to, message),
         }
     }
@@ -122,8 +125,10 @@ struct Destination<'a, R> {
     end: Deadline,
 }
 
+/// Sends a datagram from this socket until its reply comes, three times at most.
 fn by_datagrams<R: Net + Clock>(
     alloc: Global,
+    socket: &UdpSocket,
     to: &Destination<'_, R>,
     message: &[u8],
 ) -> io::Result<Vec<u8>>
@@ -131,7 +136,6 @@ fn by_datagrams<R: Net + Clock>(
     ensures { IfOk result (λ reply. vec_len reply ≤ 65535) }
 {
     let system = to.system;
-    let socket = UdpSocket::bind(system, any_address(to.address))?;
     socket.connect(to.address)?;
     let mut datagram = Vec::from_elem(alloc, 0, LONGEST_DATAGRAM)?;
     for seconds in UDP_WAITS {

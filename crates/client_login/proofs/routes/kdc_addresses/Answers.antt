@@ -2,7 +2,7 @@ use Rattle.std.proofs.Common.{rules, ◌≡◌, ◌<◌, length, set, get_or}
 use Rattle.std.specs.List.{Contains}
 use Rattle.client_login.specs.declared.kdc_places.KdcPlace.{KdcPlace}
 use Rattle.client_login.proofs.Within.{at_place}
-use Rattle.client_login.proofs.asking.kdc_addresses.Goals as goal
+use Rattle.client_login.proofs.routes.kdc_addresses.Goals as goal
 
 pub returns-clause-kdcs : goal.returns-clause-kdcs
 returns-clause-kdcs g c =
